@@ -1,4 +1,11 @@
 //! A pool's configuration and the ranges that it has to keep.
+ghost use Rattle.std.specs.Prelude.{◌≡◌, ◌↔◌};
+ghost use Rattle.tp_types.specs.Policy.{policy_name, PoliciesAreDistinct};
+ghost use Rattle.tp_types.specs.Verdict.{verdict_name, VerdictsAreDistinct};
+ghost use Rattle.tp_types.specs.Config.{IsConfig, HasBadSizes, HasBadCapacity, HasBadLimit, HasZeroKeep, HasGoodCapacity, are_good_sizes, is_good_capacity, is_good_limit, is_good_keep, checked};
+
+use crate::limits::{MAX_CAPACITY, MAX_RECORD_LIMIT, MAX_WORKERS, MIN_RECORD_LIMIT};
+use crate::refusals::PoolError;
 
 /// Where tasks wait for a worker.
 #[derive(Clone, Copy, Debug, PartialEq, Eq, Hash)]
@@ -7,26 +14,30 @@ pub enum QueueKind {
     Handoff,
     /// Room always, as in a `LinkedBlockingQueue`.
     Unbounded,
-    /// So many places, 1 to 65,536, as in an `ArrayBlockingQueue`.
+    /// So many places for tasks, as in an `ArrayBlockingQueue`: 1 to 65,536, else refusal 2.
     Bounded(u32),
 }
 
-/// What becomes of a task that the pool cannot take.
+/// What becomes of a task that the pool cannot take, as the `RejectedExecutionHandler` given to a
+/// `ThreadPoolExecutor` decides.
 #[derive(Clone, Copy, Debug, PartialEq, Eq, Hash)]
 pub enum Policy {
-    /// As `AbortPolicy`.
+    /// It is rejected, with refusal 12, as by `AbortPolicy`.
     Abort,
-    /// As `CallerRunsPolicy`.
+    /// Its submitter runs it, as by `CallerRunsPolicy`; once the pool is shut down it is dropped.
     CallerRuns,
-    /// As `DiscardPolicy`.
+    /// It is dropped, as by `DiscardPolicy`.
     Discard,
-    /// As `DiscardOldestPolicy`.
+    /// The head of the queue is dropped and the task is offered again, as by `DiscardOldestPolicy`,
+    /// at most 64 times for one task; once the pool is shut down the task itself is dropped.
     DiscardOldest,
-    /// A handler of the caller's answers a verdict each time, as a `RejectedExecutionHandler`.
+    /// A handler of the caller's answers a verdict each time, as a `RejectedExecutionHandler` of
+    /// one's own.
     Own,
 }
 
-/// What is said of one task that the pool cannot take.
+/// What is said of one task that the pool cannot take: the policy, or the answer of the caller's
+/// handler under `Policy::Own`.
 #[derive(Clone, Copy, Debug, PartialEq, Eq, Hash)]
 pub enum Verdict {
     /// It is rejected.
@@ -39,21 +50,275 @@ pub enum Verdict {
     DiscardOldest,
 }
 
-/// A pool's settings at its start.
+/// A pool's settings at its start, as the arguments of a `ThreadPoolExecutor`'s constructor. A value
+/// may have any numbers: `check` says whether a pool can start with them.
 #[derive(Clone, Copy, Debug, PartialEq, Eq, Hash)]
 pub struct Config {
-    /// The core size in workers, 0 to the maximum, as `corePoolSize`.
+    /// The core size in workers, as `corePoolSize`: 0 to the maximum, else refusal 1.
     pub core: u32,
-    /// The maximum size in workers, 1 to 1,024, as `maximumPoolSize`.
+    /// The maximum size in workers, as `maximumPoolSize`: 1 to 1,024, else refusal 1.
     pub maximum: u32,
-    /// The work queue.
+    /// The work queue, as `workQueue`.
     pub queue: QueueKind,
-    /// The keep-alive in ticks, as `keepAliveTime`.
+    /// How long a worker may be idle, in ticks, as `keepAliveTime`: any number, but not 0 where
+    /// core workers time out.
     pub keep: u64,
-    /// Whether core workers time out too, as `allowsCoreThreadTimeOut`; not with a keep-alive of 0.
+    /// Whether core workers time out too, as `allowCoreThreadTimeOut`: with a keep-alive of 0 it is
+    /// refusal 11.
     pub core_timeout: bool,
-    /// The rejection policy.
+    /// The rejection policy, as `handler`.
     pub policy: Policy,
-    /// How many entries the record may have, 64 to 1,048,576.
+    /// How many entries the record may have: 64 to 1,048,576, else refusal 3.
     pub record_limit: u32,
+}
+
+impl QueueKind {
+    /// Whether a queue may have so many places: a bounded one 1 to 65,536.
+    pub fn is_good_capacity(self) -> bool
+        ensures { result ≡ is_good_capacity self }
+    {
+        match self {
+            QueueKind::Handoff | QueueKind::Unbounded => true,
+            QueueKind::Bounded(places) => 1 <= places && places <= MAX_CAPACITY,
+        }
+    }
+}
+
+impl Policy {
+    /// What texts call the policy: `abort`, `callerruns`, `discard`, `discardoldest` or `own`.
+    pub fn name(self) -> &'static str
+        ensures { result.now ≡ policy_name self }
+    {
+        match self {
+            Policy::Abort => "abort",
+            Policy::CallerRuns => "callerruns",
+            Policy::Discard => "discard",
+            Policy::DiscardOldest => "discardoldest",
+            Policy::Own => "own",
+        }
+    }
+}
+
+impl Verdict {
+    /// What texts call the verdict: `abort`, `callerruns`, `discard` or `discardoldest`.
+    pub fn name(self) -> &'static str
+        ensures { result.now ≡ verdict_name self }
+    {
+        match self {
+            Verdict::Abort => "abort",
+            Verdict::CallerRuns => "callerruns",
+            Verdict::Discard => "discard",
+            Verdict::DiscardOldest => "discardoldest",
+        }
+    }
+}
+
+/// The law that no two policies share a name.
+pub fn policies_are_distinct()
+    ensures { PoliciesAreDistinct }
+{}
+
+/// The law that no two verdicts share a name.
+pub fn verdicts_are_distinct()
+    ensures { VerdictsAreDistinct }
+{}
+
+impl Config {
+    /// Refuses settings that no pool can have: 1 `BadSizes`, 2 `BadCapacity`, 3 `BadLimit` or
+    /// 11 `KeepZero`, the first of them that applies, as the constructors of
+    /// `ThreadPoolExecutor` throw `IllegalArgumentException`.
+    pub fn check(&self) -> Result<(), PoolError>
+        ensures computed { result ≡ checked self.now }
+
+        ensures accepts { (result ≡ Ok tt) ↔ IsConfig self.now }
+        ensures sizes { (result ≡ Err PoolError.BadSizes) ↔ HasBadSizes self.now }
+        ensures capacity { (result ≡ Err PoolError.BadCapacity)
+            ↔ (¬ HasBadSizes self.now × HasBadCapacity self.now.queue) }
+        ensures limit { (result ≡ Err PoolError.BadLimit)
+            ↔ (¬ HasBadSizes self.now × HasGoodCapacity self.now.queue × HasBadLimit self.now) }
+        ensures keep { (result ≡ Err PoolError.KeepZero)
+            ↔ (¬ HasBadSizes self.now × HasGoodCapacity self.now.queue × ¬ HasBadLimit self.now
+            × HasZeroKeep self.now) }
+    {
+        if !are_good_sizes(self.core, self.maximum) {
+            return Err(PoolError::BadSizes);
+        }
+        if !self.queue.is_good_capacity() {
+            return Err(PoolError::BadCapacity);
+        }
+        if !is_good_limit(self.record_limit) {
+            return Err(PoolError::BadLimit);
+        }
+        if !is_good_keep(self.keep, self.core_timeout) {
+            return Err(PoolError::KeepZero);
+        }
+        Ok(())
+    }
+}
+
+/// Whether a pool may have this core size beside this maximum, both in workers: the maximum is 1 to
+/// 1,024, and the core size 0 to the maximum.
+pub fn are_good_sizes(core: u32, maximum: u32) -> bool
+    ensures { result ≡ are_good_sizes core maximum }
+{
+    1 <= maximum && maximum <= MAX_WORKERS && core <= maximum
+}
+
+/// Whether a record may have this limit, in entries: 64 to 1,048,576.
+pub fn is_good_limit(entries: u32) -> bool
+    ensures { result ≡ is_good_limit entries }
+{
+    MIN_RECORD_LIMIT <= entries && entries <= MAX_RECORD_LIMIT
+}
+
+/// Whether a keep-alive, in ticks, goes with this choice on core workers: it is not 0 where they
+/// time out.
+pub fn is_good_keep(keep: u64, core_timeout: bool) -> bool
+    ensures { result ≡ is_good_keep keep core_timeout }
+{
+    0 < keep || !core_timeout
+}
+
+#[cfg(test)]
+mod tests {
+    use super::*;
+
+    const USUAL: Config = Config {
+        core: 1,
+        maximum: 1,
+        queue: QueueKind::Unbounded,
+        keep: 0,
+        core_timeout: false,
+        policy: Policy::Abort,
+        record_limit: 4_096,
+    };
+
+    fn sizes(core: u32, maximum: u32) -> Result<(), PoolError> {
+        Config {
+            core,
+            maximum,
+            ..USUAL
+        }
+        .check()
+    }
+
+    fn queue(queue: QueueKind) -> Result<(), PoolError> {
+        Config { queue, ..USUAL }.check()
+    }
+
+    fn limit(record_limit: u32) -> Result<(), PoolError> {
+        Config {
+            record_limit,
+            ..USUAL
+        }
+        .check()
+    }
+
+    fn keep(keep: u64, core_timeout: bool) -> Result<(), PoolError> {
+        Config {
+            keep,
+            core_timeout,
+            ..USUAL
+        }
+        .check()
+    }
+
+    #[test]
+    fn checks_sizes(rt: HostRuntime) {
+        for (core, maximum) in [(0, 1), (1, 1), (0, 1024), (1024, 1024)] {
+            assert_eq!(rt;
+                sizes(core, maximum),
+                Ok(()),
+                "core {core}, maximum {maximum}"
+            );
+        }
+        for (core, maximum) in [(0, 0), (2, 1), (0, 1025), (1025, 1024)] {
+            let refused = Err(PoolError::BadSizes);
+            assert_eq!(rt;
+                sizes(core, maximum),
+                refused,
+                "core {core}, maximum {maximum}"
+            );
+        }
+    }
+
+    #[test]
+    fn checks_capacity(rt: HostRuntime) {
+        assert_eq!(rt; queue(QueueKind::Handoff), Ok(()));
+        for (places, answer) in [
+            (0, Err(PoolError::BadCapacity)),
+            (1, Ok(())),
+            (65_536, Ok(())),
+            (65_537, Err(PoolError::BadCapacity)),
+        ] {
+            assert_eq!(rt;
+                queue(QueueKind::Bounded(places)),
+                answer,
+                "{places} places"
+            );
+        }
+    }
+
+    #[test]
+    fn checks_limit(rt: HostRuntime) {
+        for (entries, answer) in [
+            (63, Err(PoolError::BadLimit)),
+            (64, Ok(())),
+            (1_048_576, Ok(())),
+            (1_048_577, Err(PoolError::BadLimit)),
+        ] {
+            assert_eq!(rt; limit(entries), answer, "{entries} entries");
+        }
+    }
+
+    #[test]
+    fn checks_keep(rt: HostRuntime) {
+        assert_eq!(rt; keep(0, true), Err(PoolError::KeepZero));
+        assert_eq!(rt; keep(0, false), Ok(()));
+        assert_eq!(rt; keep(1, true), Ok(()));
+        assert_eq!(rt; keep(u64::MAX, true), Ok(()));
+    }
+
+    #[test]
+    fn refuses_the_first_fault(rt: HostRuntime) {
+        let mut config = Config {
+            maximum: 0,
+            queue: QueueKind::Bounded(0),
+            core_timeout: true,
+            record_limit: 63,
+            ..USUAL
+        };
+        assert_eq!(rt; config.check(), Err(PoolError::BadSizes));
+        config.maximum = 1;
+        assert_eq!(rt; config.check(), Err(PoolError::BadCapacity));
+        config.queue = QueueKind::Bounded(1);
+        assert_eq!(rt; config.check(), Err(PoolError::BadLimit));
+        config.record_limit = 64;
+        assert_eq!(rt; config.check(), Err(PoolError::KeepZero));
+        config.keep = 1;
+        assert_eq!(rt; config.check(), Ok(()));
+    }
+
+    #[test]
+    fn names_policies_and_verdicts(rt: HostRuntime) {
+        let policies = [
+            (Policy::Abort, "abort"),
+            (Policy::CallerRuns, "callerruns"),
+            (Policy::Discard, "discard"),
+            (Policy::DiscardOldest, "discardoldest"),
+            (Policy::Own, "own"),
+        ];
+        for (policy, name) in policies {
+            assert_eq!(rt; policy.name(), name);
+        }
+        let verdicts = [
+            (Verdict::Abort, "abort"),
+            (Verdict::CallerRuns, "callerruns"),
+            (Verdict::Discard, "discard"),
+            (Verdict::DiscardOldest, "discardoldest"),
+        ];
+        for (verdict, name) in verdicts {
+            assert_eq!(rt; verdict.name(), name);
+        }
+    }
 }

@@ -1,5 +1,9 @@
 //! What is known of a task: its kind, where it is, what becomes of it, and what it promises.
 
+ghost use Rattle.std.specs.Prelude.{◌≡◌, ◌↔◌, IsTrue};
+ghost use Rattle.tp_types.specs.Fate.{fate_name, FatesAreDistinct};
+ghost use Rattle.tp_types.specs.Promise.{FitsPromise, fits_promise};
+
 use crate::ids::SlotId;
 
 /// What kind of task was submitted.
@@ -9,7 +13,8 @@ pub enum Kind {
     Plain,
     /// A job whose outcome is kept and that can be cancelled, as a `FutureTask`.
     Future,
-    /// A future whose completion is queued for its group, as in an `ExecutorCompletionService`.
+    /// A future whose completion is queued for the group of this number, any u32, as in an
+    /// `ExecutorCompletionService`.
     Group(u32),
 }
 
@@ -57,10 +62,11 @@ pub enum Fate {
     Cancelled,
 }
 
-/// How a job ended: with a value, or with a fault's code.
+/// How a job ended: with a value, or with a fault's code, where a Java task throws.
 pub type Outcome = Result<i64, u32>;
 
-/// What a job promises of its outcome.
+/// What a job promises of its outcome: a value from `low` to `high`, or a fault if it may. Where
+/// `low` is above `high` no value is as promised.
 #[derive(Clone, Copy, Debug, PartialEq, Eq, Hash)]
 pub struct Promise {
     /// The least value.
@@ -69,4 +75,87 @@ pub struct Promise {
     pub high: i64,
     /// Whether it may answer a fault.
     pub may_fault: bool,
+}
+
+impl Fate {
+    /// What texts call the fate: `run`, `caller`, `rejected`, `discarded`, `handedback`, `removed`
+    /// or `cancelled`.
+    pub fn name(self) -> &'static str
+        ensures { result.now ≡ fate_name self }
+    {
+        match self {
+            Fate::Run => "run",
+            Fate::RunByCaller => "caller",
+            Fate::Rejected => "rejected",
+            Fate::Discarded => "discarded",
+            Fate::HandedBack => "handedback",
+            Fate::Removed => "removed",
+            Fate::Cancelled => "cancelled",
+        }
+    }
+}
+
+/// The law that no two fates share a name.
+pub fn fates_are_distinct()
+    ensures { FatesAreDistinct }
+{}
+
+impl Promise {
+    /// Whether the outcome is as promised: a value from `low` to `high`, or a fault where
+    /// `may_fault` allows one.
+    pub fn fits(&self, outcome: &Outcome) -> bool
+        ensures fits { IsTrue result ↔ FitsPromise self.now outcome.now }
+        ensures computed { result ≡ fits_promise self.now outcome.now }
+    {
+        match *outcome {
+            Ok(value) => self.low <= value && value <= self.high,
+            Err(_) => self.may_fault,
+        }
+    }
+}
+
+#[cfg(test)]
+mod tests {
+    use super::*;
+
+    #[test]
+    fn names_fates(rt: HostRuntime) {
+        let table = [
+            (Fate::Run, "run"),
+            (Fate::RunByCaller, "caller"),
+            (Fate::Rejected, "rejected"),
+            (Fate::Discarded, "discarded"),
+            (Fate::HandedBack, "handedback"),
+            (Fate::Removed, "removed"),
+            (Fate::Cancelled, "cancelled"),
+        ];
+        for (fate, name) in table {
+            assert_eq!(rt; fate.name(), name);
+        }
+    }
+
+    #[test]
+    fn fits_both_ends(rt: HostRuntime) {
+        let calm = Promise {
+            low: -5,
+            high: 7,
+            may_fault: false,
+        };
+        let table = [
+            (Ok(-6), false),
+            (Ok(-5), true),
+            (Ok(7), true),
+            (Ok(8), false),
+            (Err(0), false),
+        ];
+        for (outcome, fits) in table {
+            assert_eq!(rt; calm.fits(&outcome), fits);
+        }
+        let rash = Promise {
+            may_fault: true,
+            ..calm
+        };
+        assert_eq!(rt; rash.fits(&Err(0)), true);
+        assert_eq!(rt; rash.fits(&Ok(8)), false);
+    }
 }
