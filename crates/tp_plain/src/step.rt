@@ -1,0 +1,631 @@
+//! The answers to asks, over a snapshot.
+
+ghost use Rattle.std.specs.Prelude.{◌≡◌, ◌+◌, count_by, length, nat_le, nat_lt, Ok, Err, IfOk, IsOkUnless, if◌then◌else◌};
+ghost use Rattle.std.specs.Option.{ok_or};
+ghost use Rattle.tp_record.specs.State as states;
+ghost use Rattle.tp_record.specs.Step as steps;
+ghost use Rattle.tp_plain.specs.Snapshot.{shown, IsAnswer, IsSmall};
+
+use crate::counts::fate_of;
+use crate::next::{next, slot_of, task_at};
+use crate::snapshot::Snapshot;
+use crate::weights::due;
+use std::alloc::Global;
+use tp_record::entries::{
+    Ask, Did, Failed, Grown, Looked, Offered, Opened, Ruled, Seconded, Started, Took,
+};
+use tp_record::rows::{SlotRow, Stage, TaskRow};
+use tp_types::configs::{Config, Policy, QueueKind, Verdict};
+use tp_types::ids::{SlotId, TaskId};
+use tp_types::refusals::PoolError;
+use tp_types::tasks::{Kind, Outcome, Place};
+
+/// Reserved and live slots together.
+pub fn slot_count(state: &Snapshot) -> usize
+    ensures { result ≡ steps.slot_count (shown state.now) }
+{
+    let mut count = 0;
+    for slot in &state.slots {
+        if slot.is_some() {
+            count += 1;
+        }
+    }
+    count
+}
+
+/// Whether the pool wants a worker: it runs, or is shut down with tasks in its queue.
+pub fn wants_worker(state: &Snapshot) -> bool
+    ensures { result ≡ steps.wants_worker (shown state.now) }
+{
+    state.rank == 0 || (state.rank == 1 && !state.queue.is_empty())
+}
+
+/// Whether there is room for what is owed.
+pub fn has_room(config: &Config, state: &Snapshot) -> bool
+    requires { IsSmall 1048577 (shown state.now) }
+    ensures { result ≡ nat_le ((shown state.now).steps + states.due (shown state.now)) config.now.record_limit }
+{
+    u64::from(state.steps) + due(state) <= u64::from(config.record_limit)
+}
+
+/// Whether the room left after this entry is at least what is owed then.
+pub fn leaves_room(
+    alloc: Global,
+    config: &Config,
+    state: &Snapshot,
+    did: Did,
+) -> Result<bool, PoolError>
+    requires { IsSmall 1048576 (shown state.now) }
+    ensures leaves { IfOk result (λ b. b ≡ steps.leaves_room config.now (shown state.now) did) }
+    ensures refused { IsOkUnless result PoolError.NoMemory }
+{
+    let after = next(alloc, state, did)?;
+    Ok(has_room(config, &after))
+}
+
+/// The row of task `t`, where it was submitted.
+pub fn row_of(state: &Snapshot, t: TaskId) -> Result<TaskRow, PoolError>
+    ensures { result
+        ≡ (if nat_lt t.0 (length state.now.tasks.items) then Ok (states.task_at (shown state.now) t.0)
+        else Err PoolError.UnknownTask) }
+{
+    if (t.0 as usize) < state.tasks.len() {
+        Ok(task_at(state, t))
+    } else {
+        Err(PoolError::UnknownTask)
+    }
+}
+
+/// The row of slot `v`, where it is a slot.
+pub fn seat_of(state: &Snapshot, v: SlotId) -> Result<SlotRow, PoolError>
+    ensures { result ≡ ok_or (states.slot_at state.now.slots.items v.0) PoolError.UnknownSlot }
+{
+    slot_of(state, v).ok_or(PoolError::UnknownSlot)
+}
+
+/// A look: refused above running, a core slot below the core size, else to be offered.
+pub fn look(state: &Snapshot, w: SlotId) -> Looked
+    ensures { result ≡ steps.look (shown state.now) w.0 }
+{
+    if state.rank > 0 {
+        Looked::Refuse
+    } else if slot_count(state) < state.core as usize {
+        Looked::Reserve(w)
+    } else {
+        Looked::Queue
+    }
+}
+
+/// The answer to a submission.
+pub fn submit_answer(state: &Snapshot, w: SlotId, kind: Kind) -> Result<Did, PoolError>
+    ensures { result ≡ steps.submit_answer (shown state.now) w.0 kind }
+{
+    let count = state.tasks.len();
+    if count < 4_294_967_295 {
+        Ok(Did::Submit(TaskId(count as u32), kind, look(state, w)))
+    } else {
+        Err(PoolError::BookFull)
+    }
+}
+
+/// The answer to a look after a retry.
+pub fn look_answer(state: &Snapshot, w: SlotId, t: TaskId, place: Place) -> Result<Did, PoolError>
+    ensures { result ≡ steps.look_answer (shown state.now) w.0 t place }
+{
+    match place {
+        Place::Looking => Ok(Did::Look(t, look(state, w))),
+        _ => Err(PoolError::NotThere),
+    }
+}
+
+/// Where an offered task goes.
+pub fn offer_to(queue: QueueKind, state: &Snapshot, t: TaskId) -> Result<Did, PoolError>
+    ensures { result ≡ steps.offer_to queue (shown state.now) t }
+{
+    match queue {
+        QueueKind::Handoff => match state.idling.first() {
+            Some(w) => Ok(Did::Offer(t, Offered::Hand(SlotId(*w)))),
+            None => Ok(Did::Offer(t, Offered::Full)),
+        },
+        QueueKind::Unbounded => Ok(Did::Offer(t, Offered::Queued)),
+        QueueKind::Bounded(capacity) if state.queue.len() < capacity as usize => Ok(Did::Offer(
+            t,
+            Offered::Queued,
+        )),
+        QueueKind::Bounded(_) => Ok(Did::Offer(t, Offered::Full)),
+    }
+}
+
+/// The answer to an offer.
+pub fn offer_answer(
+    config: &Config,
+    state: &Snapshot,
+    t: TaskId,
+    place: Place,
+) -> Result<Did, PoolError>
+    ensures { result ≡ steps.offer_answer config.now (shown state.now) t place }
+{
+    match place {
+        Place::ToOffer => offer_to(config.queue, state, t),
+        _ => Err(PoolError::NotThere),
+    }
+}
+
+/// The answer to a second look.
+pub fn second_answer(state: &Snapshot, w: SlotId, t: TaskId, row: TaskRow) -> Result<Did, PoolError>
+    ensures { result ≡ steps.second_answer (shown state.now) w.0 t row }
+{
+    if !row.second {
+        Err(PoolError::NotThere)
+    } else if state.rank > 0 && row.place == Place::Queued {
+        Ok(Did::Second(t, Seconded::Back))
+    } else if slot_count(state) == 0 && wants_worker(state) {
+        Ok(Did::Second(t, Seconded::StayReserve(w)))
+    } else {
+        Ok(Did::Second(t, Seconded::Stay))
+    }
+}
+
+/// The answer to an attempt to grow.
+pub fn grow_answer(state: &Snapshot, w: SlotId, t: TaskId, place: Place) -> Result<Did, PoolError>
+    ensures { result ≡ steps.grow_answer (shown state.now) w.0 t place }
+{
+    match place {
+        Place::ToGrow => {
+            if state.rank == 0 && slot_count(state) < state.maximum as usize {
+                Ok(Did::Grow(t, Grown::Reserve(w)))
+            } else {
+                Ok(Did::Grow(t, Grown::Refuse))
+            }
+        }
+        _ => Err(PoolError::NotThere),
+    }
+}
+
+/// Whether the policy allows this verdict: it is its own, or any where a handler answers.
+pub fn allows(policy: Policy, verdict: Verdict) -> bool
+    ensures { result ≡ steps.allows policy verdict }
+{
+    match (policy, verdict) {
+        (Policy::Own, _) => true,
+        (Policy::Abort, Verdict::Abort) => true,
+        (Policy::CallerRuns, Verdict::CallerRuns) => true,
+        (Policy::Discard, Verdict::Discard) => true,
+        (Policy::DiscardOldest, Verdict::DiscardOldest) => true,
+        _ => false,
+    }
+}
+
+/// A retry drops the queue's head, where there is one.
+pub fn retry_of(state: &Snapshot) -> Ruled
+    ensures { result ≡ steps.retry_of state.now.queue.items }
+{
+    match state.queue.first() {
+        Some(t) => Ruled::RetryDrop(TaskId(*t)),
+        None => Ruled::Retry,
+    }
+}
+
+/// A retry where the pool runs, after fewer than 64 retries, and with room for it.
+pub fn retried(
+    alloc: Global,
+    config: &Config,
+    state: &Snapshot,
+    t: TaskId,
+    row: TaskRow,
+) -> Result<Ruled, PoolError>
+    requires { IsSmall 1048576 (shown state.now) }
+    ensures ruled { IfOk result (λ r. r ≡ steps.retried config.now (shown state.now) t row) }
+    ensures refused { IsOkUnless result PoolError.NoMemory }
+{
+    if state.rank > 0 || row.retries >= 64 {
+        return Ok(Ruled::Discarded);
+    }
+    let retry = retry_of(state);
+    if leaves_room(
+        alloc,
+        config,
+        state,
+        Did::Verdict(t, Verdict::DiscardOldest, retry),
+    )? {
+        Ok(retry)
+    } else {
+        Ok(Ruled::Discarded)
+    }
+}
+
+/// What a verdict makes of a refused task.
+pub fn rule(
+    alloc: Global,
+    config: &Config,
+    state: &Snapshot,
+    t: TaskId,
+    row: TaskRow,
+    verdict: Verdict,
+) -> Result<Ruled, PoolError>
+    requires { IsSmall 1048576 (shown state.now) }
+    ensures ruled { IfOk result (λ r. r ≡ steps.rule config.now (shown state.now) t row verdict) }
+    ensures refused { IsOkUnless result PoolError.NoMemory }
+{
+    match verdict {
+        Verdict::Abort => Ok(Ruled::Rejected),
+        Verdict::Discard => Ok(Ruled::Discarded),
+        Verdict::CallerRuns if state.rank > 0 => Ok(Ruled::Discarded),
+        Verdict::CallerRuns if row.cancelled => Ok(Ruled::Skip),
+        Verdict::CallerRuns => Ok(Ruled::Caller),
+        Verdict::DiscardOldest => retried(alloc, config, state, t, row),
+    }
+}
+
+/// The answer to a verdict.
+pub fn verdict_answer(
+    alloc: Global,
+    config: &Config,
+    state: &Snapshot,
+    t: TaskId,
+    verdict: Verdict,
+    row: TaskRow,
+) -> Result<Did, PoolError>
+    requires { IsSmall 1048576 (shown state.now) }
+    ensures { IsAnswer result (steps.verdict_answer config.now (shown state.now) t verdict row) }
+{
+    if row.place == Place::Refused && allows(config.policy, verdict) {
+        match rule(alloc, config, state, t, row, verdict) {
+            Ok(ruled) => Ok(Did::Verdict(t, verdict, ruled)),
+            Err(_) => Err(PoolError::NoMemory),
+        }
+    } else {
+        Err(PoolError::NotThere)
+    }
+}
+
+/// The answer to the end of a body that its submitter ran.
+pub fn caller_end_answer(t: TaskId, outcome: Outcome, place: Place) -> Result<Did, PoolError>
+    ensures { result ≡ steps.caller_end_answer t outcome place }
+{
+    match place {
+        Place::Caller => Ok(Did::CallerEnd(t, outcome)),
+        _ => Err(PoolError::NotThere),
+    }
+}
+
+/// The answer to a cancel.
+pub fn cancel_answer(t: TaskId, flag: bool, row: TaskRow) -> Result<Did, PoolError>
+    ensures { result ≡ steps.cancel_answer t flag row }
+{
+    if row.kind == Kind::Plain {
+        Err(PoolError::NotFuture)
+    } else {
+        Ok(Did::Cancel(t, flag, fate_of(row).is_none()))
+    }
+}
+
+/// Whether a slot in this stage is reserved and not live.
+pub fn is_reserved(stage: Stage) -> bool
+    ensures { result ≡ steps.is_reserved stage }
+{
+    matches!(
+        stage,
+        Stage::ReservedCore | Stage::ReservedMaximum | Stage::ReservedBare
+    )
+}
+
+/// The answer to a worker that the factory made: it is live while the pool runs, and for a bare slot while it is shut
+/// down.
+pub fn open_answer(state: &Snapshot, v: SlotId, row: SlotRow) -> Result<Did, PoolError>
+    ensures { result ≡ steps.open_answer (shown state.now) v row }
+{
+    if !is_reserved(row.stage) {
+        Err(PoolError::NotThere)
+    } else if state.rank == 0 || (state.rank == 1 && row.task.is_none()) {
+        Ok(Did::Open(v, Opened::Live))
+    } else {
+        match row.task {
+            None => Ok(Did::Open(v, Opened::GivenUp)),
+            Some(t) => Ok(Did::Open(v, Opened::GivenUpRefuse(t))),
+        }
+    }
+}
+
+/// Where a first task goes that gets no worker.
+pub fn failed_task(state: &Snapshot, stage: Stage, task: Option<TaskId>) -> Failed
+    ensures { result ≡ steps.failed_task (shown state.now) stage task }
+{
+    match task {
+        None => Failed::Nothing,
+        Some(t) if stage == Stage::ReservedCore && state.rank == 0 => Failed::Offer(t),
+        Some(t) => Failed::Refuse(t),
+    }
+}
+
+/// The answer where the factory made no worker.
+pub fn fail_answer(state: &Snapshot, v: SlotId, row: SlotRow) -> Result<Did, PoolError>
+    ensures { result ≡ steps.fail_answer (shown state.now) v row }
+{
+    if is_reserved(row.stage) {
+        Ok(Did::Fail(v, failed_task(state, row.stage, row.task)))
+    } else {
+        Err(PoolError::NotThere)
+    }
+}
+
+/// Since when a worker waits: since its entry where it is idle, else since now.
+pub fn since(state: &Snapshot, stage: Stage) -> u64
+    ensures { result ≡ steps.since (shown state.now) stage }
+{
+    match stage {
+        Stage::Idle(moment) => moment,
+        _ => state.moment,
+    }
+}
+
+/// Whether a worker may time out and has waited its keep-alive.
+pub fn timed_out(state: &Snapshot, stage: Stage) -> bool
+    ensures { result ≡ steps.timed_out (shown state.now) stage }
+{
+    let may = (state.core as usize) < slot_count(state) || state.core_timeout;
+    may && state.keep <= state.moment.saturating_sub(since(state, stage))
+}
+
+/// What a worker takes of the queue: its head, or else to leave timed out, or to be idle.
+pub fn next_of_queue(state: &Snapshot, v: SlotId, stage: Stage) -> Result<Did, PoolError>
+    ensures { result ≡ steps.next_of_queue (shown state.now) v stage state.now.queue.items }
+{
+    match state.queue.first() {
+        Some(t) => Ok(Did::Take(v, Took::Head(TaskId(*t)))),
+        None if timed_out(state, stage) => Ok(Did::Take(v, Took::Leave)),
+        None => match stage {
+            Stage::Idle(_) => Err(PoolError::NotThere),
+            _ => Ok(Did::Take(v, Took::Idle)),
+        },
+    }
+}
+
+/// What a worker takes whose slot holds no task.
+pub fn take_next(state: &Snapshot, v: SlotId, stage: Stage) -> Result<Did, PoolError>
+    ensures { result ≡ steps.take_next (shown state.now) v stage }
+{
+    let count = slot_count(state);
+    let empty = state.queue.is_empty();
+    if state.rank >= 2 || (state.rank == 1 && empty) {
+        Ok(Did::Take(v, Took::Leave))
+    } else if (state.maximum as usize) < count && (count > 1 || empty) {
+        Ok(Did::Take(v, Took::Leave))
+    } else {
+        next_of_queue(state, v, stage)
+    }
+}
+
+/// The answer to a worker that asks for its next task: the one that its slot holds, before all else.
+pub fn take_answer(
+    state: &Snapshot,
+    v: SlotId,
+    stage: Stage,
+    task: Option<TaskId>,
+) -> Result<Did, PoolError>
+    ensures { result ≡ steps.take_answer (shown state.now) v stage task }
+{
+    match (stage, task) {
+        (Stage::Working, Some(t)) => match task_at(state, t).place {
+            Place::Held(_) => Ok(Did::Take(v, Took::Held(t))),
+            _ => Err(PoolError::NotThere),
+        },
+        (Stage::Working, None) | (Stage::Idle(_), None) => take_next(state, v, stage),
+        _ => Err(PoolError::NotThere),
+    }
+}
+
+/// The answer to a worker that begins the task that it took.
+pub fn begin_answer(
+    state: &Snapshot,
+    v: SlotId,
+    stage: Stage,
+    task: Option<TaskId>,
+) -> Result<Did, PoolError>
+    ensures { result ≡ steps.begin_answer (shown state.now) v stage task }
+{
+    match (stage, task) {
+        (Stage::Working, Some(t)) => {
+            let row = task_at(state, t);
+            match row.place {
+                Place::Taken(_) if row.cancelled => Ok(Did::Begin(v, Started::Skip(t))),
+                Place::Taken(_) => Ok(Did::Begin(v, Started::Run(t))),
+                _ => Err(PoolError::NotThere),
+            }
+        }
+        _ => Err(PoolError::NotThere),
+    }
+}
+
+/// The answer to a worker that has run its task.
+pub fn end_answer(
+    state: &Snapshot,
+    v: SlotId,
+    outcome: Outcome,
+    stage: Stage,
+    task: Option<TaskId>,
+) -> Result<Did, PoolError>
+    ensures { result ≡ steps.end_answer (shown state.now) v outcome stage task }
+{
+    match (stage, task) {
+        (Stage::Working, Some(t)) => match task_at(state, t).place {
+            Place::Running(_) => Ok(Did::End(v, t, outcome)),
+            _ => Err(PoolError::NotThere),
+        },
+        _ => Err(PoolError::NotThere),
+    }
+}
+
+/// The answer to a dying worker that leaves; a bare slot is reserved in its place where the pool wants a worker and the
+/// slots that are left are below the maximum.
+pub fn leave_answer(state: &Snapshot, w: SlotId, v: SlotId, stage: Stage) -> Result<Did, PoolError>
+    ensures { result ≡ steps.leave_answer (shown state.now) w.0 v stage }
+{
+    match stage {
+        Stage::Dying => {
+            if wants_worker(state) && slot_count(state).saturating_sub(1) < state.maximum as usize {
+                Ok(Did::Leave(v, Some(w)))
+            } else {
+                Ok(Did::Leave(v, None))
+            }
+        }
+        _ => Err(PoolError::NotThere),
+    }
+}
+
+/// The answer to a pool without slots that goes on to the terminated hook.
+pub fn tidy_answer(state: &Snapshot) -> Result<Did, PoolError>
+    ensures { result ≡ steps.tidy_answer (shown state.now) }
+{
+    if slot_count(state) == 0 && (state.rank == 2 || (state.rank == 1 && state.queue.is_empty())) {
+        Ok(Did::Tidy)
+    } else {
+        Err(PoolError::NotThere)
+    }
+}
+
+/// Whether a kind is that of this group.
+pub fn is_of_group(group: u32, kind: Kind) -> bool
+    ensures { result ≡ steps.is_of_group group kind }
+{
+    match kind {
+        Kind::Group(number) => number == group,
+        _ => false,
+    }
+}
+
+/// The answer to an ask for a group's next completed task.
+pub fn done_answer(state: &Snapshot, group: u32) -> Result<Did, PoolError>
+    ensures { result ≡ steps.first_done group (steps.done_of (shown state.now) group) }
+{
+    for t in &state.done {
+        if is_of_group(group, task_at(state, TaskId(*t)).kind) {
+            return Ok(Did::TakeDone(group, TaskId(*t)));
+        }
+    }
+    Err(PoolError::NotThere)
+}
+
+/// How many of the queued tasks are cancelled.
+pub fn cancelled_count(state: &Snapshot) -> u32
+    requires { IsSmall 1048576 (shown state.now) }
+    ensures { result ≡ count_by (λ t. (states.task_at (shown state.now) t).cancelled) state.now.queue.items }
+{
+    let mut count = 0;
+    for t in &state.queue {
+        if task_at(state, TaskId(*t)).cancelled {
+            count += 1;
+        }
+    }
+    count
+}
+
+/// How many prestarts a larger core size asks for: its increase, or as many as tasks are queued.
+pub fn added(state: &Snapshot, size: u32) -> u32
+    ensures { result ≡ steps.added (shown state.now) size }
+{
+    let increase = size.saturating_sub(state.core);
+    (increase as usize).min(state.queue.len()) as u32
+}
+
+/// The answer to a prestart.
+pub fn prestart_answer(state: &Snapshot, w: SlotId) -> Did
+    ensures { Ok result ≡ steps.prestart_answer (shown state.now) w.0 }
+{
+    if slot_count(state) < state.core as usize && wants_worker(state) {
+        Did::Prestart(Some(w))
+    } else {
+        Did::Prestart(None)
+    }
+}
+
+/// The answer where the step fits, without a look at the room; a slot that is made gets the number `w`.
+pub fn fitting(
+    alloc: Global,
+    config: &Config,
+    state: &Snapshot,
+    w: SlotId,
+    ask: Ask,
+) -> Result<Did, PoolError>
+    requires { IsSmall 1048576 (shown state.now) }
+    ensures { IsAnswer result (steps.fitting config.now (shown state.now) w.0 ask) }
+{
+    match ask {
+        Ask::Submit(kind) => submit_answer(state, w, kind),
+        Ask::Look(t) => look_answer(state, w, t, row_of(state, t)?.place),
+        Ask::Offer(t) => offer_answer(config, state, t, row_of(state, t)?.place),
+        Ask::Second(t) => second_answer(state, w, t, row_of(state, t)?),
+        Ask::Grow(t) => grow_answer(state, w, t, row_of(state, t)?.place),
+        Ask::Verdict(t, verdict) => verdict_answer(
+            alloc,
+            config,
+            state,
+            t,
+            verdict,
+            row_of(state, t)?,
+        ),
+        Ask::CallerEnd(t, outcome) => caller_end_answer(t, outcome, row_of(state, t)?.place),
+        Ask::Open(v) => open_answer(state, v, seat_of(state, v)?),
+        Ask::Fail(v) => fail_answer(state, v, seat_of(state, v)?),
+        Ask::Take(v) => {
+            let row = seat_of(state, v)?;
+            take_answer(state, v, row.stage, row.task)
+        }
+        Ask::Begin(v) => {
+            let row = seat_of(state, v)?;
+            begin_answer(state, v, row.stage, row.task)
+        }
+        Ask::End(v, outcome) => {
+            let row = seat_of(state, v)?;
+            end_answer(state, v, outcome, row.stage, row.task)
+        }
+        Ask::Leave(v) => leave_answer(state, w, v, seat_of(state, v)?.stage),
+        Ask::Shutdown => Ok(Did::Shutdown),
+        Ask::Stop => Ok(Did::Stop(state.queue.len() as u32)),
+        Ask::Tidy => tidy_answer(state),
+        Ask::Ended => if state.rank == 3 {
+            Ok(Did::Ended)
+        } else {
+            Err(PoolError::NotThere)
+        },
+        Ask::Remove(t) => Ok(Did::Remove(t, row_of(state, t)?.place == Place::Queued)),
+        Ask::Purge => Ok(Did::Purge(cancelled_count(state))),
+        Ask::Cancel(t, flag) => cancel_answer(t, flag, row_of(state, t)?),
+        Ask::TakeDone(group) => done_answer(state, group),
+        Ask::Core(size) if size <= state.maximum => Ok(Did::Core(size, added(state, size))),
+        Ask::Core(_) => Err(PoolError::BadSizes),
+        Ask::Maximum(size) if size >= 1 && size <= 1024 && state.core <= size => Ok(Did::Maximum(
+            size,
+        )),
+        Ask::Maximum(_) => Err(PoolError::BadSizes),
+        Ask::Keep(ticks) if ticks == 0 && state.core_timeout => Err(PoolError::KeepZero),
+        Ask::Keep(ticks) => Ok(Did::Keep(ticks)),
+        Ask::CoreTimeout(on) if on && state.keep == 0 => Err(PoolError::KeepZero),
+        Ask::CoreTimeout(on) => Ok(Did::CoreTimeout(on)),
+        Ask::Tick(ticks) if state.moment <= ticks => Ok(Did::Tick(ticks)),
+        Ask::Tick(_) => Err(PoolError::ClockBack),
+        Ask::Prestart => Ok(prestart_answer(state, w)),
+    }
+}
+
+/// The answer to an ask over a snapshot, where a slot that is made gets the number `w`.
+pub fn step(
+    alloc: Global,
+    config: &Config,
+    state: &Snapshot,
+    w: SlotId,
+    ask: Ask,
+) -> Result<Did, PoolError>
+    requires { IsSmall 1048576 (shown state.now) }
+    ensures { IsAnswer result (steps.step config.now (shown state.now) w.0 ask) }
+{
+    let did = match fitting(alloc, config, state, w, ask) {
+        Ok(did) => did,
+        Err(error) => return Err(error),
+    };
+    match leaves_room(alloc, config, state, did) {
+        Ok(true) => Ok(did),
+        Ok(false) => Err(PoolError::BookFull),
+        Err(error) => Err(error),
+    }
+}

@@ -1,0 +1,4 @@
+pub mod Entries
+pub mod Agree
+pub mod Worked
+pub mod Further
