@@ -1,0 +1,19 @@
+use Rattle.tp_words.proofs.WordsTasks as tasks
+use Rattle.tp_words.proofs.WordsSlots as slots
+use Rattle.tp_facts.proofs.Told.{told_legal}
+use Rattle.tp_words.proofs.words.tasks_agree.Goals as goal
+
+pub returns-clause-submissions : goal.returns-clause-submissions
+returns-clause-submissions c = slots.submissions_agrees
+
+pub returns-clause-submitted : goal.returns-clause-submitted
+returns-clause-submitted c = λ c h t legal. tasks.is_submitted_below c h (told_legal c h legal) t
+
+pub returns-clause-kind : goal.returns-clause-kind
+returns-clause-kind c = slots.kind_agrees
+
+pub returns-clause-cancelled : goal.returns-clause-cancelled
+returns-clause-cancelled c = λ c h t legal. tasks.cancelled_agrees c h (told_legal c h legal) t
+
+pub returns-clause-moment : goal.returns-clause-moment
+returns-clause-moment c = slots.moment_agrees
