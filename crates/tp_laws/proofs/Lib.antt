@@ -1,0 +1,16 @@
+pub mod Ranks
+pub mod Fits
+pub mod News
+pub mod Begins
+pub mod Late
+pub mod Finishes
+pub mod QueuedOnce
+pub mod Slots
+pub mod Places
+pub mod Fates
+pub mod Seconds
+pub mod Order
+pub mod Sums
+pub mod Counting
+pub mod Sizes
+pub mod Serves

@@ -1,0 +1,137 @@
+-- The slots stay within the maximum, and a bounded queue within its capacity.
+use Rattle.std.proofs.Common.{◌≡◌, ℕ, suc, ◌+◌, ◌<◌, ◌≤◌, max, Bool, true, false, cond, List, [], ◌∷◌, length, Some, None, Option, refl, arith, sym, ap, ◌∙◌, subst}
+use mathlib.Core.Path.{ap₂}
+use Rattle.std.specs.Prelude.{unwrap_or, is_some, count_by, filter, option_to_list}
+use Rattle.std.proofs.lemmas.Bool.{false≢true}
+use Rattle.std.proofs.lemmas.List.{length-append}
+use Rattle.tp_types.specs.declared.configs.Config.{Config}
+use Rattle.tp_types.specs.declared.configs.QueueKind.{QueueKind}
+use Rattle.tp_types.specs.declared.configs.QueueKind.TheVariants.{Handoff, Unbounded, Bounded}
+use Rattle.tp_types.specs.Config.{IsConfig}
+use Rattle.tp_record.specs.declared.entries.Entry.{Entry}
+use Rattle.tp_record.specs.declared.entries.Did.{Did}
+use Rattle.tp_record.specs.declared.entries.Did.TheVariants as did
+use Rattle.tp_record.specs.declared.entries.Looked.TheVariants as looked
+use Rattle.tp_record.specs.declared.entries.Offered.TheVariants as offered
+use Rattle.tp_record.specs.declared.entries.Seconded.TheVariants as seconded
+use Rattle.tp_record.specs.declared.entries.Grown.TheVariants as grown
+use Rattle.tp_record.specs.Lists.{count_from}
+use Rattle.tp_record.specs.Effects.{reserves, frees, queues, sets_core, sets_maximum}
+use Rattle.tp_record.specs.declared.rows.Stage.{Stage}
+use Rattle.tp_record.specs.Fields.{queue, slot_bound, reach, is_slot}
+use Rattle.tp_record.specs.State.{State, state, queue_after, stays_queued}
+use Rattle.tp_record.specs.Step.{slot_count, Legal}
+use Rattle.tp_record.specs.Words.{reserved_by, slot_numbers, is_slot_now}
+use Rattle.tp_facts.proofs.Given.{Given, Told, HasQueueRoom}
+use Rattle.tp_facts.proofs.Told.{told_legal}
+use Rattle.tp_model.proofs.NextState.{next_is_state}
+use Rattle.tp_words.proofs.WordsQueue.{queue_words}
+use Rattle.tp_words.proofs.WordsSlots.{slot_agrees}
+use Rattle.tp_laws.specs.Laws.{slots_now, SlotsWithinMaximum, IsWithin, QueueWithinCapacity}
+use Rattle.tp_laws.proofs.Counting.{one, slot_count-more, slots_counted_below, count_same}
+
+-- the settings that size the pool: the core is within the maximum, and the maximum is at least 1
+abbrev Sized : ℕ → ℕ → Type 0
+Sized core maximum = (core ≤ maximum) × (1 ≤ maximum)
+
+sized_said : (c : Config) (h : List Entry) (d : Did) → Given c h d → Sized (state c h).core (state c h).maximum →
+    Sized (unwrap_or (sets_core d) (state c h).core) (unwrap_or (sets_maximum d) (state c h).maximum)
+sized_said c h (did.Core n k) given was = (given, was.1)
+sized_said c h (did.Maximum n) given was = (given.2, given.0)
+sized_said c h _ given was = was
+
+pub sized : (c : Config) (h : List Entry) → IsConfig c → Told c h → Sized (state c h).core (state c h).maximum
+sized c [] config told = (config.greatest_core, config.least_maximum)
+sized c (e ∷ h) config told = sized_said c h e.did told.0 (sized c h config told.1)
+
+-- an entry that reserves leaves at most as many slots as the maximum, m slots being those that it keeps
+reserved_within : (c : Config) (h : List Entry) (d : Did) (m : ℕ) → Given c h d → Sized (state c h).core (state c h).maximum →
+    m + one (is_some (frees d)) ≡ slot_count (state c h) → is_some (reserves d) ≡ true → m + 1 ≤ (state c h).maximum
+reserved_within c h (did.Submit t k (looked.Reserve w)) m given sizes kept is = let room = given.1.1 in let low = sizes.0 in omega arith
+reserved_within c h (did.Look t (looked.Reserve w)) m given sizes kept is = let room = given.1.1 in let low = sizes.0 in omega arith
+reserved_within c h (did.Second t (seconded.StayReserve w)) m given sizes kept is = let none = given.3 in let low = sizes.1 in omega arith
+reserved_within c h (did.Grow t (grown.Reserve w)) m given sizes kept is = let room = given.2 in omega arith
+reserved_within c h (did.Leave v (Some w)) m given sizes kept is = let room = given.2 in omega arith
+reserved_within c h (did.Prestart (Some w)) m given sizes kept is = let room = given.0 in let low = sizes.0 in omega arith
+reserved_within c h _ m given sizes kept is = absurd (false≢true is)
+
+same_maximum : (d : Did) (n : ℕ) → is_some (reserves d) ≡ true → unwrap_or (sets_maximum d) n ≡ n
+same_maximum d n is = grind arith
+
+pub slots_within : (c : Config) (h : List Entry) (e : Entry) → IsConfig c → Told c (e ∷ h) → is_some (reserves e.did) ≡ true → slot_count (state c (e ∷ h)) ≤ (state c (e ∷ h)).maximum
+slots_within c h e config told is =
+    let more = slot_count-more c e h told in
+    let within : more.0 + 1 ≤ (state c h).maximum = reserved_within c h e.did more.0 told.0 (sized c h config told.1) more.2 is in
+    let count : slot_count (state c (e ∷ h)) ≡ more.0 + one (is_some (reserves e.did)) = more.1 in
+    let made : one (is_some (reserves e.did)) ≡ 1 = ap one is in
+    let same : unwrap_or (sets_maximum e.did) (state c h).maximum ≡ (state c h).maximum = same_maximum e.did (state c h).maximum is in
+    omega arith
+
+-- a filter keeps at most what there is
+filter_short : (p : ℕ → Bool) (xs : List ℕ) → length (filter p xs) ≤ length xs
+filter_short p [] = omega arith
+filter_short p (x ∷ xs) = by_test (p x) (filter_short p xs)
+  where
+    by_test : (b : Bool) → length (filter p xs) ≤ length xs → length (cond b (x ∷ filter p xs) (filter p xs)) ≤ suc (length xs)
+    by_test true short = omega arith
+    by_test false short = omega arith
+
+queue_room : (c : Config) (h : List Entry) (d : Did) → Given c h d → is_some (queues d) ≡ true → HasQueueRoom c.queue (length (queue h))
+queue_room c h (did.Offer t offered.Queued) given is = given.1
+queue_room c h _ given is = absurd (false≢true is)
+
+within_more : (k : QueueKind) (n m : ℕ) (o : Option ℕ) → m ≤ n + length (option_to_list o) → (is_some o ≡ true → HasQueueRoom k n) → IsWithin k n → IsWithin k m
+within_more Unbounded n m o short room was = tt
+within_more Handoff n m None short room was = let e : n ≡ 0 = was in omega arith
+within_more Handoff n m (Some u) short room was = absurd (room refl)
+within_more (Bounded b) n m None short room was = let e : n ≤ b = was in omega arith
+within_more (Bounded b) n m (Some u) short room was = let r : n < b = room refl in omega arith
+
+queue_shorter : (c : Config) (e : Entry) (h : List Entry) → Legal c (e ∷ h) → length (queue (e ∷ h)) ≤ length (queue h) + length (option_to_list (queues e.did))
+queue_shorter c e h legal =
+    let same : queue (e ∷ h) ≡ queue_after e.did (state c h).tasks (queue h) = ap (λ (s : State). s.queue) (next_is_state c h e legal.1 legal.0) in
+    let long : length (queue_after e.did (state c h).tasks (queue h)) ≡ length (filter (stays_queued e.did (state c h).tasks) (queue h)) + length (option_to_list (queues e.did)) = length-append _ _ in
+    let short : length (filter (stays_queued e.did (state c h).tasks) (queue h)) ≤ length (queue h) = filter_short (stays_queued e.did (state c h).tasks) (queue h) in
+    let total : length (queue (e ∷ h)) ≡ length (queue_after e.did (state c h).tasks (queue h)) = ap length same in
+    omega arith
+
+queue_within : (c : Config) (h : List Entry) → Legal c h → IsWithin c.queue (length (queue h))
+queue_within c [] legal = none c.queue
+  where
+    none : (k : QueueKind) → IsWithin k 0
+    none Handoff = refl
+    none Unbounded = tt
+    none (Bounded b) = omega arith
+queue_within c (e ∷ h) legal =
+    within_more c.queue (length (queue h)) (length (queue (e ∷ h))) (queues e.did) (queue_shorter c e h legal) (queue_room c h e.did (told_legal c (e ∷ h) legal).0) (queue_within c h legal.1)
+
+pub queue_within_capacity : (c : Config) (h : List Entry) → Legal c h → QueueWithinCapacity c h
+queue_within_capacity c h legal = subst (IsWithin c.queue) (ap length (sym (queue_words c h (told_legal c h legal)))) (queue_within c h legal)
+
+-- the number that an entry reserves, in words and by the tables
+abbrev above : Option (ℕ × Stage) → ℕ
+above None = 0
+above (Some p) = suc p.0
+
+above_reach : (d : Did) → above (reserved_by d) ≡ reach (reserves d)
+above_reach d = grind arith
+
+numbers_agree : (h : List Entry) → slot_numbers h ≡ slot_bound h
+numbers_agree [] = refl
+numbers_agree (e ∷ h) = ap₂ max (numbers_agree h) (above_reach e.did)
+
+-- the slots in words are those that the state counts
+pub slots_agree : (c : Config) (h : List Entry) → slots_now h ≡ slot_count (state c h)
+slots_agree c h =
+    ap (λ n. count_by (is_slot_now h) (count_from 0 n)) (numbers_agree h)
+    ∙ count_same (is_slot_now h) (is_slot h) 0 (slot_bound h) (λ w from. slot_agrees h w)
+    ∙ sym (slots_counted_below c h)
+
+reserves_agrees : (d : Did) → is_some (reserved_by d) ≡ is_some (reserves d)
+reserves_agrees d = grind arith
+
+pub slots_within_maximum : (c : Config) (e : Entry) (h : List Entry) → IsConfig c → Told c (e ∷ h) → SlotsWithinMaximum c e h
+slots_within_maximum c e h config told is =
+    let count : slots_now (e ∷ h) ≡ slot_count (state c (e ∷ h)) = slots_agree c (e ∷ h) in
+    let within : slot_count (state c (e ∷ h)) ≤ (state c (e ∷ h)).maximum = slots_within c h e config told (sym (reserves_agrees e.did) ∙ is) in
+    omega arith

@@ -1,0 +1,6 @@
+use Rattle.tp_facts.proofs.Told.{told_legal}
+use Rattle.tp_laws.proofs.Places as laws
+use Rattle.tp_laws.proofs.shutdown.owed_after_tidy.Goals as goal
+
+pub returns : goal.returns
+returns c = λ c h legal. laws.owed_after_tidy c h (told_legal c h legal)

@@ -1,0 +1,6 @@
+use Rattle.tp_facts.proofs.Told.{told_legal}
+use Rattle.tp_laws.proofs.Begins as laws
+use Rattle.tp_laws.proofs.tasks.begins_once.Goals as goal
+
+pub returns : goal.returns
+returns c = λ c h legal. laws.begins_once c h (told_legal c h legal)

@@ -1,0 +1,6 @@
+use Rattle.tp_facts.proofs.Told.{told_legal}
+use Rattle.tp_laws.proofs.Places as laws
+use Rattle.tp_laws.proofs.tasks.one_task_a_slot.Goals as goal
+
+pub returns : goal.returns
+returns c = λ c h legal. laws.one_task_a_slot c h (told_legal c h legal)

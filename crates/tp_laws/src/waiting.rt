@@ -1,0 +1,28 @@
+//! The queue.
+
+ghost use Rattle.std.specs.Prelude.{List, ◌∷◌, ◌++◌};
+ghost use Rattle.tp_laws.specs.Laws.{FirstLeaves, QueueOrder, QueueWithinCapacity, QueuedOnce};
+ghost use Rattle.tp_record.specs.Step.{Legal};
+ghost use Rattle.tp_record.specs.declared.entries.Entry.{Entry};
+ghost use Rattle.tp_types.specs.declared.configs.Config.{Config};
+
+/// A task is put in the queue at most once: one that came back from it at a second look is not queued
+/// again, and a retry under `DiscardOldestPolicy` offers only what was never queued.
+pub fn queued_once()
+    ensures { (c : Config) (h : List Entry) → Legal c h → QueuedOnce h }
+{}
+
+/// Tasks leave by order, first in, first out: who is taken by a worker or dropped as the oldest is the
+/// first that waits, and each task that was put in the queue before it has left. Removing, purging,
+/// draining and taking back are other ways out, and have no order.
+pub fn queue_order()
+    ensures first { (c : Config) (e : Entry) (h : List Entry) → Legal c (e ∷ h) → FirstLeaves e h }
+    ensures order { (c : Config) (e : Entry) (after between before : List Entry) (queues_u queues_t : Entry) →
+        Legal c (e ∷ (after ++ queues_u ∷ (between ++ queues_t ∷ before))) →
+        QueueOrder e after queues_u between queues_t before }
+{}
+
+/// A bounded queue never exceeds its capacity, and a queue of no places never has a task.
+pub fn queue_within_capacity()
+    ensures { (c : Config) (h : List Entry) → Legal c h → QueueWithinCapacity c h }
+{}
