@@ -1,0 +1,3 @@
+pub mod EndLines
+pub mod EntryLine
+pub mod RunText

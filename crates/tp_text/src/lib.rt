@@ -1,0 +1,10 @@
+//! The text that a run of a scenario writes: a line for each entry and each refusal, and at the end the fates, the
+//! run state and the counters. Each function gives one whole line, exactly as `specs/` has it.
+#![tactic(auto)]
+
+mod answers;
+pub mod ends;
+pub mod entries;
+pub mod runs;
+#[cfg(test)]
+mod tests;

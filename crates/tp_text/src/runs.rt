@@ -1,0 +1,72 @@
+//! What a run writes, step by step.
+ghost use Rattle.std.specs.Prelude.{◌≡◌, ℕ, suc, ◌+◌, ◌<◌, List, [], ◌∷◌, ◌++◌, length, map, take, Ok, IfOk, IsOkUnless};
+ghost use Rattle.tp_types.specs.declared.configs.Config.{Config};
+ghost use Rattle.tp_types.specs.declared.states.RunState.{RunState};
+ghost use Rattle.tp_types.specs.RunState.{state_rank};
+ghost use Rattle.tp_record.specs.declared.entries.Entry.{Entry};
+ghost use Rattle.tp_record.specs.declared.rows.TaskRow.{TaskRow};
+ghost use Rattle.tp_record.specs.State.{state, fate_of, row_at};
+ghost use Rattle.tp_text.specs.EndLines.{fate_line, state_line, state_at};
+ghost use Rattle.tp_text.specs.RunText.{Answer, drained, answer_lines, after, after_all, run_lines, fate_lines, output, IsFront};
+
+use crate::ends::back_line;
+use crate::entries::entry_line;
+use std::alloc::Global;
+use tp_record::entries::Entry;
+use tp_types::ids::TaskId;
+use tp_types::refusals::PoolError;
+
+/// What an accepted step writes: its entry's line, and after it the line of the tasks that it handed
+/// back, where there are any.
+pub fn entry_lines(
+    alloc: Global,
+    number: usize,
+    entry: &Entry,
+    back: &[TaskId],
+) -> Result<Vec<u8>, PoolError>
+    ensures text { IfOk result (λ lines. (h : List Entry) → number ≡ suc (length h)
+        → map (λ task. task.0) back.now ≡ drained h entry.now.did → lines.items ≡ answer_lines h (Ok entry.now)) }
+    ensures only_memory { IsOkUnless result PoolError.NoMemory }
+{
+    let mut lines = entry_line(alloc, number, entry)?;
+    if !back.is_empty() {
+        let back = back_line(alloc, back)?;
+        lines
+            .extend_from_slice(back.as_slice())
+            .map_err(|_| PoolError::NoMemory)?;
+    }
+    Ok(lines)
+}
+
+/// The law that what a run writes grows by what each answer writes.
+pub fn lines_grow()
+    ensures history { (h : List Entry) (earlier : List Answer) (a : Answer)
+        → after_all h (earlier ++ a ∷ []) ≡ after (after_all h earlier) a }
+    ensures lines { (h : List Entry) (earlier : List Answer) (a : Answer)
+        → run_lines h (earlier ++ a ∷ []) ≡ run_lines h earlier ++ answer_lines (after_all h earlier) a }
+    ensures parts { (h : List Entry) (earlier later : List Answer)
+        → run_lines h (earlier ++ later) ≡ run_lines h earlier ++ run_lines (after_all h earlier) later }
+{}
+
+/// The law that the lines of fates grow task by task.
+pub fn fates_grow()
+    ensures { (i : ℕ) (rows : List TaskRow) → i < length rows
+        → fate_lines 0 (take (suc i) rows) ≡ fate_lines 0 (take i rows) ++ fate_line i (fate_of (row_at rows i)) }
+{}
+
+/// The law that a run whose writing breaks off has written the front of an output: between two
+/// answers, between two fates, or before the counters.
+pub fn broken_off_is_front()
+    ensures answers { (c : Config) (earlier later : List Answer)
+        → IsFront (run_lines [] earlier) (output c (earlier ++ later)) }
+    ensures fates { (c : Config) (answers : List Answer) (i : ℕ)
+        → IsFront (run_lines [] answers ++ fate_lines 0 (take i (state c (after_all [] answers)).tasks)) (output c answers) }
+    ensures state { (c : Config) (answers : List Answer)
+        → IsFront (run_lines [] answers ++ (fate_lines 0 (state c (after_all [] answers)).tasks
+        ++ state_line (state_at (state c (after_all [] answers)).rank))) (output c answers) }
+{}
+
+/// The law that the state of a run state's rank is that run state.
+pub fn ranks_name_states()
+    ensures { (s : RunState) → state_at (state_rank s) ≡ s }
+{}
