@@ -1,0 +1,17 @@
+pub mod BeginSteps
+pub mod Counts
+pub mod EndSteps
+pub mod FateCounts
+pub mod Goes
+pub mod Heads
+pub mod Keeps
+pub mod Moves
+pub mod OfferSteps
+pub mod OpenSteps
+pub mod Owed
+pub mod Quiets
+pub mod RowSteps
+pub mod SecondSteps
+pub mod Slots
+pub mod SubmitSteps
+pub mod TakeSteps

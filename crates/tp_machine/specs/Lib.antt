@@ -1,0 +1,5 @@
+pub mod Handed
+pub mod Owed
+pub mod Parts
+pub mod Seen
+pub mod Settings

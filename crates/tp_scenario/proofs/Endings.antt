@@ -1,0 +1,128 @@
+-- How a run of a scenario ends, case by case.
+use Rattle.std.proofs.Common.{◌≡◌, ◌⊎◌, inl, inr, ℕ, List, [], ◌++◌, length, take, Bool, true, false, not, Option, Some, None, Result, Ok, Err, is_err, OnOk, IfSome, unwrap_or, refl, sym, ◌∙◌, ap, subst, append_assoc, append-nil, if◌then◌else◌}
+use Rattle.std.specs.Io.KnownBytes.{Appends, Keeps}
+use Rattle.std.proofs.KnownBytes.{Keeps-refl, Appends-kept}
+use Rattle.std.proofs.Math.Seq.{take-length}
+use Rattle.tp_types.specs.declared.configs.Config.{Config}
+use Rattle.tp_types.specs.declared.refusals.PoolError.{PoolError}
+use Rattle.tp_types.specs.declared.refusals.PoolError.TheVariants.{NoMemory, BadLine, ReadFailed, WriteFailed, BadSizes, BadCapacity, BadLimit, KeepZero}
+use Rattle.tp_types.specs.Config.{checked, are_good_sizes, is_good_capacity, is_good_limit, is_good_keep}
+use Rattle.tp_record.specs.State.{State, state}
+use Rattle.tp_text.specs.RunText.{Answer, after_all, run_lines, end_lines, IsFront}
+use Rattle.tp_scenario.specs.declared.lines.PoolLine.{PoolLine}
+use Rattle.tp_scenario.specs.Pools.{config_of}
+use Rattle.tp_scenario.specs.Scenario.{Asked, Said}
+use Rattle.tp_scenario.specs.Played.{Ending, IsPlay, IsPlayed, IsRun, ComesOf, ComesOfPool, BreaksOff, ending_of, written}
+use Rattle.tp_scenario.specs.Answered.{Breaks, PlaysFrom, Playing, Stands}
+use Rattle.tp_scenario.proofs.PlayLaws.{play}
+
+-- what a scenario comes to whose steps were all played
+pub comes_played : (p : PoolLine) (asked : Asked) (out : List ℕ) (ending : Ending) (c : Config) (answers : List Answer) → c ≡ config_of p → Ok tt ≡ checked c → PlaysFrom c [] [] asked.0 answers
+    → out ≡ written c answers asked.1 → ending ≡ ending_of asked.1 → ComesOf (Ok (p, asked)) out ending
+comes_played p asked out ending c answers one good plays writes ends =
+    let d : Config = config_of p in
+    let there : PlaysFrom d [] [] asked.0 answers = subst (λ x. PlaysFrom x [] [] asked.0 answers) one plays in
+    subst (λ r. ComesOfPool r d asked out ending) (good ∙ ap checked one) (answers, play d asked.0 answers there, writes ∙ ap (λ x. written x answers asked.1) one, ends)
+
+-- with a bad line
+pub comes_bad : (p : PoolLine) (asked : Asked) (k : ℕ) (out : List ℕ) (c : Config) (answers : List Answer) (r : Playing) → c ≡ config_of p → Ok tt ≡ checked c → asked.1 ≡ Some k → Stands c asked.0 answers r out
+    → ComesOf (Ok (p, asked)) out (Err (BadLine k))
+comes_bad p asked k out c answers r one good bad stands =
+    comes_played p asked out (Err (BadLine k)) c answers one good stands.plays (stands.output ∙ ap (written c answers) (sym bad)) (ap ending_of (sym bad))
+
+-- with its end
+pub comes_whole : (p : PoolLine) (asked : Asked) (mid out : List ℕ) (c : Config) (answers : List Answer) (r : Playing) → c ≡ config_of p → Ok tt ≡ checked c → asked.1 ≡ None → Stands c asked.0 answers r mid
+    → out ≡ mid ++ end_lines (state r.config r.history) → ComesOf (Ok (p, asked)) out (Ok tt)
+comes_whole p asked mid out c answers r one good none stands ends =
+    comes_played p asked out (Ok tt) c answers one good stands.plays
+    (ends ∙ ap (λ x. x ++ end_lines (state r.config r.history)) stands.output ∙ ap (λ (q : Playing). run_lines [] answers ++ end_lines (state q.config q.history)) stands.runner ∙ ap (written c answers) (sym none))
+    (ap ending_of (sym none))
+
+-- a pool that could not be made
+pub comes_of_new : (p : PoolLine) (asked : Asked) (out : List ℕ) (c : Config) (e : PoolError) → c ≡ config_of p → out ≡ [] → (checked c ≡ Err e) ⊎ (e ≡ NoMemory)
+    → ComesOf (Ok (p, asked)) out (Err e) ⊎ ((◌≡◌ {A = Ending} (Err e) (Err NoMemory)) × BreaksOff (Ok (p, asked)) out)
+comes_of_new p asked out c e one empty (inl is) =
+    inl (subst (λ r. ComesOfPool r (config_of p) asked out (Err e)) (sym is ∙ ap checked one) (empty, refl))
+comes_of_new p asked out c e one empty (inr is) = inr (ap Err is, ([], 0, (play (config_of p) [] [] tt, inl empty)))
+
+-- memory gave out between two answers
+pub breaks_off : (p : PoolLine) (asked : Asked) (out : List ℕ) (c : Config) → c ≡ config_of p → Breaks c asked.0 out → BreaksOff (Ok (p, asked)) out
+breaks_off p asked out c one b =
+    (b.1, b.0, (play (config_of p) (take b.0 asked.0) b.1 (subst (λ x. PlaysFrom x [] [] (take b.0 asked.0) b.1) one b.2), inl b.3))
+
+front_of : (front out mid run : List ℕ) (s : State) → mid ≡ run → out ≡ mid ++ front → IsFront front (end_lines s) → IsFront out (run ++ end_lines s)
+front_of front out mid run s written grows more =
+    (more.0, ap (λ x. run ++ x) more.1 ∙ sym (append_assoc run front more.0) ∙ ap (λ x. x ++ more.0) (sym (grows ∙ ap (λ x. x ++ front) written)))
+
+-- memory gave out at the end
+pub breaks_end : (p : PoolLine) (asked : Asked) (mid out front : List ℕ) (c : Config) (answers : List Answer) (r : Playing) → c ≡ config_of p → asked.1 ≡ None → Stands c asked.0 answers r mid
+    → out ≡ mid ++ front → IsFront front (end_lines (state r.config r.history)) → BreaksOff (Ok (p, asked)) out
+breaks_end p asked mid out front c answers r one none stands grows more =
+    let d : Config = config_of p in
+    let there : PlaysFrom d [] [] asked.0 answers = subst (λ x. PlaysFrom x [] [] asked.0 answers) one stands.plays in
+    let seen : r ≡ record { config = d; history = r.history; outcomes = r.outcomes } = ap (λ (q : Playing). record { config = q.config; history = r.history; outcomes = r.outcomes }) stands.runner ∙ ap (λ x. record { config = x; history = r.history; outcomes = r.outcomes }) one in
+    let at : state r.config r.history ≡ state d (after_all [] answers) = ap (λ (q : Playing). state q.config q.history) stands.runner ∙ ap (λ x. state x (after_all [] answers)) one in
+    let more_there : IsFront front (end_lines (state d (after_all [] answers))) = subst (λ s. IsFront front (end_lines s)) at more in (
+      answers,
+      length asked.0,
+      (
+        subst (λ x. IsPlay d x answers) (sym (take-length asked.0)) (play d asked.0 answers there),
+        inr (refl, none, front_of front out mid (run_lines [] answers) (state d (after_all [] answers)) stands.output grows more_there),
+      ),
+    )
+
+-- a check answers no failed read
+not_read : (a b c d : Bool) → ◌≡◌ {A = Ending} (if not a then Err BadSizes else (if not b then Err BadCapacity else (if not c then Err BadLimit else (if not d then Err KeepZero else Ok tt)))) (Err ReadFailed) → ⊥
+not_read false b c d is = cc
+not_read true false c d is = cc
+not_read true true false d is = cc
+not_read true true true false is = cc
+not_read true true true true is = cc
+
+bad_not_read : (o : Option ℕ) → ending_of o ≡ Err ReadFailed → ⊥
+bad_not_read None is = cc
+bad_not_read (Some k) is = cc
+
+checked_not_read : (r : Ending) (c : Config) (asked : Asked) (out : List ℕ) (ending : Ending) → (r ≡ Err ReadFailed → ⊥) → ComesOfPool r c asked out ending → ending ≡ Err ReadFailed → ⊥
+checked_not_read (Err e) c asked out ending never comes is = never (sym comes.1 ∙ is)
+checked_not_read (Ok u) c asked out ending never comes is = bad_not_read asked.1 (sym comes.3 ∙ is)
+
+said_not_read : (s : Said) (out : List ℕ) (ending : Ending) → ComesOf s out ending → ending ≡ Err ReadFailed → ⊥
+said_not_read (Err k) out ending comes is = let e : ◌≡◌ {A = Ending} (Err (BadLine k)) (Err ReadFailed) = sym comes.1 ∙ is in cc
+said_not_read (Ok q) out ending comes is =
+    let c : Config = config_of q.0 in
+    checked_not_read (checked c) c q.1 out ending (not_read (are_good_sizes c.core c.maximum) (is_good_capacity c.queue) (is_good_limit c.record_limit) (is_good_keep c.keep c.core_timeout)) comes is
+
+-- what is played never fails to be read
+pub never_read : (text out : List ℕ) (ending : Ending) → IsPlayed text out ending → ending ≡ Err ReadFailed → ⊥
+never_read text out ending (inl comes) is = said_not_read comes.0 out ending comes.2 is
+never_read text out ending (inr memory) is = let e : ◌≡◌ {A = Ending} (Err NoMemory) (Err ReadFailed) = sym memory.0 ∙ is in cc
+
+-- a run that was read, played and written
+pub ran : (input old new : Option (List ℕ)) (text out : List ℕ) (ending : Ending) → IfSome input (λ xs. text ≡ xs) → IsPlayed text out ending → Appends old new out → IsRun input old new ending
+ran input old new text out (Ok u) known played appends = (text, out, known, played, appends)
+ran input old new text out (Err ReadFailed) known played appends = absurd (never_read text out (Err ReadFailed) played refl)
+ran input old new text out (Err WriteFailed) known played appends = tt
+ran input old new text out (Err e) known played appends = (text, out, known, played, appends)
+
+known_or : (input : Option (List ℕ)) → IfSome input (λ xs. unwrap_or input [] ≡ xs)
+known_or None = tt
+known_or (Some xs) = refl
+
+no_more : (old : Option (List ℕ)) → Appends old old []
+no_more None = tt
+no_more (Some xs) = sym (append-nil xs)
+
+-- a run that was not read
+pub unread : (input old : Option (List ℕ)) (e : PoolError) → (e ≡ ReadFailed) ⊎ (e ≡ NoMemory) → IsRun input old old (Err e)
+unread input old e (inl is) = subst (λ x. IsRun input old old (Err x)) (sym is) (Keeps-refl old)
+unread input old e (inr is) = subst (λ x. IsRun input old old (Err x)) (sym is) (unwrap_or input [], [], known_or input, inr (refl, inl refl), no_more old)
+
+-- what holds on success, where there was one
+pub on_success : {A E : Type 0} (r : Result A E) (P : Type 0) → false ≡ is_err r → OnOk r P → P
+on_success (Ok a) P none holds = holds
+on_success (Err e) P none holds = cc
+
+-- what was written before a flush
+pub written_out : (old mid new : Option (List ℕ)) (text out : List ℕ) → text ≡ out → Appends old mid text → Keeps mid new → Appends old new out
+written_out old mid new text out same appends keeps = subst (Appends old new) same (Appends-kept old mid new text appends keeps)

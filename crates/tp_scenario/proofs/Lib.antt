@@ -1,0 +1,16 @@
+pub mod NumberTexts
+pub mod WordSplits
+pub mod SubmissionLaws
+pub mod LineLaws
+pub mod PoolLaws
+pub mod OneReading
+pub mod TextLaws
+pub mod StepLaws
+pub mod TaskCounts
+pub mod ReadLaws
+pub mod PoolReading
+pub mod PlayLaws
+pub mod QuietSteps
+pub mod EndLaws
+pub mod Endings
+pub mod OneText

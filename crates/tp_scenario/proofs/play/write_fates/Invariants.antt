@@ -1,0 +1,10 @@
+use Rattle.std.proofs.Common.{◌≡◌, ◌++◌, take, length}
+use Rattle.tp_record.specs.State.{state}
+use Rattle.tp_text.specs.RunText.{fate_lines}
+use Rattle.tp_scenario.proofs.play.write_fates.Given as goal
+
+abbrev pub invariant-loop-task : goal.invariant-loop-task
+invariant-loop-task l = record {
+  all : l.task-end ≡ length (state l.runner.config l.runner.history).tasks;
+  fates : l.output.items ≡ l.fn.output.items ++ fate_lines 0 (take l.task (state l.runner.config l.runner.history).tasks);
+}

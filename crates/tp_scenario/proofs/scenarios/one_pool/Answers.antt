@@ -1,0 +1,5 @@
+use Rattle.tp_scenario.proofs.PoolReading.{pool_text-injective}
+use Rattle.tp_scenario.proofs.scenarios.one_pool.Goals as goal
+
+pub returns : goal.returns
+returns c = pool_text-injective

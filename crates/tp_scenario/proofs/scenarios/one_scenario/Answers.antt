@@ -1,0 +1,5 @@
+use Rattle.tp_scenario.proofs.OneText.{says_one}
+use Rattle.tp_scenario.proofs.scenarios.one_scenario.Goals as goal
+
+pub returns : goal.returns
+returns c = says_one

@@ -1,0 +1,73 @@
+-- How a runner answers lines, one after another.
+use Rattle.std.specs.Prelude.{◌≡◌, ℕ, true, false, List, [], ◌∷◌, take, Result, Ok, Err, pos}
+use Rattle.tp_types.specs.declared.configs.Config.{Config}
+use Rattle.tp_types.specs.declared.tasks.Promise.{Promise}
+use Rattle.tp_record.specs.declared.entries.Entry.{Entry}
+use Rattle.tp_record.specs.declared.entries.Ask.{Ask}
+use Rattle.tp_record.specs.Effects.{Outcome}
+use Rattle.tp_record.specs.State.{state}
+use Rattle.tp_record.specs.Step.{Gives, IsRefused}
+use Rattle.tp_text.specs.RunText.{Answer, after, after_all, run_lines, drained}
+use Rattle.tp_scenario.specs.declared.lines.ScenarioLine.{ScenarioLine}
+use Rattle.tp_scenario.specs.declared.scenarios.Scenario.{Scenario}
+use Rattle.tp_scenario.specs.Scenario.{Asked, Said, IsLines, AskFor, Says}
+use Rattle.tp_scenario.specs.Played.{Outcomes, ask_of, outcomes_after}
+
+-- a text, the first line of which is line k, asks for these steps
+abbrev pub AsksFrom : ℕ → List ℕ → Asked → Type 0
+AsksFrom k text asked = (lines : List (List ℕ)) × (rest : List ℕ) × IsLines text lines rest × AskFor k lines rest asked
+
+-- it says this
+abbrev pub SaysFrom : ℕ → List ℕ → Said → Type 0
+SaysFrom k text s = (lines : List (List ℕ)) × (rest : List ℕ) × IsLines text lines rest × Says k lines rest s
+
+abbrev pub asked_of : Scenario → Asked
+asked_of s = (s.steps.items, s.bad)
+
+-- what a scenario that was read says
+abbrev pub said_by : Result Scenario ℕ → Said
+said_by (Ok s) = Ok (s.pool, asked_of s)
+said_by (Err k) = Err k
+
+-- a pool's settings and its record, latest entry first, and how its tasks end
+pub record Playing : Type 0 where
+  pub config : Config
+  pub history : List Entry
+  pub outcomes : Outcomes
+
+-- what a job promises that ends so: just that
+abbrev pub promise_of : Outcome → Promise
+promise_of (Ok v) = record { low = v; high = v; may_fault = false }
+promise_of (Err code) = record { low = pos 0; high = pos 0; may_fault = true }
+
+-- the answer to an ask of pass 0 after the history h: the entry that the step gives, or its refusal
+abbrev pub Answers : Config → List Entry → Ask → Answer → Type 0
+Answers c h a (Ok e) = (e ≡ record { by = 0; ask = a; did = e.did }) × Gives c (state c h) a e.did
+Answers c h a (Err r) = IsRefused c (state c h) a r
+
+-- an answer that hands no task back
+abbrev pub IsQuiet : Answer → Type 0
+IsQuiet (Ok e) = (h : List Entry) → drained h e.did ≡ []
+IsQuiet (Err r) = Unit {0}
+
+-- lines that are answered so from the history h
+abbrev pub PlaysFrom : Config → List Entry → Outcomes → List ScenarioLine → List Answer → Type 0
+PlaysFrom c h os [] [] = Unit {0}
+PlaysFrom c h os (l ∷ lines) (a ∷ answers) =
+    Answers c h (ask_of (state c h) os l) a × PlaysFrom c (after h a) (outcomes_after os l a) lines answers
+PlaysFrom c h os _ _ = ⊥
+
+-- how tasks end after such lines
+abbrev pub outcomes_all : Outcomes → List ScenarioLine → List Answer → Outcomes
+outcomes_all os (l ∷ lines) (a ∷ answers) = outcomes_all (outcomes_after os l a) lines answers
+outcomes_all os _ _ = os
+
+-- where a runner stands after lines that were answered so from an empty record, and what is written then
+pub record Stands (c : Config) (lines : List ScenarioLine) (answers : List Answer) (r : Playing) (out : List ℕ) : Type 0 where
+  pub plays : PlaysFrom c [] [] lines answers
+  pub runner : r ≡ record { config = c; history = after_all [] answers; outcomes = outcomes_all [] lines answers }
+  pub output : out ≡ run_lines [] answers
+
+-- the answers of some first lines are written, and nothing else
+abbrev pub Breaks : Config → List ScenarioLine → List ℕ → Type 0
+Breaks c lines out = (n : ℕ) × (answers : List Answer) × PlaysFrom c [] [] (take n lines) answers × (out ≡ run_lines [] answers)

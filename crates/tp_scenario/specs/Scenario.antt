@@ -1,0 +1,130 @@
+-- What the text of a scenario says: a pool, steps, and the first bad line, if there is one.
+use Rattle.std.specs.Prelude.{◌≡◌, ◌≢◌, ◌==◌, ◌&&◌, ◌||◌, not, is_ok, ◌⊎◌, ◌<◌, ◌≤◌, ℕ, suc, Bool, true, false, List, [], ◌∷◌, ◌++◌, length, slice_index, Option, Some, None, Result, Ok, Err, codes}
+use Rattle.std.specs.List.{flat_map, AllByRecursion}
+use Rattle.std.specs.Str.{IsAscii}
+use Rattle.std.specs.Str.Iter.{HasSubslice}
+use Rattle.tp_types.specs.declared.configs.Config.{Config}
+use Rattle.tp_types.specs.declared.configs.QueueKind.{QueueKind}
+use Rattle.tp_types.specs.declared.configs.QueueKind.TheVariants.{Unbounded}
+use Rattle.tp_types.specs.declared.configs.Policy.{Policy}
+use Rattle.tp_types.specs.declared.configs.Policy.TheVariants.{Abort}
+use Rattle.tp_types.specs.declared.tasks.Kind.TheVariants as kinds
+use Rattle.tp_types.specs.Config.{checked}
+use Rattle.tp_scenario.specs.declared.lines.TaskVerb.TheVariants as task
+use Rattle.tp_scenario.specs.declared.lines.SlotVerb.TheVariants as slot
+use Rattle.tp_scenario.specs.declared.lines.ScenarioLine.{ScenarioLine}
+use Rattle.tp_scenario.specs.declared.lines.ScenarioLine.TheVariants as line
+use Rattle.tp_scenario.specs.declared.lines.PoolLine.{PoolLine}
+use Rattle.tp_scenario.specs.declared.lines.LineRead.{LineRead}
+use Rattle.tp_scenario.specs.declared.lines.LineRead.TheVariants as read
+use Rattle.tp_scenario.specs.declared.lines.PoolRead.{PoolRead}
+use Rattle.tp_scenario.specs.declared.lines.PoolRead.TheVariants as head
+use Rattle.tp_scenario.specs.Lines.{FitsLine, line_text}
+use Rattle.tp_scenario.specs.Pools.{FitsPool, config_of, pool_text}
+
+-- no space stands beside another or at an end
+pub record IsWellSpaced (bytes : List ℕ) : Type 0 where
+  pub single : HasSubslice bytes (codes "  ") → ⊥
+  pub first : slice_index bytes 0 ≢ 32
+  pub last : (front : List ℕ) → bytes ≢ front ++ 32 ∷ []
+
+-- what a line must be whatever it says: ASCII without a carriage return, at most 200 bytes, and well spaced
+pub record IsClean (bytes : List ℕ) : Type 0 where
+  pub short : length bytes ≤ 200
+  pub ascii : IsAscii bytes
+  pub returns : (i : ℕ) → i < length bytes → slice_index bytes i ≢ 13
+  pub spaces : IsWellSpaced bytes
+
+-- an empty line, or a comment
+abbrev pub IsSkipped : List ℕ → Type 0
+IsSkipped bytes = (bytes ≡ []) ⊎ (IsClean bytes × (slice_index bytes 0 ≡ 35))
+
+-- the steps that the runner makes so far
+abbrev pub is_supported : ScenarioLine → Bool
+is_supported (line.Submit kinds.Plain (Ok v)) = true
+is_supported (line.OfTask task.Offer t) = true
+is_supported (line.OfTask task.Second t) = true
+is_supported (line.OfSlot slot.Open w) = true
+is_supported (line.OfSlot slot.Take w) = true
+is_supported (line.OfSlot slot.Begin w) = true
+is_supported (line.OfSlot slot.End w) = true
+is_supported _ = false
+
+abbrev pub is_unbounded : QueueKind → Bool
+is_unbounded Unbounded = true
+is_unbounded _ = false
+
+abbrev pub is_abort : Policy → Bool
+is_abort Abort = true
+is_abort _ = false
+
+-- the pools that the runner has so far: one worker, which never times out, a queue without bound, and aborts
+abbrev pub is_supported_config : Config → Bool
+is_supported_config c = c.core == 1 && c.maximum == 1 && is_unbounded c.queue && is_abort c.policy && not c.core_timeout
+
+-- a pool line counts where the runner has its pool, and where no pool can have its configuration, which is then refused
+abbrev pub is_supported_pool : PoolLine → Bool
+is_supported_pool p = not (is_ok (checked (config_of p))) || is_supported_config (config_of p)
+
+-- what a line is, behind the pool line
+abbrev pub ReadsLine : List ℕ → LineRead → Type 0
+ReadsLine bytes read.Skipped = IsSkipped bytes
+ReadsLine bytes (read.Step l) = IsClean bytes × FitsLine l × (is_supported l ≡ true) × (bytes ≡ line_text l)
+ReadsLine bytes read.Bad = (IsSkipped bytes → ⊥) × (IsClean bytes → (l : ScenarioLine) → FitsLine l → is_supported l ≡ true → bytes ≢ line_text l)
+
+-- what a line is, up to the pool line
+abbrev pub ReadsPoolLine : List ℕ → PoolRead → Type 0
+ReadsPoolLine bytes head.Skipped = IsSkipped bytes
+ReadsPoolLine bytes (head.Pool p) = IsClean bytes × FitsPool p × (is_supported_pool p ≡ true) × (bytes ≡ pool_text p)
+ReadsPoolLine bytes head.Bad = (IsSkipped bytes → ⊥) × (IsClean bytes → (p : PoolLine) → FitsPool p → is_supported_pool p ≡ true → bytes ≢ pool_text p)
+
+-- lines, each ended by a line feed
+
+abbrev pub HasNoLineFeed : List ℕ → Type 0
+HasNoLineFeed bytes = (i : ℕ) → i < length bytes → slice_index bytes i ≢ 10
+
+abbrev pub ended : List ℕ → List ℕ
+ended line = line ++ 10 ∷ []
+
+-- the lines of a text, and what stands behind its last line feed
+pub record IsLines (text : List ℕ) (lines : List (List ℕ)) (rest : List ℕ) : Type 0 where
+  pub whole : text ≡ flat_map ended lines ++ rest
+  pub each : AllByRecursion HasNoLineFeed lines
+  pub last : HasNoLineFeed rest
+
+-- the steps that lines ask for in order, up to the first bad line, and the number of that line, if there is one
+abbrev pub Asked : Type 0
+Asked = List ScenarioLine × Option ℕ
+
+-- how a line, line k, goes before what the lines behind it ask for
+abbrev pub Before : LineRead → ℕ → (Asked → Type 0) → Asked → Type 0
+Before read.Skipped k on asked = on asked
+Before (read.Step l) k on ([], bad) = ⊥
+Before (read.Step l) k on (s ∷ steps, bad) = (s ≡ l) × on (steps, bad)
+Before read.Bad k on asked = asked ≡ ([], Some k)
+
+-- lines, the first of which is line k, and a rest without its end ask for these steps
+abbrev pub AskFor : ℕ → List (List ℕ) → List ℕ → Asked → Type 0
+AskFor k [] [] asked = asked ≡ ([], None)
+AskFor k [] (b ∷ bs) asked = asked ≡ ([], Some k)
+AskFor k (l ∷ lines) rest asked = (r : LineRead) × ReadsLine l r × Before r k (AskFor (suc k) lines rest) asked
+
+-- what a scenario says: its pool and what its lines ask for, or the bad line before any pool line
+abbrev pub Said : Type 0
+Said = Result (PoolLine × Asked) ℕ
+
+abbrev pub BeforePool : PoolRead → ℕ → (Said → Type 0) → (Asked → Type 0) → Said → Type 0
+BeforePool head.Skipped k on asks s = on s
+BeforePool (head.Pool p) k on asks (Ok q) = (q.0 ≡ p) × asks q.1
+BeforePool (head.Pool p) k on asks (Err n) = ⊥
+BeforePool head.Bad k on asks s = s ≡ Err k
+
+-- lines, the first of which is line k, and a rest without its end say this: a missing pool line is bad at the line
+-- after the last
+abbrev pub Says : ℕ → List (List ℕ) → List ℕ → Said → Type 0
+Says k [] rest s = s ≡ Err k
+Says k (l ∷ lines) rest s = (r : PoolRead) × ReadsPoolLine l r × BeforePool r k (Says (suc k) lines rest) (AskFor (suc k) lines rest) s
+
+-- the text of a scenario says this; lines count from 1
+abbrev pub IsScenario : List ℕ → Said → Type 0
+IsScenario text s = (lines : List (List ℕ)) × (rest : List ℕ) × IsLines text lines rest × Says 1 lines rest s

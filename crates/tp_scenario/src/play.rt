@@ -1,0 +1,187 @@
+//! A scenario is played: from its text to what is written of it, in memory.
+
+ghost use Rattle.std.specs.Prelude.{◌≡◌, ◌⊎◌, ◌≤◌, ◌++◌, ℕ, suc, [], List, true, length, take, All, Ok, Err, IfOk, OnOk, OnErr, IsOkUnless};
+ghost use Rattle.tp_record.specs.declared.entries.Entry.{Entry};
+ghost use Rattle.tp_record.specs.State.{state};
+ghost use Rattle.tp_text.specs.RunText.{Answer, answer_lines, fate_lines, end_lines, IsFront};
+ghost use Rattle.tp_scenario.specs.Answered.{Stands, Breaks, IsQuiet, asked_of};
+ghost use Rattle.tp_scenario.specs.Pools.{config_of};
+ghost use Rattle.tp_scenario.specs.Played.{IsPlayed, ComesOf, BreaksOff};
+ghost use Rattle.tp_scenario.specs.Scenario.{is_supported, is_supported_pool};
+
+use crate::lines::ScenarioLine;
+use crate::scenarios::{Scenario, read_scenario};
+use crate::step::{Answer, Runner};
+use std::alloc::Global;
+use tp_text::ends::{counts_line, fate_line, refusal_line, state_line};
+use tp_text::runs::entry_lines;
+use tp_types::ids::TaskId;
+use tp_types::refusals::PoolError;
+
+/// What came of a scenario.
+#[derive(Debug, Drop)]
+pub struct Played {
+    /// What is to be written.
+    pub output: Vec<u8>,
+    /// How the run ended.
+    pub ending: Result<(), PoolError>,
+}
+
+/// Writes a text behind what is written.
+fn append(output: &mut Vec<u8>, text: &[u8]) -> Result<(), PoolError>
+    ensures ok { OnOk result (output.new.items ≡ output.old.items ++ text.now) }
+    ensures err { OnErr result (output.new.items ≡ output.old.items) }
+    ensures only_memory { IsOkUnless result PoolError.NoMemory }
+{
+    output
+        .extend_from_slice(text)
+        .map_err(|_| PoolError::NoMemory)
+}
+
+/// Writes what an answer is written as. An entry has this number in its record, and hands back no
+/// task.
+fn write_answer(
+    alloc: Global,
+    number: usize,
+    answer: &Answer,
+    output: &mut Vec<u8>,
+) -> Result<(), PoolError>
+    requires { IsQuiet answer.now }
+    ensures ok { OnOk result ((h : List Entry) → number ≡ suc (length h)
+        → output.new.items ≡ output.old.items ++ answer_lines h answer.now) }
+    ensures err { OnErr result (output.new.items ≡ output.old.items) }
+    ensures only_memory { IsOkUnless result PoolError.NoMemory }
+{
+    let lines = match answer {
+        Ok(entry) => entry_lines(alloc, number, entry, &[])?,
+        Err(refusal) => refusal_line(alloc, *refusal)?,
+    };
+    append(output, lines.as_slice())
+}
+
+/// Plays the steps, and writes a line for each answer.
+fn play_steps(
+    alloc: Global,
+    runner: &mut Runner,
+    steps: &[ScenarioLine],
+    output: &mut Vec<u8>,
+) -> Result<(), PoolError>
+    requires supported { All (λ l. is_supported l ≡ true) steps.now }
+    requires starts { Stands runner.old.config [] [] runner.old output.old.items }
+    ensures ok { OnOk result ((answers : List Answer) × Stands runner.old.config steps.now answers runner.new output.new.items) }
+    ensures err { OnErr result (Breaks runner.old.config steps.now output.new.items) }
+    ensures only_memory { IsOkUnless result PoolError.NoMemory }
+{
+    let mut accepted = 0;
+    for step in steps {
+        let Ok(answer) = runner.step(step) else {
+            return Err(PoolError::NoMemory);
+        };
+        if let Err(error) = write_answer(alloc, accepted + 1, &answer, output) {
+            return Err(error);
+        }
+        if answer.is_ok() {
+            accepted += 1;
+        }
+    }
+    Ok(())
+}
+
+/// Writes the fates of the tasks.
+fn write_fates(alloc: Global, runner: &Runner, output: &mut Vec<u8>) -> Result<(), PoolError>
+    ensures ok { OnOk result (output.new.items ≡ output.old.items ++ fate_lines 0 (state runner.now.config runner.now.history).tasks) }
+    ensures err { OnErr result ((n : ℕ) × (output.new.items ≡ output.old.items ++ fate_lines 0 (take n (state runner.now.config runner.now.history).tasks))) }
+    ensures only_memory { IsOkUnless result PoolError.NoMemory }
+{
+    for task in 0..runner.counts().submitted {
+        let fate = runner.fate(TaskId(task));
+        let line = match fate_line(alloc, TaskId(task), fate) {
+            Ok(line) => line,
+            Err(error) => return Err(error),
+        };
+        if let Err(error) = append(output, line.as_slice()) {
+            return Err(error);
+        }
+    }
+    Ok(())
+}
+
+/// Writes what stands at the end of a run: the fates, the run state and the counters.
+fn write_ends(alloc: Global, runner: &Runner, output: &mut Vec<u8>) -> Result<(), PoolError>
+    ensures ok { OnOk result (output.new.items ≡ output.old.items ++ end_lines (state runner.now.config runner.now.history)) }
+    ensures err { OnErr result ((front : List ℕ) × (output.new.items ≡ output.old.items ++ front)
+        × IsFront front (end_lines (state runner.now.config runner.now.history))) }
+    ensures only_memory { IsOkUnless result PoolError.NoMemory }
+{
+    if let Err(error) = write_fates(alloc, runner, output) {
+        return Err(error);
+    }
+    let state = match state_line(alloc, runner.state()) {
+        Ok(state) => state,
+        Err(error) => return Err(error),
+    };
+    if let Err(error) = append(output, state.as_slice()) {
+        return Err(error);
+    }
+    let counts = match counts_line(alloc, &runner.counts()) {
+        Ok(counts) => counts,
+        Err(error) => return Err(error),
+    };
+    match append(output, counts.as_slice()) {
+        Ok(()) => Ok(()),
+        Err(error) => Err(error),
+    }
+}
+
+/// Plays a scenario that was read.
+fn play_scenario(alloc: Global, scenario: &Scenario, output: &mut Vec<u8>) -> Result<(), PoolError>
+    requires empty { output.old.items ≡ [] }
+    requires pool { is_supported_pool scenario.now.pool ≡ true }
+    requires steps { All (λ l. is_supported l ≡ true) scenario.now.steps.items }
+    ensures { (ComesOf (Ok (scenario.now.pool, asked_of scenario.now)) output.new.items result)
+        ⊎ ((result ≡ Err PoolError.NoMemory) × BreaksOff (Ok (scenario.now.pool, asked_of scenario.now)) output.new.items) }
+{
+    let config = scenario.pool.config();
+    if let Err(error) = config.check() {
+        return Err(error);
+    }
+    let mut runner = match Runner::new(alloc, config) {
+        Ok(runner) => runner,
+        Err(error) => return Err(error),
+    };
+    if let Err(error) = play_steps(alloc, &mut runner, scenario.steps.as_slice(), output) {
+        return Err(error);
+    }
+    if let Some(line) = scenario.bad {
+        return Err(PoolError::BadLine(line));
+    }
+    match write_ends(alloc, &runner, output) {
+        Ok(()) => Ok(()),
+        Err(error) => Err(error),
+    }
+}
+
+/// Plays the scenario of a text.
+fn play_text(alloc: Global, text: &[u8], output: &mut Vec<u8>) -> Result<(), PoolError>
+    requires short { length text.now ≤ 1048576 }
+    requires empty { output.old.items ≡ [] }
+    ensures { IsPlayed text.now output.new.items result }
+{
+    let Ok(said) = read_scenario(alloc, text) else {
+        return Err(PoolError::NoMemory);
+    };
+    match said {
+        Ok(scenario) => play_scenario(alloc, &scenario, output),
+        Err(line) => Err(PoolError::BadLine(line)),
+    }
+}
+
+/// Plays the scenario of a text: what is written of it, and how the run ends.
+pub fn play(alloc: Global, text: &[u8]) -> Played
+    requires { length text.now ≤ 1048576 }
+    ensures { IsPlayed text.now result.output.items result.ending }
+{
+    let mut output = Vec::new(alloc);
+    let ending = play_text(alloc, text, &mut output);
+    Played { output, ending }
+}

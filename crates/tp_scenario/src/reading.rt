@@ -1,0 +1,105 @@
+//! Lines that ask for steps.
+
+ghost use Rattle.std.specs.Prelude.{◌≡◌, ◌≢◌, List, ℕ, Option, Some, None, MatchOption};
+ghost use Rattle.std.specs.Option.{option_map};
+ghost use Rattle.std.specs.Fmt.{decimal};
+ghost use Rattle.tp_scenario.specs.Reads.{Any, ReadsAs, spaced};
+ghost use Rattle.tp_scenario.specs.Lines.{Fits32, FitsOutcome, FitsLine, FitsSubmission, arguments, command_of, line_text, outcome_text, ruling_text, cancel_text, submission_text, ReadsAfter};
+
+use crate::lines::{Command, ScenarioLine};
+use crate::numbers::{index, long_number, number, outcome};
+use crate::words::{command, first_word, switch, verdict};
+use tp_types::configs::Verdict;
+use tp_types::ids::{SlotId, TaskId};
+use tp_types::tasks::{Kind, Outcome};
+
+/// A group's number and the outcome that a task's end gives.
+fn numbered_outcome(text: &str) -> Option<(u32, Outcome)>
+    ensures { ReadsAs (λ p. spaced (decimal p.0) (outcome_text p.1)) (λ p. Fits32 p.0 × FitsOutcome p.1) text.now result }
+{
+    let (word, rest) = first_word(text);
+    Some((number(word)?, outcome(rest?)?))
+}
+
+/// A task's kind and the outcome that its end gives.
+fn submission(text: &str) -> Option<(Kind, Outcome)>
+    ensures { ReadsAs submission_text FitsSubmission text.now result }
+{
+    let (word, rest) = first_word(text);
+    let rest = rest?;
+    match word {
+        "plain" => Some((Kind::Plain, outcome(rest)?)),
+        "future" => Some((Kind::Future, outcome(rest)?)),
+        "group" => {
+            let (group, outcome) = numbered_outcome(rest)?;
+            Some((Kind::Group(group), outcome))
+        }
+        _ => None,
+    }
+}
+
+/// A task's number and what becomes of it.
+fn ruling(text: &str) -> Option<(u32, Verdict)>
+    ensures { ReadsAs ruling_text (λ p. Fits32 p.0) text.now result }
+{
+    let (word, rest) = first_word(text);
+    Some((number(word)?, verdict(rest?)?))
+}
+
+/// A task's number, and whether its cancel flag is to be set.
+fn cancellation(text: &str) -> Option<(u32, bool)>
+    ensures { ReadsAs cancel_text (λ p. Fits32 p.0) text.now result }
+{
+    let (word, rest) = first_word(text);
+    let task = number(word)?;
+    match rest {
+        None => Some((task, false)),
+        Some("flag") => Some((task, true)),
+        Some(_) => None,
+    }
+}
+
+/// The line of a command that arguments follow.
+fn with_arguments(command: Command, text: &str) -> Option<ScenarioLine>
+    ensures { ReadsAfter command (Some text.now) result }
+{
+    match command {
+        Command::Submit => {
+            let (kind, outcome) = submission(text)?;
+            Some(ScenarioLine::Submit(kind, outcome))
+        }
+        Command::OfTask(verb) => Some(ScenarioLine::OfTask(verb, TaskId(number(text)?))),
+        Command::Verdict => {
+            let (task, verdict) = ruling(text)?;
+            Some(ScenarioLine::Verdict(TaskId(task), verdict))
+        }
+        Command::OfSlot(verb) => Some(ScenarioLine::OfSlot(verb, SlotId(index(text)?))),
+        Command::OfPool(_) => None,
+        Command::Cancel => {
+            let (task, flag) = cancellation(text)?;
+            Some(ScenarioLine::Cancel(TaskId(task), flag))
+        }
+        Command::OfSize(verb) => Some(ScenarioLine::OfSize(verb, number(text)?)),
+        Command::OfTicks(verb) => Some(ScenarioLine::OfTicks(verb, long_number(text)?)),
+        Command::CoreTimeout => Some(ScenarioLine::CoreTimeout(switch(text)?)),
+    }
+}
+
+/// The line of a command, and of what follows it after a space.
+fn after_command(command: Command, rest: Option<&str>) -> Option<ScenarioLine>
+    ensures { ReadsAfter command (option_map (λ r. r.now) rest.entry) result }
+{
+    match (command, rest) {
+        (Command::OfPool(verb), None) => Some(ScenarioLine::OfPool(verb)),
+        (_, None) => None,
+        (_, Some(text)) => with_arguments(command, text),
+    }
+}
+
+/// The step that a text asks for.
+pub fn step_of(text: &str) -> Option<ScenarioLine>
+    ensures { ReadsAs line_text FitsLine text.now result }
+{
+    let (word, rest) = first_word(text);
+    after_command(command(word)?, rest)
+}

@@ -1,0 +1,362 @@
+//! Worked rows from bytes to bytes, and readers and writers that fail.
+
+use super::*;
+use std::io;
+
+const ROW_01: &[u8] = b"pool 1 1 unbounded keep 0 abort\n\
+submit plain 5\n\
+open 0\n\
+take 0\n\
+begin 0\n\
+end 0\n";
+
+const ROW_01_OUTPUT: &[u8] = b"1 submit t0 plain reserve w0\n\
+2 open w0 live\n\
+3 take w0 held t0\n\
+4 begin w0 t0\n\
+5 end w0 t0 value 5\n\
+t0 run\n\
+state running\n\
+counts submitted=1 run=1 caller=0 rejected=0 discarded=0 handedback=0 removed=0 cancelled=0 completed=1 queued=0 live=1 largest=1\n";
+
+const ROW_18: &[u8] = b"pool 1 1 unbounded keep 5 abort\n\
+submit plain 1\n\
+open 0\n\
+take 0\n\
+begin 0\n\
+end 0\n\
+take 0\n\
+begin 7\n\
+begin 0\n\
+sub";
+
+const ROW_18_OUTPUT: &[u8] = b"1 submit t0 plain reserve w0\n\
+2 open w0 live\n\
+3 take w0 held t0\n\
+4 begin w0 t0\n\
+5 end w0 t0 value 1\n\
+6 take w0 idle\n\
+refused 7 UnknownSlot\n\
+refused 8 NotThere\n";
+
+const ROW_22A: &[u8] = b"pool 3 2 unbounded keep 0 abort\n";
+
+const ROW_22B: &[u8] = b"pool 1 1 bounded 0 keep 0 abort\n";
+
+const ROW_22C: &[u8] = b"pool 1 1 unbounded keep 0 abort limit 63\n";
+
+const ROW_22D: &[u8] = b"pool 1 1 unbounded keep 0 abort coretimeout\n";
+
+const ROW_22E: &[u8] = b"";
+
+const ROW_16: &[u8] = b"pool 1 1 unbounded keep 0 abort limit 64\n\
+submit plain 0\n\
+submit plain 1\n\
+submit plain 2\n\
+submit plain 3\n\
+submit plain 4\n\
+open 0\n\
+take 0\n\
+begin 0\n\
+end 0\n\
+offer 1\n\
+second 1\n\
+offer 2\n\
+second 2\n\
+offer 3\n\
+second 3\n\
+take 0\n\
+begin 0\n\
+end 0\n\
+take 0\n\
+begin 0\n\
+end 0\n\
+take 0\n\
+begin 0\n\
+end 0\n";
+
+const ROW_16_OUTPUT: &[u8] = b"1 submit t0 plain reserve w0\n\
+2 submit t1 plain queue\n\
+3 submit t2 plain queue\n\
+4 submit t3 plain queue\n\
+refused 5 BookFull\n\
+5 open w0 live\n\
+6 take w0 held t0\n\
+7 begin w0 t0\n\
+8 end w0 t0 value 0\n\
+9 offer t1 queued\n\
+10 second t1 stay\n\
+11 offer t2 queued\n\
+12 second t2 stay\n\
+13 offer t3 queued\n\
+14 second t3 stay\n\
+15 take w0 head t1\n\
+16 begin w0 t1\n\
+17 end w0 t1 value 1\n\
+18 take w0 head t2\n\
+19 begin w0 t2\n\
+20 end w0 t2 value 2\n\
+21 take w0 head t3\n\
+22 begin w0 t3\n\
+23 end w0 t3 value 3\n\
+t0 run\n\
+t1 run\n\
+t2 run\n\
+t3 run\n\
+state running\n\
+counts submitted=4 run=4 caller=0 rejected=0 discarded=0 handedback=0 removed=0 cancelled=0 completed=4 queued=0 live=1 largest=1\n";
+
+/// What is written of a text, and how the run ends.
+fn outcome_of(alloc: Global, text: &[u8]) -> (Vec<u8>, Result<(), PoolError>) {
+    let mut reader = text;
+    let mut written = Vec::new(alloc);
+    let answer = run(alloc, &mut reader, &mut written);
+    (written, answer)
+}
+
+#[test]
+fn plays_worked_rows(rt: HostRuntime) {
+    let none: &[u8] = b"";
+    let rows = [
+        (ROW_01, ROW_01_OUTPUT, Ok(())),
+        (ROW_18, ROW_18_OUTPUT, Err(PoolError::BadLine(10))),
+        (ROW_22A, none, Err(PoolError::BadSizes)),
+        (ROW_22B, none, Err(PoolError::BadCapacity)),
+        (ROW_22C, none, Err(PoolError::BadLimit)),
+        (ROW_22D, none, Err(PoolError::KeepZero)),
+        (ROW_22E, none, Err(PoolError::BadLine(1))),
+        (ROW_16, ROW_16_OUTPUT, Ok(())),
+    ];
+    for (text, output, answer) in rows {
+        let (written, given) = outcome_of(rt.alloc(), text);
+        assert_eq!(rt; written.as_slice(), output);
+        assert_eq!(rt; given, answer);
+    }
+}
+
+#[test]
+fn refuses_what_is_not_there_yet(rt: HostRuntime) {
+    let pool: &[u8] = b"pool 1 1 unbounded keep 0 abort\n";
+    let lines: [&[u8]; 7] = [
+        b"shutdown\n",
+        b"submit future 1\n",
+        b"submit plain !1\n",
+        b"grow 0\n",
+        b"verdict 0 abort\n",
+        b"offer 4294967296\n",
+        b"take 0",
+    ];
+    for line in lines {
+        let (written, given) = outcome_of(rt.alloc(), line);
+        assert!(rt; written.is_empty());
+        assert_eq!(rt; given, Err(PoolError::BadLine(1)));
+    }
+    let pools: [&[u8]; 5] = [
+        b"# two workers\n\npool 1 2 unbounded keep 0 abort\n",
+        b"#\n#\npool 0 1 unbounded keep 0 abort\n",
+        b"\n\npool 1 1 bounded 4 keep 0 abort\n",
+        b"\n\npool 1 1 unbounded keep 0 discard\n",
+        b"\n\npool 1 1 unbounded keep 1 abort coretimeout\n",
+    ];
+    for text in pools {
+        let (written, given) = outcome_of(rt.alloc(), text);
+        assert!(rt; written.is_empty());
+        assert_eq!(rt; given, Err(PoolError::BadLine(3)));
+    }
+    let (written, given) = outcome_of(rt.alloc(), pool);
+    assert_eq!(rt; written.as_slice(), EMPTY_OUTPUT);
+    assert_eq!(rt; given, Ok(()));
+}
+
+#[test]
+fn refuses_a_pool_before_later_bad_lines(rt: HostRuntime) {
+    let (written, given) = outcome_of(rt.alloc(), b"pool 3 2 unbounded keep 0 abort\nnonsense\n");
+    assert!(rt; written.is_empty());
+    assert_eq!(rt; given, Err(PoolError::BadSizes));
+}
+
+/// A pool in which nothing happened.
+const EMPTY_OUTPUT: &[u8] = b"state running\n\
+counts submitted=0 run=0 caller=0 rejected=0 discarded=0 handedback=0 removed=0 cancelled=0 completed=0 queued=0 live=0 largest=0\n";
+
+/// Gives one byte a call, and at one call it has an error instead.
+#[derive(Drop)]
+struct FailsOnce {
+    rest: &'static [u8],
+    before: usize,
+    error: io::ErrorKind,
+}
+
+impl Read for FailsOnce {
+    fn read(&mut self, buf: &mut [u8]) -> io::Result<usize> {
+        if self.before == 0 {
+            self.before = usize::MAX;
+            return Err(self.error.into());
+        }
+        self.before -= 1;
+        if self.rest.is_empty() || buf.is_empty() {
+            return Ok(0);
+        }
+        buf[0] = self.rest[0];
+        self.rest = &self.rest[1..];
+        Ok(1)
+    }
+}
+
+#[test]
+fn refuses_a_reader_that_fails(rt: HostRuntime) {
+    for error in [io::ErrorKind::Other, io::ErrorKind::Interrupted] {
+        for before in [0, 1, 40, ROW_01.len()] {
+            let mut reader = FailsOnce {
+                rest: ROW_01,
+                before,
+                error,
+            };
+            let mut written = Vec::new(rt.alloc());
+            let answer = run(rt.alloc(), &mut reader, &mut written);
+            assert_eq!(rt; answer, Err(PoolError::ReadFailed), "after {before} calls");
+            assert!(rt; written.is_empty());
+        }
+    }
+}
+
+/// Gives a pool line, and then so many bytes of comments, two bytes a line.
+#[derive(Drop)]
+struct Comments {
+    given: usize,
+    end: usize,
+}
+
+impl Read for Comments {
+    fn read(&mut self, buf: &mut [u8]) -> io::Result<usize> {
+        let pool = b"pool 1 1 unbounded keep 0 abort\n";
+        for i in 0..buf.len() {
+            if self.given >= self.end {
+                return Ok(i);
+            }
+            buf[i] = if self.given < pool.len() {
+                pool[self.given]
+            } else if self.given % 2 == 0 {
+                b'#'
+            } else {
+                b'\n'
+            };
+            self.given += 1;
+        }
+        Ok(buf.len())
+    }
+}
+
+#[test]
+fn reads_a_long_text_and_no_longer_one(rt: HostRuntime) {
+    for (end, answer) in [
+        (MAX_TEXT_BYTES, Ok(())),
+        (MAX_TEXT_BYTES - 1, Err(PoolError::BadLine(524_273))),
+        (MAX_TEXT_BYTES + 1, Err(PoolError::ReadFailed)),
+        (usize::MAX, Err(PoolError::ReadFailed)),
+    ] {
+        let mut reader = Comments { given: 0, end };
+        let mut written = Vec::new(rt.alloc());
+        let given = run(rt.alloc(), &mut reader, &mut written);
+        assert_eq!(rt; given, answer, "a text of {end} bytes");
+        let output = if answer.is_ok() {
+            EMPTY_OUTPUT
+        } else {
+            &EMPTY_OUTPUT[..0]
+        };
+        assert_eq!(rt; written.as_slice(), output);
+    }
+}
+
+/// Takes so many bytes, one a call, and then fails; or it fails when it is flushed.
+#[derive(Drop)]
+struct Full {
+    room: usize,
+    flushes: bool,
+}
+
+impl Write for Full {
+    fn write(&mut self, buf: &[u8]) -> io::Result<usize> {
+        if self.room == 0 {
+            return Err(io::ErrorKind::Other.into());
+        }
+        if buf.is_empty() {
+            return Ok(0);
+        }
+        self.room -= 1;
+        Ok(1)
+    }
+
+    fn flush(&mut self) -> io::Result<()> {
+        if self.flushes {
+            Ok(())
+        } else {
+            Err(io::ErrorKind::Other.into())
+        }
+    }
+}
+
+#[test]
+fn refuses_a_writer_that_fails(rt: HostRuntime) {
+    for (room, flushes, answer) in [
+        (0, true, Err(PoolError::WriteFailed)),
+        (1, true, Err(PoolError::WriteFailed)),
+        (ROW_01_OUTPUT.len() - 1, true, Err(PoolError::WriteFailed)),
+        (ROW_01_OUTPUT.len(), true, Ok(())),
+        (ROW_01_OUTPUT.len(), false, Err(PoolError::WriteFailed)),
+    ] {
+        let mut reader = ROW_01;
+        let mut writer = Full { room, flushes };
+        let given = run(rt.alloc(), &mut reader, &mut writer);
+        assert_eq!(rt; given, answer, "room for {room} bytes");
+    }
+}
+
+/// Keeps what is written, and takes no memory.
+#[derive(Drop)]
+struct Page {
+    bytes: [u8; 512],
+    len: usize,
+}
+
+impl Write for Page {
+    fn write(&mut self, buf: &[u8]) -> io::Result<usize> {
+        if buf.is_empty() {
+            return Ok(0);
+        }
+        if self.len >= self.bytes.len() {
+            return Err(io::ErrorKind::Other.into());
+        }
+        self.bytes[self.len] = buf[0];
+        self.len += 1;
+        Ok(1)
+    }
+
+    fn flush(&mut self) -> io::Result<()> {
+        Ok(())
+    }
+}
+
+/// Where any one allocation fails, what was written is a front of the output and the answer is 4; or
+/// the submission is refused 4 and the run goes on. With ample memory the output is whole.
+#[test]
+fn want_of_memory_breaks_off(rt: HostRuntime) {
+    let mut reader = ROW_01;
+    let mut page = Page {
+        bytes: [0; 512],
+        len: 0,
+    };
+    let answer = run(rt.alloc(), &mut reader, &mut page);
+    assert!(rt; page.len <= 512);
+    let written = &page.bytes[..page.len];
+    match answer {
+        Ok(()) => {
+            let refused: &[u8] = b"refused 4 NoMemory\n";
+            assert!(rt; written == ROW_01_OUTPUT || written.starts_with(refused));
+        }
+        Err(error) => {
+            assert_eq!(rt; error, PoolError::NoMemory);
+            assert!(rt; ROW_01_OUTPUT.starts_with(written));
+        }
+    }
+}
