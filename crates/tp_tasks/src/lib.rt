@@ -7,3 +7,5 @@ pub mod group;
 pub mod groups;
 pub mod table;
 pub mod tasks;
+#[cfg(test)]
+mod tests;
