@@ -1,0 +1,29 @@
+//! Who consents to a new worker.
+ghost use Rattle.std.specs.Prelude.{◌≡◌, true};
+
+use tp_types::ids::SlotId;
+
+/// Says whether a worker may be started, as a `ThreadFactory`, whose `newThread` answers null to
+/// refuse. The pool starts the thread itself.
+///
+/// It is asked by the thread that reserved the slot, with no lock of the pool held, one ask at a
+/// time. It may take its time, and read the pool. A submission or a prestart of the same pool from
+/// within would wait for ever where it reserves a slot, since that asks this factory again while it
+/// answers.
+pub trait ThreadFactory: Send + Drop {
+    /// Whether slot `w` may have a worker. Where not, the step `fail` gives the slot back and its
+    /// first task goes to the queue or to the policy.
+    fn allow(&mut self, w: SlotId) -> bool;
+}
+
+/// Consents always, as `Executors.defaultThreadFactory`.
+#[derive(Drop)]
+pub struct Consenting;
+
+impl ThreadFactory for Consenting {
+    fn allow(&mut self, _w: SlotId) -> bool
+        ensures { result ≡ true }
+    {
+        true
+    }
+}

@@ -1,0 +1,15 @@
+//! The interfaces of a running pool: what its users write, and what its calls answer.
+//!
+//! A user hands jobs to a pool, and when it is made a thread factory, a rejection handler, hooks and
+//! a gate. All of them are called outside the pool's lock, so each may ask the pool for its state,
+//! its counters and its steps; the pages of the traits say what would wait for ever.
+#![tactic(auto)]
+
+pub mod answers;
+pub mod factories;
+pub mod gates;
+pub mod handlers;
+pub mod hooks;
+pub mod jobs;
+#[cfg(test)]
+mod tests;

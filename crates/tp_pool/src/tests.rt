@@ -1,0 +1,94 @@
+use crate::factories::{Consenting, ThreadFactory};
+use crate::gates::{Gate, OpenGate, Point};
+use crate::handlers::{OneVerdict, RejectionHandler};
+use crate::hooks::{Hooks, NoHooks};
+use crate::jobs::{Boxed, Job};
+use std::test::Fail;
+use tp_book::flags::CancelFlag;
+use tp_types::configs::Verdict;
+use tp_types::ids::{SlotId, TaskId};
+use tp_types::states::RunState;
+use tp_types::tasks::{Outcome, Promise};
+
+// Answers its value, or fault 9 where its flag is set.
+#[derive(Drop)]
+struct Looking {
+    value: i64,
+}
+
+impl Job for Looking {
+    ghost promised = { λ l. record { low = l.value; high = l.value; may_fault = true } };
+
+    fn promise(&self) -> Promise {
+        Promise {
+            low: self.value,
+            high: self.value,
+            may_fault: true,
+        }
+    }
+
+    fn call(&mut self, cancel: &CancelFlag) -> Outcome {
+        if cancel.is_set() {
+            Err(9)
+        } else {
+            Ok(self.value)
+        }
+    }
+}
+
+// Asks each interface once, through its bound.
+fn turn<J: Job, F: ThreadFactory, H: Hooks, P: Gate>(
+    mut job: J,
+    cancel: &CancelFlag,
+    factory: &mut F,
+    hooks: &mut H,
+    gate: &P,
+) -> (bool, Promise, Outcome) {
+    let (w, t) = (SlotId(0), TaskId(0));
+    let allowed = factory.allow(w);
+    let promise = job.promise();
+    gate.before(Point::Take, w);
+    hooks.before(w, t);
+    gate.before(Point::Body, w);
+    let outcome = job.call(cancel);
+    hooks.after(w, t, Some(&outcome));
+    gate.before(Point::End, w);
+    hooks.terminated();
+    (allowed, promise, outcome)
+}
+
+#[test]
+fn boxed_job_has_a_turn(rt: HostRuntime) -> Result<(), Fail> {
+    let flag = CancelFlag::new(rt.alloc())?;
+    for (set, outcome) in [(false, Ok(5)), (true, Err(9))] {
+        if set {
+            flag.set();
+        }
+        let job = Boxed::new(Box::new(rt.alloc(), Looking { value: 5 })?);
+        let job = Boxed::new(job.into_job());
+        let promise = Promise {
+            low: 5,
+            high: 5,
+            may_fault: true,
+        };
+        let had = turn(job, &flag, &mut Consenting, &mut NoHooks, &OpenGate);
+        assert_eq!(rt; had, (true, promise, outcome));
+    }
+    Ok(())
+}
+
+fn ruled<H: RejectionHandler>(mut handler: H) -> Verdict {
+    handler.verdict(TaskId(0), RunState::Shutdown)
+}
+
+#[test]
+fn one_verdict_for_all(rt: HostRuntime) {
+    for verdict in [
+        Verdict::Abort,
+        Verdict::CallerRuns,
+        Verdict::Discard,
+        Verdict::DiscardOldest,
+    ] {
+        assert_eq!(rt; ruled(OneVerdict { verdict }), verdict);
+    }
+}
