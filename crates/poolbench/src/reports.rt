@@ -1,11 +1,15 @@
 //! What is printed of the measures.
 
-use crate::measures::{Measure, Measured, Size};
+use crate::measures::{Measure, Size};
 use std::io;
 use std::rt::Clock;
+use std::time::Duration;
 
 /// The sizes at which all is measured, in entries.
 const SIZES: [u32; 3] = [100, 10_000, 65_536];
+
+/// How often each measure is made at each size; the least time is printed.
+const ROUNDS: u32 = 9;
 
 /// Runs each measure with few turns on a small structure and prints what is left in it: the same
 /// text each time.
@@ -25,11 +29,10 @@ pub fn rehearse<R: Clock + AllocGlobal + Print>(rt: &R) -> io::Result<()> {
 /// is that of a turn at the smallest size.
 pub fn time<R: Clock + AllocGlobal + Print>(rt: &R, turns: u32) -> io::Result<()> {
     for measure in Measure::ALL {
-        println!(rt; "{}, {turns} turns", measure.name())?;
+        println!(rt; "{}, {turns} turns, the least of {ROUNDS}", measure.name())?;
         let mut smallest = None;
         for entries in SIZES {
-            let found = measure.measured(rt, Size { entries, turns })?;
-            let tenths = tenths_of_nanoseconds(&found, turns);
+            let tenths = tenths_of_a_turn(rt, measure, Size { entries, turns })?;
             let base = *smallest.get_or_insert(tenths);
             let percent = tenths.saturating_mul(100) / base.max(1);
             println!(rt;
@@ -44,8 +47,19 @@ pub fn time<R: Clock + AllocGlobal + Print>(rt: &R, turns: u32) -> io::Result<()
     Ok(())
 }
 
-/// The time of one turn, in tenths of nanoseconds.
-fn tenths_of_nanoseconds(found: &Measured, turns: u32) -> u64 {
-    let nanoseconds = u64::try_from(found.elapsed.as_nanos()).unwrap_or(u64::MAX);
-    nanoseconds.saturating_mul(10) / u64::from(turns.max(1))
+/// The time of one turn, in tenths of nanoseconds: the least over all rounds.
+fn tenths_of_a_turn<R: Clock + AllocGlobal>(
+    rt: &R,
+    measure: Measure,
+    size: Size,
+) -> io::Result<u64> {
+    let mut least = Duration::MAX;
+    for _ in 0..ROUNDS {
+        let elapsed = measure.measured(rt, size)?.elapsed;
+        if elapsed < least {
+            least = elapsed;
+        }
+    }
+    let nanoseconds = u64::try_from(least.as_nanos()).unwrap_or(u64::MAX);
+    Ok(nanoseconds.saturating_mul(10) / u64::from(size.turns.max(1)))
 }
