@@ -114,3 +114,6 @@ impl WorkQueue for Queue {
         }
     }
 }
+
+#[cfg(test)]
+mod tests;
