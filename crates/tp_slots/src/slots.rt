@@ -1,13 +1,11 @@
 //! Worker slots under numbers that a slab picks, and the idle ones in the order in which they became idle.
 
-ghost use Rattle.std.specs.Prelude.{ℕ, ◌≡◌, ◌+◌, ◌-◌, ◌^◌, ◌<◌, ◌≤◌, ◌++◌, ◌∷◌, [], max, true, false, length, drop, slice_get, option_map, count_by, is_some, IfOk, OnOk, OnErr, IfSome, IfNone, Contains, ◌↔◌, Some, None};
-ghost use Rattle.slab.specs.Slab.{get as seat_of, slab_len};
+ghost use Rattle.std.specs.Prelude.{ℕ, ◌≡◌, ◌+◌, ◌-◌, ◌^◌, ◌<◌, ◌≤◌, ◌++◌, ◌∷◌, [], max, true, length, drop, slice_get, option_map, count_by, is_some, IfOk, OnOk, OnErr, IfSome, Contains, ◌↔◌, Some, None};
 ghost use Rattle.tp_line.specs.Line.{line, Ordered};
 ghost use Rattle.tp_record.specs.Lists.{without};
 ghost use Rattle.tp_record.specs.Fields.{is_live, is_idle_row};
 ghost use Rattle.tp_record.specs.State.{State, slot_at};
 ghost use Rattle.tp_record.specs.Step.{is_reserved, since, timed_out as is_timed_out};
-ghost use Rattle.tp_record.specs.declared.rows.SlotRow.{SlotRow};
 ghost use Rattle.tp_slots.specs.Table.{IsSet, is_reserved_row, is_awake, working_row, AreWoken, first_slot, IsStateOf};
 ghost use Rattle.tp_slots.specs.Tied.{HasPlace, without_place_of};
 

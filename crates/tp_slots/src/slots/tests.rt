@@ -1,7 +1,6 @@
 //! Tables with ample memory: each call, at small and at larger sizes.
 
-ghost use Rattle.std.specs.Prelude.{ℕ, ◌≡◌, ◌+◌, ◌<◌, ◌≤◌, true, Some, None, IfOk, OnOk, max};
-ghost use Rattle.tp_record.specs.State.{slot_at};
+ghost use Rattle.std.specs.Prelude.{◌≡◌, ◌+◌, ◌<◌, ◌≤◌, true};
 ghost use Rattle.tp_record.specs.Step.{is_reserved};
 
 use super::*;
