@@ -1,3 +1,5 @@
+ghost use Rattle.std.specs.Prelude.{true};
+
 use crate::factories::{Consenting, ThreadFactory};
 use crate::gates::{Gate, OpenGate, Point};
 use crate::handlers::{OneVerdict, RejectionHandler};
