@@ -9,8 +9,8 @@ use Rattle.tp_types.specs.declared.refusals.PoolError.TheVariants.{NoMemory, Bad
 use Rattle.tp_types.specs.Config.{checked, are_good_sizes, is_good_capacity, is_good_limit, is_good_keep}
 use Rattle.tp_record.specs.State.{State, state}
 use Rattle.tp_text.specs.RunText.{Answer, after_all, run_lines, end_lines, IsFront}
-use Rattle.tp_scenario.specs.declared.lines.PoolLine.{PoolLine}
-use Rattle.tp_scenario.specs.Pools.{config_of}
+use Rattle.tp_text.specs.declared.pools.PoolLine.{PoolLine}
+use Rattle.tp_text.specs.Pools.{config_of}
 use Rattle.tp_scenario.specs.Scenario.{Asked, Said}
 use Rattle.tp_scenario.specs.Played.{Ending, IsPlay, IsPlayed, IsRun, ComesOf, ComesOfPool, BreaksOff, ending_of, written}
 use Rattle.tp_scenario.specs.Answered.{Breaks, PlaysFrom, Playing, Stands}

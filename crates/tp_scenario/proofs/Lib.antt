@@ -1,14 +1,11 @@
-pub mod NumberTexts
-pub mod WordSplits
+pub mod OutcomeTexts
 pub mod SubmissionLaws
 pub mod LineLaws
-pub mod PoolLaws
 pub mod OneReading
-pub mod TextLaws
+pub mod Supports
 pub mod StepLaws
 pub mod TaskCounts
 pub mod ReadLaws
-pub mod PoolReading
 pub mod PlayLaws
 pub mod QuietSteps
 pub mod EndLaws

@@ -1,5 +1,5 @@
 -- No text has two readings.
-use Rattle.std.proofs.Common.{◌≡◌, ◌≢◌, ℕ, suc, List, [], ◌∷◌, Option, Some, None, Ok, Err, Bool, true, false, refl, sym, ◌∙◌, ap, arith, codes, append_assoc}
+use Rattle.std.proofs.Common.{◌≡◌, ℕ, List, ◌∷◌, Some, None, Ok, Err, Bool, true, false, refl, sym, ◌∙◌, ap, arith, codes, append_assoc}
 use Rattle.std.specs.Prelude.{ℤ}
 use Rattle.std.proofs.lemmas.Option.{none-some, same_Some}
 use Rattle.std.proofs.lemmas.Fmt.{decimal_injective, signed_decimal_injective}
@@ -11,37 +11,16 @@ use Rattle.tp_types.specs.declared.configs.Verdict.TheVariants as verdict
 use Rattle.tp_scenario.specs.declared.lines.ScenarioLine.{ScenarioLine}
 use Rattle.tp_scenario.specs.declared.lines.ScenarioLine.TheVariants as line
 use Rattle.tp_record.specs.Effects.{Outcome}
-use Rattle.tp_scenario.specs.Reads.{IsWord, followed, spaced}
-use Rattle.tp_scenario.specs.Lines.{Fits32, FitsKind, FitsOutcome, FitsLine, FitsSubmission, arguments, cancel_text, command_of, command_word, kind_text, line_text, outcome_text, ruling_text, submission_text, switch_word, verdict_word}
-use Rattle.tp_scenario.proofs.WordSplits.{differ, word_from_test}
-use Rattle.tp_scenario.proofs.NumberTexts.{word_decimal, marked}
-use Rattle.tp_scenario.proofs.LineLaws.{command_word-injective, word_of_command}
-
-rest_is_word : (b : ℕ) (bs : List ℕ) → IsWord (b ∷ bs) → IsWord bs
-rest_is_word b bs word i within = word (suc i) (omega arith)
-
--- a text without a space has no space at its head
-no_space_first : (b : ℕ) (bs : List ℕ) → IsWord (b ∷ bs) → b ≢ 32
-no_space_first b bs word = word 0 (omega arith)
-
--- texts fall apart at their first space
-pub same_words : (w v : List ℕ) (r q : Option (List ℕ)) → IsWord w → IsWord v → followed w r ≡ followed v q → (w ≡ v) × (r ≡ q)
-same_words [] [] None None x y e = (refl, refl)
-same_words [] [] None (Some q) x y e = cc
-same_words [] [] (Some r) None x y e = cc
-same_words [] [] (Some r) (Some q) x y e = (refl, cc)
-same_words [] (c ∷ v) None None x y e = cc
-same_words [] (c ∷ v) None (Some q) x y e = cc
-same_words [] (c ∷ v) (Some r) None x y e = absurd (no_space_first c v y cc)
-same_words [] (c ∷ v) (Some r) (Some q) x y e = absurd (no_space_first c v y cc)
-same_words (b ∷ w) [] None None x y e = cc
-same_words (b ∷ w) [] None (Some q) x y e = absurd (no_space_first b w x cc)
-same_words (b ∷ w) [] (Some r) None x y e = cc
-same_words (b ∷ w) [] (Some r) (Some q) x y e = absurd (no_space_first b w x cc)
-same_words (b ∷ w) (c ∷ v) None None x y e = (e, refl)
-same_words (b ∷ w) (c ∷ v) None (Some q) x y e = let p = same_words w v None (Some q) (rest_is_word b w x) (rest_is_word c v y) cc in (cc, p.1)
-same_words (b ∷ w) (c ∷ v) (Some r) None x y e = let p = same_words w v (Some r) None (rest_is_word b w x) (rest_is_word c v y) cc in (cc, p.1)
-same_words (b ∷ w) (c ∷ v) (Some r) (Some q) x y e = let p = same_words w v (Some r) (Some q) (rest_is_word b w x) (rest_is_word c v y) cc in (cc, p.1)
+use Rattle.tp_text.specs.Reads.{IsWord, followed, spaced}
+use Rattle.tp_text.specs.Fits.{Fits32, FitsKind, FitsOutcome}
+use Rattle.tp_scenario.specs.Lines.{FitsLine, FitsSubmission, arguments, cancel_text, command_of, line_text, outcome_text, ruling_text, submission_text}
+use Rattle.tp_text.specs.Commands.{command_word}
+use Rattle.tp_text.specs.EntryLine.{kind_text, switch_word}
+use Rattle.tp_types.specs.Verdict.{verdict_name}
+use Rattle.tp_text.proofs.WordSplits.{differ, same_words, word_from_test}
+use Rattle.tp_text.proofs.NumberTexts.{word_decimal}
+use Rattle.tp_scenario.proofs.OutcomeTexts.{marked}
+use Rattle.tp_text.proofs.CommandWords.{command_word-injective, word_of_command}
 
 -- what is printed of a number says which
 
@@ -99,7 +78,7 @@ submission_text-injective k j o p f h e =
     let parts = same_kind k j (outcome_text o) (outcome_text p) f.0 h.0 words.0 (same_Some _ _ words.1) in
     (parts.0, outcome_text-injective o p f.1 h.1 parts.1)
 
-verdict_word-injective : (v u : Verdict) → verdict_word v ≡ verdict_word u → v ≡ u
+verdict_word-injective : (v u : Verdict) → verdict_name v ≡ verdict_name u → v ≡ u
 verdict_word-injective verdict.Abort verdict.Abort e = refl
 verdict_word-injective verdict.Abort verdict.CallerRuns e = absurd (differ (codes "abort") (codes "callerruns") refl e)
 verdict_word-injective verdict.Abort verdict.Discard e = absurd (differ (codes "abort") (codes "discard") refl e)
@@ -125,7 +104,7 @@ switch_word-injective false false e = refl
 
 ruling_text-injective : (t s : ℕ) (v u : Verdict) → Fits32 t → Fits32 s → ruling_text (t, v) ≡ ruling_text (s, u) → (t ≡ s) × (v ≡ u)
 ruling_text-injective t s v u f h e =
-    let p = same_words (decimal t) (decimal s) (Some (verdict_word v)) (Some (verdict_word u)) (word_decimal t (omega (arith, f))) (word_decimal s (omega (arith, h))) e in
+    let p = same_words (decimal t) (decimal s) (Some (verdict_name v)) (Some (verdict_name u)) (word_decimal t (omega (arith, f))) (word_decimal s (omega (arith, h))) e in
     (same_number t s f h p.0, verdict_word-injective v u (same_Some _ _ p.1))
 
 cancel_text-injective : (t s : ℕ) (a b : Bool) → Fits32 t → Fits32 s → cancel_text (t, a) ≡ cancel_text (s, b) → (t ≡ s) × (a ≡ b)

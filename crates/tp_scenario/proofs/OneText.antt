@@ -3,25 +3,27 @@ use Rattle.std.proofs.Common.{◌≡◌, ℕ, suc, ◌<◌, List, [], ◌∷◌,
 use Rattle.std.specs.List.{flat_map}
 use Rattle.std.specs.Prelude.{nat_lt}
 use Rattle.std.proofs.lemmas.Bool.{ltb-true}
-use Rattle.tp_scenario.specs.Reads.{followed}
-use Rattle.tp_scenario.specs.declared.lines.TaskVerb.TheVariants as task
-use Rattle.tp_scenario.specs.declared.lines.SlotVerb.TheVariants as slot
-use Rattle.tp_scenario.specs.declared.lines.PoolVerb.TheVariants as pool
-use Rattle.tp_scenario.specs.declared.lines.SizeVerb.TheVariants as size
-use Rattle.tp_scenario.specs.declared.lines.TickVerb.TheVariants as ticks
-use Rattle.tp_scenario.specs.declared.lines.Command.{Command}
-use Rattle.tp_scenario.specs.declared.lines.Command.TheVariants as command
+use Rattle.tp_text.specs.Reads.{followed}
+use Rattle.tp_text.specs.declared.commands.TaskVerb.TheVariants as task
+use Rattle.tp_text.specs.declared.commands.SlotVerb.TheVariants as slot
+use Rattle.tp_text.specs.declared.commands.PoolVerb.TheVariants as pool
+use Rattle.tp_text.specs.declared.commands.SizeVerb.TheVariants as size
+use Rattle.tp_text.specs.declared.commands.TickVerb.TheVariants as ticks
+use Rattle.tp_text.specs.declared.commands.Command.{Command}
+use Rattle.tp_text.specs.declared.commands.Command.TheVariants as command
 use Rattle.tp_scenario.specs.declared.lines.ScenarioLine.{ScenarioLine}
-use Rattle.tp_scenario.specs.declared.lines.PoolLine.{PoolLine}
+use Rattle.tp_text.specs.declared.pools.PoolLine.{PoolLine}
 use Rattle.tp_scenario.specs.declared.lines.LineRead.{LineRead}
 use Rattle.tp_scenario.specs.declared.lines.LineRead.TheVariants as read
 use Rattle.tp_scenario.specs.declared.lines.PoolRead.{PoolRead}
 use Rattle.tp_scenario.specs.declared.lines.PoolRead.TheVariants as head
-use Rattle.tp_scenario.specs.Lines.{arguments, command_of, command_word, line_text}
-use Rattle.tp_scenario.specs.Pools.{pool_text}
-use Rattle.tp_scenario.specs.Scenario.{AskFor, Asked, Before, BeforePool, HasNoLineFeed, IsLines, IsSkipped, ReadsLine, ReadsPoolLine, Said, Says, IsScenario, ended}
+use Rattle.tp_scenario.specs.Lines.{arguments, command_of, line_text}
+use Rattle.tp_text.specs.Commands.{command_word}
+use Rattle.tp_text.specs.Pools.{pool_text}
+use Rattle.tp_scenario.specs.Scenario.{AskFor, Asked, Before, BeforePool, IsSkipped, ReadsLine, ReadsPoolLine, Said, Says, IsScenario}
+use Rattle.tp_text.specs.Lines.{HasNoLineFeed, IsLines, ended}
 use Rattle.tp_scenario.proofs.OneReading.{line_text-injective}
-use Rattle.tp_scenario.proofs.PoolReading.{pool_text-injective}
+use Rattle.tp_text.proofs.PoolReading.{pool_text-injective}
 
 -- each command begins with a letter
 letter_first : (c : Command) → nat_lt 96 (get_or (command_word c) 0 0) ≡ true

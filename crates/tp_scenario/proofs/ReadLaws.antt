@@ -4,10 +4,11 @@ use Rattle.std.specs.List.{flat_map, All}
 use Rattle.std.proofs.lemmas.Bool.{cases_eq}
 use Rattle.std.proofs.lemmas.List.Elements.{All-push}
 use Rattle.tp_scenario.specs.declared.lines.ScenarioLine.{ScenarioLine}
-use Rattle.tp_scenario.specs.declared.lines.PoolLine.{PoolLine}
+use Rattle.tp_text.specs.declared.pools.PoolLine.{PoolLine}
 use Rattle.tp_scenario.specs.declared.lines.LineRead.TheVariants as read
 use Rattle.tp_scenario.specs.declared.lines.PoolRead.TheVariants as head
-use Rattle.tp_scenario.specs.Scenario.{HasNoLineFeed, IsLines, ReadsLine, ReadsPoolLine, Asked, Said, ended, is_supported}
+use Rattle.tp_text.specs.Lines.{HasNoLineFeed, IsLines, ended}
+use Rattle.tp_scenario.specs.Scenario.{ReadsLine, ReadsPoolLine, Asked, Said, is_supported}
 use Rattle.tp_scenario.specs.Answered.{AsksFrom, SaysFrom}
 
 -- a byte before a text without a line feed

@@ -5,10 +5,11 @@ use Rattle.std.proofs.lemmas.Option.{none-some, same_Some}
 use Rattle.tp_types.specs.declared.tasks.Kind.{Kind}
 use Rattle.tp_types.specs.declared.tasks.Kind.TheVariants as kinds
 use Rattle.tp_record.specs.Effects.{Outcome}
-use Rattle.tp_scenario.specs.Reads.{FirstWord, spaced}
-use Rattle.tp_scenario.specs.Lines.{Fits32, FitsOutcome, cancel_text, FitsSubmission, submission_text, outcome_text}
-use Rattle.tp_scenario.proofs.WordSplits.{differ, word_from_test}
-use Rattle.tp_scenario.proofs.NumberTexts.{word_decimal}
+use Rattle.tp_text.specs.Reads.{FirstWord, spaced}
+use Rattle.tp_text.specs.Fits.{Fits32, FitsOutcome}
+use Rattle.tp_scenario.specs.Lines.{cancel_text, FitsSubmission, submission_text, outcome_text}
+use Rattle.tp_text.proofs.WordSplits.{differ, word_from_test}
+use Rattle.tp_text.proofs.NumberTexts.{word_decimal}
 
 -- what the three kinds of submission begin with and go on with
 pub record NoSubmission (w : List ℕ) (r : Option (List ℕ)) : Type 0 where

@@ -10,7 +10,8 @@ use Rattle.tp_record.specs.Step.{Gives, IsRefused}
 use Rattle.tp_text.specs.RunText.{Answer, after, after_all, run_lines, drained}
 use Rattle.tp_scenario.specs.declared.lines.ScenarioLine.{ScenarioLine}
 use Rattle.tp_scenario.specs.declared.scenarios.Scenario.{Scenario}
-use Rattle.tp_scenario.specs.Scenario.{Asked, Said, IsLines, AskFor, Says}
+use Rattle.tp_scenario.specs.Scenario.{Asked, Said, AskFor, Says}
+use Rattle.tp_text.specs.Lines.{IsLines}
 use Rattle.tp_scenario.specs.Played.{Outcomes, ask_of, outcomes_after}
 
 -- a text, the first line of which is line k, asks for these steps

@@ -15,19 +15,19 @@ use Rattle.tp_record.specs.Effects.{Outcome}
 use Rattle.tp_record.specs.State.{State, state, slot_at}
 use Rattle.tp_record.specs.Step as steps
 use Rattle.tp_text.specs.RunText.{Answer, after, after_all, run_lines, output, IsFront}
-use Rattle.tp_scenario.specs.declared.lines.TaskVerb.{TaskVerb}
-use Rattle.tp_scenario.specs.declared.lines.TaskVerb.TheVariants as task
-use Rattle.tp_scenario.specs.declared.lines.SlotVerb.{SlotVerb}
-use Rattle.tp_scenario.specs.declared.lines.SlotVerb.TheVariants as slot
-use Rattle.tp_scenario.specs.declared.lines.PoolVerb.{PoolVerb}
-use Rattle.tp_scenario.specs.declared.lines.PoolVerb.TheVariants as pool
-use Rattle.tp_scenario.specs.declared.lines.SizeVerb.{SizeVerb}
-use Rattle.tp_scenario.specs.declared.lines.SizeVerb.TheVariants as size
-use Rattle.tp_scenario.specs.declared.lines.TickVerb.{TickVerb}
-use Rattle.tp_scenario.specs.declared.lines.TickVerb.TheVariants as ticks
+use Rattle.tp_text.specs.declared.commands.TaskVerb.{TaskVerb}
+use Rattle.tp_text.specs.declared.commands.TaskVerb.TheVariants as task
+use Rattle.tp_text.specs.declared.commands.SlotVerb.{SlotVerb}
+use Rattle.tp_text.specs.declared.commands.SlotVerb.TheVariants as slot
+use Rattle.tp_text.specs.declared.commands.PoolVerb.{PoolVerb}
+use Rattle.tp_text.specs.declared.commands.PoolVerb.TheVariants as pool
+use Rattle.tp_text.specs.declared.commands.SizeVerb.{SizeVerb}
+use Rattle.tp_text.specs.declared.commands.SizeVerb.TheVariants as size
+use Rattle.tp_text.specs.declared.commands.TickVerb.{TickVerb}
+use Rattle.tp_text.specs.declared.commands.TickVerb.TheVariants as ticks
 use Rattle.tp_scenario.specs.declared.lines.ScenarioLine.{ScenarioLine}
 use Rattle.tp_scenario.specs.declared.lines.ScenarioLine.TheVariants as line
-use Rattle.tp_scenario.specs.Pools.{config_of}
+use Rattle.tp_text.specs.Pools.{config_of}
 use Rattle.tp_scenario.specs.Scenario.{Asked, Said, IsScenario}
 
 -- what lines ask

@@ -1,8 +1,5 @@
 -- What the text of a scenario says: a pool, steps, and the first bad line, if there is one.
-use Rattle.std.specs.Prelude.{◌≡◌, ◌≢◌, ◌==◌, ◌&&◌, ◌||◌, not, is_ok, ◌⊎◌, ◌<◌, ◌≤◌, ℕ, suc, Bool, true, false, List, [], ◌∷◌, ◌++◌, length, slice_index, Option, Some, None, Result, Ok, Err, codes}
-use Rattle.std.specs.List.{flat_map, AllByRecursion}
-use Rattle.std.specs.Str.{IsAscii}
-use Rattle.std.specs.Str.Iter.{HasSubslice}
+use Rattle.std.specs.Prelude.{◌≡◌, ◌≢◌, ◌==◌, ◌&&◌, ◌||◌, not, is_ok, ◌⊎◌, ℕ, suc, Bool, true, false, List, [], ◌∷◌, slice_index, Option, Some, None, Result, Ok, Err}
 use Rattle.tp_types.specs.declared.configs.Config.{Config}
 use Rattle.tp_types.specs.declared.configs.QueueKind.{QueueKind}
 use Rattle.tp_types.specs.declared.configs.QueueKind.TheVariants.{Unbounded}
@@ -10,30 +7,18 @@ use Rattle.tp_types.specs.declared.configs.Policy.{Policy}
 use Rattle.tp_types.specs.declared.configs.Policy.TheVariants.{Abort}
 use Rattle.tp_types.specs.declared.tasks.Kind.TheVariants as kinds
 use Rattle.tp_types.specs.Config.{checked}
-use Rattle.tp_scenario.specs.declared.lines.TaskVerb.TheVariants as task
-use Rattle.tp_scenario.specs.declared.lines.SlotVerb.TheVariants as slot
+use Rattle.tp_text.specs.declared.commands.TaskVerb.TheVariants as task
+use Rattle.tp_text.specs.declared.commands.SlotVerb.TheVariants as slot
 use Rattle.tp_scenario.specs.declared.lines.ScenarioLine.{ScenarioLine}
 use Rattle.tp_scenario.specs.declared.lines.ScenarioLine.TheVariants as line
-use Rattle.tp_scenario.specs.declared.lines.PoolLine.{PoolLine}
+use Rattle.tp_text.specs.declared.pools.PoolLine.{PoolLine}
 use Rattle.tp_scenario.specs.declared.lines.LineRead.{LineRead}
 use Rattle.tp_scenario.specs.declared.lines.LineRead.TheVariants as read
 use Rattle.tp_scenario.specs.declared.lines.PoolRead.{PoolRead}
 use Rattle.tp_scenario.specs.declared.lines.PoolRead.TheVariants as head
+use Rattle.tp_text.specs.Lines.{IsClean, IsLines}
 use Rattle.tp_scenario.specs.Lines.{FitsLine, line_text}
-use Rattle.tp_scenario.specs.Pools.{FitsPool, config_of, pool_text}
-
--- no space stands beside another or at an end
-pub record IsWellSpaced (bytes : List ℕ) : Type 0 where
-  pub single : HasSubslice bytes (codes "  ") → ⊥
-  pub first : slice_index bytes 0 ≢ 32
-  pub last : (front : List ℕ) → bytes ≢ front ++ 32 ∷ []
-
--- what a line must be whatever it says: ASCII without a carriage return, at most 200 bytes, and well spaced
-pub record IsClean (bytes : List ℕ) : Type 0 where
-  pub short : length bytes ≤ 200
-  pub ascii : IsAscii bytes
-  pub returns : (i : ℕ) → i < length bytes → slice_index bytes i ≢ 13
-  pub spaces : IsWellSpaced bytes
+use Rattle.tp_text.specs.Pools.{FitsPool, config_of, pool_text}
 
 -- an empty line, or a comment
 abbrev pub IsSkipped : List ℕ → Type 0
@@ -77,20 +62,6 @@ abbrev pub ReadsPoolLine : List ℕ → PoolRead → Type 0
 ReadsPoolLine bytes head.Skipped = IsSkipped bytes
 ReadsPoolLine bytes (head.Pool p) = IsClean bytes × FitsPool p × (is_supported_pool p ≡ true) × (bytes ≡ pool_text p)
 ReadsPoolLine bytes head.Bad = (IsSkipped bytes → ⊥) × (IsClean bytes → (p : PoolLine) → FitsPool p → is_supported_pool p ≡ true → bytes ≢ pool_text p)
-
--- lines, each ended by a line feed
-
-abbrev pub HasNoLineFeed : List ℕ → Type 0
-HasNoLineFeed bytes = (i : ℕ) → i < length bytes → slice_index bytes i ≢ 10
-
-abbrev pub ended : List ℕ → List ℕ
-ended line = line ++ 10 ∷ []
-
--- the lines of a text, and what stands behind its last line feed
-pub record IsLines (text : List ℕ) (lines : List (List ℕ)) (rest : List ℕ) : Type 0 where
-  pub whole : text ≡ flat_map ended lines ++ rest
-  pub each : AllByRecursion HasNoLineFeed lines
-  pub last : HasNoLineFeed rest
 
 -- the steps that lines ask for in order, up to the first bad line, and the number of that line, if there is one
 abbrev pub Asked : Type 0

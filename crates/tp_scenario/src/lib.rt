@@ -3,12 +3,9 @@
 #![tactic(auto)]
 
 pub mod lines;
-pub mod numbers;
 pub mod play;
-pub mod pools;
 pub mod reading;
 pub mod run;
 pub mod scenarios;
 pub mod step;
 pub mod texts;
-pub mod words;

@@ -5,7 +5,7 @@ ghost use Rattle.tp_record.specs.declared.entries.Entry.{Entry};
 ghost use Rattle.tp_record.specs.State.{state};
 ghost use Rattle.tp_text.specs.RunText.{Answer, answer_lines, fate_lines, end_lines, IsFront};
 ghost use Rattle.tp_scenario.specs.Answered.{Stands, Breaks, IsQuiet, asked_of};
-ghost use Rattle.tp_scenario.specs.Pools.{config_of};
+ghost use Rattle.tp_text.specs.Pools.{config_of};
 ghost use Rattle.tp_scenario.specs.Played.{IsPlayed, ComesOf, BreaksOff};
 ghost use Rattle.tp_scenario.specs.Scenario.{is_supported, is_supported_pool};
 

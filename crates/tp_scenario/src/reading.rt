@@ -3,15 +3,27 @@
 ghost use Rattle.std.specs.Prelude.{◌≡◌, ◌≢◌, List, ℕ, Option, Some, None, MatchOption};
 ghost use Rattle.std.specs.Option.{option_map};
 ghost use Rattle.std.specs.Fmt.{decimal};
-ghost use Rattle.tp_scenario.specs.Reads.{Any, ReadsAs, spaced};
-ghost use Rattle.tp_scenario.specs.Lines.{Fits32, FitsOutcome, FitsLine, FitsSubmission, arguments, command_of, line_text, outcome_text, ruling_text, cancel_text, submission_text, ReadsAfter};
+ghost use Rattle.tp_text.specs.Reads.{Any, ReadsAs, spaced};
+ghost use Rattle.tp_text.specs.Fits.{Fits32, FitsOutcome};
+ghost use Rattle.tp_scenario.specs.Lines.{FitsLine, FitsSubmission, arguments, command_of, line_text, outcome_text, ruling_text, cancel_text, submission_text, ReadsAfter};
 
-use crate::lines::{Command, ScenarioLine};
-use crate::numbers::{index, long_number, number, outcome};
-use crate::words::{command, first_word, switch, verdict};
+use crate::lines::ScenarioLine;
+use tp_text::commands::Command;
+use tp_text::numbers::{index, long_number, number, value};
+use tp_text::words::{command, first_word, switch, verdict};
 use tp_types::configs::Verdict;
 use tp_types::ids::{SlotId, TaskId};
 use tp_types::tasks::{Kind, Outcome};
+
+/// What a task's end gives: a value, or a fault's code after an exclamation mark.
+fn outcome(text: &str) -> Option<Outcome>
+    ensures { ReadsAs outcome_text FitsOutcome text.now result }
+{
+    match text.strip_prefix('!') {
+        None => Some(Ok(value(text)?)),
+        Some(code) => Some(Err(number(code)?)),
+    }
+}
 
 /// A group's number and the outcome that a task's end gives.
 fn numbered_outcome(text: &str) -> Option<(u32, Outcome)>

@@ -2,13 +2,15 @@
 
 ghost use Rattle.std.specs.Prelude.{◌≡◌, ◌+◌, ◌≤◌, ◌<◌, ◌^◌, ℕ, List, true, length, All, IfOk};
 ghost use Rattle.tp_scenario.specs.Answered.{AsksFrom, said_by};
-ghost use Rattle.tp_scenario.specs.declared.lines.PoolLine.{PoolLine};
-ghost use Rattle.tp_scenario.specs.Pools.{FitsPool, pool_text};
+ghost use Rattle.tp_text.specs.declared.pools.PoolLine.{PoolLine};
+ghost use Rattle.tp_text.specs.Pools.{FitsPool, pool_text};
 ghost use Rattle.tp_scenario.specs.Scenario.{IsScenario, Said, is_supported, is_supported_pool};
 
-use crate::lines::{LineRead, PoolLine, PoolRead, ScenarioLine};
-use crate::texts::{next_line, read_line, read_pool_line};
+use crate::lines::{LineRead, PoolRead, ScenarioLine};
+use crate::texts::{read_line, read_pool_line};
 use std::alloc::{AllocError, Global};
+use tp_text::lines::next_line;
+use tp_text::pools::PoolLine;
 
 /// A pool, and what a scenario's lines ask of it.
 #[derive(Debug, Drop)]

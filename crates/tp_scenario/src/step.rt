@@ -10,11 +10,12 @@ ghost use Rattle.tp_scenario.specs.Answered.{Answers, IsQuiet, promise_of};
 ghost use Rattle.tp_scenario.specs.Played.{ask_of, outcome_there, outcomes_after};
 ghost use Rattle.tp_scenario.specs.Scenario.{is_supported};
 
-use crate::lines::{ScenarioLine, SlotVerb, TaskVerb};
+use crate::lines::ScenarioLine;
 use std::alloc::{AllocError, Global};
 use std::marker::Model;
 use tp_machine::machine::{Begun, Machine};
 use tp_record::entries::{Ask, Did, Entry, Started};
+use tp_text::commands::{SlotVerb, TaskVerb};
 use tp_types::configs::Config;
 use tp_types::ids::{SlotId, TaskId};
 use tp_types::refusals::PoolError;

@@ -1,58 +1,19 @@
 //! A scenario's text, line by line.
 
-ghost use Rattle.std.specs.Prelude.{◌≡◌, ◌↔◌, ◌++◌, ◌∷◌, true, IsTrue, MatchOption};
+ghost use Rattle.std.specs.Prelude.{◌≡◌, true};
 ghost use Rattle.tp_scenario.specs.Lines.{FitsLine, line_text};
-ghost use Rattle.tp_scenario.specs.Reads.{ReadsAs};
-ghost use Rattle.tp_scenario.specs.Pools.{FitsPool, pool_text};
-ghost use Rattle.tp_scenario.specs.Scenario.{HasNoLineFeed, IsClean, IsWellSpaced, ReadsLine, ReadsPoolLine, is_supported, is_supported_config, is_supported_pool};
+ghost use Rattle.tp_text.specs.Reads.{ReadsAs};
+ghost use Rattle.tp_text.specs.Pools.{FitsPool, pool_text};
+ghost use Rattle.tp_text.specs.Lines.{HasNoLineFeed, IsClean, IsWellSpaced};
+ghost use Rattle.tp_scenario.specs.Scenario.{ReadsLine, ReadsPoolLine, is_supported, is_supported_config, is_supported_pool};
 
-use crate::lines::{LineRead, PoolLine, PoolRead, ScenarioLine, SlotVerb, TaskVerb};
-use crate::pools::pool_of;
+use crate::lines::{LineRead, PoolRead, ScenarioLine};
 use crate::reading::step_of;
+use tp_text::commands::{SlotVerb, TaskVerb};
+use tp_text::lines::clean_text;
+use tp_text::pools::{PoolLine, pool_of};
 use tp_types::configs::{Config, Policy, QueueKind};
 use tp_types::tasks::Kind;
-
-/// The first line of a text without its line feed, and what follows that; none where the text has no line feed.
-pub fn next_line(text: &[u8]) -> Option<(&[u8], &[u8])>
-    ensures { MatchOption result (HasNoLineFeed text.now) (λ p. (text.now ≡ p.0.now ++ 10 ∷ p.1.now) × HasNoLineFeed p.0.now) }
-{
-    let end = text.iter().position(|b| *b == b'\n')?;
-    Some((&text[..end], &text[end + 1..]))
-}
-
-/// Whether no space stands beside another or at an end.
-fn is_well_spaced(text: &str) -> bool
-    ensures { IsTrue result ↔ IsWellSpaced text.now }
-{
-    if text.contains("  ") {
-        return false;
-    }
-    if text.starts_with(' ') {
-        return false;
-    }
-    !text.ends_with(' ')
-}
-
-/// Whether the text is what each line must be.
-fn is_clean(text: &str) -> bool
-    ensures { IsTrue result ↔ IsClean text.now }
-{
-    if text.len() > 200 || !text.is_ascii() {
-        return false;
-    }
-    if text.contains('\r') {
-        return false;
-    }
-    is_well_spaced(text)
-}
-
-/// The text of a line that is what each line must be.
-fn clean_text(line: &[u8]) -> Option<&str>
-    ensures { MatchOption result (IsClean line.now → ⊥) (λ text. (text.now ≡ line.now) × IsClean line.now) }
-{
-    let text = str::from_utf8(line).ok()?;
-    is_clean(text).then_some(text)
-}
 
 /// Whether the runner makes this step so far.
 pub fn is_supported(line: &ScenarioLine) -> bool

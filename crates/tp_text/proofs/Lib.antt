@@ -1,3 +1,9 @@
+pub mod WordSplits
+pub mod NumberTexts
+pub mod CommandWords
+pub mod PoolLaws
+pub mod PoolReading
+pub mod TextLaws
 pub mod LineLaws
 pub mod RunLaws
 pub mod WorkedOutputs

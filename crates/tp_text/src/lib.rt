@@ -3,8 +3,13 @@
 #![tactic(auto)]
 
 mod answers;
+pub mod commands;
 pub mod ends;
 pub mod entries;
+pub mod lines;
+pub mod numbers;
+pub mod pools;
 pub mod runs;
 #[cfg(test)]
 mod tests;
+pub mod words;

@@ -1,6 +1,6 @@
 use Rattle.std.proofs.Common.{◌≡◌, ◌∙◌, ap, sym, subst, inl, inr, Err}
 use Rattle.tp_types.specs.Config.{checked}
-use Rattle.tp_scenario.specs.Pools.{config_of}
+use Rattle.tp_text.specs.Pools.{config_of}
 use Rattle.tp_scenario.specs.Answered.{asked_of, Breaks, Playing, Stands}
 use Rattle.tp_scenario.proofs.Endings.{comes_bad, comes_whole, comes_of_new, breaks_off, breaks_end}
 use Rattle.tp_scenario.proofs.play.play_scenario.Goals as goal

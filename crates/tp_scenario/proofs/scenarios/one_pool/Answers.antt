@@ -1,4 +1,4 @@
-use Rattle.tp_scenario.proofs.PoolReading.{pool_text-injective}
+use Rattle.tp_text.proofs.PoolReading.{pool_text-injective}
 use Rattle.tp_scenario.proofs.scenarios.one_pool.Goals as goal
 
 pub returns : goal.returns

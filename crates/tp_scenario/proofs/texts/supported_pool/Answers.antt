@@ -1,4 +1,4 @@
-use Rattle.tp_scenario.proofs.PoolReading.{supported_pool_read}
+use Rattle.tp_scenario.proofs.Supports.{supported_pool_read}
 use Rattle.tp_scenario.proofs.texts.supported_pool.Goals as goal
 
 pub returns : goal.returns

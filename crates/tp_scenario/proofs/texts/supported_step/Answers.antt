@@ -1,4 +1,4 @@
-use Rattle.tp_scenario.proofs.TextLaws.{supported_read}
+use Rattle.tp_scenario.proofs.Supports.{supported_read}
 use Rattle.tp_scenario.proofs.texts.supported_step.Goals as goal
 
 pub returns : goal.returns
