@@ -10,8 +10,12 @@ use std::rt::Clock;
 use std::time::{Duration, Instant};
 use tp_queue::queues::Queue;
 use tp_queue::work::WorkQueue;
+use tp_record::rows::{Stage, TaskRow};
+use tp_slots::slots::Slots;
+use tp_tasks::tasks::Tasks;
 use tp_types::configs::QueueKind;
-use tp_types::ids::TaskId;
+use tp_types::ids::{SlotId, TaskId};
+use tp_types::tasks::{Fate, Kind, Place, Promise};
 
 /// How large a structure is, and how often it is used.
 #[derive(Clone, Copy)]
@@ -38,17 +42,32 @@ pub enum Measure {
     TakeAndOffer,
     /// Out of the middle of a full queue a task is removed, and another offered.
     RemoveAndOffer,
+    /// Of workers that are all idle the one that is idle longest is woken, and is idle again.
+    WakeLongest,
+    /// Out of the middle of the order of idling a worker is woken, and is idle again.
+    WakeMiddle,
+    /// Among tasks of a group one more is put, completed and handed out.
+    PutAndComplete,
 }
 
 impl Measure {
     /// All that can be measured.
-    pub const ALL: [Measure; 2] = [Measure::TakeAndOffer, Measure::RemoveAndOffer];
+    pub const ALL: [Measure; 5] = [
+        Measure::TakeAndOffer,
+        Measure::RemoveAndOffer,
+        Measure::WakeLongest,
+        Measure::WakeMiddle,
+        Measure::PutAndComplete,
+    ];
 
     /// What a turn does, in words.
     pub fn name(self) -> &'static str {
         match self {
             Measure::TakeAndOffer => "take the head and offer",
             Measure::RemoveAndOffer => "remove from the middle and offer",
+            Measure::WakeLongest => "wake the longest idle and idle",
+            Measure::WakeMiddle => "wake out of the middle and idle",
+            Measure::PutAndComplete => "put, complete and hand out",
         }
     }
 
@@ -57,6 +76,9 @@ impl Measure {
         match self {
             Measure::TakeAndOffer => take_and_offer(rt, size),
             Measure::RemoveAndOffer => remove_and_offer(rt, size),
+            Measure::WakeLongest => wake_longest(rt, size),
+            Measure::WakeMiddle => wake_middle(rt, size),
+            Measure::PutAndComplete => put_and_complete(rt, size),
         }
     }
 }
@@ -99,5 +121,91 @@ fn remove_and_offer<R: Clock + AllocGlobal>(rt: &R, size: Size) -> io::Result<Me
     Ok(Measured {
         elapsed: start.elapsed(rt)?,
         left: queue.len(),
+    })
+}
+
+/// A table in which every worker is idle.
+fn idle_slots(alloc: Global, entries: u32) -> Result<Slots, AllocError>
+    ensures { IfOk result (λ s. s.idlings ≤ entries) }
+{
+    let mut slots = Slots::new(alloc, entries as usize)?;
+    for made in 0..entries {
+        if slots.len() < slots.places() {
+            let w = slots.reserve(Stage::ReservedBare, None);
+            slots.open(w);
+            slots.idle(w, 0);
+        }
+    }
+    Ok(slots)
+}
+
+fn wake_longest<R: Clock + AllocGlobal>(rt: &R, size: Size) -> io::Result<Measured> {
+    let Size { entries, turns } = size;
+    let mut slots = idle_slots(rt.alloc(), entries)?;
+    let start = Instant::now(rt)?;
+    for turn in 0..turns {
+        if let Some(w) = slots.longest_idle() {
+            slots.wake(w, None);
+            slots.idle(w, u64::from(turn));
+        }
+    }
+    Ok(Measured {
+        elapsed: start.elapsed(rt)?,
+        left: slots.live(),
+    })
+}
+
+/// Slots are woken from the middle one on, round and round.
+fn wake_middle<R: Clock + AllocGlobal>(rt: &R, size: Size) -> io::Result<Measured> {
+    let Size { entries, turns } = size;
+    let mut slots = idle_slots(rt.alloc(), entries)?;
+    let middle = entries / 2;
+    let start = Instant::now(rt)?;
+    for turn in 0..turns {
+        let w = SlotId((middle + turn % (entries - middle).max(1)) as usize);
+        if slots.get(w).is_some_and(|row| row.is_idle()) {
+            slots.wake(w, None);
+            slots.idle(w, u64::from(turn));
+        }
+    }
+    Ok(Measured {
+        elapsed: start.elapsed(rt)?,
+        left: slots.live(),
+    })
+}
+
+/// One more task of group 0, put and completed.
+fn put_completed(tasks: &mut Tasks<u32>, turn: u32) -> Result<(), AllocError> {
+    const ANY: Promise = Promise {
+        low: i64::MIN,
+        high: i64::MAX,
+        may_fault: true,
+    };
+    let (kind, place) = (Kind::Group(0), Place::ToOffer);
+    let Ok(()) = tasks.reserve(kind) else {
+        return Err(AllocError);
+    };
+    if tasks.submitted() < u32::MAX {
+        let t = tasks.put(kind, place, ANY, turn);
+        let _ = tasks.take_payload(t);
+        tasks.complete(t, TaskRow::new(kind, place), Fate::Run, Ok(0));
+    }
+    Ok(())
+}
+
+fn put_and_complete<R: Clock + AllocGlobal>(rt: &R, size: Size) -> io::Result<Measured> {
+    let Size { entries, turns } = size;
+    let mut tasks = Tasks::new(rt.alloc());
+    for entry in 0..entries {
+        put_completed(&mut tasks, entry)?;
+    }
+    let start = Instant::now(rt)?;
+    for turn in 0..turns {
+        put_completed(&mut tasks, turn)?;
+        let _ = tasks.take_done(0);
+    }
+    Ok(Measured {
+        elapsed: start.elapsed(rt)?,
+        left: tasks.fated(Fate::Run) as usize,
     })
 }
