@@ -1,0 +1,6 @@
+-- Controllers' steps.
+pub mod Settings
+pub mod Remove
+pub mod Cancel
+pub mod TakeDone
+pub mod Prestart
