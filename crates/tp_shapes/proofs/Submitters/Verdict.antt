@@ -127,3 +127,48 @@ verdict_retry c h t v legal given =
           (done_same c h d legal given refl) refl;
       owes = owes_by c h d legal given refl 0 11 (verdict_retry_falls c h t v given);
     }
+
+discarded : (f : Fate) (b : Bool) (o : Option Fate) → o ≡ None →
+    ◌≡◌ {A = ℕ} (cond (is_fate f (if b then Some fate.Cancelled else Some fate.Discarded)) 1 0)
+    (cond (is_fate f (if b then Some fate.Cancelled else o)) 1 0 + cond (is_fate f (if b then None else Some fate.Discarded)) 1 0)
+discarded f true o none = grind arith
+discarded f false o none = rw none (by_fate f)
+  where
+    by_fate : (f : Fate) → ◌≡◌ {A = ℕ} (cond (is_fate f (Some fate.Discarded)) 1 0) (cond (is_fate f None) 1 0 + cond (is_fate f (Some fate.Discarded)) 1 0)
+    by_fate f = grind arith
+
+-- the head is another task
+heads_apart : (c : Config) (h : List Entry) (t u : TaskId) (v : Verdict) → Given c h (did.Verdict t v (ruled.RetryDrop u)) → u.0 ≡ t.0 → ⊥
+heads_apart c h t u v given same = false≢true (sym (ap is_queued_place given.0.1) ∙ ap (is_queued h) (sym same) ∙ ap is_queued_place given.1.3.1)
+
+verdict_retry_drop_falls : (c : Config) (h : List Entry) (t u : TaskId) (v : Verdict) → Given c h (did.Verdict t v (ruled.RetryDrop u)) → (u.0 ≡ t.0 → ⊥) →
+    named_due h (did.Verdict t v (ruled.RetryDrop u)) h + 5 ≡ named_due h (did.Verdict t v (ruled.RetryDrop u)) (entry (did.Verdict t v (ruled.RetryDrop u)) ∷ h) + 0
+verdict_retry_drop_falls c h t u v given apart = grind (arith, nat_tests)
+
+-- a retry that drops the queue's head
+pub verdict_retry_drop : (c : Config) (h : List Entry) (t u : TaskId) (v : Verdict) → Legal c h → Given c h (did.Verdict t v (ruled.RetryDrop u)) →
+    Effect (state c h) (did.Verdict t v (ruled.RetryDrop u))
+    (record (view (state c h)) {
+      tasks = put t.0 (record (task_at (state c h) t.0) { place = at.Looking; retries = suc (task_at (state c h) t.0).retries })
+          (put u.0 (record (task_at (state c h) u.0) { place = at.Gone; ending = Some fate.Discarded }) (task_at (state c h)));
+      fates = λ f. fated f (state c h) + cond (is_fate f (if (task_at (state c h) u.0).cancelled then None else Some fate.Discarded)) 1 0;
+      queue = drop 1 (state c h).queue;
+    }) 0 5
+verdict_retry_drop c h t u v legal given =
+    let d = did.Verdict t v (ruled.RetryDrop u) in
+    let apart = heads_apart c h t u v given in
+    let other : t.0 ≡ u.0 → ⊥ = λ e. apart (sym e) in
+    record {
+      reads = reads_by (state c h) d refl
+          (tasks_two c h d legal given refl refl t.0 u.0 refl refl refl apart
+            (record (task_at (state c h) t.0) { place = at.Looking; retries = suc (task_at (state c h) t.0).retries })
+            (record (task_at (state c h) u.0) { place = at.Gone; ending = Some fate.Discarded })
+            (rw (eq-eqb t.0 t.0 refl, ne_eqb t.0 u.0 other) refl) (rw (ne_eqb u.0 t.0 apart, eq-eqb u.0 u.0 refl) refl) refl
+            (λ f. cond (is_fate f (if (task_at (state c h) u.0).cancelled then None else Some fate.Discarded)) 1 0)
+            (λ f. discarded f (task_at (state c h) u.0).cancelled (task_at (state c h) u.0).ending (open_row c h legal u.0 (ap is_gone given.1.3.1))))
+          (queue_rest c h d refl refl u.0 given.1.2.0 given.1.2.1 (rw (ne_eqb u.0 t.0 apart, eq-eqb u.0 u.0 refl) refl)
+            (λ x is ne. (ne_eqb x t.0 (λ e. false≢true (sym (ap is_queued_place given.0.1) ∙ ap (is_queued h) (sym e) ∙ is)), ne_eqb x u.0 ne)))
+          (slots_kept c h d legal given refl refl refl refl)
+          (done_same c h d legal given refl) refl;
+      owes = owes_by c h d legal given refl 0 5 (verdict_retry_drop_falls c h t u v given apart);
+    }
