@@ -1,5 +1,5 @@
 -- The completions of each group that are not handed out, after an entry.
-use Rattle.std.proofs.Common.{◌≡◌, ℕ, suc, ◌<◌, ◌≤◌, Bool, true, false, not, ◌&&◌, ◌||◌, cond, List, [], ◌∷◌, ◌++◌, length, Option, Some, None, refl, arith, sym, ap, subst, ◌∙◌, ◌⊎◌, inl, inr}
+use Rattle.std.proofs.Common.{◌≡◌, ℕ, Bool, true, false, not, ◌&&◌, cond, List, [], ◌∷◌, ◌++◌, Some, None, refl, arith, sym, ap, ◌∙◌, inl, inr}
 use mathlib.Core.Path.{fun_ext}
 use Rattle.std.specs.Prelude.{◌==◌, filter, drop, unwrap_or, if◌then◌else◌}
 use Rattle.std.proofs.lemmas.Bool.{cases_eq, eq-eqb, ne_eqb, and_parts}
@@ -14,14 +14,14 @@ use Rattle.tp_record.specs.declared.entries.Entry.{Entry}
 use Rattle.tp_record.specs.declared.entries.Did.{Did}
 use Rattle.tp_record.specs.declared.entries.Did.TheVariants as did
 use Rattle.tp_record.specs.declared.entries.Looked.{Looked}
-use Rattle.tp_record.specs.Lists.{said_of, is_it, without, at_end}
+use Rattle.tp_record.specs.Lists.{said_of, without, at_end}
 use Rattle.tp_record.specs.Effects.{kinds_said, is_submit, completes, hands_out, is_group}
-use Rattle.tp_record.specs.Fields.{submitted, is_done, completed, done}
-use Rattle.tp_record.specs.State.{State, state, next, task_at, done_after, stays_done}
+use Rattle.tp_record.specs.Fields.{is_done, completed, done}
+use Rattle.tp_record.specs.State.{State, state, next, task_at, stays_done}
 use Rattle.tp_record.specs.Step.{Legal, done_of, is_of_group}
 use Rattle.tp_model.proofs.ListLaws.{filter-filter_agree, filter-filter}
 use Rattle.tp_model.proofs.Given.{Given}
-use Rattle.tp_model.proofs.Queues.{is_among, IsOnce, among-done, among-filter, once-done, once-filter}
+use Rattle.tp_model.proofs.Queues.{is_among, among-done, among-filter, once-done, once-filter}
 use Rattle.tp_model.proofs.Told.{told_legal}
 use Rattle.tp_shapes.proofs.Next.{row_next}
 use Rattle.tp_shapes.proofs.Lists.{filter_all, without_absent, without_head}

@@ -1,7 +1,7 @@
 -- What more is known of a legal record: a task that is not gone has no ending; one that its submitter still has owes no
 -- second look; a completion that is not handed out is of a task that is cancelled or has an ending.
-use Rattle.std.proofs.Common.{◌≡◌, ℕ, suc, ◌<◌, ◌≤◌, Bool, true, false, ◌&&◌, ◌||◌, cond, List, [], ◌∷◌, Option, Some, None, refl, arith, sym, ap, ◌∙◌}
-use Rattle.std.specs.Prelude.{◌==◌, unwrap_or, is_some, if◌then◌else◌}
+use Rattle.std.proofs.Common.{◌≡◌, ℕ, suc, ◌<◌, ◌≤◌, Bool, true, false, ◌&&◌, ◌||◌, cond, List, [], ◌∷◌, Option, Some, None, refl, arith, sym, ap}
+use Rattle.std.specs.Prelude.{unwrap_or, is_some}
 use Rattle.std.proofs.lemmas.Bool.{false≢true, and_parts, eqb-true}
 use Rattle.std.proofs.lemmas.Bool.Decides.{nat_tests}
 use Rattle.tp_types.specs.declared.configs.Config.{Config}
@@ -14,9 +14,8 @@ use Rattle.tp_record.specs.declared.entries.Did.{Did}
 use Rattle.tp_record.specs.declared.entries.Did.TheVariants as did
 use Rattle.tp_record.specs.declared.rows.SlotRow.{SlotRow}
 use Rattle.tp_record.specs.Lists.{said_of, is_it}
-use Rattle.tp_record.specs.Effects.{moved, seconds, cancels, endings, completes, hands_out, is_submit}
+use Rattle.tp_record.specs.Effects.{moved, cancels, endings, completes, hands_out, is_submit}
 use Rattle.tp_record.specs.Fields.{place, is_cancelled, ending, kind, owes_second, submitted, swept, handed_back, is_done, slot_row}
-use Rattle.tp_record.specs.State.{state}
 use Rattle.tp_record.specs.Step.{Legal, is_reserved}
 use Rattle.tp_model.specs.Seats.{slot_of}
 use Rattle.tp_model.proofs.Weak.{closes}

@@ -8,6 +8,8 @@ pub mod Invariants
 pub mod Done
 pub mod Shapes
 pub mod Facts
+pub mod Sweeps
+pub mod Wide
 pub mod Submitters
 pub mod Workers
 pub mod Controllers

@@ -1,29 +1,21 @@
 -- The queue, the order of idling and what is done, after an entry.
-use Rattle.std.proofs.Common.{◌≡◌, ℕ, suc, ◌<◌, ◌≤◌, Bool, true, false, not, ◌&&◌, cond, List, [], ◌∷◌, ◌++◌, length, Option, Some, None, refl, arith, sym, ap, subst, ◌∙◌, ◌⊎◌, inl, inr}
-use mathlib.Core.Path.{ap₂}
-use Rattle.std.specs.Prelude.{◌==◌, filter, drop, unwrap_or, option_to_list, if◌then◌else◌}
+use Rattle.std.proofs.Common.{◌≡◌, ℕ, Bool, true, false, not, List, [], ◌∷◌, ◌++◌, Option, Some, None, refl, sym, ap, subst, ◌∙◌, inl, inr}
+use Rattle.std.specs.Prelude.{◌==◌, filter, drop, unwrap_or, option_to_list}
 use Rattle.std.proofs.lemmas.Bool.{cases_eq, eq-eqb, eqb-true, ne_eqb, false≢true, true≢false, or_parts}
-use Rattle.std.proofs.lemmas.Bool.Decides.{nat_tests}
 use Rattle.std.proofs.lemmas.List.{append-nil}
 use Rattle.tp_types.specs.declared.configs.Config.{Config}
-use Rattle.tp_types.specs.declared.tasks.Kind.{Kind}
-use Rattle.tp_types.specs.declared.tasks.Place.{Place}
 use Rattle.tp_types.specs.declared.tasks.Place.TheVariants as at
 use Rattle.tp_record.specs.declared.entries.Entry.{Entry}
 use Rattle.tp_record.specs.declared.entries.Did.{Did}
-use Rattle.tp_record.specs.declared.rows.TaskRow.{TaskRow}
 use Rattle.tp_record.specs.declared.rows.SlotRow.{SlotRow}
-use Rattle.tp_record.specs.Lists.{said_of, is_it, without, at_end}
-use Rattle.tp_record.specs.Effects.{moved, queues, kinds_said, is_submit, idles, completes, hands_out}
-use Rattle.tp_record.specs.Fields.{is_cancelled, kind, place, is_queued, is_queued_place, swept, queue, offered, task_rows, is_idle, is_idle_row, idled, idling, slot_row, is_done, completed, done}
-use Rattle.tp_record.specs.State.{State, state, next, row_at, task_at, slot_at, queue_after, stays_queued, idling_after, stays_idle, slot_after, done_after, stays_done}
-use Rattle.tp_record.specs.Step.{Legal, done_of, is_of_group}
+use Rattle.tp_record.specs.Lists.{said_of, is_it, without}
+use Rattle.tp_record.specs.Effects.{moved, queues, idles}
+use Rattle.tp_record.specs.Fields.{is_queued, is_queued_place, swept, queue, offered, task_rows, is_idle, is_idle_row, idled, idling, slot_row}
+use Rattle.tp_record.specs.State.{state, next, row_at, slot_at, stays_queued, stays_idle, slot_after}
 use Rattle.tp_model.proofs.ListLaws.{filter-filter_agree}
 use Rattle.tp_model.proofs.Readings.{slot_read}
-use Rattle.tp_model.proofs.Given.{Given}
-use Rattle.tp_model.proofs.Queues.{is_among, IsOnce, once-queue, once-idling}
+use Rattle.tp_model.proofs.Queues.{is_among, IsOnce, once-queue}
 use Rattle.tp_shapes.proofs.Names.{is_wide, names, drops, seats, replaces, place_unsaid, not_swept, other_slot}
-use Rattle.tp_shapes.proofs.Next.{entry, slot_next, slot_said}
 
 -- a filter that lets all pass
 pub filter_all : {A : Type 0} (xs : List A) → filter (λ x. true) xs ≡ xs
@@ -47,7 +39,7 @@ without_head x xs ys once is =
 module _ (c : Config) (h : List Entry) (d : Did) where
   -- The queue
 
-  queue_filtered : (p : ℕ → Bool) → ((t : ℕ) → is_queued h t ≡ true → stays_queued d (task_rows h) t ≡ p t) → (next (state c h) d).queue ≡ filter p (queue h) ++ option_to_list (queues d)
+  pub queue_filtered : (p : ℕ → Bool) → ((t : ℕ) → is_queued h t ≡ true → stays_queued d (task_rows h) t ≡ p t) → (next (state c h) d).queue ≡ filter p (queue h) ++ option_to_list (queues d)
   queue_filtered p same = ap (λ xs. xs ++ option_to_list (queues d)) (filter-filter_agree (is_queued h) (stays_queued d (task_rows h)) p same (offered h))
 
   other_stays : is_wide d ≡ false → (t : ℕ) → is_it (names d) t ≡ false → is_it (drops d) t ≡ false → stays_queued d (task_rows h) t ≡ true
@@ -86,7 +78,7 @@ module _ (c : Config) (h : List Entry) (d : Did) where
 
   -- The order of idling
 
-  idling_filtered : (p : ℕ → Bool) → ((w : ℕ) → is_idle h w ≡ true → stays_idle d (state c h) w ≡ p w) → (next (state c h) d).idling ≡ filter p (idling h) ++ option_to_list (idles d)
+  pub idling_filtered : (p : ℕ → Bool) → ((w : ℕ) → is_idle h w ≡ true → stays_idle d (state c h) w ≡ p w) → (next (state c h) d).idling ≡ filter p (idling h) ++ option_to_list (idles d)
   idling_filtered p same = ap (λ xs. xs ++ option_to_list (idles d)) (filter-filter_agree (is_idle h) (stays_idle d (state c h)) p same (idled h))
 
   apart_stays : is_wide d ≡ false → (w : ℕ) → is_idle h w ≡ true → is_it (seats d) w ≡ false → is_it (replaces d) w ≡ false → stays_idle d (state c h) w ≡ true

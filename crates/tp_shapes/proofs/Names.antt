@@ -1,5 +1,5 @@
 -- The tasks and slots that an entry names. An entry that sweeps nothing leaves all others as they were.
-use Rattle.std.proofs.Common.{◌≡◌, ℕ, Bool, true, false, ◌||◌, List, Option, Some, None, refl, arith, ap, ◌∙◌}
+use Rattle.std.proofs.Common.{◌≡◌, ℕ, Bool, true, false, List, Option, Some, None, arith, ap, ◌∙◌}
 use Rattle.std.specs.Prelude.{◌==◌, unwrap_or, if◌then◌else◌}
 use Rattle.std.proofs.lemmas.Bool.Decides.{nat_tests}
 use Rattle.tp_types.specs.declared.tasks.Place.{Place}
@@ -21,10 +21,9 @@ use Rattle.tp_record.specs.declared.rows.TaskRow.{TaskRow}
 use Rattle.tp_record.specs.declared.rows.SlotRow.{SlotRow}
 use Rattle.tp_record.specs.Lists.{said_of, is_it}
 use Rattle.tp_record.specs.Effects.{kinds_said, moved, seconds, cancels, endings, outcomes, tries, holds, turned, seated, is_plain_fault, reaches}
-use Rattle.tp_record.specs.Fields.{swept, handed_back, counted, woken, task_row, slot_row, task_in}
+use Rattle.tp_record.specs.Fields.{swept, handed_back, counted, woken, task_in}
 use Rattle.tp_record.specs.State.{State, row_after, slot_after, seat_after, seat_by, no_seat, task_at}
-use Rattle.tp_model.proofs.Given.{Given}
-use Rattle.tp_model.proofs.Keystone.{number_of, seat_of}
+use Rattle.tp_model.proofs.Keystone.{number_of}
 
 -- an entry that changes rows which it does not name, or the rank
 abbrev pub is_wide : Did → Bool

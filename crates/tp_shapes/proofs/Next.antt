@@ -1,7 +1,6 @@
 -- The next state, read row by row: each task's row and each slot's follows the entry's tables.
-use Rattle.std.proofs.Common.{◌≡◌, ℕ, suc, ◌+◌, ◌<◌, ◌≤◌, max, Bool, true, false, List, [], ◌∷◌, length, Option, Some, None, refl, arith, sym, ap, subst, ◌∙◌, inl, inr}
-use Rattle.std.specs.Prelude.{◌==◌, if◌then◌else◌}
-use Rattle.std.proofs.lemmas.Bool.{cases_lt, cases_eq, eq-eqb, ne_eqb, false≢true}
+use Rattle.std.proofs.Common.{◌≡◌, ℕ, ◌<◌, true, false, List, ◌∷◌, Option, Some, None, arith, sym, ap, subst, ◌∙◌, inl, inr}
+use Rattle.std.proofs.lemmas.Bool.{cases_lt, cases_eq, eq-eqb, ne_eqb}
 use Rattle.tp_types.specs.declared.configs.Config.{Config}
 use Rattle.tp_record.specs.declared.entries.Entry.{Entry}
 use Rattle.tp_record.specs.declared.entries.Ask.TheVariants as ask
@@ -13,12 +12,12 @@ use Rattle.tp_record.specs.declared.rows.TaskRow.{TaskRow}
 use Rattle.tp_record.specs.declared.rows.SlotRow.{SlotRow}
 use Rattle.tp_record.specs.declared.rows.Stage.TheVariants as stages
 use Rattle.tp_record.specs.Lists.{is_it}
-use Rattle.tp_record.specs.Effects.{submits, queues, idles, is_submit}
-use Rattle.tp_record.specs.Fields.{submitted, place, is_queued, is_queued_place, is_slot, is_idle, is_idle_row, task_row, task_rows, slot_row}
-use Rattle.tp_record.specs.State.{State, state, next, task_at, slot_at, row_after, slot_after}
+use Rattle.tp_record.specs.Effects.{submits, queues, idles}
+use Rattle.tp_record.specs.Fields.{submitted, is_queued, is_queued_place, is_slot, is_idle, is_idle_row, task_row, slot_row}
+use Rattle.tp_record.specs.State.{state, next, task_at, slot_at, row_after, slot_after}
 use Rattle.tp_record.specs.Step.{Legal}
 use Rattle.tp_model.proofs.Weak.{closes}
-use Rattle.tp_model.proofs.Readings.{tasks_counted, row_read, row_past, slot_read}
+use Rattle.tp_model.proofs.Readings.{row_read, row_past, slot_read}
 use Rattle.tp_model.proofs.NextState.{Fits, queue_known, state-more, slot_row-more}
 use Rattle.tp_model.proofs.Given.{Given, HasRow}
 use Rattle.tp_model.proofs.Keystone.{IsSound, sound_more}
@@ -123,9 +122,9 @@ module _ (c : Config) (h : List Entry) (d : Did) (legal : Legal c h) (given : Gi
       elim (cases_eq u t) [
         | inl same ↦ rw (eq-eqb u t same) (ap (λ k. row_after d k (task_at (state c h) k)) same ∙ says)
         | inr ne ↦ rw (ne_eqb u t ne) (elim (cases_eq u x) [
-            | inl same ↦ rw (eq-eqb u x same) (ap (λ k. row_after d k (task_at (state c h) k)) same ∙ other)
-            | inr off ↦ rw (ne_eqb u x off) (other_row d u (task_at (state c h) u) narrow (ap (λ o. is_it o u) one ∙ ne_eqb u t ne) (ap (λ o. is_it o u) two ∙ ne_eqb u x off))
-          ])
+          | inl same ↦ rw (eq-eqb u x same) (ap (λ k. row_after d k (task_at (state c h) k)) same ∙ other)
+          | inr off ↦ rw (ne_eqb u x off) (other_row d u (task_at (state c h) u) narrow (ap (λ o. is_it o u) one ∙ ne_eqb u t ne) (ap (λ o. is_it o u) two ∙ ne_eqb u x off))
+        ])
       ]
 
   -- no slot changes
@@ -149,9 +148,9 @@ module _ (c : Config) (h : List Entry) (d : Did) (legal : Legal c h) (given : Gi
       elim (cases_eq v x) [
         | inl same ↦ rw (eq-eqb v x same) (ap (slot_at (next (state c h) d).slots) same ∙ slot_said x ∙ other)
         | inr off ↦ rw (ne_eqb v x off) (elim (cases_eq v w) [
-            | inl same ↦ rw (eq-eqb v w same) (ap (slot_at (next (state c h) d).slots) same ∙ slot_said w ∙ says)
-            | inr ne ↦ rw (ne_eqb v w ne) (slot_next v ∙ other_slot d (state c h) v (slot_at (state c h).slots v) narrow (ap (λ y. is_it y v) one ∙ ne_eqb v w ne) (ap (λ y. is_it y v) two ∙ ne_eqb v x off))
-          ])
+          | inl same ↦ rw (eq-eqb v w same) (ap (slot_at (next (state c h) d).slots) same ∙ slot_said w ∙ says)
+          | inr ne ↦ rw (ne_eqb v w ne) (slot_next v ∙ other_slot d (state c h) v (slot_at (state c h).slots v) narrow (ap (λ y. is_it y v) one ∙ ne_eqb v w ne) (ap (λ y. is_it y v) two ∙ ne_eqb v x off))
+        ])
       ]
 
   -- a slot's row by the entry's words, from its row before

@@ -1,8 +1,6 @@
 -- What is seen of the next state, part by part, by the shape of what an entry changes.
-use Rattle.std.proofs.Common.{◌≡◌, ℕ, suc, ◌+◌, ◌-◌, ◌<◌, ◌≤◌, max, Bool, true, false, ◌&&◌, not, cond, List, [], ◌∷◌, ◌++◌, length, Option, Some, None, refl, arith, sym, ap, ◌∙◌}
-use mathlib.Core.Path.{ap₂}
-use Rattle.std.specs.Prelude.{◌==◌, count_by, sum_by, unwrap_or, is_some, if◌then◌else◌}
-use Rattle.std.proofs.lemmas.Bool.Decides.{nat_tests}
+use Rattle.std.proofs.Common.{◌≡◌, ℕ, suc, ◌+◌, ◌-◌, ◌≤◌, max, Bool, true, false, cond, List, [], ◌∷◌, ◌++◌, length, Option, Some, None, refl, arith, sym, ap, ◌∙◌}
+use Rattle.std.specs.Prelude.{count_by, unwrap_or, is_some, if◌then◌else◌}
 use Rattle.tp_types.specs.declared.configs.Config.{Config}
 use Rattle.tp_types.specs.declared.tasks.Fate.{Fate}
 use Rattle.tp_types.specs.declared.tasks.Fate.TheVariants as fate
@@ -13,8 +11,8 @@ use Rattle.tp_record.specs.declared.entries.Ruled.TheVariants as ruled
 use Rattle.tp_record.specs.declared.rows.TaskRow.{TaskRow}
 use Rattle.tp_record.specs.declared.rows.SlotRow.{SlotRow}
 use Rattle.tp_record.specs.Lists.{is_it, change_each}
-use Rattle.tp_record.specs.Effects.{is_submit, is_completion, reaches, sets_core, sets_maximum, sets_keep, sets_core_timeout, sets_now, queues, idles}
-use Rattle.tp_record.specs.Fields.{submitted, task_row, task_rows, slot_row, is_live, live, largest, is_idle, is_idle_row, queue, idling}
+use Rattle.tp_record.specs.Effects.{is_submit, is_completion, reaches, sets_core, sets_maximum, sets_keep, sets_core_timeout, sets_now, idles}
+use Rattle.tp_record.specs.Fields.{submitted, task_row, task_rows, slot_row, is_live, live, largest, is_idle, is_idle_row, queue}
 use Rattle.tp_record.specs.State.{State, state, next, due, task_at, slot_at, fated, fate_of, is_fate, row_after, slot_after, no_row}
 use Rattle.tp_record.specs.Step.{Legal, slot_count, done_of}
 use Rattle.tp_model.proofs.ListLaws.{length-change_each}
@@ -24,7 +22,7 @@ use Rattle.tp_model.proofs.NextState.{slot_row-more}
 use Rattle.tp_model.proofs.Keystone.{IsSound}
 use Rattle.tp_model.proofs.Told.{sound_legal}
 use Rattle.tp_model.proofs.Totals.{at_named, total, sum_by-table, total-longer, total-agree}
-use Rattle.tp_shapes.proofs.View.{View, view, Reads, put}
+use Rattle.tp_shapes.proofs.View.{view, Reads, put}
 use Rattle.tp_shapes.proofs.Names.{is_wide, names, drops, beside, seats, replaces}
 use Rattle.tp_shapes.proofs.Next.{entry, fits_given, next_given, sound_given, row_sound, rows_same, rows_one, rows_two, slots_same, slots_one, slots_two}
 use Rattle.tp_shapes.proofs.Lists.{only, idling_same}
@@ -62,7 +60,17 @@ pub reads_by : (s : State) (d : Did) → is_quiet d ≡ true → {n : ℕ} {task
     {done : ℕ → List ℕ} {completions : ℕ} → TasksRead (next s d) n tasks fates → (next s d).queue ≡ queue → SlotsRead (next s d) slots taken live largest idling →
     ((g : ℕ) → done_of (next s d) g ≡ done g) → (next s d).completions ≡ completions →
     Reads (next s d) (record (view s) {
-      submitted = n; tasks = tasks; fates = fates; queue = queue; slots = slots; taken = taken; live = live; largest = largest; idling = idling; done = done; completions = completions;
+      submitted = n;
+      tasks = tasks;
+      fates = fates;
+      queue = queue;
+      slots = slots;
+      taken = taken;
+      live = live;
+      largest = largest;
+      idling = idling;
+      done = done;
+      completions = completions;
     })
 reads_by s d quiet tasks queue slots done completions =
     record {
@@ -108,9 +116,21 @@ pub reads_set : (s : State) (d : Did) → reaches d ≡ 0 → {n : ℕ} {tasks :
     {done : ℕ → List ℕ} → TasksRead (next s d) n tasks fates → (next s d).queue ≡ queue → SlotsRead (next s d) slots taken live largest idling →
     ((g : ℕ) → done_of (next s d) g ≡ done g) → is_completion d ≡ false →
     Reads (next s d) (record (view s) {
-      core = unwrap_or (sets_core d) s.core; maximum = unwrap_or (sets_maximum d) s.maximum; keep = unwrap_or (sets_keep d) s.keep;
-      core_timeout = unwrap_or (sets_core_timeout d) s.core_timeout; now = unwrap_or (sets_now d) s.now;
-      submitted = n; tasks = tasks; fates = fates; queue = queue; slots = slots; taken = taken; live = live; largest = largest; idling = idling; done = done;
+      core = unwrap_or (sets_core d) s.core;
+      maximum = unwrap_or (sets_maximum d) s.maximum;
+      keep = unwrap_or (sets_keep d) s.keep;
+      core_timeout = unwrap_or (sets_core_timeout d) s.core_timeout;
+      now = unwrap_or (sets_now d) s.now;
+      submitted = n;
+      tasks = tasks;
+      fates = fates;
+      queue = queue;
+      slots = slots;
+      taken = taken;
+      live = live;
+      largest = largest;
+      idling = idling;
+      done = done;
     })
 reads_set s d still tasks queue slots done none = record {
   rank = (let e : max (reaches d) s.rank ≡ s.rank = omega (arith, still) in e);

@@ -1,9 +1,9 @@
 -- What is owed after an entry, and how many slots are taken or live and how many tasks have a fate: each changes as it
 -- does at what the entry names.
-use Rattle.std.proofs.Common.{◌≡◌, ℕ, suc, ◌+◌, ◌-◌, ◌<◌, ◌≤◌, ◌⊎◌, max, cond, Bool, true, false, ◌||◌, List, [], ◌∷◌, Option, Some, None, refl, arith, sym, ap, ◌∙◌, inl, inr}
+use Rattle.std.proofs.Common.{◌≡◌, ℕ, ◌+◌, ◌-◌, ◌≤◌, Bool, true, false, ◌||◌, List, ◌∷◌, Option, Some, None, refl, arith, sym, ap, ◌∙◌}
 use mathlib.Core.Path.{ap₂}
-use Rattle.std.specs.Prelude.{◌==◌, sum_by, is_some, if◌then◌else◌}
-use Rattle.std.proofs.lemmas.Bool.{ne_eqb, false≢true}
+use Rattle.std.specs.Prelude.{sum_by, if◌then◌else◌}
+use Rattle.std.proofs.lemmas.Bool.{ne_eqb}
 use Rattle.std.proofs.lemmas.Bool.Decides.{nat_tests}
 use Rattle.tp_types.specs.declared.configs.Config.{Config}
 use Rattle.tp_types.specs.declared.ids.SlotId.{SlotId}
@@ -24,9 +24,8 @@ use Rattle.tp_record.specs.declared.entries.Started.TheVariants as started
 use Rattle.tp_record.specs.declared.rows.TaskRow.{TaskRow}
 use Rattle.tp_record.specs.declared.rows.SlotRow.{SlotRow}
 use Rattle.tp_record.specs.Lists.{is_it}
-use Rattle.tp_record.specs.Effects.{reaches}
 use Rattle.tp_record.specs.Fields.{rank, submitted, place, task_row, task_rows, slot_row, slot_rows, slot_bound, reach}
-use Rattle.tp_record.specs.State.{State, state, next, due, row_after, slot_after, no_row, place_weight, slot_weight, is_core_slot}
+use Rattle.tp_record.specs.State.{state, next, due, no_row, place_weight, slot_weight, is_core_slot}
 use Rattle.tp_record.specs.Step.{Legal}
 use Rattle.tp_model.specs.Seats.{slot_of}
 use Rattle.tp_model.proofs.Readings.{slot_below}

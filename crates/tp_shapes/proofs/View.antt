@@ -1,7 +1,7 @@
 -- What is seen of a state: its values, and its rows by number, what is done by group, and its counts. An entry's lemma
 -- says what is seen of the next state.
-use Rattle.std.proofs.Common.{◌≡◌, ℕ, ◌+◌, max, Bool, cond, List, Option, length, suc}
-use Rattle.std.specs.Prelude.{◌==◌, count_by, is_some, if◌then◌else◌}
+use Rattle.std.proofs.Common.{◌≡◌, ℕ, ◌+◌, Bool, List, Option, length}
+use Rattle.std.specs.Prelude.{◌==◌, count_by, if◌then◌else◌}
 use Rattle.tp_types.specs.declared.tasks.Fate.{Fate}
 use Rattle.tp_record.specs.declared.entries.Did.{Did}
 use Rattle.tp_record.specs.declared.rows.TaskRow.{TaskRow}

@@ -1,5 +1,5 @@
 -- A cancel.
-use Rattle.std.proofs.Common.{◌≡◌, ℕ, ◌+◌, ◌-◌, Bool, true, false, ◌&&◌, cond, List, [], ◌∷◌, ◌++◌, Option, Some, None, refl, arith, ◌∙◌}
+use Rattle.std.proofs.Common.{◌≡◌, ℕ, ◌+◌, Bool, true, false, ◌&&◌, cond, List, [], ◌∷◌, ◌++◌, Option, Some, None, refl, arith, ◌∙◌}
 use Rattle.std.specs.Prelude.{if◌then◌else◌}
 use Rattle.std.proofs.lemmas.Bool.{eq-eqb}
 use Rattle.std.proofs.lemmas.Bool.Decides.{nat_tests}
@@ -9,7 +9,6 @@ use Rattle.tp_types.specs.declared.tasks.Fate.{Fate}
 use Rattle.tp_types.specs.declared.tasks.Fate.TheVariants as fate
 use Rattle.tp_record.specs.declared.entries.Entry.{Entry}
 use Rattle.tp_record.specs.declared.entries.Did.TheVariants as did
-use Rattle.tp_record.specs.Lists.{without}
 use Rattle.tp_record.specs.Effects.{is_group}
 use Rattle.tp_record.specs.State.{state, task_at, fated, is_fate}
 use Rattle.tp_record.specs.Step.{Legal, done_of, is_of_group}
@@ -37,7 +36,7 @@ cancel_falls : (c : Config) (h : List Entry) (t : TaskId) (flag : Bool) → Give
 cancel_falls c h t flag given = grind (arith, nat_tests)
 
 -- a cancel that has effect
-pub cancel : (c : Config) (h : List Entry) (t : TaskId) (flag : Bool) → Legal c h → Given c h (did.Cancel t flag true) → 
+pub cancel : (c : Config) (h : List Entry) (t : TaskId) (flag : Bool) → Legal c h → Given c h (did.Cancel t flag true) →
     Effect (state c h) (did.Cancel t flag true)
     (record (view (state c h)) {
       tasks = put t.0 (record (task_at (state c h) t.0) { cancelled = true }) (task_at (state c h));
@@ -59,7 +58,7 @@ cancel_late_falls : (c : Config) (h : List Entry) (t : TaskId) (flag : Bool) →
 cancel_late_falls c h t flag given = grind (arith, nat_tests)
 
 -- a cancel without effect
-pub cancel_late : (c : Config) (h : List Entry) (t : TaskId) (flag : Bool) → Legal c h → Given c h (did.Cancel t flag false) → 
+pub cancel_late : (c : Config) (h : List Entry) (t : TaskId) (flag : Bool) → Legal c h → Given c h (did.Cancel t flag false) →
     Effect (state c h) (did.Cancel t flag false)
     (view (state c h)) 0 0
 cancel_late c h t flag legal given =

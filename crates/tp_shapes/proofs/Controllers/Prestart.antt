@@ -1,5 +1,5 @@
 -- A prestart.
-use Rattle.std.proofs.Common.{◌≡◌, suc, ◌+◌, ◌-◌, false, List, ◌∷◌, Some, None, refl, arith, ap}
+use Rattle.std.proofs.Common.{◌≡◌, suc, ◌+◌, false, List, ◌∷◌, Some, None, refl, arith, ap}
 use Rattle.std.specs.Prelude.{count_by}
 use Rattle.std.proofs.lemmas.Bool.{eq-eqb}
 use Rattle.std.proofs.lemmas.Bool.Decides.{nat_tests}
@@ -23,7 +23,7 @@ prestart_none_falls : (c : Config) (h : List Entry) → Given c h (did.Prestart 
 prestart_none_falls c h given = grind (arith, nat_tests)
 
 -- a prestart that reserves no slot
-pub prestart_none : (c : Config) (h : List Entry) → Legal c h → Given c h (did.Prestart None) → 
+pub prestart_none : (c : Config) (h : List Entry) → Legal c h → Given c h (did.Prestart None) →
     Effect (state c h) (did.Prestart None)
     (view (state c h)) 0 0
 prestart_none c h legal given =
@@ -41,7 +41,7 @@ prestart_falls : (c : Config) (h : List Entry) (w : SlotId) → Given c h (did.P
 prestart_falls c h w given = grind (arith, nat_tests)
 
 -- a prestart that reserves a bare slot
-pub prestart : (c : Config) (h : List Entry) (w : SlotId) → Legal c h → Given c h (did.Prestart (Some w)) → 
+pub prestart : (c : Config) (h : List Entry) (w : SlotId) → Legal c h → Given c h (did.Prestart (Some w)) →
     Effect (state c h) (did.Prestart (Some w))
     (record (view (state c h)) {
       slots = put w.0 (Some bare) (slot_at (state c h).slots);

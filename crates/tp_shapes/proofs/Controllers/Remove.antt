@@ -1,5 +1,5 @@
 -- A removal.
-use Rattle.std.proofs.Common.{◌≡◌, ◌+◌, ◌-◌, true, false, not, cond, List, ◌∷◌, Some, None, refl, arith, ap}
+use Rattle.std.proofs.Common.{◌≡◌, ◌+◌, true, false, cond, List, ◌∷◌, Some, None, refl, arith, ap}
 use Rattle.std.specs.Prelude.{if◌then◌else◌}
 use Rattle.std.proofs.lemmas.Bool.{eq-eqb, ne_eqb}
 use Rattle.std.proofs.lemmas.Bool.Decides.{nat_tests}
@@ -10,7 +10,6 @@ use Rattle.tp_types.specs.declared.tasks.Fate.TheVariants as fate
 use Rattle.tp_record.specs.declared.entries.Entry.{Entry}
 use Rattle.tp_record.specs.declared.entries.Did.TheVariants as did
 use Rattle.tp_record.specs.Lists.{without}
-use Rattle.tp_record.specs.Fields.{place}
 use Rattle.tp_record.specs.State.{state, task_at, fated, is_fate}
 use Rattle.tp_record.specs.Step.{Legal}
 use Rattle.tp_model.proofs.Given.{Given}
@@ -27,7 +26,7 @@ remove_falls : (c : Config) (h : List Entry) (t : TaskId) → Given c h (did.Rem
 remove_falls c h t given = grind (arith, nat_tests)
 
 -- a queued task is removed
-pub remove : (c : Config) (h : List Entry) (t : TaskId) → Legal c h → Given c h (did.Remove t true) → 
+pub remove : (c : Config) (h : List Entry) (t : TaskId) → Legal c h → Given c h (did.Remove t true) →
     Effect (state c h) (did.Remove t true)
     (record (view (state c h)) {
       tasks = put t.0 (record (task_at (state c h) t.0) { place = at.Gone; ending = Some fate.Removed }) (task_at (state c h));
@@ -49,7 +48,7 @@ remove_absent_falls : (c : Config) (h : List Entry) (t : TaskId) → Given c h (
 remove_absent_falls c h t given = grind (arith, nat_tests)
 
 -- a task that is not queued is not removed
-pub remove_absent : (c : Config) (h : List Entry) (t : TaskId) → Legal c h → Given c h (did.Remove t false) → 
+pub remove_absent : (c : Config) (h : List Entry) (t : TaskId) → Legal c h → Given c h (did.Remove t false) →
     Effect (state c h) (did.Remove t false)
     (view (state c h)) 0 0
 remove_absent c h t legal given =

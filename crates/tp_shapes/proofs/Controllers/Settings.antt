@@ -1,5 +1,5 @@
 -- The settings and the moment.
-use Rattle.std.proofs.Common.{◌≡◌, ℕ, ◌+◌, ◌-◌, Bool, not, List, ◌∷◌, refl, arith}
+use Rattle.std.proofs.Common.{◌≡◌, ℕ, ◌+◌, Bool, List, ◌∷◌, refl, arith}
 use Rattle.std.proofs.lemmas.Bool.Decides.{nat_tests}
 use Rattle.tp_types.specs.declared.configs.Config.{Config}
 use Rattle.tp_record.specs.declared.entries.Entry.{Entry}
@@ -18,7 +18,7 @@ core_falls : (c : Config) (h : List Entry) (n k : ℕ) → Given c h (did.Core n
 core_falls c h n k given = grind (arith, nat_tests)
 
 -- the core size is set
-pub core : (c : Config) (h : List Entry) (n k : ℕ) → Legal c h → Given c h (did.Core n k) → 
+pub core : (c : Config) (h : List Entry) (n k : ℕ) → Legal c h → Given c h (did.Core n k) →
     Effect (state c h) (did.Core n k)
     (record (view (state c h)) {
       core = n;
@@ -38,7 +38,7 @@ maximum_falls : (c : Config) (h : List Entry) (n : ℕ) → Given c h (did.Maxim
 maximum_falls c h n given = grind (arith, nat_tests)
 
 -- the maximum size is set
-pub maximum : (c : Config) (h : List Entry) (n : ℕ) → Legal c h → Given c h (did.Maximum n) → 
+pub maximum : (c : Config) (h : List Entry) (n : ℕ) → Legal c h → Given c h (did.Maximum n) →
     Effect (state c h) (did.Maximum n)
     (record (view (state c h)) {
       maximum = n;
@@ -58,7 +58,7 @@ keep_falls : (c : Config) (h : List Entry) (n : ℕ) → Given c h (did.Keep n) 
 keep_falls c h n given = grind (arith, nat_tests)
 
 -- the keep-alive is set
-pub keep : (c : Config) (h : List Entry) (n : ℕ) → Legal c h → Given c h (did.Keep n) → 
+pub keep : (c : Config) (h : List Entry) (n : ℕ) → Legal c h → Given c h (did.Keep n) →
     Effect (state c h) (did.Keep n)
     (record (view (state c h)) {
       keep = n;
@@ -78,7 +78,7 @@ core_timeout_falls : (c : Config) (h : List Entry) (on : Bool) → Given c h (di
 core_timeout_falls c h on given = grind (arith, nat_tests)
 
 -- core workers time out, or not
-pub core_timeout : (c : Config) (h : List Entry) (on : Bool) → Legal c h → Given c h (did.CoreTimeout on) → 
+pub core_timeout : (c : Config) (h : List Entry) (on : Bool) → Legal c h → Given c h (did.CoreTimeout on) →
     Effect (state c h) (did.CoreTimeout on)
     (record (view (state c h)) {
       core_timeout = on;
@@ -98,7 +98,7 @@ tick_falls : (c : Config) (h : List Entry) (n : ℕ) → Given c h (did.Tick n) 
 tick_falls c h n given = grind (arith, nat_tests)
 
 -- the moment is later
-pub tick : (c : Config) (h : List Entry) (n : ℕ) → Legal c h → Given c h (did.Tick n) → 
+pub tick : (c : Config) (h : List Entry) (n : ℕ) → Legal c h → Given c h (did.Tick n) →
     Effect (state c h) (did.Tick n)
     (record (view (state c h)) {
       now = n;

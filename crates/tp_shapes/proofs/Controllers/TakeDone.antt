@@ -1,5 +1,5 @@
 -- A completion of a group is taken.
-use Rattle.std.proofs.Common.{◌≡◌, ℕ, ◌+◌, ◌-◌, List, ◌∷◌, refl, arith}
+use Rattle.std.proofs.Common.{◌≡◌, ℕ, ◌+◌, List, ◌∷◌, refl, arith}
 use Rattle.std.specs.Prelude.{◌==◌, drop, if◌then◌else◌}
 use Rattle.std.proofs.lemmas.Bool.Decides.{nat_tests}
 use Rattle.tp_types.specs.declared.configs.Config.{Config}
@@ -20,7 +20,7 @@ take_done_falls : (c : Config) (h : List Entry) (n : ℕ) (t : TaskId) → Given
 take_done_falls c h n t given = grind (arith, nat_tests)
 
 -- a completion is handed out
-pub take_done : (c : Config) (h : List Entry) (n : ℕ) (t : TaskId) → Legal c h → Given c h (did.TakeDone n t) → 
+pub take_done : (c : Config) (h : List Entry) (n : ℕ) (t : TaskId) → Legal c h → Given c h (did.TakeDone n t) →
     Effect (state c h) (did.TakeDone n t)
     (record (view (state c h)) {
       done = λ g. if g == n then drop 1 (done_of (state c h) g) else done_of (state c h) g;

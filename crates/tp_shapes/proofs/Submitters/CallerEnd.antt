@@ -1,5 +1,5 @@
 -- A task that its submitter ends.
-use Rattle.std.proofs.Common.{◌≡◌, ◌+◌, ◌-◌, false, not, ◌&&◌, cond, List, [], ◌∷◌, ◌++◌, Some, None, refl, arith, ap}
+use Rattle.std.proofs.Common.{◌≡◌, ◌+◌, false, not, ◌&&◌, cond, List, [], ◌∷◌, ◌++◌, Some, None, refl, arith, ap}
 use Rattle.std.specs.Prelude.{if◌then◌else◌}
 use Rattle.std.proofs.lemmas.Bool.{eq-eqb}
 use Rattle.std.proofs.lemmas.Bool.Decides.{nat_tests}
@@ -10,7 +10,7 @@ use Rattle.tp_types.specs.declared.tasks.Fate.TheVariants as fate
 use Rattle.tp_record.specs.declared.entries.Entry.{Entry}
 use Rattle.tp_record.specs.declared.entries.Did.TheVariants as did
 use Rattle.tp_record.specs.Effects.{Outcome}
-use Rattle.tp_record.specs.Fields.{place, is_queued, is_queued_place}
+use Rattle.tp_record.specs.Fields.{is_queued, is_queued_place}
 use Rattle.tp_record.specs.State.{state, task_at, fated, is_fate}
 use Rattle.tp_record.specs.Step.{Legal, done_of, is_of_group}
 use Rattle.tp_model.proofs.Given.{Given}
@@ -27,7 +27,7 @@ caller_end_falls : (c : Config) (h : List Entry) (t : TaskId) (o : Outcome) → 
 caller_end_falls c h t o given = grind (arith, nat_tests)
 
 -- a task that its submitter ends
-pub caller_end : (c : Config) (h : List Entry) (t : TaskId) (o : Outcome) → Legal c h → Given c h (did.CallerEnd t o) → 
+pub caller_end : (c : Config) (h : List Entry) (t : TaskId) (o : Outcome) → Legal c h → Given c h (did.CallerEnd t o) →
     Effect (state c h) (did.CallerEnd t o)
     (record (view (state c h)) {
       tasks = put t.0 (record (task_at (state c h) t.0) { place = at.Gone; ending = Some fate.RunByCaller; outcome = Some o }) (task_at (state c h));

@@ -1,5 +1,5 @@
 -- An attempt to grow.
-use Rattle.std.proofs.Common.{◌≡◌, suc, ◌+◌, ◌-◌, false, List, ◌∷◌, Some, None, refl, arith, ap}
+use Rattle.std.proofs.Common.{◌≡◌, suc, ◌+◌, false, List, ◌∷◌, Some, None, refl, arith, ap}
 use Rattle.std.specs.Prelude.{count_by}
 use Rattle.std.proofs.lemmas.Bool.{eq-eqb}
 use Rattle.std.proofs.lemmas.Bool.Decides.{nat_tests}
@@ -26,7 +26,7 @@ grow_reserve_falls : (c : Config) (h : List Entry) (t : TaskId) (w : SlotId) →
 grow_reserve_falls c h t w given = grind (arith, nat_tests)
 
 -- an attempt to grow that reserves a slot
-pub grow_reserve : (c : Config) (h : List Entry) (t : TaskId) (w : SlotId) → Legal c h → Given c h (did.Grow t (grown.Reserve w)) → 
+pub grow_reserve : (c : Config) (h : List Entry) (t : TaskId) (w : SlotId) → Legal c h → Given c h (did.Grow t (grown.Reserve w)) →
     Effect (state c h) (did.Grow t (grown.Reserve w))
     (record (view (state c h)) {
       tasks = put t.0 (moved_to (at.Held w) (task_at (state c h) t.0)) (task_at (state c h));
@@ -48,7 +48,7 @@ grow_refuse_falls : (c : Config) (h : List Entry) (t : TaskId) → Given c h (di
 grow_refuse_falls c h t given = grind (arith, nat_tests)
 
 -- an attempt to grow that is refused
-pub grow_refuse : (c : Config) (h : List Entry) (t : TaskId) → Legal c h → Given c h (did.Grow t grown.Refuse) → 
+pub grow_refuse : (c : Config) (h : List Entry) (t : TaskId) → Legal c h → Given c h (did.Grow t grown.Refuse) →
     Effect (state c h) (did.Grow t grown.Refuse)
     (record (view (state c h)) {
       tasks = put t.0 (moved_to at.Refused (task_at (state c h) t.0)) (task_at (state c h));

@@ -1,5 +1,5 @@
 -- A look for a core slot, after a retry.
-use Rattle.std.proofs.Common.{◌≡◌, suc, ◌+◌, ◌-◌, false, List, ◌∷◌, Some, None, refl, arith, ap}
+use Rattle.std.proofs.Common.{◌≡◌, suc, ◌+◌, false, List, ◌∷◌, Some, None, refl, arith, ap}
 use Rattle.std.specs.Prelude.{count_by}
 use Rattle.std.proofs.lemmas.Bool.{eq-eqb}
 use Rattle.std.proofs.lemmas.Bool.Decides.{nat_tests}
@@ -26,7 +26,7 @@ look_reserve_falls : (c : Config) (h : List Entry) (t : TaskId) (w : SlotId) →
 look_reserve_falls c h t w given = grind (arith, nat_tests)
 
 -- a look that reserves a slot for the core
-pub look_reserve : (c : Config) (h : List Entry) (t : TaskId) (w : SlotId) → Legal c h → Given c h (did.Look t (looked.Reserve w)) → 
+pub look_reserve : (c : Config) (h : List Entry) (t : TaskId) (w : SlotId) → Legal c h → Given c h (did.Look t (looked.Reserve w)) →
     Effect (state c h) (did.Look t (looked.Reserve w))
     (record (view (state c h)) {
       tasks = put t.0 (moved_to (at.Held w) (task_at (state c h) t.0)) (task_at (state c h));
@@ -48,7 +48,7 @@ look_queue_falls : (c : Config) (h : List Entry) (t : TaskId) → Given c h (did
 look_queue_falls c h t given = grind (arith, nat_tests)
 
 -- a look after which the task is to be offered
-pub look_queue : (c : Config) (h : List Entry) (t : TaskId) → Legal c h → Given c h (did.Look t looked.Queue) → 
+pub look_queue : (c : Config) (h : List Entry) (t : TaskId) → Legal c h → Given c h (did.Look t looked.Queue) →
     Effect (state c h) (did.Look t looked.Queue)
     (record (view (state c h)) {
       tasks = put t.0 (moved_to at.ToOffer (task_at (state c h) t.0)) (task_at (state c h));
@@ -68,7 +68,7 @@ look_refuse_falls : (c : Config) (h : List Entry) (t : TaskId) → Given c h (di
 look_refuse_falls c h t given = grind (arith, nat_tests)
 
 -- a look that refuses
-pub look_refuse : (c : Config) (h : List Entry) (t : TaskId) → Legal c h → Given c h (did.Look t looked.Refuse) → 
+pub look_refuse : (c : Config) (h : List Entry) (t : TaskId) → Legal c h → Given c h (did.Look t looked.Refuse) →
     Effect (state c h) (did.Look t looked.Refuse)
     (record (view (state c h)) {
       tasks = put t.0 (moved_to at.Refused (task_at (state c h) t.0)) (task_at (state c h));

@@ -1,5 +1,5 @@
 -- An offer to the queue.
-use Rattle.std.proofs.Common.{◌≡◌, ◌+◌, ◌-◌, true, false, not, List, [], ◌∷◌, ◌++◌, Some, refl, arith, ap, ◌∙◌}
+use Rattle.std.proofs.Common.{◌≡◌, ◌+◌, true, false, List, [], ◌∷◌, ◌++◌, Some, refl, arith, ap, ◌∙◌}
 use Rattle.std.specs.Prelude.{count_by, drop}
 use Rattle.std.proofs.lemmas.Bool.{eq-eqb}
 use Rattle.std.proofs.lemmas.Bool.Decides.{nat_tests}
@@ -10,7 +10,7 @@ use Rattle.tp_types.specs.declared.tasks.Place.TheVariants as at
 use Rattle.tp_record.specs.declared.entries.Entry.{Entry}
 use Rattle.tp_record.specs.declared.entries.Did.TheVariants as did
 use Rattle.tp_record.specs.declared.entries.Offered.TheVariants as offered
-use Rattle.tp_record.specs.Fields.{place, owes_second, is_queued, is_queued_place, is_live, idling}
+use Rattle.tp_record.specs.Fields.{owes_second, is_queued, is_queued_place, is_live, idling}
 use Rattle.tp_record.specs.State.{state, task_at, slot_at}
 use Rattle.tp_record.specs.Step.{Legal, slot_count}
 use Rattle.tp_model.proofs.Given.{Given}
@@ -28,7 +28,7 @@ offer_queued_falls : (c : Config) (h : List Entry) (t : TaskId) → Given c h (d
 offer_queued_falls c h t given owes = grind (arith, nat_tests)
 
 -- an offer that the queue takes
-pub offer_queued : (c : Config) (h : List Entry) (t : TaskId) → Legal c h → Given c h (did.Offer t offered.Queued) → 
+pub offer_queued : (c : Config) (h : List Entry) (t : TaskId) → Legal c h → Given c h (did.Offer t offered.Queued) →
     Effect (state c h) (did.Offer t offered.Queued)
     (record (view (state c h)) {
       tasks = put t.0 (record (task_at (state c h) t.0) { place = at.Queued; second = true }) (task_at (state c h));
@@ -49,7 +49,7 @@ offer_hand_falls : (c : Config) (h : List Entry) (t : TaskId) (w : SlotId) → G
 offer_hand_falls c h t w given owes = grind (arith, nat_tests)
 
 -- an offer that the worker takes which is idle longest
-pub offer_hand : (c : Config) (h : List Entry) (t : TaskId) (w : SlotId) → Legal c h → Given c h (did.Offer t (offered.Hand w)) → 
+pub offer_hand : (c : Config) (h : List Entry) (t : TaskId) (w : SlotId) → Legal c h → Given c h (did.Offer t (offered.Hand w)) →
     Effect (state c h) (did.Offer t (offered.Hand w))
     (record (view (state c h)) {
       tasks = put t.0 (record (task_at (state c h) t.0) { place = at.Held w; second = true }) (task_at (state c h));
@@ -71,7 +71,7 @@ offer_full_falls : (c : Config) (h : List Entry) (t : TaskId) → Given c h (did
 offer_full_falls c h t given = grind (arith, nat_tests)
 
 -- an offer that the queue does not take
-pub offer_full : (c : Config) (h : List Entry) (t : TaskId) → Legal c h → Given c h (did.Offer t offered.Full) → 
+pub offer_full : (c : Config) (h : List Entry) (t : TaskId) → Legal c h → Given c h (did.Offer t offered.Full) →
     Effect (state c h) (did.Offer t offered.Full)
     (record (view (state c h)) {
       tasks = put t.0 (moved_to at.ToGrow (task_at (state c h) t.0)) (task_at (state c h));

@@ -1,5 +1,5 @@
 -- A second look, after an offer that was taken.
-use Rattle.std.proofs.Common.{◌≡◌, suc, ◌+◌, ◌-◌, false, List, ◌∷◌, Some, None, refl, arith, ap}
+use Rattle.std.proofs.Common.{◌≡◌, suc, ◌+◌, false, List, ◌∷◌, Some, None, refl, arith, ap}
 use Rattle.std.specs.Prelude.{count_by}
 use Rattle.std.proofs.lemmas.Bool.{eq-eqb, ne_eqb}
 use Rattle.std.proofs.lemmas.Bool.Decides.{nat_tests}
@@ -11,7 +11,7 @@ use Rattle.tp_record.specs.declared.entries.Entry.{Entry}
 use Rattle.tp_record.specs.declared.entries.Did.TheVariants as did
 use Rattle.tp_record.specs.declared.entries.Seconded.TheVariants as seconded
 use Rattle.tp_record.specs.Lists.{without}
-use Rattle.tp_record.specs.Fields.{place, is_idle, is_idle_row, is_live}
+use Rattle.tp_record.specs.Fields.{is_idle, is_idle_row, is_live}
 use Rattle.tp_record.specs.State.{state, task_at, slot_at}
 use Rattle.tp_record.specs.Step.{Legal, slot_count}
 use Rattle.tp_model.proofs.Given.{Given}
@@ -27,7 +27,7 @@ second_stay_falls : (c : Config) (h : List Entry) (t : TaskId) → Given c h (di
 second_stay_falls c h t given = grind (arith, nat_tests)
 
 -- a second look that leaves all
-pub second_stay : (c : Config) (h : List Entry) (t : TaskId) → Legal c h → Given c h (did.Second t seconded.Stay) → 
+pub second_stay : (c : Config) (h : List Entry) (t : TaskId) → Legal c h → Given c h (did.Second t seconded.Stay) →
     Effect (state c h) (did.Second t seconded.Stay)
     (record (view (state c h)) {
       tasks = put t.0 (record (task_at (state c h) t.0) { second = false }) (task_at (state c h));
@@ -47,7 +47,7 @@ second_reserve_falls : (c : Config) (h : List Entry) (t : TaskId) (w : SlotId) �
 second_reserve_falls c h t w given = grind (arith, nat_tests)
 
 -- a second look that reserves a bare slot
-pub second_reserve : (c : Config) (h : List Entry) (t : TaskId) (w : SlotId) → Legal c h → Given c h (did.Second t (seconded.StayReserve w)) → 
+pub second_reserve : (c : Config) (h : List Entry) (t : TaskId) (w : SlotId) → Legal c h → Given c h (did.Second t (seconded.StayReserve w)) →
     Effect (state c h) (did.Second t (seconded.StayReserve w))
     (record (view (state c h)) {
       tasks = put t.0 (record (task_at (state c h) t.0) { second = false }) (task_at (state c h));
@@ -69,7 +69,7 @@ second_back_falls : (c : Config) (h : List Entry) (t : TaskId) → Given c h (di
 second_back_falls c h t given = grind (arith, nat_tests)
 
 -- a second look that takes the task out of the queue
-pub second_back : (c : Config) (h : List Entry) (t : TaskId) → Legal c h → Given c h (did.Second t seconded.Back) → 
+pub second_back : (c : Config) (h : List Entry) (t : TaskId) → Legal c h → Given c h (did.Second t seconded.Back) →
     Effect (state c h) (did.Second t seconded.Back)
     (record (view (state c h)) {
       tasks = put t.0 (record (task_at (state c h) t.0) { place = at.Refused; second = false }) (task_at (state c h));

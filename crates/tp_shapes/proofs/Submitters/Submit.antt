@@ -1,5 +1,5 @@
 -- A submission.
-use Rattle.std.proofs.Common.{◌≡◌, suc, ◌+◌, ◌-◌, false, List, ◌∷◌, length, Some, None, refl, arith, ap}
+use Rattle.std.proofs.Common.{◌≡◌, suc, ◌+◌, false, List, ◌∷◌, length, Some, None, refl, arith, ap}
 use Rattle.std.specs.Prelude.{count_by}
 use Rattle.std.proofs.lemmas.Bool.{eq-eqb}
 use Rattle.std.proofs.lemmas.Bool.Decides.{nat_tests}
@@ -28,7 +28,7 @@ submit_reserve_falls : (c : Config) (h : List Entry) (t : TaskId) (k : Kind) (w 
 submit_reserve_falls c h t k w given gone owes = grind (arith, nat_tests)
 
 -- a submission that reserves a slot for the core
-pub submit_reserve : (c : Config) (h : List Entry) (t : TaskId) (k : Kind) (w : SlotId) → Legal c h → Given c h (did.Submit t k (looked.Reserve w)) → 
+pub submit_reserve : (c : Config) (h : List Entry) (t : TaskId) (k : Kind) (w : SlotId) → Legal c h → Given c h (did.Submit t k (looked.Reserve w)) →
     Effect (state c h) (did.Submit t k (looked.Reserve w))
     (record (view (state c h)) {
       submitted = suc (length (state c h).tasks);
@@ -51,7 +51,7 @@ submit_queue_falls : (c : Config) (h : List Entry) (t : TaskId) (k : Kind) → G
 submit_queue_falls c h t k given gone owes = grind (arith, nat_tests)
 
 -- a submission that is to be offered
-pub submit_queue : (c : Config) (h : List Entry) (t : TaskId) (k : Kind) → Legal c h → Given c h (did.Submit t k looked.Queue) → 
+pub submit_queue : (c : Config) (h : List Entry) (t : TaskId) (k : Kind) → Legal c h → Given c h (did.Submit t k looked.Queue) →
     Effect (state c h) (did.Submit t k looked.Queue)
     (record (view (state c h)) {
       submitted = suc (length (state c h).tasks);
@@ -72,7 +72,7 @@ submit_refuse_falls : (c : Config) (h : List Entry) (t : TaskId) (k : Kind) → 
 submit_refuse_falls c h t k given gone owes = grind (arith, nat_tests)
 
 -- a submission that is refused
-pub submit_refuse : (c : Config) (h : List Entry) (t : TaskId) (k : Kind) → Legal c h → Given c h (did.Submit t k looked.Refuse) → 
+pub submit_refuse : (c : Config) (h : List Entry) (t : TaskId) (k : Kind) → Legal c h → Given c h (did.Submit t k looked.Refuse) →
     Effect (state c h) (did.Submit t k looked.Refuse)
     (record (view (state c h)) {
       submitted = suc (length (state c h).tasks);

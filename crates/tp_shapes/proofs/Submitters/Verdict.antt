@@ -1,5 +1,5 @@
 -- A verdict on a refused task.
-use Rattle.std.proofs.Common.{◌≡◌, ℕ, suc, ◌+◌, ◌-◌, true, false, cond, Bool, List, ◌∷◌, Option, Some, None, refl, arith, sym, ap, ◌∙◌}
+use Rattle.std.proofs.Common.{◌≡◌, ℕ, suc, ◌+◌, true, false, cond, Bool, List, ◌∷◌, Option, Some, None, refl, arith, sym, ap, ◌∙◌}
 use Rattle.std.specs.Prelude.{drop, if◌then◌else◌}
 use Rattle.std.proofs.lemmas.Bool.{eq-eqb, ne_eqb, false≢true}
 use Rattle.std.proofs.lemmas.Bool.Decides.{nat_tests}
@@ -12,7 +12,7 @@ use Rattle.tp_types.specs.declared.tasks.Fate.TheVariants as fate
 use Rattle.tp_record.specs.declared.entries.Entry.{Entry}
 use Rattle.tp_record.specs.declared.entries.Did.TheVariants as did
 use Rattle.tp_record.specs.declared.entries.Ruled.TheVariants as ruled
-use Rattle.tp_record.specs.Fields.{place, is_queued, is_queued_place}
+use Rattle.tp_record.specs.Fields.{is_queued, is_queued_place}
 use Rattle.tp_record.specs.State.{state, task_at, fated, is_fate}
 use Rattle.tp_record.specs.Step.{Legal}
 use Rattle.tp_model.proofs.Given.{Given}
@@ -30,7 +30,7 @@ verdict_rejected_falls : (c : Config) (h : List Entry) (t : TaskId) (v : Verdict
 verdict_rejected_falls c h t v given = grind (arith, nat_tests)
 
 -- a verdict that rejects
-pub verdict_rejected : (c : Config) (h : List Entry) (t : TaskId) (v : Verdict) → Legal c h → Given c h (did.Verdict t v ruled.Rejected) → 
+pub verdict_rejected : (c : Config) (h : List Entry) (t : TaskId) (v : Verdict) → Legal c h → Given c h (did.Verdict t v ruled.Rejected) →
     Effect (state c h) (did.Verdict t v ruled.Rejected)
     (record (view (state c h)) {
       tasks = put t.0 (record (task_at (state c h) t.0) { place = at.Gone; ending = Some fate.Rejected }) (task_at (state c h));
@@ -51,7 +51,7 @@ verdict_discarded_falls : (c : Config) (h : List Entry) (t : TaskId) (v : Verdic
 verdict_discarded_falls c h t v given = grind (arith, nat_tests)
 
 -- a verdict that discards
-pub verdict_discarded : (c : Config) (h : List Entry) (t : TaskId) (v : Verdict) → Legal c h → Given c h (did.Verdict t v ruled.Discarded) → 
+pub verdict_discarded : (c : Config) (h : List Entry) (t : TaskId) (v : Verdict) → Legal c h → Given c h (did.Verdict t v ruled.Discarded) →
     Effect (state c h) (did.Verdict t v ruled.Discarded)
     (record (view (state c h)) {
       tasks = put t.0 (record (task_at (state c h) t.0) { place = at.Gone; ending = Some fate.Discarded }) (task_at (state c h));
@@ -72,7 +72,7 @@ verdict_caller_falls : (c : Config) (h : List Entry) (t : TaskId) (v : Verdict) 
 verdict_caller_falls c h t v given = grind (arith, nat_tests)
 
 -- a verdict by which the submitter runs the task
-pub verdict_caller : (c : Config) (h : List Entry) (t : TaskId) (v : Verdict) → Legal c h → Given c h (did.Verdict t v ruled.Caller) → 
+pub verdict_caller : (c : Config) (h : List Entry) (t : TaskId) (v : Verdict) → Legal c h → Given c h (did.Verdict t v ruled.Caller) →
     Effect (state c h) (did.Verdict t v ruled.Caller)
     (record (view (state c h)) {
       tasks = put t.0 (moved_to at.Caller (task_at (state c h) t.0)) (task_at (state c h));
@@ -92,7 +92,7 @@ verdict_skip_falls : (c : Config) (h : List Entry) (t : TaskId) (v : Verdict) �
 verdict_skip_falls c h t v given = grind (arith, nat_tests)
 
 -- a verdict on a cancelled task
-pub verdict_skip : (c : Config) (h : List Entry) (t : TaskId) (v : Verdict) → Legal c h → Given c h (did.Verdict t v ruled.Skip) → 
+pub verdict_skip : (c : Config) (h : List Entry) (t : TaskId) (v : Verdict) → Legal c h → Given c h (did.Verdict t v ruled.Skip) →
     Effect (state c h) (did.Verdict t v ruled.Skip)
     (record (view (state c h)) {
       tasks = put t.0 (moved_to at.Gone (task_at (state c h) t.0)) (task_at (state c h));
@@ -112,7 +112,7 @@ verdict_retry_falls : (c : Config) (h : List Entry) (t : TaskId) (v : Verdict) �
 verdict_retry_falls c h t v given = grind (arith, nat_tests)
 
 -- a retry
-pub verdict_retry : (c : Config) (h : List Entry) (t : TaskId) (v : Verdict) → Legal c h → Given c h (did.Verdict t v ruled.Retry) → 
+pub verdict_retry : (c : Config) (h : List Entry) (t : TaskId) (v : Verdict) → Legal c h → Given c h (did.Verdict t v ruled.Retry) →
     Effect (state c h) (did.Verdict t v ruled.Retry)
     (record (view (state c h)) {
       tasks = put t.0 (record (task_at (state c h) t.0) { place = at.Looking; retries = suc (task_at (state c h) t.0).retries }) (task_at (state c h));
@@ -161,13 +161,13 @@ verdict_retry_drop c h t u v legal given =
     record {
       reads = reads_by (state c h) d refl
           (tasks_two c h d legal given refl refl t.0 u.0 refl refl refl apart
-            (record (task_at (state c h) t.0) { place = at.Looking; retries = suc (task_at (state c h) t.0).retries })
-            (record (task_at (state c h) u.0) { place = at.Gone; ending = Some fate.Discarded })
-            (rw (eq-eqb t.0 t.0 refl, ne_eqb t.0 u.0 other) refl) (rw (ne_eqb u.0 t.0 apart, eq-eqb u.0 u.0 refl) refl) refl
-            (λ f. cond (is_fate f (if (task_at (state c h) u.0).cancelled then None else Some fate.Discarded)) 1 0)
-            (λ f. discarded f (task_at (state c h) u.0).cancelled (task_at (state c h) u.0).ending (open_row c h legal u.0 (ap is_gone given.1.3.1))))
+          (record (task_at (state c h) t.0) { place = at.Looking; retries = suc (task_at (state c h) t.0).retries })
+          (record (task_at (state c h) u.0) { place = at.Gone; ending = Some fate.Discarded })
+          (rw (eq-eqb t.0 t.0 refl, ne_eqb t.0 u.0 other) refl) (rw (ne_eqb u.0 t.0 apart, eq-eqb u.0 u.0 refl) refl) refl
+          (λ f. cond (is_fate f (if (task_at (state c h) u.0).cancelled then None else Some fate.Discarded)) 1 0)
+          (λ f. discarded f (task_at (state c h) u.0).cancelled (task_at (state c h) u.0).ending (open_row c h legal u.0 (ap is_gone given.1.3.1))))
           (queue_rest c h d refl refl u.0 given.1.2.0 given.1.2.1 (rw (ne_eqb u.0 t.0 apart, eq-eqb u.0 u.0 refl) refl)
-            (λ x is ne. (ne_eqb x t.0 (λ e. false≢true (sym (ap is_queued_place given.0.1) ∙ ap (is_queued h) (sym e) ∙ is)), ne_eqb x u.0 ne)))
+          (λ x is ne. (ne_eqb x t.0 (λ e. false≢true (sym (ap is_queued_place given.0.1) ∙ ap (is_queued h) (sym e) ∙ is)), ne_eqb x u.0 ne)))
           (slots_kept c h d legal given refl refl refl refl)
           (done_same c h d legal given refl) refl;
       owes = owes_by c h d legal given refl 0 5 (verdict_retry_drop_falls c h t u v given apart);

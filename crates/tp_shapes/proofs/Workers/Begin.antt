@@ -1,5 +1,5 @@
 -- A worker begins.
-use Rattle.std.proofs.Common.{◌≡◌, suc, ◌+◌, ◌-◌, false, List, ◌∷◌, Some, refl, arith, ap}
+use Rattle.std.proofs.Common.{◌≡◌, suc, ◌+◌, false, List, ◌∷◌, Some, refl, arith, ap}
 use Rattle.std.specs.Prelude.{◌==◌, count_by, if◌then◌else◌}
 use Rattle.std.proofs.lemmas.Bool.{eq-eqb}
 use Rattle.std.proofs.lemmas.Bool.Decides.{nat_tests}
@@ -26,7 +26,7 @@ begin_run_falls : (c : Config) (h : List Entry) (w : SlotId) (t : TaskId) → Gi
 begin_run_falls c h w t given = grind (arith, nat_tests)
 
 -- a worker begins its task
-pub begin_run : (c : Config) (h : List Entry) (w : SlotId) (t : TaskId) → Legal c h → Given c h (did.Begin w (started.Run t)) → 
+pub begin_run : (c : Config) (h : List Entry) (w : SlotId) (t : TaskId) → Legal c h → Given c h (did.Begin w (started.Run t)) →
     Effect (state c h) (did.Begin w (started.Run t))
     (record (view (state c h)) {
       tasks = put t.0 (moved_to (at.Running w) (task_at (state c h) t.0)) (task_at (state c h));
@@ -47,7 +47,7 @@ begin_skip_falls : (c : Config) (h : List Entry) (w : SlotId) (t : TaskId) → G
 begin_skip_falls c h w t given = grind (arith, nat_tests)
 
 -- a worker skips its cancelled task
-pub begin_skip : (c : Config) (h : List Entry) (w : SlotId) (t : TaskId) → Legal c h → Given c h (did.Begin w (started.Skip t)) → 
+pub begin_skip : (c : Config) (h : List Entry) (w : SlotId) (t : TaskId) → Legal c h → Given c h (did.Begin w (started.Skip t)) →
     Effect (state c h) (did.Begin w (started.Skip t))
     (record (view (state c h)) {
       tasks = put t.0 (moved_to at.Gone (task_at (state c h) t.0)) (task_at (state c h));

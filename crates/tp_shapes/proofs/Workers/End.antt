@@ -1,5 +1,5 @@
 -- A worker ends its task.
-use Rattle.std.proofs.Common.{◌≡◌, suc, ◌+◌, ◌-◌, true, false, not, ◌&&◌, cond, List, [], ◌∷◌, ◌++◌, Some, None, refl, arith, ap, ◌∙◌}
+use Rattle.std.proofs.Common.{◌≡◌, suc, ◌+◌, true, false, not, ◌&&◌, cond, List, [], ◌∷◌, ◌++◌, Some, None, refl, arith, ap, ◌∙◌}
 use Rattle.std.specs.Prelude.{◌==◌, count_by, if◌then◌else◌}
 use Rattle.std.proofs.lemmas.Bool.{eq-eqb}
 use Rattle.std.proofs.lemmas.Bool.Decides.{nat_tests}
@@ -11,7 +11,7 @@ use Rattle.tp_types.specs.declared.tasks.Fate.TheVariants as fate
 use Rattle.tp_record.specs.declared.entries.Entry.{Entry}
 use Rattle.tp_record.specs.declared.entries.Did.TheVariants as did
 use Rattle.tp_record.specs.Effects.{Outcome, is_plain_fault}
-use Rattle.tp_record.specs.Fields.{place, kind, is_queued, is_queued_place, is_idle, is_idle_row, is_live}
+use Rattle.tp_record.specs.Fields.{kind, is_queued, is_queued_place, is_idle, is_idle_row, is_live}
 use Rattle.tp_record.specs.State.{state, task_at, slot_at, fated, is_fate}
 use Rattle.tp_record.specs.Step.{Legal, slot_count, done_of, is_of_group}
 use Rattle.tp_model.proofs.Given.{Given}
@@ -29,7 +29,7 @@ end_works_falls : (c : Config) (h : List Entry) (w : SlotId) (t : TaskId) (o : O
 end_works_falls c h w t o given faults = grind (arith, nat_tests)
 
 -- a worker ends its task, and is about to take
-pub end_works : (c : Config) (h : List Entry) (w : SlotId) (t : TaskId) (o : Outcome) → Legal c h → Given c h (did.End w t o) → is_plain_fault (did.End w t o) (λ x. (task_at (state c h) x).kind) ≡ false → 
+pub end_works : (c : Config) (h : List Entry) (w : SlotId) (t : TaskId) (o : Outcome) → Legal c h → Given c h (did.End w t o) → is_plain_fault (did.End w t o) (λ x. (task_at (state c h) x).kind) ≡ false →
     Effect (state c h) (did.End w t o)
     (record (view (state c h)) {
       tasks = put t.0 (record (task_at (state c h) t.0) { place = at.Gone; ending = Some fate.Run; outcome = Some o }) (task_at (state c h));
@@ -53,7 +53,7 @@ end_dies_falls : (c : Config) (h : List Entry) (w : SlotId) (t : TaskId) (o : Ou
 end_dies_falls c h w t o given faults = grind (arith, nat_tests)
 
 -- a worker ends a plain task with a fault, and is about to leave
-pub end_dies : (c : Config) (h : List Entry) (w : SlotId) (t : TaskId) (o : Outcome) → Legal c h → Given c h (did.End w t o) → is_plain_fault (did.End w t o) (λ x. (task_at (state c h) x).kind) ≡ true → 
+pub end_dies : (c : Config) (h : List Entry) (w : SlotId) (t : TaskId) (o : Outcome) → Legal c h → Given c h (did.End w t o) → is_plain_fault (did.End w t o) (λ x. (task_at (state c h) x).kind) ≡ true →
     Effect (state c h) (did.End w t o)
     (record (view (state c h)) {
       tasks = put t.0 (record (task_at (state c h) t.0) { place = at.Gone; ending = Some fate.Run; outcome = Some o }) (task_at (state c h));

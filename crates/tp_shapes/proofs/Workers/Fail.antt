@@ -26,7 +26,7 @@ fail_bare_falls : (c : Config) (h : List Entry) (w : SlotId) → Given c h (did.
 fail_bare_falls c h w given = grind (arith, nat_tests)
 
 -- no worker for a bare slot
-pub fail_bare : (c : Config) (h : List Entry) (w : SlotId) → Legal c h → Given c h (did.Fail w failed.Nothing) → 
+pub fail_bare : (c : Config) (h : List Entry) (w : SlotId) → Legal c h → Given c h (did.Fail w failed.Nothing) →
     Effect (state c h) (did.Fail w failed.Nothing)
     (record (view (state c h)) {
       slots = put w.0 None (slot_at (state c h).slots);
@@ -47,7 +47,7 @@ fail_offer_falls : (c : Config) (h : List Entry) (w : SlotId) (t : TaskId) → G
 fail_offer_falls c h w t given = grind (arith, nat_tests)
 
 -- no worker for a slot of the core: its task is to be offered
-pub fail_offer : (c : Config) (h : List Entry) (w : SlotId) (t : TaskId) → Legal c h → Given c h (did.Fail w (failed.Offer t)) → 
+pub fail_offer : (c : Config) (h : List Entry) (w : SlotId) (t : TaskId) → Legal c h → Given c h (did.Fail w (failed.Offer t)) →
     Effect (state c h) (did.Fail w (failed.Offer t))
     (record (view (state c h)) {
       tasks = put t.0 (moved_to at.ToOffer (task_at (state c h) t.0)) (task_at (state c h));
@@ -69,7 +69,7 @@ fail_refuse_core_falls : (c : Config) (h : List Entry) (w : SlotId) (t : TaskId)
 fail_refuse_core_falls c h w t given seat = grind (arith, nat_tests)
 
 -- no worker for a slot of the core: its task is refused
-pub fail_refuse_core : (c : Config) (h : List Entry) (w : SlotId) (t : TaskId) → Legal c h → Given c h (did.Fail w (failed.Refuse t)) → slot_at (state c h).slots w.0 ≡ Some (for_core t) → 
+pub fail_refuse_core : (c : Config) (h : List Entry) (w : SlotId) (t : TaskId) → Legal c h → Given c h (did.Fail w (failed.Refuse t)) → slot_at (state c h).slots w.0 ≡ Some (for_core t) →
     Effect (state c h) (did.Fail w (failed.Refuse t))
     (record (view (state c h)) {
       tasks = put t.0 (moved_to at.Refused (task_at (state c h) t.0)) (task_at (state c h));
@@ -91,7 +91,7 @@ fail_refuse_maximum_falls : (c : Config) (h : List Entry) (w : SlotId) (t : Task
 fail_refuse_maximum_falls c h w t given seat = grind (arith, nat_tests)
 
 -- no worker for a slot up to the maximum: its task is refused
-pub fail_refuse_maximum : (c : Config) (h : List Entry) (w : SlotId) (t : TaskId) → Legal c h → Given c h (did.Fail w (failed.Refuse t)) → slot_at (state c h).slots w.0 ≡ Some (for_maximum t) → 
+pub fail_refuse_maximum : (c : Config) (h : List Entry) (w : SlotId) (t : TaskId) → Legal c h → Given c h (did.Fail w (failed.Refuse t)) → slot_at (state c h).slots w.0 ≡ Some (for_maximum t) →
     Effect (state c h) (did.Fail w (failed.Refuse t))
     (record (view (state c h)) {
       tasks = put t.0 (moved_to at.Refused (task_at (state c h) t.0)) (task_at (state c h));

@@ -24,7 +24,7 @@ leave_alone_falls : (c : Config) (h : List Entry) (w : SlotId) → Given c h (di
 leave_alone_falls c h w given = grind (arith, nat_tests)
 
 -- a worker leaves after a fault, and no slot is reserved in its place
-pub leave_alone : (c : Config) (h : List Entry) (w : SlotId) → Legal c h → Given c h (did.Leave w None) → 
+pub leave_alone : (c : Config) (h : List Entry) (w : SlotId) → Legal c h → Given c h (did.Leave w None) →
     Effect (state c h) (did.Leave w None)
     (record (view (state c h)) {
       slots = put w.0 None (slot_at (state c h).slots);
@@ -69,9 +69,9 @@ leave_replaced c h v w legal given apart =
           (tasks_kept c h d legal given refl refl refl refl refl)
           (queue_same c h d refl refl refl (λ u named. nothing u named))
           (slots_moved c h d legal given refl v.0 w.0 refl (rw (ne_eqb w.0 v.0 apart) refl) dying bare given.0 free refl refl
-            (said_of_slot c h d legal given v.0 (Some dying) None given.0 (rw (ne_eqb v.0 w.0 other, eq-eqb v.0 v.0 refl) refl))
-            (said_of_slot c h d legal given w.0 None (Some bare) free (rw (eq-eqb w.0 w.0 refl) refl))
-            (ap is_idle_row given.0) refl)
+          (said_of_slot c h d legal given v.0 (Some dying) None given.0 (rw (ne_eqb v.0 w.0 other, eq-eqb v.0 v.0 refl) refl))
+          (said_of_slot c h d legal given w.0 None (Some bare) free (rw (eq-eqb w.0 w.0 refl) refl))
+          (ap is_idle_row given.0) refl)
           (done_same c h d legal given refl) refl;
       owes = owes_by c h d legal given refl 1 0 (leave_replaced_falls c h v w given apart free);
     }
@@ -94,8 +94,8 @@ leave_renewed c h w legal given =
           (tasks_kept c h d legal given refl refl refl refl refl)
           (queue_same c h d refl refl refl (λ u named. nothing u named))
           (slot_turned c h d legal given refl w.0 refl own (slot_count (state c h)) (count_by is_live (state c h).slots - 1) (state c h).largest (state c h).idling (Some dying) (Some bare) given.0 (rw (eq-eqb w.0 w.0 refl) refl)
-            (λ e. omega arith) (λ e. omega arith) (λ m. omega arith)
-            (idling_same c h d refl refl (only (is_idle h) w.0 false (ap is_idle_row given.0)) (λ x named. nothing x (ap (λ o. is_it o x) (sym own) ∙ named))))
+          (λ e. omega arith) (λ e. omega arith) (λ m. omega arith)
+          (idling_same c h d refl refl (only (is_idle h) w.0 false (ap is_idle_row given.0)) (λ x named. nothing x (ap (λ o. is_it o x) (sym own) ∙ named))))
           (done_same c h d legal given refl) refl;
       owes = owes_by c h d legal given refl 1 0 (leave_renewed_falls c h w given);
     }

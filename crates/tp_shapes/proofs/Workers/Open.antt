@@ -27,7 +27,7 @@ open_bare_falls : (c : Config) (h : List Entry) (w : SlotId) → Given c h (did.
 open_bare_falls c h w given seat = grind (arith, nat_tests)
 
 -- a bare slot becomes live
-pub open_bare : (c : Config) (h : List Entry) (w : SlotId) → Legal c h → Given c h (did.Open w opened.Live) → slot_at (state c h).slots w.0 ≡ Some bare → 
+pub open_bare : (c : Config) (h : List Entry) (w : SlotId) → Legal c h → Given c h (did.Open w opened.Live) → slot_at (state c h).slots w.0 ≡ Some bare →
     Effect (state c h) (did.Open w opened.Live)
     (record (view (state c h)) {
       slots = put w.0 (Some at_take) (slot_at (state c h).slots);
@@ -49,7 +49,7 @@ open_core_falls : (c : Config) (h : List Entry) (w : SlotId) (t : TaskId) → Gi
 open_core_falls c h w t given seat held = grind (arith, nat_tests)
 
 -- a slot of the core becomes live, with its task
-pub open_core : (c : Config) (h : List Entry) (w : SlotId) (t : TaskId) → Legal c h → Given c h (did.Open w opened.Live) → slot_at (state c h).slots w.0 ≡ Some (for_core t) → 
+pub open_core : (c : Config) (h : List Entry) (w : SlotId) (t : TaskId) → Legal c h → Given c h (did.Open w opened.Live) → slot_at (state c h).slots w.0 ≡ Some (for_core t) →
     Effect (state c h) (did.Open w opened.Live)
     (record (view (state c h)) {
       slots = put w.0 (Some (works_on t)) (slot_at (state c h).slots);
@@ -71,7 +71,7 @@ open_maximum_falls : (c : Config) (h : List Entry) (w : SlotId) (t : TaskId) →
 open_maximum_falls c h w t given seat held = grind (arith, nat_tests)
 
 -- a slot up to the maximum becomes live, with its task
-pub open_maximum : (c : Config) (h : List Entry) (w : SlotId) (t : TaskId) → Legal c h → Given c h (did.Open w opened.Live) → slot_at (state c h).slots w.0 ≡ Some (for_maximum t) → 
+pub open_maximum : (c : Config) (h : List Entry) (w : SlotId) (t : TaskId) → Legal c h → Given c h (did.Open w opened.Live) → slot_at (state c h).slots w.0 ≡ Some (for_maximum t) →
     Effect (state c h) (did.Open w opened.Live)
     (record (view (state c h)) {
       slots = put w.0 (Some (works_on t)) (slot_at (state c h).slots);
@@ -93,7 +93,7 @@ open_given_up_falls : (c : Config) (h : List Entry) (w : SlotId) → Given c h (
 open_given_up_falls c h w given = grind (arith, nat_tests)
 
 -- a bare slot is given up
-pub open_given_up : (c : Config) (h : List Entry) (w : SlotId) → Legal c h → Given c h (did.Open w opened.GivenUp) → 
+pub open_given_up : (c : Config) (h : List Entry) (w : SlotId) → Legal c h → Given c h (did.Open w opened.GivenUp) →
     Effect (state c h) (did.Open w opened.GivenUp)
     (record (view (state c h)) {
       slots = put w.0 None (slot_at (state c h).slots);
@@ -114,7 +114,7 @@ open_refuse_core_falls : (c : Config) (h : List Entry) (w : SlotId) (t : TaskId)
 open_refuse_core_falls c h w t given seat = grind (arith, nat_tests)
 
 -- a slot of the core is given up, and its task refused
-pub open_refuse_core : (c : Config) (h : List Entry) (w : SlotId) (t : TaskId) → Legal c h → Given c h (did.Open w (opened.GivenUpRefuse t)) → slot_at (state c h).slots w.0 ≡ Some (for_core t) → 
+pub open_refuse_core : (c : Config) (h : List Entry) (w : SlotId) (t : TaskId) → Legal c h → Given c h (did.Open w (opened.GivenUpRefuse t)) → slot_at (state c h).slots w.0 ≡ Some (for_core t) →
     Effect (state c h) (did.Open w (opened.GivenUpRefuse t))
     (record (view (state c h)) {
       tasks = put t.0 (moved_to at.Refused (task_at (state c h) t.0)) (task_at (state c h));
@@ -136,7 +136,7 @@ open_refuse_maximum_falls : (c : Config) (h : List Entry) (w : SlotId) (t : Task
 open_refuse_maximum_falls c h w t given seat = grind (arith, nat_tests)
 
 -- a slot up to the maximum is given up, and its task refused
-pub open_refuse_maximum : (c : Config) (h : List Entry) (w : SlotId) (t : TaskId) → Legal c h → Given c h (did.Open w (opened.GivenUpRefuse t)) → slot_at (state c h).slots w.0 ≡ Some (for_maximum t) → 
+pub open_refuse_maximum : (c : Config) (h : List Entry) (w : SlotId) (t : TaskId) → Legal c h → Given c h (did.Open w (opened.GivenUpRefuse t)) → slot_at (state c h).slots w.0 ≡ Some (for_maximum t) →
     Effect (state c h) (did.Open w (opened.GivenUpRefuse t))
     (record (view (state c h)) {
       tasks = put t.0 (moved_to at.Refused (task_at (state c h) t.0)) (task_at (state c h));

@@ -11,7 +11,7 @@ use Rattle.tp_record.specs.declared.entries.Entry.{Entry}
 use Rattle.tp_record.specs.declared.entries.Did.TheVariants as did
 use Rattle.tp_record.specs.declared.entries.Took.TheVariants as took
 use Rattle.tp_record.specs.Lists.{without}
-use Rattle.tp_record.specs.Fields.{slot_row, is_queued, is_queued_place, is_idle, is_idle_row, is_live, idling}
+use Rattle.tp_record.specs.Fields.{slot_row, is_queued, is_queued_place, is_idle, is_idle_row, is_live}
 use Rattle.tp_record.specs.State.{state, task_at, slot_at}
 use Rattle.tp_record.specs.Step.{Legal, slot_count}
 use Rattle.tp_model.proofs.Given.{Given}
@@ -27,7 +27,7 @@ take_held_falls : (c : Config) (h : List Entry) (w : SlotId) (t : TaskId) → Gi
 take_held_falls c h w t given = grind (arith, nat_tests)
 
 -- a worker takes the task that its slot holds
-pub take_held : (c : Config) (h : List Entry) (w : SlotId) (t : TaskId) → Legal c h → Given c h (did.Take w (took.Held t)) → 
+pub take_held : (c : Config) (h : List Entry) (w : SlotId) (t : TaskId) → Legal c h → Given c h (did.Take w (took.Held t)) →
     Effect (state c h) (did.Take w (took.Held t))
     (record (view (state c h)) {
       tasks = put t.0 (moved_to (at.Taken w) (task_at (state c h) t.0)) (task_at (state c h));
@@ -48,7 +48,7 @@ take_head_falls : (c : Config) (h : List Entry) (w : SlotId) (t : TaskId) → Gi
 take_head_falls c h w t given seat = grind (arith, nat_tests)
 
 -- a worker takes the queue's head
-pub take_head : (c : Config) (h : List Entry) (w : SlotId) (t : TaskId) → Legal c h → Given c h (did.Take w (took.Head t)) → slot_at (state c h).slots w.0 ≡ Some at_take → 
+pub take_head : (c : Config) (h : List Entry) (w : SlotId) (t : TaskId) → Legal c h → Given c h (did.Take w (took.Head t)) → slot_at (state c h).slots w.0 ≡ Some at_take →
     Effect (state c h) (did.Take w (took.Head t))
     (record (view (state c h)) {
       tasks = put t.0 (moved_to (at.Taken w) (task_at (state c h) t.0)) (task_at (state c h));
@@ -70,7 +70,7 @@ take_head_idle_falls : (c : Config) (h : List Entry) (w : SlotId) (t : TaskId) (
 take_head_idle_falls c h w t m given seat = grind (arith, nat_tests)
 
 -- an idle worker takes the queue's head
-pub take_head_idle : (c : Config) (h : List Entry) (w : SlotId) (t : TaskId) (m : ℕ) → Legal c h → Given c h (did.Take w (took.Head t)) → slot_at (state c h).slots w.0 ≡ Some (idle_since m) → 
+pub take_head_idle : (c : Config) (h : List Entry) (w : SlotId) (t : TaskId) (m : ℕ) → Legal c h → Given c h (did.Take w (took.Head t)) → slot_at (state c h).slots w.0 ≡ Some (idle_since m) →
     Effect (state c h) (did.Take w (took.Head t))
     (record (view (state c h)) {
       tasks = put t.0 (moved_to (at.Taken w) (task_at (state c h) t.0)) (task_at (state c h));
@@ -93,7 +93,7 @@ take_leave_falls : (c : Config) (h : List Entry) (w : SlotId) → Given c h (did
 take_leave_falls c h w given seat = grind (arith, nat_tests)
 
 -- a worker leaves
-pub take_leave : (c : Config) (h : List Entry) (w : SlotId) → Legal c h → Given c h (did.Take w took.Leave) → slot_at (state c h).slots w.0 ≡ Some at_take → 
+pub take_leave : (c : Config) (h : List Entry) (w : SlotId) → Legal c h → Given c h (did.Take w took.Leave) → slot_at (state c h).slots w.0 ≡ Some at_take →
     Effect (state c h) (did.Take w took.Leave)
     (record (view (state c h)) {
       slots = put w.0 None (slot_at (state c h).slots);
@@ -115,7 +115,7 @@ take_leave_idle_falls : (c : Config) (h : List Entry) (w : SlotId) (m : ℕ) →
 take_leave_idle_falls c h w m given seat = grind (arith, nat_tests)
 
 -- an idle worker leaves
-pub take_leave_idle : (c : Config) (h : List Entry) (w : SlotId) (m : ℕ) → Legal c h → Given c h (did.Take w took.Leave) → slot_at (state c h).slots w.0 ≡ Some (idle_since m) → 
+pub take_leave_idle : (c : Config) (h : List Entry) (w : SlotId) (m : ℕ) → Legal c h → Given c h (did.Take w took.Leave) → slot_at (state c h).slots w.0 ≡ Some (idle_since m) →
     Effect (state c h) (did.Take w took.Leave)
     (record (view (state c h)) {
       slots = put w.0 None (slot_at (state c h).slots);
@@ -138,7 +138,7 @@ take_idle_falls : (c : Config) (h : List Entry) (w : SlotId) → Given c h (did.
 take_idle_falls c h w given = grind (arith, nat_tests)
 
 -- a worker is idle
-pub take_idle : (c : Config) (h : List Entry) (w : SlotId) → Legal c h → Given c h (did.Take w took.Idle) → 
+pub take_idle : (c : Config) (h : List Entry) (w : SlotId) → Legal c h → Given c h (did.Take w took.Idle) →
     Effect (state c h) (did.Take w took.Idle)
     (record (view (state c h)) {
       slots = put w.0 (Some (idle_since (state c h).now)) (slot_at (state c h).slots);
