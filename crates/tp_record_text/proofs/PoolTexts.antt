@@ -1,0 +1,44 @@
+-- Which texts are written pool lines.
+use Rattle.std.proofs.Common.{◌≡◌, ◌≢◌, ℕ, ◌<◌, List, Bool, true, false, ◌==◌, Option, Some, None, refl, sym, ◌∙◌, ap, subst, arith, inl, inr}
+use Rattle.std.specs.Prelude.{IfSome, unwrap_or}
+use Rattle.std.proofs.lemmas.Bool.Decides.{eqb_tells}
+use Rattle.std.proofs.lemmas.Option.{none-some, same_Some}
+use Rattle.tp_types.specs.declared.configs.Config.{Config}
+use Rattle.tp_text.specs.declared.pools.PoolLine.{PoolLine}
+use Rattle.tp_text.specs.Fits.{Fits32}
+use Rattle.tp_text.specs.Pools.{FitsPool, config_of, pool_text}
+use Rattle.tp_text.proofs.PoolReading.{pool_text-injective}
+use Rattle.tp_record_text.specs.RecordText.{FitsConfig, pool_line, written, written_limit}
+
+other_limit : (n : ℕ) → n ≢ 4096 → written_limit n ≡ Some n
+other_limit n other = elim (eqb_tells n 4096) [ inl p ↦ absurd (other p.1) | inr p ↦ rw p.0 refl ]
+
+limit_kept : (l : Option ℕ) → l ≢ Some 4096 → written_limit (unwrap_or l 4096) ≡ l
+limit_kept None other = refl
+limit_kept (Some n) other = other_limit n (λ e. other (ap Some e))
+
+limited : PoolLine → Option ℕ → PoolLine
+limited p l = record p { limit = l }
+
+-- a pool line that does not say the usual limit is the one that is written
+written_back : (p : PoolLine) → p.limit ≢ Some 4096 → written (config_of p) ≡ p
+unfolding limited
+written_back p other = ap (limited p) (limit_kept p.limit other)
+
+fits_limit : (l : Option ℕ) → IfSome l Fits32 → Fits32 (unwrap_or l 4096)
+fits_limit None fits = omega arith
+fits_limit (Some n) fits = fits
+
+pub pool_read : (bs : List ℕ) (p : PoolLine) → FitsPool p → bs ≡ pool_text p → p.limit ≢ Some 4096 → FitsConfig (config_of p) × (bs ≡ pool_line (config_of p))
+pool_read bs p fits is other =
+    let same = written_back p other in
+    ((subst FitsPool (sym same) fits, fits_limit p.limit fits.4), is ∙ ap pool_text (sym same))
+
+usual_unwritten : (n : ℕ) → written_limit n ≢ Some 4096
+usual_unwritten n e = elim (eqb_tells n 4096) [ inl p ↦ none-some 4096 (sym (rw p.0 refl) ∙ e) | inr p ↦ p.1 (same_Some n 4096 (sym (other_limit n p.1) ∙ e)) ]
+
+-- a pool line that says the usual limit is not written
+pub no_usual : (bs : List ℕ) (p : PoolLine) → FitsPool p → bs ≡ pool_text p → p.limit ≡ Some 4096 → (c : Config) → FitsConfig c → bs ≢ pool_line c
+no_usual bs p fits is usual c good same =
+    let one : p ≡ written c = pool_text-injective p (written c) fits good.0 (sym is ∙ same) in
+    usual_unwritten c.record_limit (sym (ap (λ (x : PoolLine). x.limit) one) ∙ usual)

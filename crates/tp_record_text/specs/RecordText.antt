@@ -1,0 +1,51 @@
+-- The text of a record.
+use Rattle.std.specs.Prelude.{◌==◌, ℕ, suc, List, [], ◌∷◌, ◌++◌, length, Option, Some, None, codes, if◌then◌else◌}
+use Rattle.std.specs.Fmt.{decimal}
+use Rattle.tp_types.specs.declared.configs.Config.{Config}
+use Rattle.tp_record.specs.declared.entries.Entry.{Entry}
+use Rattle.tp_text.specs.declared.pools.PoolLine.{PoolLine}
+use Rattle.tp_text.specs.EntryLine.{entry_line}
+use Rattle.tp_text.specs.Fits.{Fits32}
+use Rattle.tp_text.specs.Lines.{ended}
+use Rattle.tp_text.specs.Pools.{FitsPool, pool_text}
+use Rattle.tp_text.specs.Reads.{spaced}
+
+-- a record limit is written where it is not the usual one
+abbrev pub written_limit : ℕ → Option ℕ
+written_limit n = if n == 4096 then None else Some n
+
+-- the pool line that is written of a configuration
+abbrev pub written : Config → PoolLine
+written c =
+    record {
+      core = c.core;
+      maximum = c.maximum;
+      queue = c.queue;
+      keep = c.keep;
+      policy = c.policy;
+      core_timeout = c.core_timeout;
+      limit = written_limit c.record_limit;
+    }
+
+abbrev pub FitsConfig : Config → Type 0
+FitsConfig c = FitsPool (written c) × Fits32 c.record_limit
+
+-- the lines of a record text, without their ends
+
+abbrev pub header : List ℕ
+header = codes "tprecord 1"
+
+abbrev pub pool_line : Config → List ℕ
+pool_line c = pool_text (written c)
+
+abbrev pub end_line : ℕ → List ℕ
+end_line n = spaced (codes "end") (decimal n)
+
+-- the lines of entries, the first of which has number n
+abbrev pub entry_lines : ℕ → List Entry → List ℕ
+entry_lines n [] = []
+entry_lines n (e ∷ es) = entry_line n e ++ entry_lines (suc n) es
+
+-- the text of a record: its configuration and its entries, oldest first
+abbrev pub record_text : Config → List Entry → List ℕ
+record_text c es = ended header ++ (ended (pool_line c) ++ (entry_lines 1 es ++ ended (end_line (length es))))

@@ -1,0 +1,9 @@
+//! Record texts: a pool's configuration and the entries of its record, written and read line by line.
+#![tactic(auto)]
+
+mod answers;
+mod dids;
+pub mod entries;
+pub mod records;
+mod steps;
+mod words;
