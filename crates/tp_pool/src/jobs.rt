@@ -30,23 +30,11 @@ pub trait Job: Send + Drop {
         ensures { FitsPromise (promised self.old) result };
 }
 
-/// A job in its box.
+/// A job in its box: a job again, so that a pool holds any job of its caller's.
 #[derive(Drop)]
 pub struct Boxed {
-    job: Box<dyn Job>,
-}
-
-impl Boxed {
-    /// Takes the job.
-    pub fn new(job: Box<dyn Job>) -> Boxed {
-        Boxed { job }
-    }
-
-    /// Gives the job back.
-    pub fn into_job(self) -> Box<dyn Job> {
-        let Boxed { job } = self;
-        job
-    }
+    /// The box.
+    pub job: Box<dyn Job>,
 }
 
 impl Job for Boxed {

@@ -66,8 +66,8 @@ fn boxed_job_has_a_turn(rt: HostRuntime) -> Result<(), Fail> {
         if set {
             flag.set();
         }
-        let job = Boxed::new(Box::new(rt.alloc(), Looking { value: 5 })?);
-        let job = Boxed::new(job.into_job());
+        let job: Box<dyn Job> = Box::new(rt.alloc(), Looking { value: 5 })?;
+        let job = Boxed { job };
         let promise = Promise {
             low: 5,
             high: 5,
