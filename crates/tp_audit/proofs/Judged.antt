@@ -60,7 +60,7 @@ not_both : (c : Config) (es : List Entry) (n : ℕ) → IsFirstFlaw c es n → L
 not_both c es n flaw legal =
     let P : List Entry → Type 0 = λ h. Legal c h in
     let whole : Legal c (reverse flaw.later ++ flaw.entry ∷ reverse flaw.before) =
-        subst P (ap reverse flaw.parts ∙ history_parts flaw.before flaw.later flaw.entry) legal in
+    subst P (ap reverse flaw.parts ∙ history_parts flaw.before flaw.later flaw.entry) legal in
     flaw.not_given (legal_tail c (reverse flaw.later) (flaw.entry ∷ reverse flaw.before) whole).0
 
 -- list b begins with a and then d

@@ -253,6 +253,7 @@ did_same _ _ is = absurd (true≢false (sym is))
 
 -- the derived `==` of answers holds exactly where they are equal
 pub did_equal : (a b : Did) (r : Bool) → r ≡ did_test.it a b → (IsTrue r ↔ a ≡ b)
-did_equal a b r is =
-    ((λ holds. did_same a b (sym is ∙ holds)),
-    (λ same. is ∙ ap (λ z. did_test.it a z) (sym same) ∙ laws-law.refl a))
+did_equal a b r is = (
+  (λ holds. did_same a b (sym is ∙ holds)),
+  (λ same. is ∙ ap (λ z. did_test.it a z) (sym same) ∙ laws-law.refl a),
+)

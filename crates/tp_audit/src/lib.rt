@@ -3,4 +3,5 @@
 
 pub mod plain;
 pub mod summary;
-
+#[cfg(test)]
+mod tests;

@@ -242,7 +242,7 @@ gives_at_own : (c : Config) (s : State) (w : ℕ) (d : Did) → steps.step c s w
 gives_at_own c s w d is =
     let fits = within c s (steps.fitting c s w (ask.Leave (record { 0 = w }))) d is in
     let own : is_it (frees d) w ≡ true =
-        ap (λ o. is_it o w) (fitting_leave_frees s w (record { 0 = w }) d (slot_at s.slots w) fits.0) ∙ eq-eqb w w refl in
+    ap (λ o. is_it o w) (fitting_leave_frees s w (record { 0 = w }) d (slot_at s.slots w) fits.0) ∙ eq-eqb w w refl in
     gives_at c s w (ask.Leave (record { 0 = w })) d (ap (λ b. is_none (slot_at s.slots w) || b) own ∙ or_true (is_none (slot_at s.slots w))) is
 
 -- what the step answers at a number that it may use, a record may have
