@@ -11,10 +11,20 @@ pub enum Choice {
     Steps(String),
 }
 
+impl Choice {
+    /// The path of the file that is to be read.
+    pub fn path(&self) -> &str {
+        match self {
+            Choice::Steps(path) => path.as_str(),
+        }
+    }
+}
+
 /// Why there is no choice.
 #[derive(Debug, Drop)]
 pub enum Unchosen {
-    /// The command line is bad, or it asks for help: the parser's text says more. Status 2.
+    /// The command line is bad, or it asks for help: the parser's text says more. Status 2. A wish for
+    /// the version is one too, of the parser's kind `DisplayVersion`, and its status is 0.
     Usage(Error),
     /// There was no memory to read it. Status 1, as refusal 4.
     NoMemory,
@@ -36,17 +46,41 @@ impl From<Error> for Unchosen {
     }
 }
 
-/// What the words of a command line choose, the first being the program's own name.
-pub fn chosen(alloc: Global, words: &[String]) -> Result<Choice, Unchosen> {
+/// What stands under the help: an example of each command, and the statuses.
+const EXAMPLES: &str = "Examples:
+  poolrun steps data/shortest-life.txt    runs a scenario, step by step
+
+Status:
+  0  the run went to its end
+  1  the run was refused: its refusal is the last line on the standard output
+  2  the command line is bad, or asks for help";
+
+/// A command with one file.
+fn with_file<'a>(
+    alloc: Global,
+    name: &'a str,
+    about: &'a str,
+    file: &'a str,
+) -> Result<Command<'a>, AllocError> {
     let file = Arg::new(alloc, "FILE")
         .required(true)
         .action(ArgAction::Set)
-        .help("the scenario's text");
-    let steps = Command::new(alloc, "steps")
-        .about("Runs a scenario of atomic steps and prints its record")
-        .arg(file)?;
+        .help(file);
+    Command::new(alloc, name).about(about).arg(file)
+}
+
+/// What the words of a command line choose, the first being the program's own name.
+pub fn chosen(alloc: Global, words: &[String]) -> Result<Choice, Unchosen> {
+    let steps = with_file(
+        alloc,
+        "steps",
+        "Runs a scenario of atomic steps and prints its record",
+        "the scenario's text",
+    )?;
     let command = Command::new(alloc, "poolrun")
         .about("Runs scenarios of a bounded thread pool")
+        .version("0.1.0")
+        .after_help(EXAMPLES)
         .subcommand_required(true)
         .subcommand(steps)?;
     let matches = command.try_get_matches_from(words)?;
@@ -56,56 +90,5 @@ pub fn chosen(alloc: Global, words: &[String]) -> Result<Choice, Unchosen> {
             Ok(Choice::Steps(String::from_str(alloc, path)?))
         }
         None => Err(Unchosen::NoMemory),
-    }
-}
-
-#[cfg(test)]
-mod tests {
-    use super::*;
-    use std::test::Fail;
-
-    fn choice(alloc: Global, line: &str) -> Result<Choice, Unchosen> {
-        let mut words = Vec::new(alloc);
-        for word in line.split(' ') {
-            words
-                .push(String::from_str(alloc, word)?)
-                .map_err(|_| Unchosen::NoMemory)?;
-        }
-        chosen(alloc, words.as_slice())
-    }
-
-    fn path_of(outcome: &Result<Choice, Unchosen>) -> Option<&str> {
-        match outcome {
-            Ok(Choice::Steps(path)) => Some(path.as_str()),
-            Err(_) => None,
-        }
-    }
-
-    fn is_usage(outcome: &Result<Choice, Unchosen>) -> bool {
-        matches!(outcome, Err(Unchosen::Usage(_)))
-    }
-
-    #[test]
-    fn chooses_steps_of_a_path(rt: HostRuntime) -> Result<(), Fail> {
-        let alloc = rt.alloc();
-        let outcome = choice(alloc, "poolrun steps data/row.txt");
-        assert!(rt; path_of(&outcome) == Some("data/row.txt"));
-        Ok(())
-    }
-
-    #[test]
-    fn refuses_bad_command_lines(rt: HostRuntime) {
-        let alloc = rt.alloc();
-        for line in [
-            "poolrun",
-            "poolrun steps",
-            "poolrun steps a b",
-            "poolrun audit a",
-            "poolrun steps --loud a",
-            "poolrun --help",
-            "poolrun help",
-        ] {
-            assert!(rt; is_usage(&choice(alloc, line)), "{line}");
-        }
     }
 }

@@ -1,11 +1,35 @@
 //! The exit status, and the line of a refusal of the whole run.
 
-ghost use Rattle.std.specs.Prelude.{◌≡◌, IsOk};
+ghost use Rattle.std.specs.Prelude.{◌≡◌, IsOk, OnOk};
+ghost use Rattle.std.specs.Io.KnownBytes.{Appends};
+ghost use Rattle.tp_text.specs.EndLines.{refused_place, refusal_line};
 ghost use Rattle.poolrun.specs.Status.{status_of};
 
-use std::alloc::Global;
-use std::io::Write;
+use std::io::{self, Write};
 use tp_types::refusals::PoolError;
+
+/// The line of a text that a refusal speaks of.
+fn refused_place(refusal: PoolError) -> Option<u32>
+    ensures { result ≡ refused_place refusal }
+{
+    match refusal {
+        PoolError::BadLine(place) | PoolError::BadEntry(place) => Some(place),
+        _ => None,
+    }
+}
+
+/// Writes the line of a refusal, as `refused 23 BadLine 10`. It takes no memory, since want of it is a
+/// refusal too.
+pub fn write_refusal<W: Write>(writer: &mut W, refusal: PoolError) -> io::Result<()>
+    ensures { OnOk result (Appends (W.contents writer.old) (W.contents writer.new) (refusal_line refusal)) }
+{
+    let number = refusal.number();
+    let name = refusal.name();
+    match refused_place(refusal) {
+        None => writeln!(writer, "refused {number} {name}"),
+        Some(place) => writeln!(writer, "refused {number} {name} {place}"),
+    }
+}
 
 /// Writes a refusal's line, and says with what status the program ends: 0 where the run answered
 /// true, 1 where it answered false or was refused. Nothing is known of what a failing writer took.
@@ -17,36 +41,10 @@ pub fn finish<W: Write>(writer: &mut W, outcome: &Result<bool, PoolError>) -> u8
         Ok(true) => 0,
         Ok(false) => 1,
         Err(refusal) => {
-            let _ = writeln!(writer, "{refusal}");
-            let _ = writer.flush();
+            if write_refusal(writer, *refusal).is_ok() {
+                let _ = writer.flush();
+            }
             1
         }
-    }
-}
-
-#[cfg(test)]
-mod tests {
-    use super::*;
-    use std::test::Fail;
-    use tp_types::ids::TaskId;
-
-    fn written(alloc: Global, outcome: &Result<bool, PoolError>) -> (u8, Vec<u8>) {
-        let mut bytes = Vec::new(alloc);
-        let status = finish(&mut bytes, outcome);
-        (status, bytes)
-    }
-
-    #[test]
-    fn ends_with_a_status(rt: HostRuntime) -> Result<(), Fail> {
-        let alloc = rt.alloc();
-        assert!(rt; written(alloc, &Ok(true)) == (0, Vec::new(alloc)));
-        assert!(rt; written(alloc, &Ok(false)) == (1, Vec::new(alloc)));
-        let (status, bytes) = written(alloc, &Err(PoolError::BadLine(10)));
-        assert!(rt; status == 1);
-        assert!(rt; bytes.as_slice() == b"refused 23 BadLine 10\n".as_slice());
-        let (status, bytes) = written(alloc, &Err(PoolError::Rejected(TaskId(3))));
-        assert!(rt; status == 1);
-        assert!(rt; bytes.as_slice() == b"refused 12 Rejected\n".as_slice());
-        Ok(())
     }
 }

@@ -1,5 +1,5 @@
 -- An answer speaks of the number that a new slot would get only where it reserves it.
-use Rattle.std.proofs.Common.{◌≡◌, ℕ, ◌-◌, ◌^◌, Bool, true, false, not, ◌&&◌, ◌||◌, cond, List, [], ◌∷◌, length, Option, Some, None, Ok, Err, inl, inr, refl, sym, subst, ap, ◌∙◌, ◌⊎◌}
+use Rattle.std.proofs.Common.{◌≡◌, ℕ, ◌-◌, ◌^◌, Bool, true, false, not, ◌&&◌, ◌||◌, cond, List, [], ◌∷◌, length, Option, Some, None, Ok, Err, inl, inr, refl, sym, subst, ap, ◌∙◌, ◌⊎◌, eq-eqb}
 use Rattle.std.specs.Prelude.{◌==◌, nat_lt, nat_le, is_none, unwrap_or, IfOk, IfSome}
 use Rattle.tp_types.specs.declared.ids.TaskId.{TaskId}
 use Rattle.tp_types.specs.declared.ids.SlotId.{SlotId}
@@ -207,16 +207,50 @@ within c s (Ok f) d is = by_room (steps.leaves_room c s f) refl is
     by_room true room is = let same : f ≡ d = cc in (is, rw (← same) room)
     by_room false room is = cc
 
--- a step at a number that is no slot is one that a record may have
-pub gives_at_free : (c : Config) (s : State) (w : ℕ) (a : Ask) (d : Did) → slot_at s.slots w ≡ None → steps.step c s w a ≡ Ok d → Gives c s a d
-gives_at_free c s w a d free is =
+-- a step at a number that is free is one that a record may have
+gives_at : (c : Config) (s : State) (w : ℕ) (a : Ask) (d : Did) → is_free_for s d w ≡ true → steps.step c s w a ≡ Ok d → Gives c s a d
+gives_at c s w a d free is =
     let x = within c s (steps.fitting c s w a) d is in
     let P : Option ℕ → Type 0 = λ o. (steps.step c s (unwrap_or o 0) a ≡ Ok d) × IfSome o (λ v. is_free_for s d v ≡ true) in
     elim ((fitting_makes c s w a).made d x.0) [
-      | inl m ↦ subst P (sym m) (is, ap (λ o. is_none o || is_it (frees d) w) free)
+      | inl m ↦ subst P (sym m) (is, free)
       | inr m ↦ subst P (sym m.0)
           (ap (steps.within_room c s) m.1 ∙ ap (λ (b : Bool). cond {A = Answer} b (Ok d) (Err BookFull)) x.1, tt)
     ]
+
+gives_at_free : (c : Config) (s : State) (w : ℕ) (a : Ask) (d : Did) → slot_at s.slots w ≡ None → steps.step c s w a ≡ Ok d → Gives c s a d
+gives_at_free c s w a d free is = gives_at c s w a d (ap (λ o. is_none o || is_it (frees d) w) free) is
+
+-- a worker that leaves frees its slot
+leave_frees : (s : State) (w : ℕ) (v : SlotId) (g : Stage) (d : Did) → steps.leave_answer s w v g ≡ Ok d → frees d ≡ Some v.0
+leave_frees s w v stages.Dying d is = by_test (steps.wants_worker s && nat_lt (steps.slot_count s - 1) s.maximum) is
+  where
+    by_test : (b : Bool) → ◌≡◌ {A = Answer} (cond b (Ok (did.Leave v (Some (record { 0 = w })))) (Ok (did.Leave v None))) (Ok d) → frees d ≡ Some v.0
+    by_test true is = let same : did.Leave v (Some (record { 0 = w })) ≡ d = cc in ap frees (sym same)
+    by_test false is = let same : did.Leave v None ≡ d = cc in ap frees (sym same)
+leave_frees s w v _ d is = cc
+
+fitting_leave_frees : (s : State) (w : ℕ) (v : SlotId) (d : Did) (o : Option SlotRow) → steps.of_row o (λ r. steps.leave_answer s w v r.stage) ≡ Ok d → frees d ≡ Some v.0
+fitting_leave_frees s w v d None is = cc
+fitting_leave_frees s w v d (Some r) is = leave_frees s w v r.stage d is
+
+or_true : (b : Bool) → (b || true) ≡ true
+or_true true = refl
+or_true false = refl
+
+gives_at_own : (c : Config) (s : State) (w : ℕ) (d : Did) → steps.step c s w (ask.Leave (record { 0 = w })) ≡ Ok d → Gives c s (ask.Leave (record { 0 = w })) d
+gives_at_own c s w d is =
+    let fits = within c s (steps.fitting c s w (ask.Leave (record { 0 = w }))) d is in
+    let own : is_it (frees d) w ≡ true =
+    ap (λ o. is_it o w) (fitting_leave_frees s w (record { 0 = w }) d (slot_at s.slots w) fits.0) ∙ eq-eqb w w refl in
+    gives_at c s w (ask.Leave (record { 0 = w })) d (ap (λ b. is_none (slot_at s.slots w) || b) own ∙ or_true (is_none (slot_at s.slots w))) is
+
+-- what the step answers at a number that it may use, a record may have
+gives_at_free_to : (c : Config) (s : State) (w : ℕ) (a : Ask) (d : Did) → steps.IsFreeTo s a w → steps.step c s w a ≡ Ok d → Gives c s a d
+gives_at_free_to c s w a d (inl free) is = gives_at_free c s w a d free is
+gives_at_free_to c s w a d (inr leaves) is =
+    let P : Ask → Type 0 = λ b. (steps.step c s w b ≡ Ok d → Gives c s b d) in
+    subst P (sym leaves) (gives_at_own c s w d) is
 
 -- what the step answers at the least number that is no slot, a record may have
 pub gives_at_least : (c : Config) (s : State) (a : Ask) (d : Did) → steps.step c s (least_free s.slots) a ≡ Ok d → Gives c s a d
@@ -238,3 +272,8 @@ answer_gives c (Err e) s a answered = tt
 -- an answer over a snapshot, at a number of the caller's choice
 pub answer_at_number : (c : Config) (r : Answer) (p s : State) (w : ℕ) (a : Ask) → p ≡ s → IsAnswer r (steps.step c p w a) → IsAnswer r (steps.step c s w a)
 answer_at_number c r p s w a same answered = let P : State → Type 0 = λ q. IsAnswer r (steps.step c q w a) in subst P same answered
+
+-- each entry that a program answers at a number that the step may use is one that a record may have
+pub answer_at_gives : (c : Config) (r : Answer) (s : State) (w : ℕ) (a : Ask) → steps.IsFreeTo s a w → IsAnswer r (steps.step c s w a) → IfOk r (λ d. Gives c s a d)
+answer_at_gives c (Ok d) s w a free answered = gives_at_free_to c s w a d free answered
+answer_at_gives c (Err e) s w a free answered = tt

@@ -30,7 +30,7 @@ pub fn free_slot(state: &Snapshot) -> SlotId
 }
 
 /// The answer to an ask after these entries of a pool that was made with `config`, where a slot that is made gets the
-/// number `w`.
+/// number `w`, which is no slot, or is freed by the ask. The step gives each entry that is answered.
 pub fn answer_at(
     alloc: Global,
     config: &Config,
@@ -38,8 +38,10 @@ pub fn answer_at(
     w: SlotId,
     ask: Ask,
 ) -> Result<Did, PoolError>
-    requires { length entries.now ≤ 1048576 }
-    ensures { IsAnswer result (steps.step config.now (state config.now (reverse entries.now)) w.0 ask) }
+    requires short { length entries.now ≤ 1048576 }
+    requires free { steps.IsFreeTo (state config.now (reverse entries.now)) ask w.0 }
+    ensures answer { IsAnswer result (steps.step config.now (state config.now (reverse entries.now)) w.0 ask) }
+    ensures gives { IfOk result (λ d. steps.Gives config.now (state config.now (reverse entries.now)) ask d) }
 {
     match snapshot(alloc, config, entries) {
         Ok(now) => step(alloc, config, &now, w, ask),

@@ -1,7 +1,7 @@
 //! Worked records, whose entries, fates, states and counts a run of the pool has printed.
 
 use std::test::Fail;
-use tp_plain::answer::{answer, answer_at};
+use tp_plain::answer::answer;
 use tp_plain::build::snapshot;
 use tp_plain::counts::{counts, counts_of, owed};
 use tp_plain::next::next;
@@ -245,17 +245,6 @@ fn answers_each_entry(rt: HostRuntime) {
             Ok(entry.did)
         );
     }
-    let other = Did::Submit(TaskId(0), Kind::Future, Looked::Reserve(SlotId(7)));
-    assert_eq!(rt;
-        answer_at(
-            rt.alloc(),
-            &OLDEST,
-            &[],
-            SlotId(7),
-            Ask::Submit(Kind::Future)
-        ),
-        Ok(other)
-    );
     assert_eq!(rt;
         answer(rt.alloc(), &OLDEST, &DROPPED, Ask::Offer(TaskId(9))),
         Err(PoolError::UnknownTask)

@@ -1,0 +1,231 @@
+//! Every way to call the program, over real files in the test's folder.
+
+use super::*;
+use std::io::ErrorKind as Reason;
+use std::test::Fail;
+
+const ROW_01: &str = "pool 1 1 unbounded keep 0 abort
+submit plain 5
+open 0
+take 0
+begin 0
+end 0
+";
+
+const ROW_01_OUTPUT: &str = "1 submit t0 plain reserve w0
+2 open w0 live
+3 take w0 held t0
+4 begin w0 t0
+5 end w0 t0 value 5
+t0 run
+state running
+counts submitted=1 run=1 caller=0 rejected=0 discarded=0 handedback=0 removed=0 cancelled=0 completed=1 queued=0 live=1 largest=1
+";
+
+/// What a call of the program gave.
+#[derive(Debug, Drop)]
+struct Called {
+    status: u8,
+    out: Vec<u8>,
+    errors: Vec<u8>,
+}
+
+impl Called {
+    fn gave(&self, status: u8, out: &str, errors: &str) -> bool {
+        self.status == status
+            && self.out.as_slice() == out.as_bytes()
+            && self.errors.as_slice() == errors.as_bytes()
+    }
+}
+
+fn words_of(alloc: Global, line: &str) -> Result<Vec<String>, Fail> {
+    let mut words = Vec::new(alloc);
+    for word in line.split(' ') {
+        words.push(String::from_str(alloc, word)?)?;
+    }
+    Ok(words)
+}
+
+fn call<F: Files>(files: &F, alloc: Global, line: &str) -> Result<Called, Fail> {
+    let words = words_of(alloc, line)?;
+    let mut out = Vec::new(alloc);
+    let mut errors = Vec::new(alloc);
+    let status = program(files, alloc, words.as_slice(), &mut out, &mut errors);
+    Ok(Called {
+        status,
+        out,
+        errors,
+    })
+}
+
+/// Calls the program on a file of this text.
+fn call_on<F: Files>(files: &F, alloc: Global, name: &str, text: &str) -> Result<Called, Fail> {
+    fs::write(files, name, text)?;
+    let line = format!(in alloc; "poolrun steps {name}")?;
+    let called = call(files, alloc, line.as_str())?;
+    fs::remove_file(files, name)?;
+    Ok(called)
+}
+
+#[test]
+fn runs_a_scenario(rt: HostRuntime) -> Result<(), Fail> {
+    let good = call_on(&rt, rt.alloc(), "good-run.txt", ROW_01)?;
+    assert!(rt; good.gave(0, ROW_01_OUTPUT, ""), "{good:?}");
+    Ok(())
+}
+
+#[test]
+fn ends_with_the_refusal_of_a_run(rt: HostRuntime) -> Result<(), Fail> {
+    for (text, out) in [
+        ("pool 3 2 unbounded keep 0 abort\n", "refused 1 BadSizes\n"),
+        (
+            "pool 1 1 unbounded keep 0 abort\nsubmit plain 5\nsub",
+            "1 submit t0 plain reserve w0\nrefused 23 BadLine 3\n",
+        ),
+        ("", "refused 23 BadLine 1\n"),
+    ] {
+        let refused = call_on(&rt, rt.alloc(), "refused-run.txt", text)?;
+        assert!(rt; refused.gave(1, out, ""), "{refused:?}");
+    }
+    Ok(())
+}
+
+#[test]
+fn tells_why_a_file_is_not_read(rt: HostRuntime) -> Result<(), Fail> {
+    fs::create_dir(&rt, "a-folder")?;
+    for (line, errors) in [
+        (
+            "poolrun steps no-such-file.txt",
+            "poolrun: no-such-file.txt: No such file or directory (os error 2)\n",
+        ),
+        (
+            "poolrun steps a-folder",
+            "poolrun: a-folder: Is a directory (os error 21)\n",
+        ),
+        // Nothing is mapped at the address 0, so that this file opens, and a read of it fails.
+        (
+            "poolrun steps /proc/self/mem",
+            "poolrun: /proc/self/mem: Input/output error (os error 5)\n",
+        ),
+    ] {
+        let unread = call(&rt, rt.alloc(), line)?;
+        assert!(rt;
+            unread.gave(1, "refused 25 ReadFailed\n", errors),
+            "{unread:?}"
+        );
+    }
+    fs::remove_dir(&rt, "a-folder")?;
+    let endless = call(&rt, rt.alloc(), "poolrun steps /dev/zero")?;
+    let errors = "poolrun: /dev/zero: the text has more than 1,048,576 bytes\n";
+    assert!(rt;
+        endless.gave(1, "refused 25 ReadFailed\n", errors),
+        "{endless:?}"
+    );
+    Ok(())
+}
+
+fn has(text: &[u8], part: &str) -> bool {
+    match str::from_utf8(text) {
+        Ok(text) => text.contains(part),
+        Err(_) => false,
+    }
+}
+
+#[test]
+fn shows_the_usage_of_a_bad_command_line(rt: HostRuntime) -> Result<(), Fail> {
+    for line in [
+        "poolrun",
+        "poolrun steps",
+        "poolrun steps a b",
+        "poolrun steps --loud a",
+        "poolrun listen a",
+        "poolrun --loud",
+    ] {
+        let bad = call(&rt, rt.alloc(), line)?;
+        assert!(rt; bad.status == 2 && bad.out.is_empty(), "{line}: {bad:?}");
+        assert!(rt; has(&bad.errors, "Usage: poolrun"), "{line}: {bad:?}");
+    }
+    Ok(())
+}
+
+#[test]
+fn helps_on_the_standard_error(rt: HostRuntime) -> Result<(), Fail> {
+    for line in ["poolrun --help", "poolrun -h", "poolrun help"] {
+        let help = call(&rt, rt.alloc(), line)?;
+        assert!(rt; help.status == 2 && help.out.is_empty(), "{line}: {help:?}");
+        for part in ["Usage: poolrun", "poolrun steps data/", "Status:", "  2  "] {
+            assert!(rt; has(&help.errors, part), "{line}: {help:?}");
+        }
+    }
+    Ok(())
+}
+
+#[test]
+fn tells_its_version(rt: HostRuntime) -> Result<(), Fail> {
+    for line in ["poolrun --version", "poolrun -V"] {
+        let version = call(&rt, rt.alloc(), line)?;
+        assert!(rt;
+            version.gave(0, "poolrun 0.1.0\n", ""),
+            "{line}: {version:?}"
+        );
+    }
+    Ok(())
+}
+
+/// Takes so many bytes, and then fails.
+#[derive(Drop)]
+struct Full(usize);
+
+impl Write for Full {
+    fn write(&mut self, buf: &[u8]) -> io::Result<usize> {
+        if self.0 < buf.len() {
+            return Err(Reason::StorageFull.into());
+        }
+        self.0 -= buf.len();
+        Ok(buf.len())
+    }
+
+    fn flush(&mut self) -> io::Result<()> {
+        Ok(())
+    }
+}
+
+#[test]
+fn tells_that_the_standard_output_fails(rt: HostRuntime) -> Result<(), Fail> {
+    let alloc = rt.alloc();
+    fs::write(&rt, "unwritten-run.txt", ROW_01)?;
+    for (line, room) in [
+        ("poolrun steps unwritten-run.txt", 0),
+        ("poolrun steps unwritten-run.txt", 100),
+        ("poolrun --version", 3),
+    ] {
+        let words = words_of(alloc, line)?;
+        let mut errors = Vec::new(alloc);
+        let status = program(&rt, alloc, words.as_slice(), &mut Full(room), &mut errors);
+        let told: &[u8] = b"poolrun: standard output: no storage space\n";
+        assert!(rt;
+            status == 1 && errors.as_slice() == told,
+            "{line}: {errors:?}"
+        );
+    }
+    fs::remove_file(&rt, "unwritten-run.txt")?;
+    Ok(())
+}
+
+#[test]
+fn refuses_words_that_are_no_text(rt: HostRuntime) {
+    let mut out = Vec::new(rt.alloc());
+    let mut errors = Vec::new(rt.alloc());
+    let status = without_words(&Reason::InvalidData.into(), &mut out, &mut errors);
+    assert!(rt; status == 2 && out.is_empty());
+    assert!(rt;
+        has(
+            &errors,
+            "poolrun: a word of the command line is not UTF-8 text"
+        )
+    );
+    let mut told = Vec::new(rt.alloc());
+    let status = without_words(&Reason::OutOfMemory.into(), &mut out, &mut told);
+    assert!(rt; status == 1 && told.is_empty());
+    assert!(rt; has(&out, "refused 4 NoMemory\n"));
+}
