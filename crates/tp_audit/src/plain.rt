@@ -2,7 +2,6 @@
 
 ghost use Rattle.std.specs.Prelude.{◌≡◌, ◌≤◌, ◌↔◌, true, length, map, reverse, IsTrue, IfOk, IfErr, IfSome, IsOkUnless};
 ghost use Rattle.tp_types.specs.Config.{IsConfig};
-ghost use Rattle.tp_types.specs.RunState.{state_rank};
 ghost use Rattle.tp_record.specs.Effects.{reserves};
 ghost use Rattle.tp_record.specs.State as states;
 ghost use Rattle.tp_record.specs.Step as steps;
@@ -12,7 +11,7 @@ ghost use Rattle.tp_audit.specs.Audit.{IsSummary, IsFlawOf, OneJudgment};
 use crate::summary::{Flaw, Summary};
 use std::alloc::Global;
 use tp_plain::build::snapshot;
-use tp_plain::counts::{counts_of, fate_of};
+use tp_plain::counts::counts_of;
 use tp_plain::effects::{freed_by, reserved_by};
 use tp_plain::lists::{push, with_room};
 use tp_plain::next::slot_of;
@@ -69,14 +68,6 @@ fn is_given(
     }
 }
 
-/// The run state of this rank, 0 to 4.
-fn state_of(rank: u32) -> RunState
-    requires { rank ≤ 4 }
-    ensures { state_rank result ≡ rank }
-{
-    RunState::from_rank(rank as u8)
-}
-
 /// What became of each task, by the rows of a table.
 fn fates_of(alloc: Global, tasks: &[TaskRow]) -> Result<Vec<Option<Fate>>, PoolError>
     ensures fates { IfOk result (λ v. v.items ≡ map states.fate_of tasks.now) }
@@ -84,7 +75,7 @@ fn fates_of(alloc: Global, tasks: &[TaskRow]) -> Result<Vec<Option<Fate>>, PoolE
 {
     let mut fates = with_room(alloc, tasks.len())?;
     for row in tasks {
-        push(&mut fates, fate_of(*row))?;
+        push(&mut fates, row.fate())?;
     }
     Ok(fates)
 }
@@ -98,7 +89,7 @@ fn summary_of(alloc: Global, config: &Config, entries: &[Entry]) -> Result<Summa
     let state = snapshot(alloc, config, entries)?;
     Ok(Summary {
         counts: counts_of(&state),
-        state: state_of(state.rank),
+        state: RunState::from_rank(state.rank),
         fates: fates_of(alloc, &state.tasks)?,
     })
 }

@@ -1,6 +1,6 @@
 //! Worker slots under numbers that a slab picks, and the idle ones in the order in which they became idle.
 
-ghost use Rattle.std.specs.Prelude.{ℕ, ◌≡◌, ◌+◌, ◌-◌, ◌^◌, ◌<◌, ◌≤◌, ◌++◌, ◌∷◌, [], max, true, length, drop, slice_get, option_map, count_by, is_some, IfOk, OnOk, OnErr, IfSome, Contains, ◌↔◌, Some, None};
+ghost use Rattle.std.specs.Prelude.{ℕ, ◌≡◌, ◌+◌, ◌-◌, ◌^◌, ◌<◌, ◌≤◌, ◌++◌, ◌∷◌, [], max, true, length, drop, slice_get, option_map, count_by, is_some, IsOk, IfOk, OnOk, OnErr, IfSome, Contains, ◌↔◌, Some, None};
 ghost use Rattle.tp_line.specs.Line.{line, Ordered};
 ghost use Rattle.tp_record.specs.Lists.{without};
 ghost use Rattle.tp_record.specs.Fields.{is_live, is_idle_row};
@@ -60,6 +60,7 @@ impl Slots {
     pub fn grow_to(&mut self, places: usize) -> Result<(), AllocError>
         ensures ok { OnOk result (self.new ≡ record self.old { places = max self.old.places places }) }
         ensures err { OnErr result (self.new ≡ self.old) }
+        ensures room_enough { places ≤ self.old.places → IsOk result }
     {
         if places <= self.places {
             return Ok(());

@@ -2,10 +2,10 @@
 //! each group, and a counter for each fate. Each call looks up one task or one group; `reserve` alone takes memory.
 #![tactic(auto)]
 
-pub mod fates;
-pub mod group;
-pub mod groups;
-pub mod table;
+mod fates;
+mod group;
+mod groups;
+mod table;
 pub mod tasks;
 #[cfg(test)]
 mod tests;

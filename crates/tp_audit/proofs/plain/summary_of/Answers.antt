@@ -4,8 +4,8 @@ use Rattle.tp_record.specs.State.{State}
 use Rattle.tp_audit.proofs.Judged.{rank-le}
 use Rattle.tp_audit.proofs.plain.summary_of.Goals as goal
 
-pub state_of-requires : goal.state_of-requires
-state_of-requires c =
+pub from_rank-requires : goal.from_rank-requires
+from_rank-requires c =
     let history = reverse c.args.entries.now in
     let same : c.in_ok-state.state.rank ≡ rank history = ap (λ (s : State). s.rank) c.in_ok-state.ensures.state in
     omega (arith, same, rank-le history)
