@@ -16,17 +16,6 @@ use tp_types::refusals::PoolError;
 use tp_types::states::Counts;
 use tp_types::tasks::Fate;
 
-/// What became of a task by its row.
-pub fn fate_of(row: TaskRow) -> Option<Fate>
-    ensures { result ≡ states.fate_of row }
-{
-    if row.cancelled {
-        Some(Fate::Cancelled)
-    } else {
-        row.ending
-    }
-}
-
 /// Whether a fate is this one.
 pub fn is_fate(fate: Fate, of: Option<Fate>) -> bool
     ensures { result ≡ states.is_fate fate of }
@@ -41,7 +30,7 @@ pub fn fated(fate: Fate, tasks: &[TaskRow]) -> u32
 {
     let mut fated = 0;
     for row in tasks {
-        if is_fate(fate, fate_of(*row)) {
+        if is_fate(fate, row.fate()) {
             fated += 1;
         }
     }

@@ -1,9 +1,10 @@
 //! What one entry says of one task or slot, by the working tables.
 
-ghost use Rattle.std.specs.Prelude.{◌≡◌};
+ghost use Rattle.std.specs.Prelude.{◌≡◌, ℕ, Bool, false, None, IfSome, IfNone};
 ghost use Rattle.tp_record.specs.Lists.{said_of};
 ghost use Rattle.tp_record.specs.Effects as effects;
 ghost use Rattle.tp_record.specs.Fields as fields;
+ghost use Rattle.tp_types.specs.declared.tasks.Kind.{Kind};
 
 use tp_record::entries::{
     Did, Failed, Grown, Looked, Offered, Opened, Ruled, Seconded, Started, Took,
@@ -207,8 +208,53 @@ pub fn is_completion(did: Did) -> bool
     matches!(did, Did::End(..) | Did::Begin(_, Started::Skip(_)))
 }
 
+/// Whether a kind is that of a group.
+pub fn is_group(kind: Kind) -> bool
+    ensures { result ≡ effects.is_group kind }
+{
+    matches!(kind, Kind::Group(_))
+}
+
+/// The task that an entry ends or cancels, so that it may complete it.
+pub fn closed_by(did: Did) -> Option<TaskId>
+    ensures named { IfSome result (λ t. (kind_of : ℕ → Kind) (cancelled_of : ℕ → Bool) →
+        effects.completes did kind_of cancelled_of ≡ effects.completes did (λ _. kind_of t.0) (λ _. cancelled_of t.0)) }
+    ensures faults { IfSome result (λ t. (kind_of : ℕ → Kind) →
+        effects.is_plain_fault did kind_of ≡ effects.is_plain_fault did (λ _. kind_of t.0)) }
+    ensures none { IfNone result ((kind_of : ℕ → Kind) (cancelled_of : ℕ → Bool) →
+        effects.completes did kind_of cancelled_of ≡ None) }
+    ensures no_fault { IfNone result ((kind_of : ℕ → Kind) → effects.is_plain_fault did kind_of ≡ false) }
+{
+    match did {
+        Did::End(_, t, _) | Did::CallerEnd(t, _) | Did::Cancel(t, _, true) => Some(t),
+        _ => None,
+    }
+}
+
+/// Whether an entry ends a plain task with a fault, `kind` being the kind of the task that it ends.
+pub fn is_plain_fault(did: Did, kind: Kind) -> bool
+    ensures { result ≡ effects.is_plain_fault did (λ _. kind) }
+{
+    match did {
+        Did::End(_, _, Err(_)) => kind == Kind::Plain,
+        _ => false,
+    }
+}
+
+/// The task of a group that an entry completes: by its cancel, or by its end where it is not cancelled. `kind` and
+/// `cancelled` are those of the task that it cancels or ends.
+pub fn completed_by(did: Did, kind: Kind, cancelled: bool) -> Option<u32>
+    ensures { result ≡ effects.completes did (λ _. kind) (λ _. cancelled) }
+{
+    match did {
+        Did::Cancel(t, _, true) => is_group(kind).then_some(t.0),
+        Did::End(_, t, _) | Did::CallerEnd(t, _) => (is_group(kind) && !cancelled).then_some(t.0),
+        _ => None,
+    }
+}
+
 /// The run state that an entry reaches.
-pub fn reaches(did: Did) -> u32
+pub fn reaches(did: Did) -> u8
     ensures { result ≡ effects.reaches did }
 {
     match did {
@@ -304,9 +350,8 @@ pub fn turned_to(now: u64, dies: bool, did: Did, w: SlotId) -> Option<Stage>
 pub fn woken(did: Did, stage: Stage) -> Stage
     ensures { result ≡ fields.woken did stage }
 {
-    match (did, stage) {
-        (Did::Shutdown, Stage::Idle(_)) => Stage::Working,
-        (Did::Stop(_), Stage::Idle(_)) => Stage::Working,
+    match did {
+        Did::Shutdown | Did::Stop(_) => stage.woken(),
         _ => stage,
     }
 }

@@ -7,13 +7,12 @@ ghost use Rattle.tp_record.specs.State as states;
 ghost use Rattle.tp_plain.specs.Snapshot.{shown, IsSmall};
 
 use crate::effects::{
-    cancel_said, core_said, core_timeout_said, ending_said, hand_out_said, handed_back, hold_said,
-    idled_by, is_completion, is_submit, keep_said, kind_said, maximum_said, moved_to, now_said,
-    outcome_said, queued_by, reaches, reserved_by, retry_said, seat_said, second_said, swept,
-    turned_to, woken,
+    cancel_said, closed_by, completed_by, core_said, core_timeout_said, ending_said, hand_out_said,
+    handed_back, hold_said, idled_by, is_completion, is_plain_fault, is_submit, keep_said,
+    kind_said, maximum_said, moved_to, now_said, outcome_said, queued_by, reaches, reserved_by,
+    retry_said, seat_said, second_said, swept, turned_to, woken,
 };
 use crate::lists::{copy_of, push, put_task_at_end, with_room};
-use crate::queues::is_group;
 use crate::slots::live_of;
 use crate::snapshot::Snapshot;
 use crate::weights::slot_at;
@@ -124,12 +123,12 @@ pub fn queue_after(alloc: Global, did: Did, state: &Snapshot) -> Result<Vec<u32>
 }
 
 /// Whether an entry ends a plain task with a fault.
-pub fn is_plain_fault(did: Did, state: &Snapshot) -> bool
+pub fn is_fault_in(state: &Snapshot, did: Did) -> bool
     ensures { result ≡ effects.is_plain_fault did (λ t. (states.task_at (shown state.now) t).kind) }
 {
-    match did {
-        Did::End(_, t, Err(_)) => task_at(state, t).kind == Kind::Plain,
-        _ => false,
+    match closed_by(did) {
+        Some(t) => is_plain_fault(did, task_at(state, t).kind),
+        None => false,
     }
 }
 
@@ -138,7 +137,7 @@ pub fn seat_after(did: Did, state: &Snapshot, w: SlotId, row: SlotRow) -> SlotRo
     ensures { result ≡ states.seat_after did (shown state.now) w.0 row }
 {
     SlotRow {
-        stage: turned_to(state.moment, is_plain_fault(did, state), did, w).unwrap_or(woken(
+        stage: turned_to(state.moment, is_fault_in(state, did), did, w).unwrap_or(woken(
             did, row.stage,
         )),
         task: seat_said(did, w).unwrap_or(row.task),
@@ -200,13 +199,8 @@ pub fn stays_idle(did: Did, state: &Snapshot, w: usize) -> bool
     ensures { result ≡ states.stays_idle did (shown state.now) w }
 {
     match slot_after(did, state, SlotId(w), slot_of(state, SlotId(w))) {
-        Some(
-            SlotRow {
-                stage: Stage::Idle(_),
-                ..
-            },
-        ) => true,
-        _ => false,
+        Some(row) => row.is_idle(),
+        None => false,
     }
 }
 
@@ -231,17 +225,16 @@ pub fn idling_after(alloc: Global, did: Did, state: &Snapshot) -> Result<Vec<usi
 }
 
 /// The task of a group that an entry completes: by its cancel, or by its end where it is not cancelled.
-pub fn completed_by(did: Did, state: &Snapshot) -> Option<u32>
+pub fn completed_in(state: &Snapshot, did: Did) -> Option<u32>
     ensures { result ≡ effects.completes did (λ t. (states.task_at (shown state.now) t).kind)
         (λ t. (states.task_at (shown state.now) t).cancelled) }
 {
-    match did {
-        Did::Cancel(t, _, true) => is_group(task_at(state, t).kind).then_some(t.0),
-        Did::End(_, t, _) | Did::CallerEnd(t, _) => {
+    match closed_by(did) {
+        Some(t) => {
             let row = task_at(state, t);
-            (is_group(row.kind) && !row.cancelled).then_some(t.0)
+            completed_by(did, row.kind, row.cancelled)
         }
-        _ => None,
+        None => None,
     }
 }
 
@@ -259,7 +252,7 @@ pub fn done_after(alloc: Global, did: Did, state: &Snapshot) -> Result<Vec<u32>,
 {
     let mut after = copy_of(alloc, &state.done)?;
     keep_done(did, &mut after);
-    if let Some(t) = completed_by(did, state) {
+    if let Some(t) = completed_in(state, did) {
         put_task_at_end(&mut after, t)?;
     }
     Ok(after)

@@ -11,7 +11,7 @@ use crate::effects::{
 use tp_record::entries::Entry;
 
 /// The run state's rank: 0 running, 1 shutdown, 2 stop, 3 tidying, 4 terminated.
-pub fn rank(entries: &[Entry]) -> u32
+pub fn rank(entries: &[Entry]) -> u8
     ensures { result ≡ fields.rank (reverse entries.now) }
 {
     let mut rank = 0;

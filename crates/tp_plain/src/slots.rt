@@ -4,7 +4,9 @@ ghost use Rattle.std.specs.Prelude.{◌≡◌, ◌<◌, count_by, length, revers
 ghost use Rattle.tp_record.specs.Effects as effects;
 ghost use Rattle.tp_record.specs.Fields as fields;
 
-use crate::effects::{hold_said, now_said, reserved_by, seat_said, turned_to, woken};
+use crate::effects::{
+    closed_by, hold_said, is_plain_fault, now_said, reserved_by, seat_said, turned_to, woken,
+};
 use crate::lists::{push, with_room};
 use crate::tasks::kind;
 use std::alloc::Global;
@@ -12,15 +14,14 @@ use tp_record::entries::{Did, Entry};
 use tp_record::rows::{SlotRow, Stage};
 use tp_types::ids::{SlotId, TaskId};
 use tp_types::refusals::PoolError;
-use tp_types::tasks::Kind;
 
 /// Whether an entry after these ends a plain task with a fault.
-pub fn is_plain_fault(did: Did, before: &[Entry]) -> bool
+pub fn is_fault_after(before: &[Entry], did: Did) -> bool
     ensures { result ≡ effects.is_plain_fault did (fields.kind (reverse before.now)) }
 {
-    match did {
-        Did::End(_, t, Err(_)) => kind(before, t) == Kind::Plain,
-        _ => false,
+    match closed_by(did) {
+        Some(t) => is_plain_fault(did, kind(before, t)),
+        None => false,
     }
 }
 
@@ -31,7 +32,7 @@ pub fn stage(entries: &[Entry], w: SlotId) -> Stage
     let mut stage = Stage::Working;
     let mut now = 0;
     for (i, entry) in entries.iter().enumerate() {
-        let dies = is_plain_fault(entry.did, &entries[..i]);
+        let dies = is_fault_after(&entries[..i], entry.did);
         stage = turned_to(now, dies, entry.did, w).unwrap_or(woken(entry.did, stage));
         now = now_said(entry.did).unwrap_or(now);
     }
@@ -107,7 +108,7 @@ pub fn is_live(slot: Option<SlotRow>) -> bool
 {
     match slot {
         None => false,
-        Some(row) => matches!(row.stage, Stage::Working | Stage::Idle(_) | Stage::Dying),
+        Some(row) => row.is_live(),
     }
 }
 

@@ -8,7 +8,7 @@ pub struct Snapshot {
     /// The number of entries.
     pub steps: u32,
     /// The run state's rank.
-    pub rank: u32,
+    pub rank: u8,
     /// The core size in workers.
     pub core: u32,
     /// The maximum size in workers.

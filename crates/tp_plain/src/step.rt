@@ -6,7 +6,6 @@ ghost use Rattle.tp_record.specs.State as states;
 ghost use Rattle.tp_record.specs.Step as steps;
 ghost use Rattle.tp_plain.specs.Snapshot.{shown, IsAnswer, IsSmall};
 
-use crate::counts::fate_of;
 use crate::next::{next, slot_of, task_at};
 use crate::snapshot::Snapshot;
 use crate::weights::due;
@@ -296,18 +295,8 @@ pub fn cancel_answer(t: TaskId, flag: bool, row: TaskRow) -> Result<Did, PoolErr
     if row.kind == Kind::Plain {
         Err(PoolError::NotFuture)
     } else {
-        Ok(Did::Cancel(t, flag, fate_of(row).is_none()))
+        Ok(Did::Cancel(t, flag, row.is_open()))
     }
-}
-
-/// Whether a slot in this stage is reserved and not live.
-pub fn is_reserved(stage: Stage) -> bool
-    ensures { result ≡ steps.is_reserved stage }
-{
-    matches!(
-        stage,
-        Stage::ReservedCore | Stage::ReservedMaximum | Stage::ReservedBare
-    )
 }
 
 /// The answer to a worker that the factory made: it is live while the pool runs, and for a bare slot while it is shut
@@ -315,7 +304,7 @@ pub fn is_reserved(stage: Stage) -> bool
 pub fn open_answer(state: &Snapshot, v: SlotId, row: SlotRow) -> Result<Did, PoolError>
     ensures { result ≡ steps.open_answer (shown state.now) v row }
 {
-    if !is_reserved(row.stage) {
+    if !row.stage.is_reserved() {
         Err(PoolError::NotThere)
     } else if state.rank == 0 || (state.rank == 1 && row.task.is_none()) {
         Ok(Did::Open(v, Opened::Live))
@@ -333,7 +322,7 @@ pub fn failed_task(state: &Snapshot, stage: Stage, task: Option<TaskId>) -> Fail
 {
     match task {
         None => Failed::Nothing,
-        Some(t) if stage == Stage::ReservedCore && state.rank == 0 => Failed::Offer(t),
+        Some(t) if stage.is_for_core() && state.rank == 0 => Failed::Offer(t),
         Some(t) => Failed::Refuse(t),
     }
 }
@@ -342,7 +331,7 @@ pub fn failed_task(state: &Snapshot, stage: Stage, task: Option<TaskId>) -> Fail
 pub fn fail_answer(state: &Snapshot, v: SlotId, row: SlotRow) -> Result<Did, PoolError>
     ensures { result ≡ steps.fail_answer (shown state.now) v row }
 {
-    if is_reserved(row.stage) {
+    if row.stage.is_reserved() {
         Ok(Did::Fail(v, failed_task(state, row.stage, row.task)))
     } else {
         Err(PoolError::NotThere)

@@ -5,27 +5,9 @@ ghost use Rattle.tp_record.specs.State as states;
 ghost use Rattle.tp_plain.specs.Snapshot.{shown, IsSmall};
 
 use crate::snapshot::Snapshot;
-use tp_record::rows::{SlotRow, Stage, TaskRow};
+use tp_record::owed::pool_weight;
+use tp_record::rows::{SlotRow, TaskRow};
 use tp_types::tasks::Place;
-
-/// What is owed by a task in this place, `for_core` where it is held in a slot reserved for the core.
-pub fn place_weight(for_core: bool, place: Place) -> u64
-    ensures weight { result ≡ states.place_weight for_core place }
-    ensures bound { result ≤ 13 }
-{
-    match place {
-        Place::Looking => 13,
-        Place::ToOffer => 11,
-        Place::ToGrow => 9,
-        Place::Refused => 2,
-        Place::Queued => 6,
-        Place::Held(_) => if for_core { 9 } else { 5 },
-        Place::Taken(_) => 4,
-        Place::Running(_) => 3,
-        Place::Caller => 1,
-        Place::Gone => 0,
-    }
-}
 
 /// The slot with this number, None where it is no slot.
 pub fn slot_at(slots: &[Option<SlotRow>], w: usize) -> Option<SlotRow>
@@ -41,7 +23,7 @@ pub fn is_held_for_core(slots: &[Option<SlotRow>], place: Place) -> bool
     match place {
         Place::Held(w) => match slot_at(slots, w.0) {
             None => false,
-            Some(row) => row.stage == Stage::ReservedCore,
+            Some(row) => row.is_for_core(),
         },
         _ => false,
     }
@@ -52,30 +34,17 @@ pub fn task_weight(slots: &[Option<SlotRow>], row: TaskRow) -> u64
     ensures weight { result ≡ states.task_weight slots.now row }
     ensures bound { result ≤ 17 }
 {
-    place_weight(is_held_for_core(slots, row.place), row.place) + if row.second { 4 } else { 0 }
-}
-
-/// What is owed by a slot in this stage, `busy` where it has a task.
-pub fn stage_weight(rank: u32, busy: bool, stage: Stage) -> u64
-    ensures weight { result ≡ states.stage_weight rank busy stage }
-    ensures bound { result ≤ 4 }
-{
-    match stage {
-        Stage::ReservedCore | Stage::ReservedMaximum | Stage::ReservedBare => 3,
-        Stage::Working => if busy || rank == 0 { 2 } else { 1 },
-        Stage::Idle(_) => 1,
-        Stage::Dying => 4,
-    }
+    row.weight(is_held_for_core(slots, row.place))
 }
 
 /// What is owed by a place of the slot table.
-pub fn slot_weight(rank: u32, slot: Option<SlotRow>) -> u64
+pub fn slot_weight(rank: u8, slot: Option<SlotRow>) -> u64
     ensures weight { result ≡ states.slot_weight rank slot }
     ensures bound { result ≤ 4 }
 {
     match slot {
         None => 0,
-        Some(row) => stage_weight(rank, row.task.is_some(), row.stage),
+        Some(row) => row.weight(rank),
     }
 }
 
@@ -93,7 +62,7 @@ pub fn tasks_weight(slots: &[Option<SlotRow>], tasks: &[TaskRow]) -> u64
 }
 
 /// What is owed by the slots.
-pub fn slots_weight(rank: u32, slots: &[Option<SlotRow>]) -> u64
+pub fn slots_weight(rank: u8, slots: &[Option<SlotRow>]) -> u64
     requires { length slots.now < 4294967296 }
     ensures weight { result ≡ sum_by (states.slot_weight rank) slots.now }
     ensures bound { result ≤ 4 * length slots.now }
@@ -113,5 +82,5 @@ pub fn due(state: &Snapshot) -> u64
 {
     let tasks = tasks_weight(&state.slots, &state.tasks);
     let slots = slots_weight(state.rank, &state.slots);
-    tasks + slots + u64::from(4u32.saturating_sub(state.rank))
+    tasks + slots + pool_weight(state.rank)
 }
