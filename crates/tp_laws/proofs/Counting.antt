@@ -23,7 +23,7 @@ use Rattle.tp_record.specs.Effects.{reserves, frees, holds, one_said}
 use Rattle.tp_record.specs.Fields.{is_slot, slot_bound, reach, slot_row, stage, task_in}
 use Rattle.tp_record.specs.State.{state}
 use Rattle.tp_record.specs.Step.{slot_count}
-use Rattle.tp_facts.proofs.Given.{Given, Told, IsFree, HasRow, Waits}
+use Rattle.tp_model.proofs.Given.{Given, Told, IsFree, HasRow, Waits}
 use Rattle.tp_model.proofs.Readings.{slot_below}
 use Rattle.tp_words.proofs.WordsLists.{count_by-cons, count_by-map}
 

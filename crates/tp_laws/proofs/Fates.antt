@@ -16,7 +16,7 @@ use Rattle.tp_record.specs.Effects.{moved, is_submit, cancels, endings}
 use Rattle.tp_record.specs.Fields.{submitted, place, swept, is_cancelled, ending, handed_back, task_row}
 use Rattle.tp_record.specs.State.{is_fate, fate_of}
 use Rattle.tp_record.specs.Words.{has_fate}
-use Rattle.tp_facts.proofs.Given.{Given, Told}
+use Rattle.tp_model.proofs.Given.{Given, Told}
 use Rattle.tp_record.specs.declared.entries.Ruled.TheVariants as ruled
 use Rattle.tp_record.specs.declared.entries.Started.TheVariants as started
 use Rattle.tp_laws.specs.Laws.{GoneHasFate, FatedIsGone}

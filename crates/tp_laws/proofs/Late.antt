@@ -12,7 +12,7 @@ use Rattle.tp_record.specs.Lists.{said_of, is_it}
 use Rattle.tp_record.specs.Effects.{moved, reaches}
 use Rattle.tp_record.specs.Fields.{rank, submitted, place, swept, is_cancelled, is_queued_place}
 use Rattle.tp_record.specs.Words.{begun_by, is_begun, is_stop, queued_by}
-use Rattle.tp_facts.proofs.Given.{Told}
+use Rattle.tp_model.proofs.Given.{Told}
 use Rattle.tp_words.specs.Agrees.{is_gone_place}
 use Rattle.tp_laws.proofs.Fits.{fits_place, fits_given, fits_rank, rank_given}
 use Rattle.tp_laws.proofs.Fits.{told_front}

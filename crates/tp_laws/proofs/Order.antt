@@ -12,10 +12,10 @@ use Rattle.tp_record.specs.declared.entries.Took.TheVariants as took
 use Rattle.tp_record.specs.declared.entries.Ruled.TheVariants as ruled
 use Rattle.tp_record.specs.Fields.{queue, place, is_queued_place}
 use Rattle.tp_record.specs.Words.{queued_by, waits_in_queue, offers_in_order}
-use Rattle.tp_facts.proofs.Given.{Given, Told}
+use Rattle.tp_model.proofs.Given.{Given, Told}
 use Rattle.tp_words.proofs.WordsTasks.{queued_agrees}
 use Rattle.tp_words.proofs.WordsQueue.{queue_words}
-use Rattle.tp_facts.proofs.Queues.{is_among, IsOnce, among-append, once-queue}
+use Rattle.tp_model.proofs.Queues.{is_among, IsOnce, among-append, once-queue}
 use Rattle.tp_laws.specs.Laws.{leaves_in_turn, FirstLeaves, QueueOrder}
 
 -- who leaves in turn is the first of the queue, and is queued

@@ -12,7 +12,7 @@ use Rattle.tp_record.specs.Lists.{said_of, is_it}
 use Rattle.tp_record.specs.Effects.{moved, is_submit, reaches}
 use Rattle.tp_record.specs.Fields.{rank, submitted, place, swept, is_cancelled}
 use Rattle.tp_record.specs.Words.{queued_by}
-use Rattle.tp_facts.proofs.Given.{Told}
+use Rattle.tp_model.proofs.Given.{Told}
 use Rattle.tp_laws.proofs.Fits.{fits_place, fits_given, fits_rank, rank_given}
 
 -- at rank r a task at p was not put in the queue yet

@@ -16,7 +16,7 @@ use Rattle.std.proofs.lemmas.Bool.{false_from_ne_true}
 use Rattle.tp_words.specs.Agrees.{idle_of}
 use Rattle.tp_words.proofs.WordsSlots.{idle_agrees}
 use Rattle.tp_record.specs.Words.{idle_since, takes_nothing, names_slot, wakes, is_stop, moment}
-use Rattle.tp_facts.proofs.Given.{Given, Told}
+use Rattle.tp_model.proofs.Given.{Given, Told}
 use Rattle.tp_laws.specs.Laws.{was_shut_down, was_stopped, NoIdleAfterShutdown, NoneIdling, is_tidy, is_ended}
 use Rattle.tp_laws.proofs.Fits.{fits_rank, rank_given}
 use Rattle.std.specs.Prelude.{count_by, ◌||◌}

@@ -22,8 +22,8 @@ use Rattle.tp_record.specs.Fields.{queue, slot_bound, reach, is_slot}
 use Rattle.tp_record.specs.State.{State, state, queue_after, stays_queued}
 use Rattle.tp_record.specs.Step.{slot_count, Legal}
 use Rattle.tp_record.specs.Words.{reserved_by, slot_numbers, is_slot_now}
-use Rattle.tp_facts.proofs.Given.{Given, Told, HasQueueRoom}
-use Rattle.tp_facts.proofs.Told.{told_legal}
+use Rattle.tp_model.proofs.Given.{Given, Told, HasQueueRoom}
+use Rattle.tp_model.proofs.Told.{told_legal}
 use Rattle.tp_model.proofs.NextState.{next_is_state}
 use Rattle.tp_words.proofs.WordsQueue.{queue_words}
 use Rattle.tp_words.proofs.WordsSlots.{slot_agrees}

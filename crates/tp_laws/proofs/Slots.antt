@@ -17,7 +17,7 @@ use Rattle.tp_record.specs.Effects.{reserves, holds, reaches}
 use Rattle.tp_record.specs.Fields.{rank, is_slot, slot_bound, slot_row, stage, task_in}
 use Rattle.tp_record.specs.State.{state}
 use Rattle.tp_record.specs.Step.{slot_count}
-use Rattle.tp_facts.proofs.Given.{Given, Told}
+use Rattle.tp_model.proofs.Given.{Given, Told}
 use Rattle.tp_model.proofs.Readings.{slot_below}
 use Rattle.tp_words.proofs.WordsSlots.{slot_agrees}
 use Rattle.tp_laws.specs.Laws.{is_tidy, NoSlotsAfterTidy}

@@ -10,7 +10,7 @@ use Rattle.tp_record.specs.Lists.{count_from}
 use Rattle.tp_record.specs.Fields.{task_row}
 use Rattle.tp_record.specs.State.{is_fate, fate_of}
 use Rattle.tp_record.specs.Words.{has_fate, submissions}
-use Rattle.tp_facts.proofs.Given.{Told}
+use Rattle.tp_model.proofs.Given.{Told}
 use Rattle.std.specs.Prelude.{nat_lt}
 use Rattle.tp_words.proofs.WordsTasks.{is_submitted_below}
 use Rattle.tp_words.proofs.WordsSlots.{submissions_agrees}

@@ -22,7 +22,7 @@ use Rattle.tp_record.specs.State.{state, next, due, slot_at}
 use Rattle.tp_record.specs.Step.{Legal, Gives, Refuses}
 use Rattle.tp_model.proofs.NextState.{next_is_state}
 use Rattle.tp_model.proofs.Readings.{tasks_counted, slot_read}
-use Rattle.tp_facts.proofs.Places.{seat_placed}
+use Rattle.tp_model.proofs.Places.{seat_placed}
 use Rattle.tp_machine.proofs.Counts.{tasks_few, queue_short, completions_few, largest_few}
 use Rattle.tp_machine.proofs.OpenSteps.{live_bounded}
 use Rattle.tp_machine.specs.declared.parts.Parts.{Parts}

@@ -1,5 +1,5 @@
 -- An open, over the structures.
-use Rattle.std.proofs.Common.{◌≡◌, ℕ, suc, ◌+◌, ◌-◌, ◌≤◌, ◌<◌, Bool, true, false, cond, max, List, length, set, Some, None, Option, refl, arith, sym, ap, ◌∙◌, inl, inr}
+use Rattle.std.proofs.Common.{◌≡◌, ℕ, suc, ◌+◌, ◌-◌, ◌≤◌, ◌<◌, Bool, true, false, cond, max, List, length, set, Some, None, Option, refl, arith, sym, ap, subst, ◌∙◌, inl, inr}
 use Rattle.std.specs.Prelude.{count_by, is_some}
 use Rattle.std.proofs.lemmas.Bool.{ne_eqb, eq-eqb, false≢true}
 use Rattle.std.proofs.lemmas.List.{append-nil, get_or-set_same, get_or-set_other}
@@ -17,9 +17,10 @@ use Rattle.tp_record.specs.declared.rows.Stage.TheVariants as stages
 use Rattle.tp_record.specs.declared.rows.TaskRow.{TaskRow}
 use Rattle.tp_record.specs.declared.rows.SlotRow.{SlotRow}
 use Rattle.tp_record.specs.Fields.{is_live, is_live_stage, is_idle_stage}
-use Rattle.tp_record.specs.State.{due, task_weight, slot_weight, place_weight, is_held_for_core, is_core_slot, row_at, slot_at, task_at}
+use Rattle.tp_record.specs.State.{due, task_weight, slot_weight, place_weight, is_held_for_core, is_core_slot, row_at, slot_at}
 use Rattle.tp_record.specs.Step.{is_reserved}
-use Rattle.tp_model.proofs.Seated.{is_held_by, number_in, task_of, seated_legal}
+use Rattle.tp_model.proofs.Keystone.{number_of, seat_of}
+use Rattle.tp_model.proofs.Seats.{is_held_by, AllSeated, held_seat, seated_legal}
 use Rattle.tp_machine.specs.declared.parts.Parts.{Parts}
 use Rattle.tp_machine.specs.Owed.{weight_in}
 use Rattle.tp_machine.specs.Parts.{shown, Stands, Goes}
@@ -114,11 +115,9 @@ module _ (c : Config) (n : ℕ) (old : Parts) (stands : Stands c n old) (w : Slo
         | inl same ↦ absurd (false≢true (sym (ap (λ y. is_core_slot (slot_at slots' y)) same ∙ ap is_core_slot (get_or-set_same old.slots.items w.0 (Some p) None k)) ∙ is))
         | inr ne ↦ sym (far x ne) ∙ is
       ] in
-      let tied : (x : ℕ) → is_held_by w.0 (row_at old.tasks.items x).place ≡ true → number_in q.task ≡ Some x = λ x held.
-      let there = seated_legal c stands.history stands.legal x w.0 in
-      let e : task_at (Rattle.tp_record.specs.State.state c stands.history) x ≡ row_at old.tasks.items x = sym (ap (λ y. task_at y x) stands.shows) in
-      let f : slot_at (Rattle.tp_record.specs.State.state c stands.history).slots w.0 ≡ slot_at old.slots.items w.0 = sym (ap (λ y. slot_at y.slots w.0) stands.shows) in
-      ap task_of (sym seat) ∙ ap task_of (sym f) ∙ there.0 (ap (λ r. is_held_by w.0 r.place) e ∙ held) in
+      let seated : AllSeated s = subst AllSeated (sym stands.shows) (seated_legal c stands.history stands.legal) in
+      let tied : (x : ℕ) → is_held_by w.0 (row_at old.tasks.items x).place ≡ true → number_of q.task ≡ Some x = λ x held.
+      ap seat_of (sym seat) ∙ held_seat s seated x w.0 held in
       let a = owed-held old.tasks.items old.slots.items slots' w.0 q.task far tied in
       let b = sum_by-set (slot_weight s.rank) old.slots.items w.0 (Some p) None k in
       let m : slot_weight s.rank (slot_at old.slots.items w.0) ≡ slot_weight s.rank (Some q) = ap (slot_weight s.rank) seat in

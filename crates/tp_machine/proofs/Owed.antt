@@ -11,7 +11,8 @@ use Rattle.tp_types.specs.declared.ids.TaskId.{TaskId}
 use Rattle.tp_record.specs.declared.rows.TaskRow.{TaskRow}
 use Rattle.tp_record.specs.declared.rows.SlotRow.{SlotRow}
 use Rattle.tp_record.specs.State.{task_weight, slot_weight, place_weight, is_held_for_core, is_core_slot, row_at, slot_at, no_row}
-use Rattle.tp_model.proofs.Seated.{is_held_by, number_in}
+use Rattle.tp_model.proofs.Keystone.{number_of}
+use Rattle.tp_model.proofs.Seats.{is_held_by}
 use Rattle.tp_machine.specs.Owed.{weight_in}
 
 -- what is owed by tasks and slots, at a rank
@@ -108,7 +109,7 @@ weight_apart slots slots' w r same far = by_place r.place far
 -- each task that is held in w is the one in its slot, so the others weigh what they did
 pub owed-held : (tasks : List TaskRow) (slots slots' : List (Option SlotRow)) (w : ℕ) (task : Option TaskId) →
     ((x : ℕ) → (x ≡ w → ⊥) → is_core_slot (slot_at slots' x) ≡ is_core_slot (slot_at slots x)) →
-    ((x : ℕ) → is_held_by w (row_at tasks x).place ≡ true → number_in task ≡ Some x) →
+    ((x : ℕ) → is_held_by w (row_at tasks x).place ≡ true → number_of task ≡ Some x) →
     sum_by (task_weight slots') tasks + weight_in slots tasks task ≡ sum_by (task_weight slots) tasks + weight_in slots' tasks task
 owed-held tasks slots slots' w None same held =
     let none : (x : ℕ) → is_held_by w (row_at tasks x).place ≡ false = λ x. false_from_ne_true _ (λ is. let e = held x is in cc) in

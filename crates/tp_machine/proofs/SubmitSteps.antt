@@ -24,13 +24,13 @@ use Rattle.tp_record.specs.declared.rows.SlotRow.{SlotRow}
 use Rattle.tp_record.specs.Lists.{said_of, is_it, long_enough}
 use Rattle.tp_record.specs.Effects.{place_looked, completes, hands_out}
 use Rattle.tp_record.specs.Fields.{is_live, is_queued, is_done, kind, is_cancelled, submitted, offered, completed, done, queue, task_rows}
-use Rattle.tp_record.specs.State.{State, state, next, due, task_weight, slot_weight, is_core_slot, row_at, slot_at, task_at, row_after, tasks_after, no_row, queue_after, stays_queued, slots_after, slot_after, done_after, stays_done}
+use Rattle.tp_record.specs.State.{State, state, next, due, task_weight, slot_weight, is_core_slot, row_at, slot_at, row_after, tasks_after, no_row, queue_after, stays_queued, slots_after, slot_after, done_after, stays_done}
 use Rattle.tp_record.specs.Step.{Legal, fitting, Refuses}
 use Rattle.tp_model.proofs.ListLaws.{filter-filter_agree}
 use Rattle.tp_model.proofs.Readings.{tasks_counted}
 use Rattle.tp_model.proofs.NextState.{queue_known}
 use Rattle.tp_model.proofs.Weak.{within, closes, closes_known, given, book_full}
-use Rattle.tp_model.proofs.Seated.{is_held_by, task_of, seated_legal}
+use Rattle.tp_model.proofs.Seats.{AllSeated, unheld, seated_legal}
 use Rattle.tp_machine.specs.declared.parts.Parts.{Parts}
 use Rattle.tp_machine.specs.Parts.{shown, Stands, Goes, Fits, IsLook}
 use Rattle.tp_machine.proofs.Counts.{live_largest, tasks_bounded}
@@ -120,25 +120,17 @@ slots-submit s t k w =
     ∙ ap (λ n. set (long_enough (Some w.0) None s.slots) w.0 (slot_after d s n (slot_at (long_enough (Some w.0) None s.slots) w.0))) e
     ∙ rw (eq-eqb w.0 w.0 refl) refl
 
--- no task is held in a number that is no slot
-unheld : (c : Config) (s : State) (h : List Entry) (w : ℕ) → Legal c h → s ≡ state c h → slot_at s.slots w ≡ None → (x : ℕ) → is_held_by w (row_at s.tasks x).place ≡ false
-unheld c s h w legal shows free x = false_from_ne_true _ (λ held.
-    let there = seated_legal c h legal x w in
-    let e : row_at s.tasks x ≡ task_at (state c h) x = ap (λ y. task_at y x) shows in
-    let f : slot_at s.slots w ≡ slot_at (state c h).slots w = ap (λ y. slot_at y.slots w) shows in
-    let g : task_of None ≡ Some x = ap task_of (sym free) ∙ ap task_of f ∙ there.0 (ap (λ r. is_held_by w r.place) (sym e) ∙ held) in
-    cc)
-
 -- what is owed with a new task in a slot of its own
 owed-core : (c : Config) (s : State) (h : List Entry) (t : TaskId) (k : Kind) (w : SlotId) → Legal c h → s ≡ state c h → slot_at s.slots w.0 ≡ None →
     owed (s.tasks ++ new_row k (at.Held w) ∷ []) (set (long_enough (Some w.0) None s.slots) w.0 (Some (core_seat t))) s.rank ≡ owed s.tasks s.slots s.rank + 12
 owed-core c s h t k w legal shows free =
+    let seated : AllSeated s = subst AllSeated (sym shows) (seated_legal c h legal) in
     let slots' : List (Option SlotRow) = set (long_enough (Some w.0) None s.slots) w.0 (Some (core_seat t)) in
     let far : (x : ℕ) → (x ≡ w.0 → ⊥) → is_core_slot (slot_at slots' x) ≡ is_core_slot (slot_at s.slots x) = λ x ne.
     ap is_core_slot (get_or-set_other (long_enough (Some w.0) None s.slots) w.0 x (Some (core_seat t)) None ne ∙ slot_at-long_enough s.slots w.0 x) in
     let here : slot_at slots' w.0 ≡ Some (core_seat t) = get_or-set_same (long_enough (Some w.0) None s.slots) w.0 (Some (core_seat t)) None (long_enough-length s.slots w.0) in
     let rows : sum_by (task_weight slots') s.tasks ≡ sum_by (task_weight s.slots) s.tasks =
-    sum_by_rows (task_weight slots') (task_weight s.slots) s.tasks no_row (λ x. weight_apart s.slots slots' w.0 (row_at s.tasks x) far (unheld c s h w.0 legal shows free x)) in
+    sum_by_rows (task_weight slots') (task_weight s.slots) s.tasks no_row (λ x. weight_apart s.slots slots' w.0 (row_at s.tasks x) far (unheld s seated w.0 free x)) in
     let nine : task_weight slots' (new_row k (at.Held w)) ≡ 9 = rw here refl in
     let a = sum_by_push (task_weight slots') s.tasks (new_row k (at.Held w)) in
     let b = sum_by-reserved (slot_weight s.rank) s.slots w.0 (Some (core_seat t)) refl free in

@@ -1,5 +1,5 @@
 -- The step's answer depends on the ask, the state and the number of a new slot; whether it refuses not on that number.
-use Rattle.std.proofs.Common.{◌≡◌, ℕ, suc, ◌+◌, ◌-◌, ◌<◌, max, Bool, true, false, cond, List, [], ◌∷◌, ◌++◌, length, Some, None, Ok, Err, Option, refl, arith, ap, sym, subst, ◌∙◌, ◌⊎◌, inl, inr, set, replicate}
+use Rattle.std.proofs.Common.{◌≡◌, ℕ, suc, ◌+◌, ◌-◌, ◌<◌, max, Bool, true, false, cond, List, [], ◌∷◌, ◌++◌, length, Some, None, Ok, Err, Option, refl, arith, ap, sym, subst, ◌∙◌, inl, inr, set, replicate}
 use mathlib.Core.Path.{ap₂}
 use Rattle.std.specs.Prelude.{unwrap_or, ◌||◌, ◌==◌, is_none, nat_le, sum_by}
 use Rattle.std.proofs.lemmas.Bool.{cases_eq, eq-eqb, ne_eqb, false≢true}
@@ -31,7 +31,9 @@ use Rattle.tp_record.specs.Effects.{reserves, frees, reaches, is_submit}
 use Rattle.tp_record.specs.State.{State, state, next, due, row_after, tasks_after, task_at, slot_at, slot_after, slots_after, no_row, task_weight, place_weight, slot_weight, is_core_stage, is_core_slot, is_held_for_core}
 use Rattle.tp_record.specs.Step.{step, fitting, Answer, Gives, Legal, within_room, leaves_room, is_free_for, of_row, leave_answer, IsFreeTo}
 use Rattle.tp_model.proofs.ListLaws.{change_each-set, length-change_each, get_or-change_each, get_or-longer, sum_by-longer, sum_by-changes}
-use Rattle.tp_model.proofs.Seated.{is_held_by, task_of, Seated, leaves_from, leave_leaves, AllSeated, seated_legal}
+use Rattle.tp_model.proofs.Keystone.{seat_of}
+use Rattle.tp_model.proofs.Weak.{if_ok}
+use Rattle.tp_model.proofs.Seats.{is_held_by, AllSeated, held_seat, seated_legal}
 
 -- two answers to one ask that reserve the same number, or none, are equal
 pub same_answer : (c : Config) (s : State) (a : Ask) (d d' : Did) → Gives c s a d → Gives c s a d' → reserves d ≡ reserves d' → d ≡ d'
@@ -224,10 +226,10 @@ makes s d w is free = record {
 -- Each task weighs the same
 
 -- a held task's slot is not the new one
-held_apart : (i u w : ℕ) (p : Place) (slots : List (Option SlotRow)) → Seated i u p (slot_at slots u) → slot_at slots w ≡ None → is_held_by u p ≡ true → u ≡ w → ⊥
-held_apart i u w p slots seated free held same =
-    let none : task_of (slot_at slots u) ≡ None = ap (λ n. task_of (slot_at slots n)) same ∙ ap task_of free in
-    let some = seated.0 held in
+held_apart : (s : State) → AllSeated s → (i u w : ℕ) → slot_at s.slots w ≡ None → is_held_by u (task_at s i).place ≡ true → u ≡ w → ⊥
+held_apart s seated i u w free held same =
+    let none : seat_of (slot_at s.slots u) ≡ None = ap (λ n. seat_of (slot_at s.slots n)) same ∙ ap seat_of free in
+    let some = held_seat s seated i u held in
     cc
 
 -- the same entry, with another number for the slot that it makes
@@ -309,7 +311,7 @@ weighs : (s : State) (d : Did) (w v : ℕ) → AllSeated s → reserves d ≡ So
 weighs s d w v seated is free free' = record {
   submit = renumber_submit d v;
   ranks = renumber_reaches d v;
-  each = λ i below. weigh i (task_at s i) (λ u held. alike i u _ (seated i u) held (is_core_stage (made_row d).stage) refl);
+  each = λ i below. weigh i (task_at s i) (λ u held. alike i u held (is_core_stage (made_row d).stage) refl);
   new = λ _. weigh (length s.tasks) no_row (λ u held. absurd (false≢true held));
 }
   where
@@ -319,12 +321,12 @@ weighs s d w v seated is free free' = record {
     m' : Makes s (renumber v d) (unmade d) v (made_row d)
     m' = makes_renumbered s d w v is free'
 
-    alike : (i u : ℕ) (p : Place) → Seated i u p (slot_at s.slots u) → is_held_by u p ≡ true → (b : Bool) → is_core_stage (made_row d).stage ≡ b →
+    alike : (i u : ℕ) → is_held_by u (task_at s i).place ≡ true → (b : Bool) → is_core_stage (made_row d).stage ≡ b →
         is_core_at (slots_after d s) u ≡ is_core_at (slots_after (renumber v d) s) u
-    alike i u p seat held true core =
-        core_other s d (unmade d) w (made_row d) m u (held_apart i u w p s.slots seat (free_core s d w core free) held)
-        ∙ sym (core_other s (renumber v d) (unmade d) v (made_row d) m' u (held_apart i u v p s.slots seat (free_core s d v core free') held))
-    alike i u p seat held false plain =
+    alike i u held true core =
+        core_other s d (unmade d) w (made_row d) m u (held_apart s seated i u w (free_core s d w core free) held)
+        ∙ sym (core_other s (renumber v d) (unmade d) v (made_row d) m' u (held_apart s seated i u v (free_core s d v core free') held))
+    alike i u held false plain =
         core_plain s d (unmade d) w (made_row d) m plain u ∙ sym (core_plain s (renumber v d) (unmade d) v (made_row d) m' plain u)
 
     weigh : (i : ℕ) (r : TaskRow) → ((u : ℕ) → is_held_by u r.place ≡ true → is_core_at (slots_after d s) u ≡ is_core_at (slots_after (renumber v d) s) u) →
@@ -349,6 +351,22 @@ due_renumbered s d w v seated is free free' =
 abbrev renumbered : ℕ → Answer → Answer
 renumbered v (Ok d) = Ok (renumber v d)
 renumbered v (Err e) = Err e
+
+-- a worker that leaves was dying
+abbrev leaves_from : Did → ℕ → Stage → Bool
+leaves_from (did.Leave u o) v stages.Dying = u.0 == v
+leaves_from _ v stage = false
+
+-- what a worker that leaves answers
+leave_leaves : (s : State) (v : ℕ) (x : SlotId) (stage : Stage) (d : Did) → leave_answer s v x stage ≡ Ok d → leaves_from d x.0 stage ≡ true
+leave_leaves s v x stages.Dying d = if_ok _ _ _ d made left
+  where
+    made : ◌≡◌ {A = Answer} (Ok (did.Leave x (Some (record { 0 = v })))) (Ok d) → leaves_from d x.0 stages.Dying ≡ true
+    made is = grind (arith, nat_tests)
+
+    left : ◌≡◌ {A = Answer} (Ok (did.Leave x None)) (Ok d) → leaves_from d x.0 stages.Dying ≡ true
+    left is = grind (arith, nat_tests)
+leave_leaves s v x _ d = λ is. cc
 
 -- a worker that leaves frees its slot
 leave_frees : (c : Config) (s : State) (n : ℕ) (x : SlotId) (d : Did) → fitting c s n (ask.Leave x) ≡ Ok d → frees d ≡ Some x.0

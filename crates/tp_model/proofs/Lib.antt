@@ -2,5 +2,12 @@ pub mod ListLaws
 pub mod Readings
 pub mod Weak
 pub mod NextState
-pub mod Seated
+pub mod Given
+pub mod Keystone
+pub mod Inversion
+pub mod SlotInversion
+pub mod Told
+pub mod Queues
+pub mod Places
+pub mod Seats
 pub mod Functions

@@ -27,8 +27,9 @@ use Rattle.tp_record.specs.Effects.{moved, seconds, holds, turned, seated, reach
 use Rattle.tp_record.specs.Fields.{rank, submitted, place, now, kind, task_row, slot_row, slot_bound, reach, sweeps, is_slot, stage, task_in, woken, woken_stage}
 use Rattle.tp_record.specs.State.{state, due, row_after, place_weight, stage_weight, slot_weight}
 use Rattle.tp_room.specs.Room.{lowers}
-use Rattle.tp_facts.proofs.Given.{Given}
-use Rattle.tp_facts.proofs.Keystone.{IsSound, suits, suits_row, fits_row, slot_of, sound_more}
+use Rattle.tp_model.proofs.Given.{Given}
+use Rattle.tp_model.specs.Seats.{slot_of}
+use Rattle.tp_model.proofs.Keystone.{IsSound, suits, suits_row, fits_row, sound_more}
 use Rattle.tp_room.proofs.Totals.{total, total-le, total-one, total-two}
 use Rattle.tp_room.proofs.Weights.{held_core, weight_of, is_core, task_due, slot_due, due_totals}
 

@@ -10,7 +10,7 @@ use Rattle.tp_record.specs.declared.rows.TaskRow.{TaskRow}
 use Rattle.tp_record.specs.Fields.{rank, submitted, task_row, task_rows, slot_row, slot_rows, slot_bound}
 use Rattle.tp_record.specs.State.{state, due, is_core_slot, is_held_for_core, place_weight, task_weight, slot_weight}
 use Rattle.tp_model.proofs.Readings.{slot_read, slot_below}
-use Rattle.tp_facts.proofs.Keystone.{IsSound}
+use Rattle.tp_model.proofs.Keystone.{IsSound}
 use Rattle.tp_room.proofs.Totals.{total, sum_by-table, total-longer, total-agree}
 
 -- the slot of a held task is reserved for the core

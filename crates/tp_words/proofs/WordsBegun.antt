@@ -14,7 +14,7 @@ use Rattle.tp_record.specs.Effects.{Outcome, outcomes}
 use Rattle.tp_record.specs.Fields.{place, is_cancelled, outcome, submitted}
 use Rattle.tp_record.specs.Words.{submitted_by, begun_by, begun, is_begun, is_submitted, is_waiting, is_gone}
 use Rattle.tp_words.specs.Agrees.{is_caller_place, is_gone_place, is_running_place, is_waiting_place}
-use Rattle.tp_facts.proofs.Given.{Told}
+use Rattle.tp_model.proofs.Given.{Told}
 use Rattle.tp_words.proofs.WordsTasks.{Fits, place_after, told_fits, place_unsubmitted, is_submitted_below, cancelled_agrees, gone_agrees}
 
 -- the outcome after an entry

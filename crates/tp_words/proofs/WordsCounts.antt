@@ -13,7 +13,7 @@ use Rattle.tp_record.specs.Effects.{is_completion}
 use Rattle.tp_record.specs.Fields.{submitted, completions, task_row}
 use Rattle.tp_record.specs.State.{state, is_fate, fate_of, fated, counts}
 use Rattle.tp_record.specs.Words.{with_fate, has_fate, is_completed_by, counters}
-use Rattle.tp_facts.proofs.Given.{Told}
+use Rattle.tp_model.proofs.Given.{Told}
 use Rattle.tp_model.proofs.Readings.{tasks_counted}
 use Rattle.tp_words.proofs.WordsLists.{count_by-cons, count_by-map, count_by_below}
 use Rattle.tp_words.proofs.WordsQueue.{queue_words}

@@ -22,11 +22,11 @@ use Rattle.tp_record.specs.Fields.{place, kind, is_cancelled, ending, submitted,
 use Rattle.tp_record.specs.State.{state, task_at}
 use Rattle.tp_record.specs.Step.{is_of_group, done_of}
 use Rattle.tp_record.specs.Words.{submitted_by, is_submitted, kind_of, was_cancelled, cancelled_by, body_ended_by, is_in_group, keep_where, completions_of, takes_done, done_in_group}
-use Rattle.tp_facts.proofs.Given.{Given, Told}
+use Rattle.tp_model.proofs.Given.{Given, Told}
 use Rattle.tp_model.proofs.Readings.{row_read, row_past}
 use Rattle.tp_model.proofs.ListLaws.{filter-filter, filter-filter_agree}
 use Rattle.tp_words.proofs.WordsLists.{count_by-cons, filter_true, without_new, at_end_new, filter_commute, without_absent, filter_head, drop-append_more, drop_head}
-use Rattle.tp_facts.proofs.Queues.{IsOnce, once-filter, once-done}
+use Rattle.tp_model.proofs.Queues.{IsOnce, once-filter, once-done}
 use Rattle.tp_words.proofs.WordsTasks.{Fits, told_fits, is_submitted_below, cancelled_agrees}
 use Rattle.tp_words.proofs.WordsSlots.{kind_agrees}
 use Rattle.tp_words.proofs.WordsFates.{EndsGone, ending_after, ending_gone}

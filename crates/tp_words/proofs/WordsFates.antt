@@ -17,7 +17,7 @@ use Rattle.tp_record.specs.Effects.{endings}
 use Rattle.tp_record.specs.Fields.{place, is_cancelled, ending, handed_back, is_queued_place, task_row}
 use Rattle.tp_record.specs.State.{is_fate, fate_of}
 use Rattle.tp_record.specs.Words.{submitted_by, is_submitted, was_cancelled, waits_in_queue, is_stop, fated_by, was_drained, has_fate}
-use Rattle.tp_facts.proofs.Given.{Told}
+use Rattle.tp_model.proofs.Given.{Told}
 use Rattle.tp_words.proofs.WordsTasks.{Fits, place_after, told_fits, place_unsubmitted, queued_agrees, cancelled_agrees}
 
 -- the ending after an entry

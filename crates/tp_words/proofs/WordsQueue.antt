@@ -19,7 +19,7 @@ use Rattle.tp_record.specs.Lists.{is_it, without, at_end}
 use Rattle.tp_record.specs.Effects.{queues, reaches}
 use Rattle.tp_record.specs.Fields.{rank, is_queued, place, is_cancelled, submitted, offered, queue}
 use Rattle.tp_record.specs.Words.{submitted_by, queued_by, is_submitted, waits_in_queue, offers_in_order, waiting_line}
-use Rattle.tp_facts.proofs.Given.{Given, Told}
+use Rattle.tp_model.proofs.Given.{Given, Told}
 use Rattle.tp_words.proofs.WordsTasks.{Fits, place_after, told_fits, is_submitted_below, queued_agrees}
 
 -- an entry puts t in the queue

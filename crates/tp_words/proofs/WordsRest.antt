@@ -15,8 +15,8 @@ use Rattle.tp_record.specs.Step.{Legal}
 use Rattle.tp_record.specs.Words.{of_it, accepts_offer, looks_again, owes_look, retries_it, retry_count, outcome_by, body_outcome, is_submitted}
 use Rattle.tp_words.proofs.WordsLists.{by_option, count_by-cons}
 use Rattle.tp_words.proofs.WordsTasks.{Fits, told_fits, is_submitted_below}
-use Rattle.tp_facts.proofs.Told.{told_legal}
-use Rattle.tp_facts.proofs.Places.{task_row-past}
+use Rattle.tp_model.proofs.Told.{told_legal}
+use Rattle.tp_model.proofs.Places.{task_row-past}
 
 -- the row of a task that was never submitted says nothing
 unsubmitted_row : (c : Config) (h : List Entry) → Legal c h → (t : ℕ) → is_submitted h t ≡ false → task_row h t ≡ no_row

@@ -26,10 +26,11 @@ use Rattle.tp_record.specs.Lists.{said_of, is_it, count_from}
 use Rattle.tp_record.specs.Effects.{holds, turned, is_plain, is_plain_fault, is_submit, reserves, sets_now, kinds_said}
 use Rattle.tp_record.specs.Fields.{submitted, place, kind, now, stage, is_slot, task_in, slot_row, woken, reach, slot_bound, live, largest, is_live, is_live_stage}
 use Rattle.tp_record.specs.Words.{slot_numbers, live_slots, largest_live, submitted_by, submissions, in_slot, is_in, is_busy, is_at_take, of_it, kind_submitted, or_else, kind_of, reserved_by, lets_go, slot_for, is_slot_now, opens, was_opened, is_live_now, names_slot, takes_nothing, wakes, ticked, moment, idle_since, faults_plain, is_dying}
-use Rattle.tp_words.specs.Agrees.{slot_of, idle_of, is_dying_stage, is_busy_row, is_working_stage, is_taking_row}
-use Rattle.tp_facts.proofs.Given.{HasRow, Given, Told}
-use Rattle.tp_facts.proofs.Keystone.{number_of, seat_of}
-use Rattle.tp_facts.proofs.Told.{sound_told}
+use Rattle.tp_model.specs.Seats.{slot_of}
+use Rattle.tp_words.specs.Agrees.{idle_of, is_dying_stage, is_busy_row, is_working_stage, is_taking_row}
+use Rattle.tp_model.proofs.Given.{HasRow, Given, Told}
+use Rattle.tp_model.proofs.Keystone.{number_of, seat_of}
+use Rattle.tp_model.proofs.Told.{sound_told}
 use Rattle.tp_words.proofs.WordsTasks.{in_slot_agrees}
 
 -- the kind that an entry submits

@@ -20,9 +20,10 @@ use Rattle.tp_record.specs.Lists.{said_of, is_it}
 use Rattle.tp_record.specs.Effects.{moved, cancels, is_submit}
 use Rattle.tp_record.specs.Fields.{swept, is_queued_place, place, is_cancelled, submitted}
 use Rattle.tp_record.specs.Words.{of_it, submitted_by, queued_by, seated_by, returned_by, begun_by, finished_by, cancelled_by, is_stop, is_purge, is_submitted, was_cancelled, takes_out, waits_in_queue, is_gone, in_slot, with_submitter, calls, ends_call, is_at_caller, takes_head, takes_held, begins_there, was_taken, was_begun_there, is_held_in, is_taken_in, is_running_in}
-use Rattle.tp_words.specs.Agrees.{slot_of, submitter_of, is_caller_place, is_gone_place, is_running_place, is_held_at, is_taken_at, is_running_at}
+use Rattle.tp_model.specs.Seats.{slot_of}
+use Rattle.tp_words.specs.Agrees.{submitter_of, is_caller_place, is_gone_place, is_running_place, is_held_at, is_taken_at, is_running_at}
 use Rattle.tp_words.proofs.WordsLists.{by_option}
-use Rattle.tp_facts.proofs.Given.{IsAt, Given, Told}
+use Rattle.tp_model.proofs.Given.{IsAt, Given, Told}
 
 -- what the words say of a task, together
 pub record TaskWords : Type 0 where

@@ -12,7 +12,8 @@ ghost use Rattle.tp_record.specs.Fields.{submitted, kind, is_cancelled, now, pla
 ghost use Rattle.tp_record.specs.State.{state, fate_of, is_fate, counts};
 ghost use Rattle.tp_record.specs.Step.{Legal, done_of};
 ghost use Rattle.tp_record.specs.Words.{submissions, is_submitted, kind_of, was_cancelled, moment, waits_in_queue, in_slot, is_held_in, is_taken_in, is_running_in, with_submitter, is_at_caller, is_gone, waiting_line, slot_for, is_slot_now, is_live_now, is_busy, idle_since, is_dying, is_at_take, live_slots, largest_live, has_fate, begun, is_begun, is_waiting, done_in_group, counters, owes_look, retry_count, body_outcome};
-ghost use Rattle.tp_words.specs.Agrees.{slot_of, submitter_of, is_caller_place, is_gone_place, is_running_place, is_waiting_place, is_held_at, is_taken_at, is_running_at, idle_of, is_dying_stage, is_busy_row, is_taking_row};
+ghost use Rattle.tp_model.specs.Seats.{slot_of};
+ghost use Rattle.tp_words.specs.Agrees.{submitter_of, is_caller_place, is_gone_place, is_running_place, is_waiting_place, is_held_at, is_taken_at, is_running_at, idle_of, is_dying_stage, is_busy_row, is_taking_row};
 
 /// The submissions are counted alike, and the submitted tasks are those with a smaller number. Kinds,
 /// cancels and the moment are read alike.

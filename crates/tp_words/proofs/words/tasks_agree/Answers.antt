@@ -1,6 +1,6 @@
 use Rattle.tp_words.proofs.WordsTasks as tasks
 use Rattle.tp_words.proofs.WordsSlots as slots
-use Rattle.tp_facts.proofs.Told.{told_legal}
+use Rattle.tp_model.proofs.Told.{told_legal}
 use Rattle.tp_words.proofs.words.tasks_agree.Goals as goal
 
 pub returns-clause-submissions : goal.returns-clause-submissions

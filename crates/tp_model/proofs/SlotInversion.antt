@@ -19,9 +19,10 @@ use Rattle.tp_record.specs.Fields.{rank, submitted, place, is_cancelled, queue, 
 use Rattle.tp_record.specs.State.{state, row_at}
 use Rattle.tp_record.specs.Step.{Answer, slot_count, wants_worker, is_reserved, open_answer, fail_answer, timed_out, take_next, next_of_queue, held_answer, take_answer, begin_task, begin_answer, end_task, end_answer, leave_answer}
 use Rattle.tp_model.proofs.Readings.{row_read}
-use Rattle.tp_facts.proofs.Keystone.{IsSound, slot_of, seat_of, fits_row, suits, suits_row}
-use Rattle.tp_facts.proofs.Given.{HasRow, IsAt, Waits, ReservedWith}
-use Rattle.tp_facts.proofs.Inversion.{Says, says_if, present, head_at, empty_queue}
+use Rattle.tp_model.specs.Seats.{slot_of}
+use Rattle.tp_model.proofs.Keystone.{IsSound, seat_of, fits_row, suits, suits_row}
+use Rattle.tp_model.proofs.Given.{HasRow, IsAt, Waits, ReservedWith}
+use Rattle.tp_model.proofs.Inversion.{Says, says_if, present, head_at, empty_queue}
 
 -- a task that a slot has was submitted, and is placed in it
 pub seated_at : (h : List Entry) → IsSound h → (w : ℕ) (s : Stage) (t : TaskId) → HasRow h w s (Some t) → (t.0 < submitted h) × (slot_of (place h t.0) ≡ Some w) × (fits_row (place h t.0) (slot_row h w) ≡ true)

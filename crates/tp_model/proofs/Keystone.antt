@@ -29,14 +29,8 @@ use Rattle.tp_record.specs.Lists.{said_of}
 use Rattle.tp_record.specs.Effects.{Outcome, holds, turned, seated, is_plain_fault, is_submit}
 use Rattle.tp_record.specs.Fields.{slot_row, woken, now, kind, is_slot, stage, task_in, submitted, task_row}
 use Rattle.tp_record.specs.State.{row_after, no_row}
-use Rattle.tp_facts.proofs.Given.{Given}
-
--- the slot of a task in this place
-abbrev pub slot_of : Place → Option ℕ
-slot_of (at.Held w) = Some w.0
-slot_of (at.Taken w) = Some w.0
-slot_of (at.Running w) = Some w.0
-slot_of _ = None
+use Rattle.tp_model.specs.Seats.{slot_of}
+use Rattle.tp_model.proofs.Given.{Given}
 
 abbrev pub number_of : Option TaskId → Option ℕ
 number_of None = None

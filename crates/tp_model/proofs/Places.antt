@@ -13,12 +13,13 @@ use Rattle.tp_record.specs.declared.rows.SlotRow.{SlotRow}
 use Rattle.tp_record.specs.Fields.{submitted, place, is_cancelled, owes_second, queue, slot_row, task_row, idling, is_queued_place, is_idle_row}
 use Rattle.tp_record.specs.State.{no_row}
 use Rattle.tp_record.specs.Step.{Legal}
-use Rattle.tp_facts.proofs.Given.{HasRow, IsAt, ReservedWith}
-use Rattle.tp_facts.proofs.Keystone.{slot_of, seat_of, fits_stage, fits_row, suits}
-use Rattle.tp_facts.proofs.Inversion.{present, queued_place, row_idles, head_at}
-use Rattle.tp_facts.proofs.SlotInversion.{seated_at, reserved_at, task_suits}
-use Rattle.tp_facts.proofs.Told.{sound_legal}
-use Rattle.tp_facts.proofs.Queues.{among-queue, among-idling, Contains-from_among, among_from_Contains}
+use Rattle.tp_model.proofs.Given.{HasRow, IsAt, ReservedWith}
+use Rattle.tp_model.specs.Seats.{slot_of}
+use Rattle.tp_model.proofs.Keystone.{seat_of, fits_stage, fits_row, suits}
+use Rattle.tp_model.proofs.Inversion.{present, queued_place, row_idles, head_at}
+use Rattle.tp_model.proofs.SlotInversion.{seated_at, reserved_at, task_suits}
+use Rattle.tp_model.proofs.Told.{sound_legal}
+use Rattle.tp_model.proofs.Queues.{among-queue, among-idling, Contains-from_among, among_from_Contains}
 
 -- a task in this place is in slot w
 abbrev pub IsIn : Place → SlotId → Type 0

@@ -19,10 +19,10 @@ use Rattle.tp_record.specs.State.{state, row_at, fate_of}
 use Rattle.tp_record.specs.Step.{Gives, Legal, fitting, slot_count, is_free_for, look_answer, offer_answer, second_answer, grow_answer, verdict_answer, caller_end_answer, cancel_answer, open_answer, fail_answer, take_answer, begin_answer, end_answer, leave_answer, tidy_answer, first_done, done_of, prestart_answer, wants_worker}
 use Rattle.tp_model.proofs.Weak.{within}
 use Rattle.tp_model.proofs.Readings.{row_read, slot_read}
-use Rattle.tp_facts.proofs.Given.{Given, Told}
-use Rattle.tp_facts.proofs.Keystone.{IsSound, sound_nil, sound_more}
-use Rattle.tp_facts.proofs.Inversion.{Says, says_if, free_row, of_task_says, of_slot_says, present, queued_place, empty_queue, submit_says, look_at_says, offer_says, second_says, grow_says, verdict_says, caller_end_says}
-use Rattle.tp_facts.proofs.SlotInversion.{open_says, fail_says, take_says, begin_says, end_says, leave_says}
+use Rattle.tp_model.proofs.Given.{Given, Told}
+use Rattle.tp_model.proofs.Keystone.{IsSound, sound_nil, sound_more}
+use Rattle.tp_model.proofs.Inversion.{Says, says_if, free_row, of_task_says, of_slot_says, present, queued_place, empty_queue, submit_says, look_at_says, offer_says, second_says, grow_says, verdict_says, caller_end_says}
+use Rattle.tp_model.proofs.SlotInversion.{open_says, fail_says, take_says, begin_says, end_says, leave_says}
 
 tidy_says : (c : Config) (h : List Entry) → Says c h (tidy_answer (state c h))
 tidy_says c h = says_if c h (slot_count (state c h) == 0 && (rank h == 2 || (rank h == 1 && length (queue h) == 0))) _ _

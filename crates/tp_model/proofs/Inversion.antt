@@ -30,8 +30,8 @@ use Rattle.tp_record.specs.Fields.{rank, submitted, kind, place, is_cancelled, o
 use Rattle.tp_record.specs.State.{state, slot_at}
 use Rattle.tp_record.specs.Step.{Answer, of_task, of_slot, of_row, slot_count, wants_worker, leaves_room, look, submit_answer, look_answer, hand_answer, offer_to, offer_answer, second_answer, grow_answer, verdict_answer, rule, retry_of, is_refused_place, allows, caller_end_answer}
 use Rattle.tp_model.proofs.Readings.{tasks_counted, row_read, slot_read}
-use Rattle.tp_facts.proofs.Keystone.{IsSound, suits, suits_row}
-use Rattle.tp_facts.proofs.Given.{Given, GivenLook, GivenRuled, HasQueueRoom, HasRow, IsAt}
+use Rattle.tp_model.proofs.Keystone.{IsSound, suits, suits_row}
+use Rattle.tp_model.proofs.Given.{Given, GivenLook, GivenRuled, HasQueueRoom, HasRow, IsAt}
 
 -- the number that an entry reserves is no slot, or is freed by it
 abbrev pub IsFresh : List Entry → Did → Type 0

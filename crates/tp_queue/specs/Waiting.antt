@@ -1,0 +1,33 @@
+-- What a contract sees of a work queue.
+use Rattle.std.specs.Prelude.{ℕ, ◌≡◌, List, []}
+use Rattle.tp_types.specs.declared.configs.QueueKind.{QueueKind}
+use Rattle.tp_types.specs.declared.configs.QueueKind.TheVariants.{Handoff, Unbounded, Bounded}
+use Rattle.tp_types.specs.declared.ids.TaskId.{TaskId}
+use Rattle.tp_line.specs.Line.{Line}
+
+-- the kind; the tasks that wait, in order, each with its place number; how many may wait; how many offers were accepted so far
+pub record Waiting : Type 0 where
+  pub kind : QueueKind
+  pub items : List (TaskId × ℕ)
+  pub capacity : ℕ
+  pub offers : ℕ
+
+-- a queue of this kind whose tasks wait in this line
+abbrev pub waiting_in : QueueKind → Line TaskId → Waiting
+waiting_in k l = record { kind = k; items = l.items; capacity = l.capacity; offers = l.offers }
+
+-- how many places a queue of this kind has at first
+abbrev pub first_places : QueueKind → ℕ
+first_places Handoff = 0
+first_places Unbounded = 0
+first_places (Bounded n) = n
+
+-- an empty queue of this kind, without an accepted offer so far
+abbrev pub first_waiting : QueueKind → Waiting
+first_waiting k = record { kind = k; items = []; capacity = first_places k; offers = 0 }
+
+-- a queue of this kind may have so many places: an unbounded one has what was reserved
+abbrev pub HasPlaces : QueueKind → ℕ → Type 0
+HasPlaces Handoff n = n ≡ 0
+HasPlaces Unbounded n = Unit {0}
+HasPlaces (Bounded m) n = n ≡ m

@@ -1,0 +1,80 @@
+//! The queue with a fixed number of places.
+
+ghost use Rattle.std.specs.Prelude.{◌≡◌, IfOk};
+ghost use Rattle.tp_types.specs.declared.configs.QueueKind.TheVariants.{Bounded as Places};
+ghost use Rattle.tp_queue.specs.Waiting.{first_waiting};
+
+use crate::work::WorkQueue;
+use std::alloc::{AllocError, Global};
+use std::marker::Model;
+use tp_line::lines::Line;
+use tp_types::ids::TaskId;
+
+/// A work queue of a fixed capacity, in tasks, as an `ArrayBlockingQueue`. All its memory is taken
+/// where it is made.
+#[derive(Drop)]
+pub struct Bounded {
+    line: Line<TaskId>,
+}
+
+impl Model for Bounded {
+    ghost use Rattle.tp_types.specs.declared.configs.QueueKind.TheVariants.{Bounded as Places};
+    ghost use Rattle.tp_queue.specs.Waiting.{Waiting, waiting_in};
+
+    ghost Value = { Waiting };
+
+    ghost view = { λ q. waiting_in (Places q.line.capacity) q.line };
+}
+
+impl Bounded {
+    /// An empty queue of this capacity. `AllocError` is refusal 4.
+    pub fn new(alloc: Global, capacity: u32) -> Result<Bounded, AllocError>
+        ensures { IfOk result (λ q. q ≡ first_waiting (Places capacity)) }
+    {
+        Ok(Bounded {
+            line: Line::with_capacity(alloc, capacity as usize)?,
+        })
+    }
+}
+
+impl WorkQueue for Bounded {
+    ghost waiting = { λ q. q };
+
+    fn is_lawful(&self) {
+        self.line.rises();
+        self.line.len();
+    }
+
+    fn len(&self) -> usize {
+        self.line.len()
+    }
+
+    fn is_full(&self) -> bool {
+        self.line.is_full()
+    }
+
+    fn reserve(&mut self, _places: usize) -> Result<(), AllocError> {
+        let _ = &self.line;
+        Ok(())
+    }
+
+    fn offer(&mut self, task: TaskId) -> Result<u64, TaskId> {
+        self.line.offer(task)
+    }
+
+    fn head(&self) -> Option<TaskId> {
+        self.line.head()
+    }
+
+    fn take_head(&mut self) -> Option<TaskId> {
+        self.line.take_head()
+    }
+
+    fn remove(&mut self, place: u64) {
+        self.line.remove(place);
+    }
+
+    fn first_from(&self, place: u64) -> Option<(TaskId, u64)> {
+        self.line.first_from(place)
+    }
+}

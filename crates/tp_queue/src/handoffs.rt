@@ -1,0 +1,49 @@
+//! The queue without places.
+
+ghost use Rattle.tp_types.specs.declared.configs.QueueKind.TheVariants.{Handoff as NoPlaces};
+ghost use Rattle.tp_queue.specs.Waiting.{first_waiting};
+
+use crate::work::WorkQueue;
+use std::alloc::AllocError;
+use tp_types::ids::TaskId;
+
+/// A work queue in which no task ever waits, as a `SynchronousQueue`: a task goes straight to an idle
+/// worker, and an offer to the queue gives it back.
+#[derive(Clone, Copy)]
+pub struct HandoffQueue;
+
+impl WorkQueue for HandoffQueue {
+    ghost waiting = { λ _. first_waiting NoPlaces };
+
+    fn is_lawful(&self) {}
+
+    fn len(&self) -> usize {
+        0
+    }
+
+    fn is_full(&self) -> bool {
+        true
+    }
+
+    fn reserve(&mut self, _places: usize) -> Result<(), AllocError> {
+        Ok(())
+    }
+
+    fn offer(&mut self, task: TaskId) -> Result<u64, TaskId> {
+        Err(task)
+    }
+
+    fn head(&self) -> Option<TaskId> {
+        None
+    }
+
+    fn take_head(&mut self) -> Option<TaskId> {
+        None
+    }
+
+    fn remove(&mut self, _place: u64) {}
+
+    fn first_from(&self, _place: u64) -> Option<(TaskId, u64)> {
+        None
+    }
+}

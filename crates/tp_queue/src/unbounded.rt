@@ -1,0 +1,79 @@
+//! The queue that has room always.
+
+ghost use Rattle.std.specs.Prelude.{◌≡◌, IfOk};
+ghost use Rattle.tp_types.specs.declared.configs.QueueKind.TheVariants.{Unbounded as AnyNumber};
+ghost use Rattle.tp_queue.specs.Waiting.{first_waiting};
+
+use crate::work::WorkQueue;
+use std::alloc::{AllocError, Global};
+use std::marker::Model;
+use tp_line::lines::Line;
+use tp_types::ids::TaskId;
+
+/// A work queue without a limit, as a `LinkedBlockingQueue`. It has room for what was reserved: who
+/// will offer a task asks for its place before, so that the offer takes no memory.
+#[derive(Drop)]
+pub struct Unbounded {
+    line: Line<TaskId>,
+}
+
+impl Model for Unbounded {
+    ghost use Rattle.tp_types.specs.declared.configs.QueueKind.TheVariants.{Unbounded as AnyNumber};
+    ghost use Rattle.tp_queue.specs.Waiting.{Waiting, waiting_in};
+
+    ghost Value = { Waiting };
+
+    ghost view = { λ q. waiting_in AnyNumber q.line };
+}
+
+impl Unbounded {
+    /// An empty queue without places. `AllocError` is refusal 4.
+    pub fn new(alloc: Global) -> Result<Unbounded, AllocError>
+        ensures { IfOk result (λ q. q ≡ first_waiting AnyNumber) }
+    {
+        Ok(Unbounded {
+            line: Line::with_capacity(alloc, 0)?,
+        })
+    }
+}
+
+impl WorkQueue for Unbounded {
+    ghost waiting = { λ q. q };
+
+    fn is_lawful(&self) {
+        self.line.rises();
+        self.line.len();
+    }
+
+    fn len(&self) -> usize {
+        self.line.len()
+    }
+
+    fn is_full(&self) -> bool {
+        self.line.is_full()
+    }
+
+    fn reserve(&mut self, places: usize) -> Result<(), AllocError> {
+        self.line.reserve(places)
+    }
+
+    fn offer(&mut self, task: TaskId) -> Result<u64, TaskId> {
+        self.line.offer(task)
+    }
+
+    fn head(&self) -> Option<TaskId> {
+        self.line.head()
+    }
+
+    fn take_head(&mut self) -> Option<TaskId> {
+        self.line.take_head()
+    }
+
+    fn remove(&mut self, place: u64) {
+        self.line.remove(place);
+    }
+
+    fn first_from(&self, place: u64) -> Option<(TaskId, u64)> {
+        self.line.first_from(place)
+    }
+}
