@@ -86,7 +86,7 @@ impl<T: Copy> Line<T> {
     pub fn is_full(&self) -> bool
         ensures { IsTrue result ↔ (self.now.capacity ≤ length self.now.items) }
     {
-        self.live >= self.capacity()
+        self.capacity() <= self.live
     }
 
     /// Raises the capacity to this one, or further, where it is less: at least to twice what it is, so
@@ -173,3 +173,6 @@ impl<T: Copy> Line<T> {
         first_live(&self.ring, lower_bound(&self.ring, number))
     }
 }
+
+#[cfg(test)]
+mod tests;
