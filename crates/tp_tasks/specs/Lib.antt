@@ -1,0 +1,5 @@
+pub mod Counters
+pub mod Groups
+pub mod Kept
+pub mod Table
+pub mod Tasks

@@ -1,0 +1,284 @@
+//! The tasks of a pool, by number.
+
+ghost use Rattle.std.specs.Prelude.{ℕ, ◌≡◌, ◌↔◌, ◌+◌, ◌-◌, ◌<◌, ◌^◌, ◌&&◌, ◌++◌, ◌∷◌, [], true, false, not, drop, length, slice_get, option_map, nat_eq, IsTrue, IsSome, IsOkUnless, OnOk, Some, None, if◌then◌else◌};
+ghost use Rattle.tp_types.specs.declared.tasks.Fate.{Fate};
+ghost use Rattle.tp_record.specs.declared.rows.TaskRow.{TaskRow};
+ghost use Rattle.tp_record.specs.State.{fate_of, is_fate, no_row};
+ghost use Rattle.tp_record.specs.Step.{is_of_group};
+ghost use Rattle.tp_tasks.specs.Kept.{AreSubmitted, AreCounted, AreGrouped};
+
+use crate::fates::Fates;
+use crate::group::Group;
+use crate::table::Task;
+use crate::{groups, table};
+use indexmap::IndexMap;
+use std::alloc::Global;
+use tp_record::rows::TaskRow;
+use tp_types::ids::TaskId;
+use tp_types::refusals::PoolError;
+use tp_types::tasks::{Fate, Kind, Outcome, Place, Promise};
+
+/// The tasks of a pool: of each its row, its promise, its payload and its place number; of each group the completed tasks
+/// that are not handed out; of each fate how many tasks came to it. Only `reserve` takes memory.
+#[derive(Drop)]
+pub struct Tasks<P> {
+    alloc: Global,
+    tasks: IndexMap<u32, Task<P>>,
+    groups: IndexMap<u32, Group>,
+    fates: Fates,
+    submitted: u32,
+    ghost small: { submitted < 2 ^ 32 },
+    ghost below: { AreSubmitted submitted tasks },
+    ghost counted: { AreCounted fates tasks submitted },
+    ghost grouped: { AreGrouped groups tasks },
+}
+
+impl<P> Tasks<P> {
+    ghost use Rattle.tp_tasks.specs.Tasks.{task_of, row_of, promise_of, number_of, payload_of, done_of, fated_of, submissions, IsReady, IsOpenIn, KeepsOthers, KeepsDone, KeepsFates, SetsRow, IsUnchanged};
+
+    /// No tasks. It takes no memory.
+    pub fn new(alloc: Global) -> Tasks<P>
+        ensures tasks { (t : ℕ) → task_of result t ≡ None }
+        ensures done { (g : ℕ) → done_of result g ≡ [] }
+        ensures fates { (f : Fate) → fated_of result f ≡ 0 }
+        ensures submitted { submissions result ≡ 0 }
+    {
+        Tasks {
+            alloc,
+            tasks: IndexMap::new(alloc),
+            groups: IndexMap::new(alloc),
+            fates: Fates::none(),
+            submitted: 0,
+        }
+    }
+
+    /// Makes memory for one more task of this kind: its own place, and one among the completed tasks of its group. Want of
+    /// memory is NoMemory (4).
+    pub fn reserve(&mut self, kind: Kind) -> Result<(), PoolError>
+        ensures ready { OnOk result (IsReady self.new kind) }
+        ensures unchanged { IsUnchanged self.old self.new }
+        ensures refused { IsOkUnless result PoolError.NoMemory }
+    {
+        if let Kind::Group(g) = kind {
+            if groups::make_place(self.alloc, &mut self.groups, g).is_err() {
+                return Err(PoolError::NoMemory);
+            }
+        }
+        if table::make_place(&mut self.tasks).is_err() {
+            return Err(PoolError::NoMemory);
+        }
+        Ok(())
+    }
+
+    /// How many tasks were submitted: the number of the next one.
+    pub fn submitted(&self) -> u32
+        ensures { result ≡ submissions self.now }
+    {
+        self.submitted
+    }
+
+    /// Puts a new task of this kind, in this place, with what its job promises and its payload, and gives its number. There
+    /// is memory for it.
+    pub fn put(&mut self, kind: Kind, place: Place, promise: Promise, payload: P) -> TaskId
+    where
+        P: Drop,
+        requires ready { IsReady self.old kind }
+        requires few { submissions self.old < 2 ^ 32 - 1 }
+        ensures number { result.0 ≡ submissions self.old }
+        ensures submitted { submissions self.new ≡ submissions self.old + 1 }
+        ensures row { row_of self.new result.0 ≡ Some (record no_row { kind = kind; place = place }) }
+        ensures promise { promise_of self.new result.0 ≡ Some promise }
+        ensures unqueued { number_of self.new result.0 ≡ None }
+        ensures payload { payload_of self.new result.0 ≡ Some payload }
+        ensures others { KeepsOthers self.old self.new result.0 }
+        ensures done { KeepsDone self.old self.new }
+        ensures fates { KeepsFates self.old self.new }
+    {
+        let t = self.submitted;
+        let task = Task {
+            row: TaskRow::new(kind, place),
+            promise,
+            number: None,
+            payload: Some(payload),
+        };
+        table::put(&mut self.tasks, t, task);
+        groups::enter(&mut self.groups, kind);
+        self.submitted += 1;
+        TaskId(t)
+    }
+
+    /// The row of a task, None where it is not kept.
+    pub fn row(&self, t: TaskId) -> Option<TaskRow>
+        ensures { result ≡ row_of self.now t.0 }
+    {
+        table::row(&self.tasks, t.0)
+    }
+
+    /// What a task's job promises, None where the task is not kept.
+    pub fn promise(&self, t: TaskId) -> Option<Promise>
+        ensures { result ≡ promise_of self.now t.0 }
+    {
+        table::promise(&self.tasks, t.0)
+    }
+
+    /// The number of a task's last place in the work queue, None where it was never queued or is not kept.
+    pub fn place_number(&self, t: TaskId) -> Option<u64>
+        ensures { result ≡ number_of self.now t.0 }
+    {
+        table::number(&self.tasks, t.0)
+    }
+
+    /// Notes the number of the place in the work queue that the task came to.
+    pub fn set_place_number(&mut self, t: TaskId, number: u64)
+        requires { IsSome (row_of self.old t.0) }
+        ensures row { row_of self.new t.0 ≡ row_of self.old t.0 }
+        ensures promise { promise_of self.new t.0 ≡ promise_of self.old t.0 }
+        ensures number { number_of self.new t.0 ≡ Some number }
+        ensures payload { payload_of self.new t.0 ≡ payload_of self.old t.0 }
+        ensures others { KeepsOthers self.old self.new t.0 }
+        ensures done { KeepsDone self.old self.new }
+        ensures fates { KeepsFates self.old self.new }
+        ensures submitted { submissions self.new ≡ submissions self.old }
+    {
+        table::set_number(&mut self.tasks, t.0, number);
+    }
+
+    /// Takes a task's payload out, None where it was taken before or the task is not kept.
+    pub fn take_payload(&mut self, t: TaskId) -> Option<P>
+        ensures out { result ≡ payload_of self.old t.0 }
+        ensures gone { payload_of self.new t.0 ≡ None }
+        ensures row { row_of self.new t.0 ≡ row_of self.old t.0 }
+        ensures promise { promise_of self.new t.0 ≡ promise_of self.old t.0 }
+        ensures number { number_of self.new t.0 ≡ number_of self.old t.0 }
+        ensures others { KeepsOthers self.old self.new t.0 }
+        ensures done { KeepsDone self.old self.new }
+        ensures fates { KeepsFates self.old self.new }
+        ensures submitted { submissions self.new ≡ submissions self.old }
+    {
+        table::take_payload(&mut self.tasks, t.0)
+    }
+
+    /// Changes a task's row without a change of its kind or its fate, as where the task moves.
+    pub fn set_row(&mut self, t: TaskId, from: TaskRow, to: TaskRow)
+        requires now { row_of self.old t.0 ≡ Some from }
+        requires kind { to.kind ≡ from.kind }
+        requires fate { fate_of to ≡ fate_of from }
+        ensures set { SetsRow self.old self.new t.0 to }
+        ensures done { KeepsDone self.old self.new }
+        ensures fates { KeepsFates self.old self.new }
+    {
+        table::set_row(&mut self.tasks, t.0, to);
+    }
+
+    /// Gives an open task its fate, with the row that it has then; `completed` says that this completes it, where it is of a
+    /// group.
+    fn end(&mut self, t: TaskId, from: TaskRow, to: TaskRow, fate: Fate, completed: bool)
+        requires now { row_of self.old t.0 ≡ Some from }
+        requires kind { to.kind ≡ from.kind }
+        requires was_open { fate_of from ≡ None }
+        requires fate { fate_of to ≡ Some fate }
+        ensures set { SetsRow self.old self.new t.0 to }
+        ensures done { (g : ℕ) → done_of self.new g ≡ done_of self.old g ++ (if is_of_group g from.kind && completed then t.0 ∷ [] else []) }
+        ensures fates { (f : Fate) → fated_of self.new f ≡ fated_of self.old f + (if is_fate f (Some fate) then 1 else 0) }
+    {
+        groups::close(
+            &mut self.groups,
+            from.kind,
+            if completed { Some(t.0) } else { None },
+        );
+        self.fates.raise(fate);
+        table::set_row(&mut self.tasks, t.0, to);
+    }
+
+    /// The task is gone without having run, with this fate, unless it was cancelled.
+    pub fn finish(&mut self, t: TaskId, row: TaskRow, fate: Fate)
+        requires now { row_of self.old t.0 ≡ Some row }
+        requires unended { row.ending ≡ None }
+        ensures set { SetsRow self.old self.new t.0 (record row { place = Place.Gone; ending = Some fate }) }
+        ensures done { KeepsDone self.old self.new }
+        ensures fates { (f : Fate) → fated_of self.new f ≡ fated_of self.old f + (if not row.cancelled && is_fate f (Some fate) then 1 else 0) }
+    {
+        let to = TaskRow {
+            place: Place::Gone,
+            ending: Some(fate),
+            ..row
+        };
+        if row.cancelled {
+            self.set_row(t, row, to);
+        } else {
+            self.end(t, row, to, fate, false);
+        }
+    }
+
+    /// The task has run to its end, with this fate and outcome: it is gone, and completed where it is of a group, unless it
+    /// was cancelled.
+    pub fn complete(&mut self, t: TaskId, row: TaskRow, fate: Fate, outcome: Outcome)
+        requires now { row_of self.old t.0 ≡ Some row }
+        requires unended { row.ending ≡ None }
+        ensures set { SetsRow self.old self.new t.0 (record row { place = Place.Gone; ending = Some fate; outcome = Some outcome }) }
+        ensures done { (g : ℕ) → done_of self.new g ≡ done_of self.old g ++ (if is_of_group g row.kind && not row.cancelled then t.0 ∷ [] else []) }
+        ensures fates { (f : Fate) → fated_of self.new f ≡ fated_of self.old f + (if not row.cancelled && is_fate f (Some fate) then 1 else 0) }
+    {
+        let to = TaskRow {
+            place: Place::Gone,
+            ending: Some(fate),
+            outcome: Some(outcome),
+            ..row
+        };
+        if row.cancelled {
+            self.set_row(t, row, to);
+        } else {
+            self.end(t, row, to, fate, true);
+        }
+    }
+
+    /// Cancels an open task, which completes it where it is of a group. It stays where it is.
+    pub fn cancel(&mut self, t: TaskId, row: TaskRow)
+        requires now { row_of self.old t.0 ≡ Some row }
+        requires was_open { fate_of row ≡ None }
+        ensures set { SetsRow self.old self.new t.0 (record row { cancelled = true }) }
+        ensures done { (g : ℕ) → done_of self.new g ≡ done_of self.old g ++ (if is_of_group g row.kind then t.0 ∷ [] else []) }
+        ensures fates { (f : Fate) → fated_of self.new f ≡ fated_of self.old f + (if is_fate f (Some Fate.Cancelled) then 1 else 0) }
+    {
+        let to = TaskRow {
+            cancelled: true,
+            ..row
+        };
+        self.end(t, row, to, Fate::Cancelled, true);
+    }
+
+    /// How many tasks came to this fate.
+    pub fn fated(&self, fate: Fate) -> u32
+        ensures { result ≡ fated_of self.now fate }
+    {
+        self.fates.count(fate)
+    }
+
+    /// Hands out the task of the group that was completed first, None where none is left, as
+    /// `ExecutorCompletionService.poll`.
+    pub fn take_done(&mut self, g: u32) -> Option<TaskId>
+        ensures first { option_map (λ t. t.0) result ≡ slice_get (done_of self.old g) 0 }
+        ensures done { done_of self.new g ≡ drop 1 (done_of self.old g) }
+        ensures other_groups { (h : ℕ) → nat_eq g h ≡ false → done_of self.new h ≡ done_of self.old h }
+        ensures tasks { (t : ℕ) → task_of self.new t ≡ task_of self.old t }
+        ensures fates { KeepsFates self.old self.new }
+        ensures submitted { submissions self.new ≡ submissions self.old }
+    {
+        groups::take_done(&mut self.groups, g).map(TaskId)
+    }
+
+    /// Whether a completed task of the group is not handed out.
+    pub fn has_done(&self, g: u32) -> bool
+        ensures { IsTrue result ↔ (0 < length (done_of self.now g)) }
+    {
+        groups::has_done(&self.groups, g)
+    }
+
+    /// Whether a task of the group has no fate yet.
+    pub fn is_open(&self, g: u32) -> bool
+        ensures { IsTrue result ↔ ((t : ℕ) × (r : TaskRow) × IsOpenIn self.now g t r) }
+    {
+        table::are_distinct(&self.tasks);
+        groups::is_pending(&self.groups, g)
+    }
+}
