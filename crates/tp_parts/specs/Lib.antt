@@ -1,0 +1,4 @@
+pub mod View
+pub mod Shows
+pub mod Tied
+pub mod Steps
