@@ -11,3 +11,5 @@ pub mod Queues
 pub mod Places
 pub mod Seats
 pub mod Functions
+pub mod Totals
+pub mod Weights

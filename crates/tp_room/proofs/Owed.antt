@@ -30,8 +30,8 @@ use Rattle.tp_room.specs.Room.{lowers}
 use Rattle.tp_model.proofs.Given.{Given}
 use Rattle.tp_model.specs.Seats.{slot_of}
 use Rattle.tp_model.proofs.Keystone.{IsSound, suits, suits_row, fits_row, sound_more}
-use Rattle.tp_room.proofs.Totals.{total, total-le, total-one, total-two}
-use Rattle.tp_room.proofs.Weights.{held_core, weight_of, is_core, task_due, slot_due, due_totals}
+use Rattle.tp_model.proofs.Totals.{at_named, total, total-le, total-one, total-two}
+use Rattle.tp_model.proofs.Weights.{held_core, weight_of, is_core, task_due, slot_due, due_totals}
 
 -- Tasks
 
@@ -180,11 +180,6 @@ other_slot e h sound low w other another =
     by_slot false suited = omega arith
 
 -- What is owed
-
--- what f gives at the named number, nothing where there is none
-abbrev pub at_named : (ℕ → ℕ) → Option ℕ → ℕ
-at_named f None = 0
-at_named f (Some x) = f x
 
 -- a sum rises by no more than its function does where it may rise
 total_named : (f g : ℕ → ℕ) (o : Option ℕ) (n : ℕ) → reach o ≤ n → ((i : ℕ) → is_it o i ≡ false → g i ≤ f i) → total g n + at_named f o ≤ total f n + at_named g o

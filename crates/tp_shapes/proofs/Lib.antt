@@ -1,0 +1,13 @@
+pub mod View
+pub mod Rows
+pub mod Names
+pub mod Next
+pub mod Sums
+pub mod Lists
+pub mod Invariants
+pub mod Done
+pub mod Shapes
+pub mod Facts
+pub mod Submitters
+pub mod Workers
+pub mod Controllers
