@@ -1,4 +1,3 @@
-pub mod View
 pub mod Shows
 pub mod Tied
 pub mod Steps
