@@ -1,15 +1,14 @@
 -- How a step leads from structures that show a state to structures that show the next: what is seen of the next state, and what the changes of the
 -- structures keep in view, are the same.
-use Rattle.std.proofs.Common.{◌≡◌, ℕ, suc, ◌+◌, ◌<◌, ◌≤◌, cond, List, Some, None, refl, arith, sym, ap, ◌∙◌}
-use Rattle.std.specs.Prelude.{count_by, is_some}
+use Rattle.std.proofs.Common.{◌≡◌, ℕ, suc, ◌+◌, cond, List, Some, refl, arith, sym, ap, ◌∙◌}
+use Rattle.std.specs.Prelude.{is_some}
 use Rattle.tp_record.specs.declared.entries.Entry.{Entry}
 use Rattle.tp_record.specs.declared.entries.Ask.{Ask}
 use Rattle.tp_record.specs.declared.entries.Did.{Did}
 use Rattle.tp_record.specs.Fields.{is_live}
-use Rattle.tp_record.specs.State.{State, state, next, due, slot_at}
+use Rattle.tp_record.specs.State.{State, state, next}
 use Rattle.tp_record.specs.Step.{Legal}
 use Rattle.tp_model.proofs.Given.{Given}
-use Rattle.tp_tasks.specs.Tasks.{row_of}
 use Rattle.tp_parts.specs.declared.parts.Parts.{Parts}
 use Rattle.tp_shapes.proofs.View.{View, view, Reads, Effect}
 use Rattle.tp_parts.specs.Shows.{Views, Shows}

@@ -1,5 +1,5 @@
 -- The head of the queue, by the numbers of the tasks that wait.
-use Rattle.std.proofs.Common.{◌≡◌, ℕ, List, [], ◌∷◌, drop, Option, Some, None, refl, ap}
+use Rattle.std.proofs.Common.{◌≡◌, ℕ, List, [], ◌∷◌, drop, Some, None, refl, ap}
 use Rattle.std.specs.Prelude.{option_map, slice_get}
 use Rattle.tp_types.specs.declared.ids.TaskId.{TaskId}
 use Rattle.tp_parts.specs.Shows.{numbers}

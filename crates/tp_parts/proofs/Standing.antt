@@ -1,6 +1,6 @@
 -- What is known where structures stand.
-use Rattle.std.proofs.Common.{◌≡◌, ℕ, suc, ◌+◌, ◌-◌, ◌^◌, ◌<◌, ◌≤◌, Bool, true, List, length, Option, Some, Ok, Err, cond, refl, arith, sym, ap, ◌∙◌}
-use Rattle.std.specs.Prelude.{unwrap_or, IfSome}
+use Rattle.std.proofs.Common.{◌≡◌, ℕ, ◌+◌, ◌-◌, ◌^◌, ◌<◌, ◌≤◌, Bool, true, List, Option, Some, Ok, Err, cond, arith, sym, ap, ◌∙◌}
+use Rattle.std.specs.Prelude.{unwrap_or}
 use Rattle.std.proofs.lemmas.Bool.{le-leb}
 use Rattle.tp_types.specs.Config.{IsConfig}
 use Rattle.tp_types.specs.declared.configs.Config.{Config}
@@ -13,8 +13,8 @@ use Rattle.tp_record.specs.declared.entries.Did.{Did}
 use Rattle.tp_record.specs.declared.rows.Stage.{Stage}
 use Rattle.tp_record.specs.Effects.{reserves}
 use Rattle.tp_record.specs.Fields.{rank, submitted, is_cancelled}
-use Rattle.tp_record.specs.State.{State, state, next, due, slot_at, task_at}
-use Rattle.tp_record.specs.Step.{Gives, Legal, fitting, is_free_for, within_room, leaves_room}
+use Rattle.tp_record.specs.State.{state, slot_at, task_at}
+use Rattle.tp_record.specs.Step.{Gives, Legal, within_room, leaves_room}
 use Rattle.tp_model.proofs.Given.{Given, IsAt, HasRow}
 use Rattle.tp_model.proofs.Readings.{tasks_counted, row_read, slot_read}
 use Rattle.tp_model.proofs.Told.{given_answer, sound_legal}
@@ -23,7 +23,6 @@ use Rattle.tp_room.proofs.OwedLaws.{owed_falls, room_is_enough}
 use Rattle.tp_parts.specs.declared.parts.Parts.{Parts}
 use Rattle.tp_tasks.specs.Tasks.{row_of}
 use Rattle.tp_shapes.proofs.View.{View, Effect}
-use Rattle.tp_parts.specs.Shows.{Shows}
 use Rattle.tp_parts.specs.Steps.{Stands, Fits, Accepts, IsFitting}
 
 -- what is given where an answer fits

@@ -1,5 +1,5 @@
 -- What a step does to a pool's structures.
-use Rattle.std.specs.Prelude.{ℕ, suc, ◌≡◌, true, List, Ok, unwrap_or, IfSome}
+use Rattle.std.specs.Prelude.{suc, ◌≡◌, true, List, Ok, unwrap_or, IfSome}
 use Rattle.tp_types.specs.declared.configs.Config.{Config}
 use Rattle.tp_types.specs.declared.refusals.PoolError.{PoolError}
 use Rattle.tp_record.specs.declared.entries.Entry.{Entry}

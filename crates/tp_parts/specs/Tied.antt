@@ -1,5 +1,5 @@
 -- What ties a pool's structures to one another and to its settings.
-use Rattle.std.specs.Prelude.{ℕ, ◌≡◌, ◌≤◌, Bool, true, false, not, ◌&&◌, List, Option, Some, None, is_some, IfSome}
+use Rattle.std.specs.Prelude.{ℕ, ◌≡◌, ◌≤◌, Bool, true, false, not, ◌&&◌, Option, Some, None, is_some, IfSome}
 use Rattle.std.specs.List.{Contains}
 use Rattle.tp_types.specs.Config.{IsConfig}
 use Rattle.tp_types.specs.Promise.{FitsPromise}

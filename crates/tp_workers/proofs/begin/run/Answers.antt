@@ -1,4 +1,4 @@
-use Rattle.std.proofs.Common.{◌≡◌, suc, None, Some, true, false, arith, refl, sym, ap, ◌∙◌}
+use Rattle.std.proofs.Common.{suc, Some, false, arith, refl, sym, ap, ◌∙◌}
 use Rattle.std.specs.Prelude.{is_some, not, ◌&&◌}
 use Rattle.tp_types.specs.declared.tasks.Place.TheVariants as at
 use Rattle.tp_record.specs.declared.entries.Ask.TheVariants as ask

@@ -1,4 +1,4 @@
-use Rattle.std.proofs.Common.{◌≡◌, suc, None, Some, arith, refl, sym, ap, ◌∙◌}
+use Rattle.std.proofs.Common.{suc, Some, arith, refl, sym, ap, ◌∙◌}
 use Rattle.tp_types.specs.declared.tasks.Place.TheVariants as at
 use Rattle.tp_record.specs.declared.entries.Ask.TheVariants as ask
 use Rattle.tp_record.specs.declared.entries.Did.TheVariants as did

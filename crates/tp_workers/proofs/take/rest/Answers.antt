@@ -1,9 +1,9 @@
-use Rattle.std.proofs.Common.{◌≡◌, suc, arith, refl, sym, ap, ◌∙◌}
+use Rattle.std.proofs.Common.{suc, arith, ap, ◌∙◌}
 use Rattle.tp_record.specs.declared.entries.Ask.TheVariants as ask
 use Rattle.tp_record.specs.declared.entries.Did.TheVariants as did
 use Rattle.tp_record.specs.declared.entries.Took.TheVariants as took
 use Rattle.tp_record.specs.declared.rows.Stage.TheVariants as stages
-use Rattle.std.proofs.Common.{None, Some}
+use Rattle.std.proofs.Common.{None}
 use Rattle.tp_record.specs.State.{slot_at}
 use Rattle.tp_shapes.proofs.Workers.Take.{take_idle}
 use Rattle.tp_parts.proofs.Ties.{tied_more}

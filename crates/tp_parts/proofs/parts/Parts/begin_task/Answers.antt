@@ -1,4 +1,4 @@
-use Rattle.std.proofs.Common.{◌≡◌, true, Some, refl, sym, ap, ◌∙◌}
+use Rattle.std.proofs.Common.{refl, sym, ap, ◌∙◌}
 use Rattle.std.specs.Prelude.{is_some, ◌&&◌, not}
 use Rattle.tp_parts.proofs.Ties.{tied_paid}
 use Rattle.tp_parts.proofs.parts.Parts.begin_task.Goals as goal

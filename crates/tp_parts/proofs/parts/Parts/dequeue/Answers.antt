@@ -1,4 +1,4 @@
-use Rattle.std.proofs.Common.{◌≡◌, arith, refl, sym, ap, ◌∙◌, subst}
+use Rattle.std.proofs.Common.{arith, ap, ◌∙◌, subst}
 use Rattle.std.specs.List.{Contains}
 use Rattle.tp_parts.proofs.Ties.{contains_drop}
 use Rattle.tp_parts.proofs.parts.Parts.dequeue.Goals as goal

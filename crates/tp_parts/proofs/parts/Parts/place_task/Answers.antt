@@ -1,6 +1,5 @@
-use Rattle.std.proofs.Common.{◌≡◌, true, Some, arith, refl, sym, ap, ◌∙◌}
+use Rattle.std.proofs.Common.{◌≡◌, Some, refl, sym, ap, ◌∙◌}
 use Rattle.tp_record.specs.declared.rows.TaskRow.{TaskRow}
-use Rattle.tp_tasks.specs.Tasks.{row_of}
 use Rattle.tp_parts.proofs.Ties.{tied_row}
 use Rattle.tp_parts.specs.Tied.{is_waiting}
 use Rattle.tp_parts.proofs.parts.Parts.place_task.Goals as goal
