@@ -1,0 +1,70 @@
+-- How a step leads from structures that show a state to structures that show the next: what is seen of the next state, and what the changes of the
+-- structures keep in view, are the same.
+use Rattle.std.proofs.Common.{◌≡◌, ℕ, suc, ◌+◌, cond, List, Some, refl, arith, sym, ap, ◌∙◌}
+use Rattle.std.specs.Prelude.{is_some}
+use Rattle.tp_record.specs.declared.entries.Entry.{Entry}
+use Rattle.tp_record.specs.declared.entries.Ask.{Ask}
+use Rattle.tp_record.specs.declared.entries.Did.{Did}
+use Rattle.tp_record.specs.Fields.{is_live}
+use Rattle.tp_record.specs.State.{State, state, next}
+use Rattle.tp_record.specs.Step.{Legal}
+use Rattle.tp_model.proofs.Given.{Given}
+use Rattle.tp_parts.specs.declared.parts.Parts.{Parts}
+use Rattle.tp_shapes.proofs.View.{View, view, Reads, Effect}
+use Rattle.tp_parts.specs.Shows.{Views, Shows}
+use Rattle.tp_parts.specs.Tied.{IsTied}
+use Rattle.tp_parts.specs.Steps.{Fits, Leads}
+use Rattle.tp_parts.proofs.Standing.{given_fitting}
+use Rattle.tp_parts.proofs.Sums.{sums_agree}
+
+module _ {P : Type 0} where
+  -- what is read of a state is what is seen of it
+  pub views_read : (p : Parts P) (s : State) (v : View) → Reads s v → Views p v → Views p (view s)
+  views_read p s v reads views =
+      let n = reads.submitted in
+      record {
+        rank = reads.rank ∙ views.rank;
+        core_size = reads.core ∙ views.core_size;
+        maximum_size = reads.maximum ∙ views.maximum_size;
+        keep_alive = reads.keep ∙ views.keep_alive;
+        times_out = reads.core_timeout ∙ views.times_out;
+        present = reads.now ∙ views.present;
+        submitted = reads.submitted ∙ views.submitted;
+        rows = λ t known. views.rows t (omega (arith, n, known)) ∙ ap (λ r. Some r) (sym (reads.tasks t));
+        unknown = λ t past. views.unknown t (omega (arith, n, past));
+        fates = λ f. reads.fates f ∙ views.fates f;
+        queued = reads.queue ∙ views.queued;
+        seats = λ w. reads.slots w ∙ views.seats w;
+        order = reads.idling ∙ views.order;
+        done = λ g. reads.done g ∙ views.done g;
+        completed = reads.completions ∙ views.completed;
+        most = reads.largest ∙ views.most;
+      }
+
+  -- so structures that keep in view what is seen of the next state, count one entry more and owe what it leaves owed show it
+  pub shows_next : (old new : Parts P) (s : State) (d : Did) (v : View) (fall rise : ℕ) → Shows old s → Effect s d v fall rise → Views new v →
+      new.steps ≡ suc old.steps → new.due + fall ≡ old.due + rise → Shows new (next s d)
+  shows_next old new s d v fall rise sh effect views counted owes =
+      let seen = views_read new (next s d) v effect.reads views in
+      let e = effect.owes in
+      let o = sh.owed in
+      record {
+        entries = ap suc sh.entries ∙ sym counted;
+        seen = seen;
+        taken = sums_agree (λ x. cond (is_some x) 1 0) (next s d).slots new.slots.slots refl seen.seats;
+        live = sums_agree (λ x. cond (is_live x) 1 0) (next s d).slots new.slots.slots refl seen.seats;
+        owed = omega (arith, e, o, owes);
+      }
+
+  -- the whole of what a step does: the effect of its entry, in view of the new structures
+  pub leads_by : (old new : Parts P) (a : Ask) (d : Did) (fall rise : ℕ) → Fits old a d →
+      ((h : List Entry) → Legal old.config h → Given old.config h d → Shows old (state old.config h) → (v : View) × Effect (state old.config h) d v fall rise × Views new v) →
+      new.config ≡ old.config → new.steps ≡ suc old.steps → new.due + fall ≡ old.due + rise → IsTied old.config (suc old.steps) new → Leads old d new
+  leads_by old new a d fall rise fits effects config steps owes tied = record {
+    shows = λ h legal sh.
+        let e = effects h legal (given_fitting old.config h a d legal (fits h legal sh)) sh in
+        shows_next old new (state old.config h) d e.0 fall rise sh e.1 e.2 steps owes;
+    tied = tied;
+    config = config;
+    steps = steps;
+  }

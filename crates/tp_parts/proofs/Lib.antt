@@ -1,0 +1,5 @@
+pub mod Ties
+pub mod Sums
+pub mod Standing
+pub mod Leading
+pub mod Queued

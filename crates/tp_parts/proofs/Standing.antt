@@ -1,0 +1,81 @@
+-- What is known where structures stand.
+use Rattle.std.proofs.Common.{◌≡◌, ℕ, ◌+◌, ◌-◌, ◌^◌, ◌<◌, ◌≤◌, Bool, true, List, Option, Some, Ok, Err, cond, arith, sym, ap, ◌∙◌}
+use Rattle.std.specs.Prelude.{unwrap_or}
+use Rattle.std.proofs.lemmas.Bool.{le-leb}
+use Rattle.tp_types.specs.Config.{IsConfig}
+use Rattle.tp_types.specs.declared.configs.Config.{Config}
+use Rattle.tp_types.specs.declared.ids.TaskId.{TaskId}
+use Rattle.tp_types.specs.declared.tasks.Place.{Place}
+use Rattle.tp_types.specs.declared.refusals.PoolError.TheVariants.{BookFull}
+use Rattle.tp_record.specs.declared.entries.Entry.{Entry}
+use Rattle.tp_record.specs.declared.entries.Ask.{Ask}
+use Rattle.tp_record.specs.declared.entries.Did.{Did}
+use Rattle.tp_record.specs.declared.rows.Stage.{Stage}
+use Rattle.tp_record.specs.Effects.{reserves}
+use Rattle.tp_record.specs.Fields.{rank, submitted, is_cancelled}
+use Rattle.tp_record.specs.State.{state, slot_at, task_at}
+use Rattle.tp_record.specs.Step.{Gives, Legal, within_room, leaves_room}
+use Rattle.tp_model.proofs.Given.{Given, IsAt, HasRow}
+use Rattle.tp_model.proofs.Readings.{tasks_counted, row_read, slot_read}
+use Rattle.tp_model.proofs.Told.{given_answer, sound_legal}
+use Rattle.tp_room.specs.Room.{lowers}
+use Rattle.tp_room.proofs.OwedLaws.{owed_falls, room_is_enough}
+use Rattle.tp_parts.specs.declared.parts.Parts.{Parts}
+use Rattle.tp_tasks.specs.Tasks.{row_of}
+use Rattle.tp_shapes.proofs.View.{View, Effect}
+use Rattle.tp_parts.specs.Steps.{Stands, Fits, Accepts, IsFitting}
+
+-- what is given where an answer fits
+pub given_fitting : (c : Config) (h : List Entry) (a : Ask) (d : Did) → Legal c h → IsFitting c (state c h) a d → Given c h d
+given_fitting c h a d legal fits = given_answer c h (unwrap_or (reserves d) 0) a d (sound_legal c h legal) fits.0 fits.1
+
+-- a step that is owed is given where it fits: there is room for it
+pub gives_owed : (c : Config) (h : List Entry) (a : Ask) (d : Did) → IsConfig c → Legal c h → IsFitting c (state c h) a d → lowers (rank h) d ≡ true → Gives c (state c h) a d
+gives_owed c h a d config legal fits low =
+    let falls = owed_falls c h (unwrap_or (reserves d) 0) a d legal fits.0 fits.1 low in
+    let room = room_is_enough c h config legal in
+    let leaves : leaves_room c (state c h) d ≡ true = le-leb _ _ (omega (arith, falls, room)) in
+    (ap (within_room c (state c h)) fits.0 ∙ ap (λ b. cond b (Ok d) (Err BookFull)) leaves, fits.1)
+
+module _ {P : Type 0} (p : Parts P) (stands : Stands p) where
+  -- so is each that is owed at every run state
+  pub accepts_owed : (a : Ask) (d : Did) → ((n : ℕ) → lowers n d ≡ true) → Fits p a d → Accepts p a d
+  accepts_owed a d low fits = λ h legal sh. gives_owed p.config h a d stands.tied.config legal (fits h legal sh) (low (rank h))
+
+  -- there is room for all that is owed
+  pub room_left : p.steps + p.due ≤ p.config.record_limit
+  room_left =
+      let room = room_is_enough p.config stands.history stands.tied.config stands.legal in
+      let e = stands.shows.entries in
+      let f = stands.shows.owed in
+      omega (arith, room, e, f)
+
+  pub few_steps : p.steps + p.due < 2 ^ 32 - 1
+  few_steps = let l = stands.tied.config.greatest_limit in let r = room_left in omega (arith, l, r)
+
+  -- what is given at its history
+  pub given_here : (a : Ask) (d : Did) → Fits p a d → Given p.config stands.history d
+  given_here a d fits = given_fitting p.config stands.history a d stands.legal (fits stands.history stands.legal stands.shows)
+
+  -- a task that is there: its row in the structures, and its place
+  pub task_here : (t : ℕ) (place : Place) → IsAt stands.history t place →
+      (row_of p.tasks t ≡ Some (task_at (state p.config stands.history) t)) × ((task_at (state p.config stands.history) t).place ≡ place)
+  task_here t place is =
+      let n = tasks_counted stands.history in
+      let known = is.0 in
+      (stands.shows.seen.rows t (omega (arith, n, known)), ap (λ r. r.place) (row_read stands.history t known) ∙ is.1)
+
+  -- whether it was cancelled
+  pub cancelled_here : (t : ℕ) (b : Bool) → t < submitted stands.history → is_cancelled stands.history t ≡ b → (task_at (state p.config stands.history) t).cancelled ≡ b
+  cancelled_here t b known is = ap (λ r. r.cancelled) (row_read stands.history t known) ∙ is
+
+  -- a slot with this row
+  pub seat_here : (w : ℕ) (stage : Stage) (task : Option TaskId) → HasRow stands.history w stage task → slot_at p.slots.slots w ≡ Some (record { stage = stage; task = task })
+  seat_here w stage task is = sym (stands.shows.seen.seats w) ∙ slot_read stands.history w ∙ is
+
+  -- what an entry lowers what is owed by is owed
+  pub owed_here : (d : Did) (v : View) (fall rise : ℕ) → Effect (state p.config stands.history) d v fall rise → fall ≤ p.due + rise
+  owed_here d v fall rise effect =
+      let e = effect.owes in
+      let f = stands.shows.owed in
+      omega (arith, e, f)

@@ -1,0 +1,90 @@
+-- What ties the structures together lasts through a change of one of them.
+use Rattle.std.proofs.Common.{◌≡◌, ℕ, suc, List, [], ◌∷◌, drop, Some, None, Option, arith, sym, ap, subst, ◌∙◌, inl, inr}
+use Rattle.std.specs.Prelude.{is_some, nat_eq, ◌&&◌}
+use Rattle.std.specs.List.{Contains}
+use Rattle.std.proofs.lemmas.List.Elements.{Contains-append_right}
+use Rattle.std.proofs.lemmas.Bool.{ne_eqb, cases_eq}
+use Rattle.tp_types.specs.declared.configs.Config.{Config}
+use Rattle.tp_types.specs.declared.tasks.Promise.{Promise}
+use Rattle.tp_record.specs.declared.rows.TaskRow.{TaskRow}
+use Rattle.tp_tasks.specs.declared.tasks.Tasks.{Tasks}
+use Rattle.tp_tasks.specs.declared.table.Task.{Task}
+use Rattle.tp_tasks.specs.Table.{row_of_task, promise_of_task, number_of_task, payload_of_task}
+use Rattle.tp_tasks.specs.Tasks.{row_of, promise_of, number_of, payload_of, submissions, KeepsOthers, SetsRow}
+use Rattle.tp_parts.specs.declared.parts.Parts.{Parts}
+use Rattle.tp_parts.specs.Tied.{IsTied, waits, is_waiting, KeepsPromise}
+
+module _ {P : Type 0} (c : Config) (n : ℕ) (old : Parts P) (tied : IsTied c n old) where
+  -- another row, promise or payload of task t alone
+  pub tied_task : (tasks : Tasks P) (t : ℕ) → KeepsOthers old.tasks tasks t → submissions tasks ≡ submissions old.tasks → number_of tasks t ≡ number_of old.tasks t →
+      is_some (payload_of tasks t) ≡ waits (row_of tasks t) → KeepsPromise (promise_of tasks t) (row_of tasks t) → IsTied c n (record old { tasks = tasks })
+  tied_task tasks t others counted number paid kept =
+      let e = counted in
+      record {
+        made_with = tied.made_with;
+        config = tied.config;
+        least = tied.least;
+        sizes = tied.sizes;
+        places = tied.places;
+        kind = tied.kind;
+        queue_places = λ is. let k = tied.queue_places is in omega (arith, e, k);
+        offers = tied.offers;
+        idlings = tied.idlings;
+        numbered = λ u k has. elim (cases_eq u.0 t) [
+          | inl same ↦ ap (number_of tasks) same ∙ number ∙ ap (number_of old.tasks) (sym same) ∙ tied.numbered u k has
+          | inr apart ↦ ap number_of_task (others u.0 (ne_eqb t u.0 (λ b. apart (sym b)))) ∙ tied.numbered u k has
+        ];
+        payloads = λ u. elim (cases_eq u t) [
+          | inl same ↦ ap (λ x. is_some (payload_of tasks x)) same ∙ paid ∙ ap (λ x. waits (row_of tasks x)) (sym same)
+          | inr apart ↦ let o = others u (ne_eqb t u (λ b. apart (sym b))) in ap (λ k. is_some (payload_of_task k)) o ∙ tied.payloads u ∙ ap (λ k. waits (row_of_task k)) (sym o)
+        ];
+        promises = λ u. elim (cases_eq u t) [
+          | inl same ↦ let Q : ℕ → Type 0 = λ x. KeepsPromise (promise_of tasks x) (row_of tasks x) in subst Q (sym same) kept
+          | inr apart ↦ let Q : Option (Task P) → Type 0 = λ k. KeepsPromise (promise_of_task k) (row_of_task k) in subst Q (sym (others u (ne_eqb t u (λ b. apart (sym b))))) (tied.promises u)
+        ];
+      }
+
+  -- another row of task t, which has the outcome that it had, and a payload just where it waits
+  pub tied_paid : (tasks : Tasks P) (t : ℕ) (r y : TaskRow) → row_of old.tasks t ≡ Some r → row_of tasks t ≡ Some y → KeepsOthers old.tasks tasks t → submissions tasks ≡ submissions old.tasks →
+      number_of tasks t ≡ number_of old.tasks t → promise_of tasks t ≡ promise_of old.tasks t → y.outcome ≡ r.outcome → is_some (payload_of tasks t) ≡ is_waiting y → IsTied c n (record old { tasks = tasks })
+  tied_paid tasks t r y there turned others counted number promised ended paid =
+      let Q : Option Promise → Option TaskRow → Type 0 = λ p o. KeepsPromise p o in
+      let before : Q (promise_of old.tasks t) (Some r) = subst (Q (promise_of old.tasks t)) there (tied.promises t) in
+      let after : Q (promise_of old.tasks t) (Some y) = same_outcome (promise_of old.tasks t) r y ended before in
+      tied_task tasks t others counted number (paid ∙ ap waits (sym turned))
+      (subst (Q (promise_of tasks t)) (sym turned) (subst (λ p. Q p (Some y)) (sym promised) after))
+    where
+      same_outcome : (p : Option Promise) (a b : TaskRow) → b.outcome ≡ a.outcome → KeepsPromise p (Some a) → KeepsPromise p (Some b)
+      same_outcome None a b e h = tt
+      same_outcome (Some p) a b e h = let F : _ → Type 0 = λ o. Rattle.std.specs.Prelude.IfSome o (Rattle.tp_types.specs.Promise.FitsPromise p) in subst F (sym e) h
+
+  -- another row of task t that waits as it did, and has the outcome that it had
+  pub tied_row : (tasks : Tasks P) (t : ℕ) (r y : TaskRow) → row_of old.tasks t ≡ Some r → SetsRow old.tasks tasks t y → is_waiting y ≡ is_waiting r → y.outcome ≡ r.outcome → IsTied c n (record old { tasks = tasks })
+  tied_row tasks t r y there set waiting ended =
+      tied_paid tasks t r y there set.row set.others set.submitted set.number set.promise ended
+      (ap (λ o. is_some o) set.payload ∙ tied.payloads t ∙ ap waits there ∙ sym waiting)
+
+-- what is in a list's rest is in the list
+pub contains_drop : {A : Type 0} (xs : List A) (x : A) → Contains (drop 1 xs) x → Contains xs x
+contains_drop [] x has = has
+contains_drop (y ∷ ys) x has = Contains-append_right (y ∷ []) ys x has
+
+-- one entry more leaves the structures tied
+pub tied_more : {P : Type 0} (c : Config) (n : ℕ) (p : Parts P) → IsTied c n p → IsTied c (suc n) p
+tied_more c n p tied =
+    let a = tied.offers in
+    let b = tied.idlings in
+    record {
+      made_with = tied.made_with;
+      config = tied.config;
+      least = tied.least;
+      sizes = tied.sizes;
+      places = tied.places;
+      kind = tied.kind;
+      queue_places = tied.queue_places;
+      offers = omega (arith, a);
+      idlings = omega (arith, b);
+      numbered = tied.numbered;
+      payloads = tied.payloads;
+      promises = tied.promises;
+    }

@@ -1,0 +1,56 @@
+-- What ties a pool's structures to one another and to its settings.
+use Rattle.std.specs.Prelude.{ℕ, ◌≡◌, ◌≤◌, Bool, true, false, not, ◌&&◌, Option, Some, None, is_some, IfSome}
+use Rattle.std.specs.List.{Contains}
+use Rattle.tp_types.specs.Config.{IsConfig}
+use Rattle.tp_types.specs.Promise.{FitsPromise}
+use Rattle.tp_types.specs.declared.configs.Config.{Config}
+use Rattle.tp_types.specs.declared.configs.QueueKind.TheVariants.{Unbounded}
+use Rattle.tp_types.specs.declared.ids.TaskId.{TaskId}
+use Rattle.tp_types.specs.declared.tasks.Place.{Place}
+use Rattle.tp_types.specs.declared.tasks.Place.TheVariants as at
+use Rattle.tp_types.specs.declared.tasks.Promise.{Promise}
+use Rattle.tp_record.specs.declared.rows.TaskRow.{TaskRow}
+use Rattle.tp_queue.specs.Queues.{waiting_of}
+use Rattle.tp_tasks.specs.Tasks.{row_of, number_of, payload_of, promise_of, submissions}
+use Rattle.tp_parts.specs.declared.parts.Parts.{Parts}
+
+-- a task in this place has not begun and is not gone
+abbrev pub is_before : Place → Bool
+is_before (at.Running w) = false
+is_before at.Caller = false
+is_before at.Gone = false
+is_before _ = true
+
+-- a task that waits: not begun, not gone, not cancelled
+abbrev pub is_waiting : TaskRow → Bool
+is_waiting r = is_before r.place && not r.cancelled
+
+abbrev pub waits : Option TaskRow → Bool
+waits None = false
+waits (Some r) = is_waiting r
+
+-- the outcome of a task, if it has one, is as it promised
+abbrev pub KeepsPromise : Option Promise → Option TaskRow → Type 0
+KeepsPromise (Some p) (Some r) = IfSome r.outcome (FitsPromise p)
+KeepsPromise _ _ = Unit {0}
+
+-- after n entries of a pool that was made with c
+pub record IsTied {P : Type 0} (c : Config) (n : ℕ) (p : Parts P) : Type 0 where
+  pub made_with : p.config ≡ c
+  pub config : IsConfig c
+  -- the sizes are such as a pool may have, and there is a place for each slot below the maximum
+  pub least : 1 ≤ p.maximum
+  pub sizes : p.core ≤ p.maximum
+  pub places : p.maximum ≤ p.slots.places
+  -- the queue is of the kind that was asked for, and an unbounded one has a place for each task
+  pub kind : (waiting_of p.queue).kind ≡ c.queue
+  pub queue_places : c.queue ≡ Unbounded → submissions p.tasks ≤ (waiting_of p.queue).capacity
+  -- there were no more offers, and no more idle workers, than entries
+  pub offers : (waiting_of p.queue).offers ≤ n
+  pub idlings : p.slots.idlings ≤ n
+  -- each queued task knows its place number
+  pub numbered : (t : TaskId) (k : ℕ) → Contains (waiting_of p.queue).items (t, k) → number_of p.tasks t.0 ≡ Some k
+  -- there is a payload just for each task that waits
+  pub payloads : (t : ℕ) → is_some (payload_of p.tasks t) ≡ waits (row_of p.tasks t)
+  -- each task ended as it promised
+  pub promises : (t : ℕ) → KeepsPromise (promise_of p.tasks t) (row_of p.tasks t)

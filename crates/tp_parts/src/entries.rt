@@ -1,0 +1,23 @@
+//! One more entry.
+
+ghost use Rattle.std.specs.Prelude.{ℕ, suc, ◌≡◌, ◌+◌, ◌-◌, ◌^◌, ◌<◌, ◌≤◌};
+ghost use Rattle.tp_types.specs.declared.configs.Config.{Config};
+ghost use Rattle.tp_shapes.proofs.View.{View};
+ghost use Rattle.tp_parts.specs.Shows.{Views};
+ghost use Rattle.tp_parts.specs.Tied.{IsTied};
+
+use crate::parts::Parts;
+
+impl<P> Parts<P> {
+    /// One more entry was made, and so many fewer are owed.
+    pub fn count_entry(&mut self, fall: u64)
+        requires few { self.old.steps < 2 ^ 32 - 1 }
+        requires fall { fall ≤ self.old.due }
+        ensures views { (v : View) → Views self.old v → Views self.new v }
+        ensures tied { (c : Config) (n : ℕ) → IsTied c n self.old → IsTied c n self.new }
+        ensures rest { self.new ≡ record self.old { steps = suc self.old.steps; due = self.old.due - fall } }
+    {
+        self.steps += 1;
+        self.due -= fall;
+    }
+}

@@ -1,0 +1,8 @@
+//! What a pool keeps beside its record, the state that it shows, and the changes of which each step is made.
+#![tactic(auto)]
+
+pub mod entries;
+pub mod parts;
+pub mod queue_changes;
+pub mod slot_changes;
+pub mod task_changes;

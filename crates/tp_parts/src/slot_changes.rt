@@ -1,0 +1,69 @@
+//! Changes of one slot.
+
+ghost use Rattle.std.specs.Prelude.{ℕ, ◌≡◌, ◌+◌, ◌-◌, ◌^◌, ◌<◌, ◌++◌, ◌∷◌, [], true, false, Some, None};
+ghost use Rattle.tp_types.specs.declared.configs.Config.{Config};
+ghost use Rattle.tp_record.specs.Fields.{is_live, is_idle_row};
+ghost use Rattle.tp_record.specs.Lists.{without};
+ghost use Rattle.tp_record.specs.State.{slot_at};
+ghost use Rattle.tp_slots.specs.Table.{is_awake, is_reserved_row};
+ghost use Rattle.tp_shapes.proofs.View.{View, put};
+ghost use Rattle.tp_parts.specs.Shows.{Views};
+ghost use Rattle.tp_parts.specs.Tied.{IsTied};
+
+use crate::parts::Parts;
+use tp_record::rows::{SlotRow, Stage};
+use tp_types::ids::{SlotId, TaskId};
+
+impl<P> Parts<P> {
+    /// A worker without a task is idle from now on.
+    pub fn idle(&mut self, w: SlotId)
+        requires working { slot_at self.old.slots.slots w.0 ≡ Some (record { stage = Stage.Working; task = None }) }
+        requires few { self.old.slots.idlings < 2 ^ 64 - 1 }
+        ensures views { (v : View) → Views self.old v → Views self.new (record v { slots = put w.0 (Some (record { stage = Stage.Idle v.now; task = None })) v.slots; idling = v.idling ++ w.0 ∷ [] }) }
+        ensures tied { (c : Config) (n : ℕ) → IsTied c n self.old → self.old.slots.idlings < n → IsTied c n self.new }
+        ensures rest { self.new ≡ record self.old { slots = self.new.slots } }
+    {
+        self.slots.idle(w, self.moment);
+    }
+
+    /// An idle worker works from now on, on this task if there is one.
+    pub fn wake(&mut self, w: SlotId, task: Option<TaskId>)
+        requires idle { is_idle_row (slot_at self.old.slots.slots w.0) ≡ true }
+        ensures views { (v : View) → Views self.old v → Views self.new (record v { slots = put w.0 (Some (record { stage = Stage.Working; task = task })) v.slots; idling = without w.0 v.idling }) }
+        ensures tied { (c : Config) (n : ℕ) → IsTied c n self.old → IsTied c n self.new }
+        ensures rest { self.new ≡ record self.old { slots = self.new.slots } }
+    {
+        self.slots.wake(w, task);
+    }
+
+    /// Changes the row of a live slot that is not idle, and stays so.
+    pub fn set_slot(&mut self, w: SlotId, row: SlotRow)
+        requires slot { is_awake (slot_at self.old.slots.slots w.0) ≡ true }
+        requires row { is_awake (Some row) ≡ true }
+        ensures views { (v : View) → Views self.old v → Views self.new (record v { slots = put w.0 (Some row) v.slots }) }
+        ensures tied { (c : Config) (n : ℕ) → IsTied c n self.old → IsTied c n self.new }
+        ensures rest { self.new ≡ record self.old { slots = self.new.slots } }
+    {
+        self.slots.set(w, row);
+    }
+
+    /// Frees a live slot, which may be idle.
+    pub fn free(&mut self, w: SlotId)
+        requires { is_live (slot_at self.old.slots.slots w.0) ≡ true }
+        ensures views { (v : View) → Views self.old v → Views self.new (record v { slots = put w.0 None v.slots; idling = without w.0 v.idling; taken = v.taken - 1; live = v.live - 1 }) }
+        ensures tied { (c : Config) (n : ℕ) → IsTied c n self.old → IsTied c n self.new }
+        ensures rest { self.new ≡ record self.old { slots = self.new.slots } }
+    {
+        self.slots.free(w);
+    }
+
+    /// Frees a slot whose worker was not made.
+    pub fn give_up(&mut self, w: SlotId)
+        requires { is_reserved_row (slot_at self.old.slots.slots w.0) ≡ true }
+        ensures views { (v : View) → Views self.old v → Views self.new (record v { slots = put w.0 None v.slots; taken = v.taken - 1 }) }
+        ensures tied { (c : Config) (n : ℕ) → IsTied c n self.old → IsTied c n self.new }
+        ensures rest { self.new ≡ record self.old { slots = self.new.slots } }
+    {
+        self.slots.give_up(w);
+    }
+}

@@ -1,0 +1,58 @@
+//! A worker begins the task that it took, as `beforeExecute` and the task's `run` do.
+
+ghost use Rattle.std.specs.Prelude.{ℕ, ◌≡◌, Some, None, IfOk, IfErr};
+ghost use Rattle.tp_tasks.specs.Tasks.{payload_of};
+ghost use Rattle.tp_parts.specs.Steps.{Stands, Fits, Refuses, Leads};
+
+use tp_parts::parts::Parts;
+use tp_record::entries::{Ask, Did, Started};
+use tp_record::rows::{SlotRow, Stage};
+use tp_types::ids::{SlotId, TaskId};
+use tp_types::refusals::PoolError;
+use tp_types::tasks::Place;
+
+/// What the worker begins: the task that it took, or nothing, where that was cancelled. UnknownSlot (7) or NotThere (8).
+pub fn answer<P>(parts: &Parts<P>, w: SlotId) -> Result<Started, PoolError>
+    ensures fits { IfOk result (λ b. Fits parts.now (Ask.Begin w) (Did.Begin w b)) }
+    ensures refuses { IfErr result (λ e. Refuses parts.now (Ask.Begin w) e) }
+{
+    let Some(slot) = parts.slots.get(w) else {
+        return Err(PoolError::UnknownSlot);
+    };
+    let Stage::Working = slot.stage else {
+        return Err(PoolError::NotThere);
+    };
+    let Some(t) = slot.task else {
+        return Err(PoolError::NotThere);
+    };
+    let Some(row) = parts.tasks.row(t) else {
+        return Err(PoolError::NotThere);
+    };
+    let Place::Taken(_) = row.place else {
+        return Err(PoolError::NotThere);
+    };
+    if row.cancelled {
+        Ok(Started::Skip(t))
+    } else {
+        Ok(Started::Run(t))
+    }
+}
+
+/// The worker begins the task, and has its payload.
+pub fn run<P>(parts: &mut Parts<P>, w: SlotId, t: TaskId) -> P
+    requires stands { Stands parts.old }
+    requires fits { Fits parts.old (Ask.Begin w) (Did.Begin w (Started.Run t)) }
+    ensures leads { Leads parts.old (Did.Begin w (Started.Run t)) parts.new }
+    ensures payload { payload_of parts.old.tasks t.0 ≡ Some result }
+{
+    parts.count_entry(1);
+    let payload = parts.begin_task(t, Place::Running(w));
+    parts.set_slot(
+        w,
+        SlotRow {
+            stage: Stage::Working,
+            task: Some(t),
+        },
+    );
+    payload
+}
