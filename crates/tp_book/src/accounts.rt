@@ -226,7 +226,10 @@ mod tests {
         let mut first = accounts.new_pass(alloc, &glance, &mut seat)?;
         let mut second = accounts.split_pass(alloc, &glance, &mut first)?;
         let mut worker = accounts.new_worker_pass(&glance, &mut seat)?;
-        assert_eq!(rt; (first.number(), second.number(), worker.number()), (0, 1, 2));
+        assert_eq!(rt;
+            (first.number(), second.number(), worker.number()),
+            (0, 1, 2)
+        );
         assert_eq!(rt; first.glance(&glance), RunState::Running);
         glance.raise(&mut seat, RunState::Shutdown);
         first.learn(&glance, &mut seat);

@@ -52,12 +52,27 @@ mod tests {
         assert!(rt; same_steps(&entries, 0, &[first, second, second]));
         assert!(rt; same_steps(&entries, 1, &[tick(1, 1), tick(1, 3)]));
         assert!(rt; same_steps(&entries, 2, &[]));
-        assert!(rt; !same_steps(&entries, 0, &[first, second, changed]), "one changed");
-        assert!(rt; !same_steps(&entries, 0, &[first, tick(0, 3), second]), "another moment");
+        assert!(rt;
+            !same_steps(&entries, 0, &[first, second, changed]),
+            "one changed"
+        );
+        assert!(rt;
+            !same_steps(&entries, 0, &[first, tick(0, 3), second]),
+            "another moment"
+        );
         assert!(rt; !same_steps(&entries, 0, &[first, second]), "one left out");
-        assert!(rt; !same_steps(&entries, 0, &[second, second]), "the first left out");
-        assert!(rt; !same_steps(&entries, 0, &[first, first, second, second]), "one doubled");
-        assert!(rt; !same_steps(&entries, 0, &[second, first, second]), "two exchanged");
+        assert!(rt;
+            !same_steps(&entries, 0, &[second, second]),
+            "the first left out"
+        );
+        assert!(rt;
+            !same_steps(&entries, 0, &[first, first, second, second]),
+            "one doubled"
+        );
+        assert!(rt;
+            !same_steps(&entries, 0, &[second, first, second]),
+            "two exchanged"
+        );
         assert!(rt; !same_steps(&entries, 2, &[first]), "none made");
     }
 }

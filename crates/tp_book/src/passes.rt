@@ -24,9 +24,13 @@ impl<G: Naming> Model for Pass<G> {
 
     ghost Value = { PassView };
 
-    ghost view = { λ p. record { number = p.account.number; amount = p.account.amount;
-        seen = p.account.seen; receipts = p.receipts.items;
-        room = vec_capacity p.receipts - vec_len p.receipts } };
+    ghost view = { λ p. record {
+      number = p.account.number;
+      amount = p.account.amount;
+      seen = p.account.seen;
+      receipts = p.receipts.items;
+      room = vec_capacity p.receipts - vec_len p.receipts;
+    } };
 
     ghost invariant = { λ p. p.account.amount ≡ length p.receipts.items };
 }
