@@ -6,20 +6,8 @@ ghost use Rattle.tp_record.specs.State.{counts as counts_of, fate_of, is_fate};
 ghost use Rattle.tp_machine.specs.Parts.{shown, AreSmall};
 
 use crate::parts::Parts;
-use tp_record::rows::TaskRow;
 use tp_types::states::Counts;
 use tp_types::tasks::Fate;
-
-/// What became of the task of this row.
-pub fn fate_of_row(row: &TaskRow) -> Option<Fate>
-    ensures { result ≡ fate_of row.now }
-{
-    if row.cancelled {
-        Some(Fate::Cancelled)
-    } else {
-        row.ending
-    }
-}
 
 /// How many tasks have each fate.
 #[derive(Clone, Copy)]
@@ -79,7 +67,7 @@ pub fn counts(parts: &Parts) -> Counts
         cancelled: 0,
     };
     for row in &parts.tasks {
-        fates = count_fate(fates, fate_of_row(row));
+        fates = count_fate(fates, row.fate());
     }
     Counts {
         submitted: parts.tasks.len() as u32,

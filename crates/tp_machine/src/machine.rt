@@ -13,7 +13,7 @@ ghost use Rattle.tp_machine.specs.Settings.{IsFirst};
 ghost use Rattle.tp_machine.specs.Seen.{FitsThere, task_in_slot, no_promise};
 
 use crate::begins::begin;
-use crate::counters::{counts, fate_of_row};
+use crate::counters::counts;
 use crate::ends::end;
 use crate::offers::offer;
 use crate::opens::open;
@@ -274,7 +274,7 @@ impl<P> Machine<P> {
         ensures unknown { IfErr result (λ e. (e ≡ PoolError.UnknownTask) × (submitted self.now.history ≤ t.0)) }
     {
         match row_of(&self.parts.tasks, t) {
-            Some(row) => Ok(fate_of_row(&row)),
+            Some(row) => Ok(row.fate()),
             None => Err(PoolError::UnknownTask),
         }
     }

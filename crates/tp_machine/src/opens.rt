@@ -4,7 +4,7 @@ ghost use Rattle.std.specs.Prelude.{◌≡◌, IfOk, IfErr, OnErr, Err};
 ghost use Rattle.tp_machine.specs.Parts.{shown, Stands, Goes, waiting_rows};
 ghost use Rattle.tp_record.specs.Step.{Refuses};
 
-use crate::parts::{Parts, held_weight, is_reserved, slot_of, slot_weight};
+use crate::parts::{Parts, held_weight, slot_of, slot_weight};
 use tp_record::entries::{Ask, Did, Opened};
 use tp_record::rows::{SlotRow, Stage};
 use tp_types::configs::Config;
@@ -22,7 +22,7 @@ pub fn open(parts: &mut Parts, config: &Config, steps: usize, w: SlotId) -> Resu
     let Some(slot) = slot_of(&parts.slots, w) else {
         return Err(PoolError::UnknownSlot);
     };
-    if !is_reserved(slot.stage) {
+    if !slot.stage.is_reserved() {
         return Err(PoolError::NotThere);
     }
     let next_slot = SlotRow {

@@ -4,12 +4,11 @@ ghost use Rattle.std.specs.Prelude.{◌≡◌, ◌+◌, ◌<◌, ◌≤◌, ◌&
 ghost use Rattle.tp_types.specs.RunState.{state_rank};
 ghost use Rattle.tp_record.specs.Lists.{without, at_end, long_enough};
 ghost use Rattle.tp_record.specs.Effects.{is_group};
-ghost use Rattle.tp_record.specs.Step.{is_reserved as is_reserved_stage};
 ghost use Rattle.tp_machine.specs.Owed.{weight_in};
 ghost use Rattle.tp_record.specs.State.{task_weight as weight_of_task, slot_weight as weight_of_slot, row_at, slot_at};
 
 use std::alloc::{AllocError, Global};
-use tp_record::rows::{SlotRow, Stage, TaskRow};
+use tp_record::rows::{SlotRow, TaskRow};
 use tp_types::configs::Config;
 use tp_types::ids::{SlotId, TaskId};
 use tp_types::states::RunState;
@@ -108,30 +107,14 @@ pub fn task_weight(slots: &Vec<Option<SlotRow>>, row: &TaskRow) -> u64
     ensures value { result ≡ weight_of_task slots.now.items row.now }
     ensures small { result ≤ 17 }
 {
-    let second = if row.second { 4 } else { 0 };
-    let place = match row.place {
-        Place::Looking => 13,
-        Place::ToOffer => 11,
-        Place::ToGrow => 9,
-        Place::Refused => 2,
-        Place::Queued => 6,
-        Place::Held(w) => {
-            match slot_of(slots, w) {
-                Some(slot) => {
-                    match slot.stage {
-                        Stage::ReservedCore => 9,
-                        _ => 5,
-                    }
-                }
-                None => 5,
-            }
-        }
-        Place::Taken(_) => 4,
-        Place::Running(_) => 3,
-        Place::Caller => 1,
-        Place::Gone => 0,
+    let for_core = match row.place {
+        Place::Held(w) => match slot_of(slots, w) {
+            Some(slot) => slot.is_for_core(),
+            None => false,
+        },
+        _ => false,
     };
-    place + second
+    row.weight(for_core)
 }
 
 /// What a slot owes.
@@ -139,18 +122,7 @@ pub fn slot_weight(state: RunState, slot: &SlotRow) -> u64
     ensures value { result ≡ weight_of_slot (state_rank state) (Some slot.now) }
     ensures small { result ≤ 4 }
 {
-    match slot.stage {
-        Stage::ReservedCore | Stage::ReservedMaximum | Stage::ReservedBare => 3,
-        Stage::Working => {
-            if slot.task.is_some() || matches!(state, RunState::Running) {
-                2
-            } else {
-                1
-            }
-        }
-        Stage::Idle(_) => 1,
-        Stage::Dying => 4,
-    }
+    slot.weight(state.rank())
 }
 
 /// What the task owes that a slot holds, if it holds one.
@@ -165,16 +137,6 @@ pub fn held_weight(tasks: &Vec<TaskRow>, slots: &Vec<Option<SlotRow>>, task: Opt
         Some(row) => task_weight(slots, &row),
         None => 0,
     }
-}
-
-/// Whether a slot waits for its worker to be made.
-pub fn is_reserved(stage: Stage) -> bool
-    ensures { result ≡ is_reserved_stage stage }
-{
-    matches!(
-        stage,
-        Stage::ReservedCore | Stage::ReservedMaximum | Stage::ReservedBare
-    )
 }
 
 /// A number for a new slot: the least that is no slot.
