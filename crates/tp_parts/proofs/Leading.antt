@@ -10,7 +10,7 @@ use Rattle.tp_record.specs.State.{State, state, next}
 use Rattle.tp_record.specs.Step.{Legal}
 use Rattle.tp_model.proofs.Given.{Given}
 use Rattle.tp_parts.specs.declared.parts.Parts.{Parts}
-use Rattle.tp_shapes.proofs.View.{View, view, Reads, Effect}
+use Rattle.tp_shapes.specs.View.{View, view, Reads, Effect}
 use Rattle.tp_parts.specs.Shows.{Views, Shows}
 use Rattle.tp_parts.specs.Tied.{IsTied}
 use Rattle.tp_parts.specs.Steps.{Fits, Leads}

@@ -22,7 +22,7 @@ use Rattle.tp_room.specs.Room.{lowers}
 use Rattle.tp_room.proofs.OwedLaws.{owed_falls, room_is_enough}
 use Rattle.tp_parts.specs.declared.parts.Parts.{Parts}
 use Rattle.tp_tasks.specs.Tasks.{row_of}
-use Rattle.tp_shapes.proofs.View.{View, Effect}
+use Rattle.tp_shapes.specs.View.{View, Effect}
 use Rattle.tp_parts.specs.Steps.{Stands, Fits, Accepts, IsFitting}
 
 -- what is given where an answer fits

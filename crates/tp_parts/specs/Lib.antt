@@ -1,3 +1,4 @@
 pub mod Shows
 pub mod Tied
 pub mod Steps
+pub mod Payloads

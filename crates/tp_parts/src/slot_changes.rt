@@ -6,7 +6,7 @@ ghost use Rattle.tp_record.specs.Fields.{is_live, is_idle_row};
 ghost use Rattle.tp_record.specs.Lists.{without};
 ghost use Rattle.tp_record.specs.State.{slot_at};
 ghost use Rattle.tp_slots.specs.Table.{is_awake, is_reserved_row};
-ghost use Rattle.tp_shapes.proofs.View.{View, put};
+ghost use Rattle.tp_shapes.specs.View.{View, put};
 ghost use Rattle.tp_parts.specs.Shows.{Views};
 ghost use Rattle.tp_parts.specs.Tied.{IsTied};
 

@@ -4,7 +4,7 @@ ghost use Rattle.std.specs.Prelude.{ℕ, suc, ◌≡◌, ◌-◌, ◌^◌, ◌<�
 ghost use Rattle.tp_types.specs.declared.configs.Config.{Config};
 ghost use Rattle.tp_record.specs.declared.rows.TaskRow.{TaskRow};
 ghost use Rattle.tp_tasks.specs.Tasks.{row_of, payload_of};
-ghost use Rattle.tp_shapes.proofs.View.{View, put};
+ghost use Rattle.tp_shapes.specs.View.{View, put};
 ghost use Rattle.tp_parts.specs.Shows.{Views};
 ghost use Rattle.tp_parts.specs.Tied.{IsTied, is_before, is_waiting};
 

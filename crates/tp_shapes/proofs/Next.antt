@@ -22,7 +22,7 @@ use Rattle.tp_model.proofs.NextState.{Fits, queue_known, state-more, slot_row-mo
 use Rattle.tp_model.proofs.Given.{Given, HasRow}
 use Rattle.tp_model.proofs.Keystone.{IsSound, sound_more}
 use Rattle.tp_model.proofs.Told.{sound_legal}
-use Rattle.tp_shapes.proofs.View.{put}
+use Rattle.tp_shapes.specs.View.{put}
 use Rattle.tp_shapes.proofs.Names.{is_wide, names, drops, seats, replaces, other_row, other_slot}
 
 -- the entry, whoever asks for it

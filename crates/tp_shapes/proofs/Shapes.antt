@@ -22,7 +22,7 @@ use Rattle.tp_model.proofs.NextState.{slot_row-more}
 use Rattle.tp_model.proofs.Keystone.{IsSound}
 use Rattle.tp_model.proofs.Told.{sound_legal}
 use Rattle.tp_model.proofs.Totals.{at_named, total, sum_by-table, total-longer, total-agree}
-use Rattle.tp_shapes.proofs.View.{view, Reads, put}
+use Rattle.tp_shapes.specs.View.{view, Reads, put}
 use Rattle.tp_shapes.proofs.Names.{is_wide, names, drops, beside, seats, replaces}
 use Rattle.tp_shapes.proofs.Next.{entry, fits_given, next_given, sound_given, row_sound, rows_same, rows_one, rows_two, slots_same, slots_one, slots_two}
 use Rattle.tp_shapes.proofs.Lists.{only, idling_same}

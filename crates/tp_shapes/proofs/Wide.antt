@@ -17,7 +17,7 @@ use Rattle.tp_record.specs.State.{State, state, next, row_at, slot_at, fate_of, 
 use Rattle.tp_record.specs.Step.{Legal, slot_count}
 use Rattle.tp_model.proofs.Readings.{slot_read}
 use Rattle.tp_model.proofs.Given.{Given}
-use Rattle.tp_shapes.proofs.View.{view, Reads}
+use Rattle.tp_shapes.specs.View.{view, Reads}
 use Rattle.tp_shapes.proofs.Lists.{filter_all, queue_filtered, idling_filtered}
 use Rattle.tp_shapes.proofs.Done.{is_unfinishing, done_same}
 use Rattle.tp_shapes.proofs.Shapes.{live_most}

@@ -13,7 +13,7 @@ use Rattle.tp_record.specs.Effects.{is_group}
 use Rattle.tp_record.specs.State.{state, task_at, fated, is_fate}
 use Rattle.tp_record.specs.Step.{Legal, done_of, is_of_group}
 use Rattle.tp_model.proofs.Given.{Given}
-use Rattle.tp_shapes.proofs.View.{view, Effect, put}
+use Rattle.tp_shapes.specs.View.{view, Effect, put}
 use Rattle.tp_shapes.proofs.Next.{entry}
 use Rattle.tp_shapes.proofs.Sums.{named_due}
 use Rattle.tp_shapes.proofs.Lists.{queue_still}

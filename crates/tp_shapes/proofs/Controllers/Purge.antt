@@ -18,7 +18,7 @@ use Rattle.tp_model.proofs.Readings.{slot_read}
 use Rattle.tp_model.proofs.NextState.{slot_row-more}
 use Rattle.tp_model.proofs.Given.{Given}
 use Rattle.tp_model.proofs.Weights.{held_core, weight_of, is_core, task_due, slot_due}
-use Rattle.tp_shapes.proofs.View.{view, Effect}
+use Rattle.tp_shapes.specs.View.{view, Effect}
 use Rattle.tp_shapes.proofs.Next.{entry, fits_given, row_next}
 use Rattle.tp_shapes.proofs.Lists.{filter_all, queue_filtered, idling_filtered}
 use Rattle.tp_shapes.proofs.Done.{done_same}

@@ -22,7 +22,7 @@ use Rattle.tp_model.proofs.Keystone.{suits, suits_row}
 use Rattle.tp_model.proofs.Told.{sound_legal}
 use Rattle.tp_model.proofs.Totals.{total, sum_by-table, total-longer}
 use Rattle.tp_model.proofs.Weights.{weight_of, task_due, slot_due}
-use Rattle.tp_shapes.proofs.View.{view, Effect}
+use Rattle.tp_shapes.specs.View.{view, Effect}
 use Rattle.tp_shapes.proofs.Next.{entry, fits_given, slot_next}
 use Rattle.tp_shapes.proofs.Lists.{filter_all, queue_filtered, idling_filtered}
 use Rattle.tp_shapes.proofs.Done.{done_same}

@@ -22,7 +22,7 @@ use Rattle.tp_model.proofs.Keystone.{IsSound}
 use Rattle.tp_model.proofs.Told.{told_legal, sound_legal}
 use Rattle.tp_model.proofs.Totals.{total, sum_by-table, total-longer}
 use Rattle.tp_model.proofs.Weights.{held_core, weight_of, is_core, task_due, slot_due}
-use Rattle.tp_shapes.proofs.View.{view, Effect}
+use Rattle.tp_shapes.specs.View.{view, Effect}
 use Rattle.tp_shapes.proofs.Next.{entry, fits_given, next_given, sound_given, row_next, row_sound, slot_next}
 use Rattle.tp_shapes.proofs.Lists.{queue_filtered, idling_filtered}
 use Rattle.tp_shapes.proofs.Done.{done_same}

@@ -11,7 +11,7 @@ use Rattle.tp_record.specs.Fields.{rank, queue}
 use Rattle.tp_record.specs.State.{State, state, next, due, slot_after, slot_weight, stage_weight, task_weight}
 use Rattle.tp_record.specs.Step.{Legal}
 use Rattle.tp_model.proofs.Given.{Given}
-use Rattle.tp_shapes.proofs.View.{view, Effect}
+use Rattle.tp_shapes.specs.View.{view, Effect}
 use Rattle.tp_shapes.proofs.Wide.{none_owed, tasks_stay, slots_stay, reads_rank}
 
 tidy_slot : (s : State) (w : ℕ) (o : Option SlotRow) → slot_after did.Tidy s w o ≡ o

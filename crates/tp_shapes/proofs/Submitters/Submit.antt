@@ -15,7 +15,7 @@ use Rattle.tp_record.specs.Fields.{place, owes_second, is_queued, is_queued_plac
 use Rattle.tp_record.specs.State.{state, task_at, slot_at}
 use Rattle.tp_record.specs.Step.{Legal, slot_count}
 use Rattle.tp_model.proofs.Given.{Given}
-use Rattle.tp_shapes.proofs.View.{view, Effect, put}
+use Rattle.tp_shapes.specs.View.{view, Effect, put}
 use Rattle.tp_shapes.proofs.Rows.{new_row, for_core}
 use Rattle.tp_shapes.proofs.Next.{entry}
 use Rattle.tp_shapes.proofs.Sums.{named_due}
