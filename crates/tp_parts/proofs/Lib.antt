@@ -5,3 +5,4 @@ pub mod Leading
 pub mod Queued
 pub mod New
 pub mod Few
+pub mod Slots
