@@ -5,4 +5,5 @@ pub mod entries;
 pub mod parts;
 pub mod queue_changes;
 pub mod slot_changes;
+pub mod submission_changes;
 pub mod task_changes;
