@@ -4,6 +4,7 @@
 pub mod entries;
 pub mod parts;
 pub mod queue_changes;
+pub mod room;
 pub mod slot_changes;
 pub mod submission_changes;
 pub mod task_changes;
