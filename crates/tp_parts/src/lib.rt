@@ -2,6 +2,7 @@
 #![tactic(auto)]
 
 pub mod entries;
+pub mod looks;
 pub mod parts;
 pub mod queue_changes;
 pub mod room;
