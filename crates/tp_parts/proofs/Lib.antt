@@ -6,3 +6,4 @@ pub mod Queued
 pub mod New
 pub mod Few
 pub mod Slots
+pub mod Answering

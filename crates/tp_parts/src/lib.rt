@@ -6,5 +6,8 @@ pub mod offer_changes;
 pub mod parts;
 pub mod queue_changes;
 pub mod readings;
+pub mod looks;
+pub mod room;
 pub mod slot_changes;
+pub mod submission_changes;
 pub mod task_changes;
