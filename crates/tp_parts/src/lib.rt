@@ -8,6 +8,7 @@ pub mod queue_changes;
 pub mod readings;
 pub mod looks;
 pub mod room;
+pub mod setting_changes;
 pub mod slot_changes;
 pub mod submission_changes;
 pub mod task_changes;
