@@ -3,3 +3,4 @@ pub mod Sums
 pub mod Standing
 pub mod Leading
 pub mod Queued
+pub mod Removals

@@ -4,5 +4,6 @@
 pub mod entries;
 pub mod parts;
 pub mod queue_changes;
+pub mod removal_changes;
 pub mod slot_changes;
 pub mod task_changes;
