@@ -4,3 +4,4 @@ pub mod Standing
 pub mod Leading
 pub mod Queued
 pub mod Removals
+pub mod Answering

@@ -5,5 +5,6 @@ pub mod entries;
 pub mod parts;
 pub mod queue_changes;
 pub mod removal_changes;
+pub mod room;
 pub mod slot_changes;
 pub mod task_changes;
