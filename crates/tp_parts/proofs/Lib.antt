@@ -6,4 +6,5 @@ pub mod Queued
 pub mod New
 pub mod Few
 pub mod Slots
+pub mod Removals
 pub mod Answering

@@ -7,6 +7,7 @@ pub mod parts;
 pub mod queue_changes;
 pub mod readings;
 pub mod looks;
+pub mod removal_changes;
 pub mod room;
 pub mod setting_changes;
 pub mod slot_changes;
