@@ -7,13 +7,14 @@ use Rattle.tp_record.specs.Fields.{woken_stage, is_live, is_idle_row}
 use Rattle.tp_record.specs.State.{State, slot_at}
 use Rattle.tp_record.specs.Step.{is_reserved}
 
--- the slots by number; the idle ones, the one that is idle longest first; how many slots there may be; and how often a slot became
--- idle so far
+-- the slots by number; the idle ones, the one that is idle longest first; how many slots there may be; how often a slot became
+-- idle so far; and the number of the next slot
 pub record Table : Type 0 where
   pub slots : List (Option SlotRow)
   pub idling : List ℕ
   pub places : ℕ
   pub idlings : ℕ
+  pub next : ℕ
 
 -- the slots are the same, but w is now o
 abbrev pub IsSet : List (Option SlotRow) → List (Option SlotRow) → ℕ → Option SlotRow → Type 0
