@@ -1,6 +1,7 @@
 //! The core size is set, as `setCorePoolSize` does.
 
 ghost use Rattle.std.specs.Prelude.{IfOk, IfErr};
+ghost use Rattle.tp_parts.specs.Payloads.{Keeps};
 ghost use Rattle.tp_parts.specs.Steps.{Stands, Fits, Accepts, Refuses, Leads};
 
 use tp_parts::parts::Parts;
@@ -30,6 +31,7 @@ pub fn apply<P>(parts: &mut Parts<P>, core: u32, added: u32)
     requires stands { Stands parts.old }
     requires fits { Fits parts.old (Ask.Core core) (Did.Core core added) }
     ensures leads { Leads parts.old (Did.Core core added) parts.new }
+    ensures payloads { Keeps parts.old.tasks parts.new.tasks }
 {
     let _ = added;
     parts.count_entry(0);

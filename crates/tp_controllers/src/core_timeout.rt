@@ -1,6 +1,7 @@
 //! Core workers time out or do not, as `allowCoreThreadTimeOut` says.
 
 ghost use Rattle.std.specs.Prelude.{OnOk, IfErr};
+ghost use Rattle.tp_parts.specs.Payloads.{Keeps};
 ghost use Rattle.tp_parts.specs.Steps.{Stands, Fits, Accepts, Refuses, Leads};
 
 use tp_parts::parts::Parts;
@@ -27,6 +28,7 @@ pub fn apply<P>(parts: &mut Parts<P>, on: bool)
     requires stands { Stands parts.old }
     requires fits { Fits parts.old (Ask.CoreTimeout on) (Did.CoreTimeout on) }
     ensures leads { Leads parts.old (Did.CoreTimeout on) parts.new }
+    ensures payloads { Keeps parts.old.tasks parts.new.tasks }
 {
     parts.count_entry(0);
     parts.set_core_timeout(on);

@@ -1,6 +1,7 @@
 //! The keep-alive is set, as `setKeepAliveTime` does.
 
 ghost use Rattle.std.specs.Prelude.{OnOk, IfErr};
+ghost use Rattle.tp_parts.specs.Payloads.{Keeps};
 ghost use Rattle.tp_parts.specs.Steps.{Stands, Fits, Accepts, Refuses, Leads};
 
 use tp_parts::parts::Parts;
@@ -27,6 +28,7 @@ pub fn apply<P>(parts: &mut Parts<P>, keep: u64)
     requires stands { Stands parts.old }
     requires fits { Fits parts.old (Ask.Keep keep) (Did.Keep keep) }
     ensures leads { Leads parts.old (Did.Keep keep) parts.new }
+    ensures payloads { Keeps parts.old.tasks parts.new.tasks }
 {
     parts.count_entry(0);
     parts.set_keep(keep);

@@ -6,4 +6,5 @@ pub mod core_size;
 pub mod core_timeout;
 pub mod keep;
 pub mod maximum;
+pub mod shutdown;
 pub mod tick;

@@ -1,6 +1,7 @@
 //! The maximum size is set, as `setMaximumPoolSize` does.
 
 ghost use Rattle.std.specs.Prelude.{◌≡◌, ◌≤◌, max, OnOk, OnErr, IfErr, IsOkUnless};
+ghost use Rattle.tp_parts.specs.Payloads.{Keeps};
 ghost use Rattle.tp_parts.specs.Steps.{Stands, Fits, Accepts, Refuses, Leads};
 
 use tp_parts::parts::Parts;
@@ -42,6 +43,7 @@ pub fn apply<P>(parts: &mut Parts<P>, maximum: u32)
     requires fits { Fits parts.old (Ask.Maximum maximum) (Did.Maximum maximum) }
     requires places { maximum ≤ parts.old.slots.places }
     ensures leads { Leads parts.old (Did.Maximum maximum) parts.new }
+    ensures payloads { Keeps parts.old.tasks parts.new.tasks }
 {
     parts.count_entry(0);
     parts.set_maximum(maximum);

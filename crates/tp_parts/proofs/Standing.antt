@@ -89,6 +89,7 @@ module _ {P : Type 0} (p : Parts P) (stands : Stands p) where
       let few = few_steps in
       let owed = owed_here d v fall rise (effect (given_here a d fits)) in
       (omega (arith, few), omega (arith, owed, net))
+
 -- structures that show the same states, with the same settings, stand and accept alike
 module _ {P : Type 0} (old new : Parts P) (config : new.config ≡ old.config) (same : (s : State) → Shows old s ↔ Shows new s) where
   before : (h : List Entry) → Shows new (state new.config h) → Shows old (state old.config h)
