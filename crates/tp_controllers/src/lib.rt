@@ -4,7 +4,10 @@
 
 pub mod core_size;
 pub mod core_timeout;
+pub mod ended;
 pub mod keep;
 pub mod maximum;
+pub mod prestart;
 pub mod shutdown;
 pub mod tick;
+pub mod tidy;
