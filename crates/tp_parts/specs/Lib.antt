@@ -4,3 +4,4 @@ pub mod Steps
 pub mod Payloads
 pub mod Memory
 pub mod Room
+pub mod Drained
