@@ -9,5 +9,6 @@ pub mod keep;
 pub mod maximum;
 pub mod prestart;
 pub mod shutdown;
+pub mod stop;
 pub mod tick;
 pub mod tidy;

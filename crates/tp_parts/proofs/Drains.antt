@@ -1,5 +1,5 @@
 -- The queue is handed back task by task: what is left to hand back leads to the same end.
-use Rattle.std.proofs.Common.{◌≡◌, ℕ, ◌+◌, ◌<◌, ◌⊎◌, Bool, true, false, cond, List, [], ◌∷◌, ◌++◌, drop, map, length, append_assoc, Option, Some, None, refl, arith, sym, ap, subst, ◌∙◌, inl, inr}
+use Rattle.std.proofs.Common.{◌≡◌, ℕ, ◌+◌, ◌<◌, Bool, true, false, cond, List, [], ◌∷◌, ◌++◌, drop, map, length, append_assoc, Option, Some, None, refl, arith, sym, ap, subst, ◌∙◌, inl, inr}
 use mathlib.Core.Path.{fun_ext}
 use Rattle.std.specs.Prelude.{◌==◌, ◌||◌, option_map, slice_get, sum_by}
 use Rattle.std.proofs.lemmas.Bool.{eq-eqb, ne_eqb, cases_eq, false≢true}
@@ -96,11 +96,11 @@ drained_head v t rest is =
     let L : List ℕ → View = λ q. drained (record v { queue = drop 1 q; tasks = put t (gone (v.tasks t)) v.tasks; fates = λ f. v.fates f + gains f (v.tasks t) }) in
     let F : List ℕ → Type 0 = λ q. L q ≡ E q in
     subst F (sym is) (
-      λ i. record v {
-        tasks = fun_ext (gone_task t rest v.tasks) i;
-        fates = fun_ext (λ f. gone_fates t rest v.tasks (v.fates f) f) i;
-        queue = [];
-      }
+    λ i. record v {
+      tasks = fun_ext (gone_task t rest v.tasks) i;
+      fates = fun_ext (λ f. gone_fates t rest v.tasks (v.fates f) f) i;
+      queue = [];
+    }
     )
 
 -- and where nothing is left, this is the end

@@ -13,7 +13,7 @@ use Rattle.tp_tasks.specs.Tasks.{payload_of, promise_of}
 use Rattle.tp_shapes.specs.View.{View, put}
 use Rattle.tp_parts.specs.declared.parts.Parts.{Parts}
 use Rattle.tp_parts.specs.Payloads.{HandsOut}
-use Rattle.tp_parts.specs.Shows.{Views, numbers}
+use Rattle.tp_parts.specs.Shows.{Views}
 use Rattle.tp_parts.specs.Tied.{IsTied}
 
 -- t is one of these

@@ -1,12 +1,6 @@
-use Rattle.std.proofs.Common.{◌≡◌, ℕ, ◌<◌, false, true, List, ◌∷◌, drop, Some, None, arith, sym, ap, subst, ◌∙◌}
-use Rattle.std.specs.Prelude.{◌==◌}
+use Rattle.std.proofs.Common.{◌≡◌, ◌∷◌, drop, sym, ap, ◌∙◌}
 use Rattle.tp_queue.specs.Queues.{waiting_of}
-use Rattle.tp_tasks.specs.declared.tasks.Tasks.{Tasks}
 use Rattle.tp_tasks.specs.Tasks.{row_of}
-use Rattle.tp_record.specs.declared.rows.TaskRow.{TaskRow}
-use Rattle.tp_shapes.specs.View.{View, put}
-use Rattle.tp_parts.specs.Drained.{is_among, gone}
-use Rattle.tp_parts.specs.Payloads.{HandsOut}
 use Rattle.tp_parts.specs.Shows.{numbers}
 use Rattle.tp_parts.proofs.Queued.{queue_head}
 use Rattle.tp_parts.proofs.Drains.{item_head, item_none, among_head, once_left, among_left, rest_of, handed_of}
