@@ -3,3 +3,5 @@ pub mod Sums
 pub mod Standing
 pub mod Leading
 pub mod Queued
+pub mod Slots
+pub mod Offers

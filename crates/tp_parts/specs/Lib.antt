@@ -2,3 +2,4 @@ pub mod Shows
 pub mod Tied
 pub mod Steps
 pub mod Payloads
+pub mod Offers

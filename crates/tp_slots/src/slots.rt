@@ -170,6 +170,7 @@ impl Slots {
     pub fn open(&mut self, w: SlotId)
         requires { is_reserved_row (slot_at self.old.slots w.0) ≡ true }
         ensures slots { IsSet self.old.slots self.new.slots w.0 (working_row (slot_at self.old.slots w.0)) }
+        ensures live { count_by is_live self.new.slots ≡ count_by is_live self.old.slots + 1 }
         ensures rest { self.new ≡ record self.old { slots = self.new.slots } }
     {
         self.seats[w.0].row.stage = Stage::Working;
@@ -252,6 +253,7 @@ impl Slots {
         requires { is_live (slot_at self.old.slots w.0) ≡ true }
         ensures was { slot_at self.old.slots w.0 ≡ Some result }
         ensures slots { IsSet self.old.slots self.new.slots w.0 None }
+        ensures len { count_by is_some self.new.slots + 1 ≡ count_by is_some self.old.slots }
         ensures idling { self.new.idling ≡ without w.0 self.old.idling }
         ensures rest { self.new ≡ record self.old { slots = self.new.slots; idling = self.new.idling; next = w.0 } }
     {
