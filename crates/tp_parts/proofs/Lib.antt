@@ -3,5 +3,9 @@ pub mod Sums
 pub mod Standing
 pub mod Leading
 pub mod Queued
+pub mod New
+pub mod Few
 pub mod Slots
 pub mod Offers
+pub mod Removals
+pub mod Answering

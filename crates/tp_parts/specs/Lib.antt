@@ -3,3 +3,5 @@ pub mod Tied
 pub mod Steps
 pub mod Payloads
 pub mod Offers
+pub mod Memory
+pub mod Room
