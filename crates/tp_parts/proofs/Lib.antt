@@ -9,3 +9,4 @@ pub mod Slots
 pub mod Offers
 pub mod Removals
 pub mod Answering
+pub mod Reading
