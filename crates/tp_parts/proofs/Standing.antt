@@ -1,6 +1,6 @@
 -- What is known where structures stand.
 use Rattle.std.proofs.Common.{◌≡◌, ℕ, ◌+◌, ◌-◌, ◌^◌, ◌<◌, ◌≤◌, Bool, true, List, Option, Some, Ok, Err, cond, arith, sym, ap, ◌∙◌}
-use Rattle.std.specs.Prelude.{unwrap_or}
+use Rattle.std.specs.Prelude.{unwrap_or, ◌&&◌, not}
 use Rattle.std.proofs.lemmas.Bool.{le-leb}
 use Rattle.tp_types.specs.Config.{IsConfig}
 use Rattle.tp_types.specs.declared.configs.Config.{Config}
@@ -11,6 +11,7 @@ use Rattle.tp_record.specs.declared.entries.Entry.{Entry}
 use Rattle.tp_record.specs.declared.entries.Ask.{Ask}
 use Rattle.tp_record.specs.declared.entries.Did.{Did}
 use Rattle.tp_record.specs.declared.rows.Stage.{Stage}
+use Rattle.tp_record.specs.declared.rows.TaskRow.{TaskRow}
 use Rattle.tp_record.specs.Effects.{reserves}
 use Rattle.tp_record.specs.Fields.{rank, submitted, is_cancelled}
 use Rattle.tp_record.specs.State.{state, slot_at, task_at}
@@ -21,8 +22,10 @@ use Rattle.tp_model.proofs.Told.{given_answer, sound_legal}
 use Rattle.tp_room.specs.Room.{lowers}
 use Rattle.tp_room.proofs.OwedLaws.{owed_falls, room_is_enough}
 use Rattle.tp_parts.specs.declared.parts.Parts.{Parts}
+use Rattle.tp_tasks.specs.declared.tasks.Tasks.{Tasks}
 use Rattle.tp_tasks.specs.Tasks.{row_of}
 use Rattle.tp_shapes.specs.View.{View, Effect}
+use Rattle.tp_parts.specs.Tied.{is_before, is_waiting}
 use Rattle.tp_parts.specs.Steps.{Stands, Fits, Accepts, IsFitting}
 
 -- what is given where an answer fits
@@ -87,3 +90,11 @@ module _ {P : Type 0} (p : Parts P) (stands : Stands p) where
       let few = few_steps in
       let owed = owed_here d v fall rise (effect (given_here a d fits)) in
       (omega (arith, few), omega (arith, owed, net))
+
+  -- a task that is there, and that waits in another place just as in this one
+  pub known_here : (tasks : Tasks P) (t : ℕ) (from to : Place) → tasks ≡ p.tasks → IsAt stands.history t from → is_before to ≡ is_before from →
+      (r : TaskRow) × (row_of tasks t ≡ Some r) × (is_waiting (record r { place = to }) ≡ is_waiting r)
+  known_here tasks t from to same is alike =
+      let there = task_here t from is in
+      let r = task_at (state p.config stands.history) t in
+      (r, ap (λ x. row_of x t) same ∙ there.0, ap (λ b. b && not r.cancelled) (alike ∙ sym (ap is_before there.1)))
