@@ -34,6 +34,26 @@ pub fn answer<P>(parts: &Parts<P>, w: SlotId) -> Result<Failed, PoolError>
     }
 }
 
+/// Makes an accepted answer: the slot is freed, and its first task is to be offered, or refused.
+pub fn apply<P>(parts: &mut Parts<P>, w: SlotId, failed: Failed)
+    requires stands { Stands parts.old }
+    requires fits { Fits parts.old (Ask.Fail w) (Did.Fail w failed) }
+    ensures leads { Leads parts.old (Did.Fail w failed) parts.new }
+    ensures payloads { Keeps parts.old.tasks parts.new.tasks }
+{
+    let Some(slot) = parts.slots.get(w) else {
+        unreachable!()
+    };
+    match failed {
+        Failed::Nothing => give_up(parts, w),
+        Failed::Offer(t) => offer(parts, w, t),
+        Failed::Refuse(t) => match slot.stage {
+            Stage::ReservedCore => refuse_core(parts, w, t),
+            _ => refuse_maximum(parts, w, t),
+        },
+    }
+}
+
 /// A bare slot is freed.
 fn give_up<P>(parts: &mut Parts<P>, w: SlotId)
     requires stands { Stands parts.old }

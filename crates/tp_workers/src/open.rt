@@ -39,6 +39,30 @@ pub fn answer<P>(parts: &Parts<P>, w: SlotId) -> Result<Opened, PoolError>
     }
 }
 
+/// Makes an accepted answer: the slot is live, or freed and its first task refused.
+pub fn apply<P>(parts: &mut Parts<P>, w: SlotId, opened: Opened)
+    requires stands { Stands parts.old }
+    requires fits { Fits parts.old (Ask.Open w) (Did.Open w opened) }
+    ensures leads { Leads parts.old (Did.Open w opened) parts.new }
+    ensures payloads { Keeps parts.old.tasks parts.new.tasks }
+{
+    let Some(slot) = parts.slots.get(w) else {
+        unreachable!()
+    };
+    match opened {
+        Opened::Live => match slot.stage {
+            Stage::ReservedCore => live_core(parts, w),
+            Stage::ReservedMaximum => live_maximum(parts, w),
+            _ => live_bare(parts, w),
+        },
+        Opened::GivenUp => give_up(parts, w),
+        Opened::GivenUpRefuse(t) => match slot.stage {
+            Stage::ReservedCore => refuse_core(parts, w, t),
+            _ => refuse_maximum(parts, w, t),
+        },
+    }
+}
+
 /// A bare slot is live: its worker is about to take a task.
 fn live_bare<P>(parts: &mut Parts<P>, w: SlotId)
     requires stands { Stands parts.old }
