@@ -1,13 +1,14 @@
 //! The submitter offers its task to the queue, as `workQueue.offer` in `execute`.
 
-ghost use Rattle.std.specs.Prelude.{IfOk, IfErr};
-ghost use Rattle.tp_parts.specs.Steps.{Fits, Refuses};
+ghost use Rattle.std.specs.Prelude.{ℕ, ◌≡◌, IfOk, IfErr};
+ghost use Rattle.tp_parts.specs.Payloads.{Keeps};
+ghost use Rattle.tp_parts.specs.Steps.{Stands, Fits, Refuses, Leads};
 
 use tp_parts::parts::Parts;
 use tp_queue::work::WorkQueue;
 use tp_record::entries::{Ask, Did, Offered};
 use tp_types::configs::QueueKind;
-use tp_types::ids::TaskId;
+use tp_types::ids::{SlotId, TaskId};
 use tp_types::refusals::PoolError;
 use tp_types::tasks::Place;
 
@@ -38,4 +39,52 @@ pub fn answer<P>(parts: &Parts<P>, t: TaskId) -> Result<Offered, PoolError>
     } else {
         Offered::Full
     })
+}
+
+/// Makes an accepted answer.
+pub fn apply<P>(parts: &mut Parts<P>, t: TaskId, offered: Offered)
+    requires stands { Stands parts.old }
+    requires fits { Fits parts.old (Ask.Offer t) (Did.Offer t offered) }
+    ensures leads { Leads parts.old (Did.Offer t offered) parts.new }
+    ensures payloads { Keeps parts.old.tasks parts.new.tasks }
+{
+    match offered {
+        Offered::Queued => queue(parts, t),
+        Offered::Hand(w) => hand(parts, t, w),
+        Offered::Full => turn_away(parts, t),
+    }
+}
+
+/// The task is at the queue's tail.
+fn queue<P>(parts: &mut Parts<P>, t: TaskId)
+    requires stands { Stands parts.old }
+    requires fits { Fits parts.old (Ask.Offer t) (Did.Offer t Offered.Queued) }
+    ensures leads { Leads parts.old (Did.Offer t Offered.Queued) parts.new }
+    ensures payloads { Keeps parts.old.tasks parts.new.tasks }
+{
+    parts.count_entry(1);
+    parts.enqueue(t);
+}
+
+/// The worker that was idle longest has the task.
+fn hand<P>(parts: &mut Parts<P>, t: TaskId, w: SlotId)
+    requires stands { Stands parts.old }
+    requires fits { Fits parts.old (Ask.Offer t) (Did.Offer t (Offered.Hand w)) }
+    ensures leads { Leads parts.old (Did.Offer t (Offered.Hand w)) parts.new }
+    ensures payloads { Keeps parts.old.tasks parts.new.tasks }
+{
+    parts.count_entry(1);
+    parts.hand_task(t, w);
+    parts.wake(w, Some(t));
+}
+
+/// There is no room: the pool is to grow.
+fn turn_away<P>(parts: &mut Parts<P>, t: TaskId)
+    requires stands { Stands parts.old }
+    requires fits { Fits parts.old (Ask.Offer t) (Did.Offer t Offered.Full) }
+    ensures leads { Leads parts.old (Did.Offer t Offered.Full) parts.new }
+    ensures payloads { Keeps parts.old.tasks parts.new.tasks }
+{
+    parts.count_entry(2);
+    parts.place_task(t, Place::ToGrow);
 }

@@ -4,5 +4,6 @@
 
 pub mod begin;
 pub mod fail;
+pub mod leave;
 pub mod open;
 pub mod take;
