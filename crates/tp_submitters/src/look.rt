@@ -27,7 +27,7 @@ pub fn answer<P>(parts: &Parts<P>, t: TaskId) -> Result<Looked, PoolError>
     Ok(parts.look())
 }
 
-/// Makes an accepted answer.
+/// Makes an accepted answer: the task is held by the next slot, or its submitter is to offer it, or it awaits a verdict.
 pub fn apply<P>(parts: &mut Parts<P>, t: TaskId, looked: Looked)
     requires stands { Stands parts.old }
     requires fits { Fits parts.old (Ask.Look t) (Did.Look t looked) }

@@ -23,25 +23,19 @@ pub fn answer<P>(parts: &Parts<P>, t: TaskId) -> Result<Offered, PoolError>
     let Place::ToOffer = row.place else {
         return Err(PoolError::NotThere);
     };
-    // The run state is not looked at: a shutdown may come at any moment after it was, so the second look does that.
-    let has_room = match parts.config.queue {
-        QueueKind::Unbounded => true,
-        QueueKind::Bounded(capacity) => parts.queue.len() < capacity as usize,
-        QueueKind::Handoff => {
-            return Ok(match parts.slots.longest_idle() {
-                Some(w) => Offered::Hand(w),
-                None => Offered::Full,
-            });
-        }
-    };
-    Ok(if has_room {
-        Offered::Queued
-    } else {
-        Offered::Full
+    // The run state is not looked at: a shutdown may come right after any test of it, so it is the second look that does.
+    Ok(match parts.config.queue {
+        QueueKind::Handoff => match parts.slots.longest_idle() {
+            Some(w) => Offered::Hand(w),
+            None => Offered::Full,
+        },
+        QueueKind::Bounded(capacity) if parts.queue.len() >= capacity as usize => Offered::Full,
+        QueueKind::Bounded(_) | QueueKind::Unbounded => Offered::Queued,
     })
 }
 
-/// Makes an accepted answer.
+/// Makes an accepted answer: the task is queued, or in the slot of the worker that was idle longest, or its submitter is to
+/// grow the pool.
 pub fn apply<P>(parts: &mut Parts<P>, t: TaskId, offered: Offered)
     requires stands { Stands parts.old }
     requires fits { Fits parts.old (Ask.Offer t) (Did.Offer t offered) }

@@ -55,7 +55,8 @@ fn is_deserted<P>(parts: &Parts<P>) -> bool
     parts.slots.len() == 0 && parts.wants_worker()
 }
 
-/// Makes an accepted answer.
+/// Makes an accepted answer: the task stays, or stays with the next slot to serve it, or is out of the queue and awaits a
+/// verdict.
 pub fn apply<P>(parts: &mut Parts<P>, t: TaskId, seconded: Seconded)
     requires stands { Stands parts.old }
     requires fits { Fits parts.old (Ask.Second t) (Did.Second t seconded) }
