@@ -4,3 +4,5 @@ pub mod Standing
 pub mod Leading
 pub mod Queued
 pub mod Answering
+pub mod Slots
+pub mod Submissions
