@@ -1,0 +1,4 @@
+pub mod Payloads
+pub mod Submitting
+pub mod Retrying
+pub mod Verdicts
