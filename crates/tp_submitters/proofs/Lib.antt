@@ -1,2 +1,6 @@
 pub mod Looks
 pub mod Offering
+pub mod Payloads
+pub mod Submitting
+pub mod Retrying
+pub mod Verdicts
