@@ -1,5 +1,5 @@
 -- A task that is to be offered is not in the queue, and an unbounded queue has a place for it.
-use Rattle.std.proofs.Common.{◌≡◌, ℕ, ◌<◌, ◌≤◌, Bool, true, false, ◌||◌, List, [], ◌∷◌, length, refl, arith, sym, ap, subst, ◌∙◌, inl, inr}
+use Rattle.std.proofs.Common.{◌≡◌, ℕ, ◌<◌, ◌≤◌, true, false, ◌||◌, List, [], ◌∷◌, length, refl, arith, sym, ap, subst, ◌∙◌, inl, inr}
 use Rattle.std.specs.Prelude.{nat_eq}
 use Rattle.std.specs.List.{Contains, IsDistinct, list_any, AllByRecursion}
 use Rattle.std.proofs.lemmas.Bool.{eqb-true, or_cases, or_parts}
@@ -8,13 +8,10 @@ use Rattle.std.proofs.lemmas.Map.Steps.{length-le_from_distinct_below}
 use Rattle.tp_types.specs.declared.ids.TaskId.{TaskId}
 use Rattle.tp_types.specs.declared.configs.QueueKind.{QueueKind}
 use Rattle.tp_types.specs.declared.configs.QueueKind.TheVariants.{Handoff, Unbounded, Bounded}
-use Rattle.tp_types.specs.declared.tasks.Place.{Place}
 use Rattle.tp_types.specs.declared.tasks.Place.TheVariants as at
-use Rattle.tp_record.specs.declared.entries.Did.TheVariants as did
-use Rattle.tp_record.specs.declared.entries.Offered.TheVariants as offered
 use Rattle.tp_record.specs.Fields.{queue, submitted, is_queued_place}
 use Rattle.tp_queue.specs.Queues.{waiting_of}
-use Rattle.tp_model.proofs.Given.{Given, HasQueueRoom, IsAt}
+use Rattle.tp_model.proofs.Given.{HasQueueRoom, IsAt}
 use Rattle.tp_model.proofs.Places.{queue_at}
 use Rattle.tp_model.proofs.Queues.{is_among, IsOnce, once-queue, among-queue, Contains-from_among}
 use Rattle.tp_model.proofs.Readings.{tasks_counted}
