@@ -3,4 +3,6 @@
 #![tactic(auto)]
 
 pub mod begin;
+pub mod end;
+mod owed;
 pub mod take;

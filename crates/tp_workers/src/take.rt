@@ -1,13 +1,92 @@
 //! A worker asks for its next task, as `getTask`.
 
-ghost use Rattle.std.specs.Prelude.{ℕ, ◌≡◌};
-ghost use Rattle.tp_parts.specs.Steps.{Stands, Fits, Leads};
+ghost use Rattle.std.specs.Prelude.{ℕ, ◌≡◌, ◌==◌, ◌&&◌, ◌||◌, nat_le, nat_lt, length, IfOk, IfErr};
+ghost use Rattle.std.specs.Result.{result_map_both};
+ghost use Rattle.tp_record.specs.State.{State, task_at};
+ghost use Rattle.tp_record.specs.Step.{held_answer, take_next, slot_count};
+ghost use Rattle.tp_parts.specs.Shows.{Shows};
+ghost use Rattle.tp_parts.specs.Steps.{Stands, Fits, Refuses, Leads};
 
 use tp_parts::parts::Parts;
+use tp_queue::work::WorkQueue;
 use tp_record::entries::{Ask, Did, Took};
-use tp_record::rows::{SlotRow, Stage};
+use tp_record::rows::{SlotRow, Stage, TaskRow};
 use tp_types::ids::{SlotId, TaskId};
+use tp_types::refusals::PoolError;
+use tp_types::states::RunState;
 use tp_types::tasks::Place;
+
+/// What the worker takes: the task that its slot holds, before all else, and else what the queue has for it. UnknownSlot (7)
+/// or NotThere (8), also where an idle worker stays idle.
+pub fn answer<P>(parts: &Parts<P>, w: SlotId) -> Result<Took, PoolError>
+    ensures fits { IfOk result (λ k. Fits parts.now (Ask.Take w) (Did.Take w k)) }
+    ensures refuses { IfErr result (λ e. Refuses parts.now (Ask.Take w) e) }
+{
+    let Some(slot) = parts.slots.get(w) else {
+        return Err(PoolError::UnknownSlot);
+    };
+    match (slot.stage, slot.task) {
+        (Stage::Working, Some(t)) => first_task(parts, t),
+        (Stage::Working | Stage::Idle(_), None) => next_task(parts, slot.stage),
+        _ => Err(PoolError::NotThere),
+    }
+}
+
+/// What a worker takes whose slot holds this task.
+fn first_task<P>(parts: &Parts<P>, t: TaskId) -> Result<Took, PoolError>
+    ensures { (s : State) (w : SlotId) → Shows parts.now s → held_answer w t (task_at s t.0).place ≡ result_map_both (λ k. Did.Take w k) (λ e. e) result }
+{
+    match parts.tasks.row(t) {
+        Some(
+            TaskRow {
+                place: Place::Held(_),
+                ..
+            },
+        ) => Ok(Took::Held(t)),
+        _ => Err(PoolError::NotThere),
+    }
+}
+
+/// What a worker takes whose slot holds no task.
+fn next_task<P>(parts: &Parts<P>, stage: Stage) -> Result<Took, PoolError>
+    ensures { (s : State) (w : SlotId) → Shows parts.now s → take_next s w stage ≡ result_map_both (λ k. Did.Take w k) (λ e. e) result }
+{
+    if retires(parts) {
+        return Ok(Took::Leave);
+    }
+    // The queue comes before the timeout: a worker that timed out may be the last one, and would leave a queued task to nobody.
+    if let Some(t) = parts.queue.head() {
+        return Ok(Took::Head(t));
+    }
+    if parts.slots.timed_out(
+        stage,
+        parts.core,
+        parts.keep,
+        parts.core_timeout,
+        parts.moment,
+    ) {
+        Ok(Took::Leave)
+    } else if stage.is_idle() {
+        Err(PoolError::NotThere)
+    } else {
+        Ok(Took::Idle)
+    }
+}
+
+/// Whether a worker without a task leaves whatever time it has waited: where its pool is stopped, or shut down with nothing
+/// queued, and where there are more slots than the maximum.
+fn retires<P>(parts: &Parts<P>) -> bool
+    ensures { (s : State) → Shows parts.now s → result ≡ ((nat_le 2 s.rank || (s.rank == 1 && length s.queue == 0)) || (nat_lt s.maximum (slot_count s) && (nat_lt 1 (slot_count s) || length s.queue == 0))) }
+{
+    let is_empty = parts.queue.len() == 0;
+    let is_over = match parts.state {
+        RunState::Running => false,
+        RunState::Shutdown => is_empty,
+        _ => true,
+    };
+    let count = parts.slots.len();
+    is_over || (count > parts.maximum as usize && (count > 1 || is_empty))
+}
 
 /// The worker takes the task that its slot holds.
 pub fn held<P>(parts: &mut Parts<P>, w: SlotId, t: TaskId)
