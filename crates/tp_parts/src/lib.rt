@@ -2,7 +2,9 @@
 #![tactic(auto)]
 
 pub mod entries;
+pub mod offer_changes;
 pub mod parts;
 pub mod queue_changes;
+pub mod readings;
 pub mod slot_changes;
 pub mod task_changes;

@@ -4,5 +4,7 @@
 
 pub mod begin;
 pub mod end;
+pub mod fail;
+pub mod open;
 mod owed;
 pub mod take;
