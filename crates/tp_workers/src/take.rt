@@ -1,12 +1,15 @@
 //! A worker asks for its next task, as `getTask`.
 
-ghost use Rattle.std.specs.Prelude.{ℕ, ◌≡◌, ◌==◌, ◌&&◌, ◌||◌, nat_le, nat_lt, length, IfOk, IfErr};
+ghost use Rattle.std.specs.Prelude.{ℕ, ◌≡◌, ◌==◌, ◌&&◌, ◌||◌, true, false, nat_le, nat_lt, length, IfOk, IfErr};
 ghost use Rattle.std.specs.Result.{result_map_both};
-ghost use Rattle.tp_record.specs.State.{State, task_at};
+ghost use Rattle.tp_record.specs.Fields.{is_idle_row};
+ghost use Rattle.tp_record.specs.State.{State, task_at, slot_at};
 ghost use Rattle.tp_record.specs.Step.{held_answer, take_next, slot_count};
+ghost use Rattle.tp_parts.specs.Payloads.{Keeps};
 ghost use Rattle.tp_parts.specs.Shows.{Shows};
 ghost use Rattle.tp_parts.specs.Steps.{Stands, Fits, Refuses, Leads};
 
+use crate::owed::owed_at_take;
 use tp_parts::parts::Parts;
 use tp_queue::work::WorkQueue;
 use tp_record::entries::{Ask, Did, Took};
@@ -36,13 +39,11 @@ pub fn answer<P>(parts: &Parts<P>, w: SlotId) -> Result<Took, PoolError>
 fn first_task<P>(parts: &Parts<P>, t: TaskId) -> Result<Took, PoolError>
     ensures { (s : State) (w : SlotId) → Shows parts.now s → held_answer w t (task_at s t.0).place ≡ result_map_both (λ k. Did.Take w k) (λ e. e) result }
 {
-    match parts.tasks.row(t) {
-        Some(
-            TaskRow {
-                place: Place::Held(_),
-                ..
-            },
-        ) => Ok(Took::Held(t)),
+    let Some(row) = parts.tasks.row(t) else {
+        return Err(PoolError::NotThere);
+    };
+    match row.place {
+        Place::Held(_) => Ok(Took::Held(t)),
         _ => Err(PoolError::NotThere),
     }
 }
@@ -88,11 +89,39 @@ fn retires<P>(parts: &Parts<P>) -> bool
     is_over || (count > parts.maximum as usize && (count > 1 || is_empty))
 }
 
+/// Makes an accepted answer.
+pub fn apply<P>(parts: &mut Parts<P>, w: SlotId, took: Took)
+    requires stands { Stands parts.old }
+    requires fits { Fits parts.old (Ask.Take w) (Did.Take w took) }
+    ensures leads { Leads parts.old (Did.Take w took) parts.new }
+    ensures payloads { Keeps parts.old.tasks parts.new.tasks }
+{
+    match took {
+        Took::Held(t) => held(parts, w, t),
+        Took::Head(t) if is_idle(parts, w) => head_idle(parts, w, t),
+        Took::Head(t) => head(parts, w, t),
+        Took::Leave if is_idle(parts, w) => leave_idle(parts, w),
+        Took::Leave => leave(parts, w),
+        Took::Idle => rest(parts, w),
+    }
+}
+
+/// Whether the slot's worker is idle.
+fn is_idle<P>(parts: &Parts<P>, w: SlotId) -> bool
+    ensures { result ≡ is_idle_row (slot_at parts.now.slots.slots w.0) }
+{
+    match parts.slots.get(w) {
+        Some(slot) => slot.is_idle(),
+        None => false,
+    }
+}
+
 /// The worker takes the task that its slot holds.
-pub fn held<P>(parts: &mut Parts<P>, w: SlotId, t: TaskId)
+fn held<P>(parts: &mut Parts<P>, w: SlotId, t: TaskId)
     requires stands { Stands parts.old }
     requires fits { Fits parts.old (Ask.Take w) (Did.Take w (Took.Held t)) }
-    ensures { Leads parts.old (Did.Take w (Took.Held t)) parts.new }
+    ensures leads { Leads parts.old (Did.Take w (Took.Held t)) parts.new }
+    ensures payloads { Keeps parts.old.tasks parts.new.tasks }
 {
     parts.count_entry(1);
     parts.place_task(t, Place::Taken(w));
@@ -105,11 +134,70 @@ pub fn held<P>(parts: &mut Parts<P>, w: SlotId, t: TaskId)
     );
 }
 
+/// A worker that was not idle takes the queue's head.
+fn head<P>(parts: &mut Parts<P>, w: SlotId, t: TaskId)
+    requires stands { Stands parts.old }
+    requires fits { Fits parts.old (Ask.Take w) (Did.Take w (Took.Head t)) }
+    requires busy { is_idle_row (slot_at parts.old.slots.slots w.0) ≡ false }
+    ensures leads { Leads parts.old (Did.Take w (Took.Head t)) parts.new }
+    ensures payloads { Keeps parts.old.tasks parts.new.tasks }
+{
+    parts.count_entry(owed_at_take(parts.state));
+    parts.dequeue();
+    parts.place_task(t, Place::Taken(w));
+    parts.set_slot(
+        w,
+        SlotRow {
+            stage: Stage::Working,
+            task: Some(t),
+        },
+    );
+}
+
+/// An idle worker takes the queue's head.
+fn head_idle<P>(parts: &mut Parts<P>, w: SlotId, t: TaskId)
+    requires stands { Stands parts.old }
+    requires fits { Fits parts.old (Ask.Take w) (Did.Take w (Took.Head t)) }
+    requires idle { is_idle_row (slot_at parts.old.slots.slots w.0) ≡ true }
+    ensures leads { Leads parts.old (Did.Take w (Took.Head t)) parts.new }
+    ensures payloads { Keeps parts.old.tasks parts.new.tasks }
+{
+    parts.count_entry(1);
+    parts.dequeue();
+    parts.place_task(t, Place::Taken(w));
+    parts.wake(w, Some(t));
+}
+
+/// A worker that was not idle leaves.
+fn leave<P>(parts: &mut Parts<P>, w: SlotId)
+    requires stands { Stands parts.old }
+    requires fits { Fits parts.old (Ask.Take w) (Did.Take w Took.Leave) }
+    requires busy { is_idle_row (slot_at parts.old.slots.slots w.0) ≡ false }
+    ensures leads { Leads parts.old (Did.Take w Took.Leave) parts.new }
+    ensures payloads { Keeps parts.old.tasks parts.new.tasks }
+{
+    parts.count_entry(owed_at_take(parts.state));
+    parts.free(w);
+}
+
+/// An idle worker leaves.
+fn leave_idle<P>(parts: &mut Parts<P>, w: SlotId)
+    requires stands { Stands parts.old }
+    requires fits { Fits parts.old (Ask.Take w) (Did.Take w Took.Leave) }
+    requires idle { is_idle_row (slot_at parts.old.slots.slots w.0) ≡ true }
+    ensures leads { Leads parts.old (Did.Take w Took.Leave) parts.new }
+    ensures payloads { Keeps parts.old.tasks parts.new.tasks }
+{
+    parts.count_entry(1);
+    parts.free(w);
+}
+
 /// The worker finds nothing and is idle from now on.
-pub fn rest<P>(parts: &mut Parts<P>, w: SlotId)
+fn rest<P>(parts: &mut Parts<P>, w: SlotId)
     requires stands { Stands parts.old }
     requires fits { Fits parts.old (Ask.Take w) (Did.Take w Took.Idle) }
-    ensures { Leads parts.old (Did.Take w Took.Idle) parts.new }
+    ensures leads { Leads parts.old (Did.Take w Took.Idle) parts.new }
+    ensures payloads { Keeps parts.old.tasks parts.new.tasks }
 {
     parts.count_entry(1);
     parts.idle(w);
