@@ -3,4 +3,8 @@ pub mod Sums
 pub mod Standing
 pub mod Leading
 pub mod Queued
+pub mod New
+pub mod Few
 pub mod Slots
+pub mod Removals
+pub mod Answering

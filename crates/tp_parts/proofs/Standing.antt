@@ -1,6 +1,6 @@
 -- What is known where structures stand.
-use Rattle.std.proofs.Common.{◌≡◌, ℕ, suc, ◌+◌, ◌-◌, ◌^◌, ◌<◌, ◌≤◌, Bool, true, false, List, [], ◌∷◌, length, Option, Some, None, Ok, Err, cond, arith, sym, ap, ◌∙◌}
-use Rattle.std.specs.Prelude.{unwrap_or}
+use Rattle.std.proofs.Common.{◌≡◌, ℕ, ◌+◌, ◌-◌, ◌^◌, ◌<◌, ◌≤◌, Bool, true, false, List, Option, Some, None, Ok, Err, cond, arith, sym, ap, subst, ◌∙◌}
+use Rattle.std.specs.Prelude.{unwrap_or, ◌↔◌}
 use Rattle.std.proofs.lemmas.Bool.{le-leb}
 use Rattle.tp_types.specs.Config.{IsConfig}
 use Rattle.tp_types.specs.declared.configs.Config.{Config}
@@ -11,9 +11,9 @@ use Rattle.tp_record.specs.declared.entries.Entry.{Entry}
 use Rattle.tp_record.specs.declared.entries.Ask.{Ask}
 use Rattle.tp_record.specs.declared.entries.Did.{Did}
 use Rattle.tp_record.specs.declared.rows.Stage.{Stage}
-use Rattle.tp_record.specs.Effects.{reserves, is_completion}
-use Rattle.tp_record.specs.Fields.{rank, submitted, is_cancelled, completions}
-use Rattle.tp_record.specs.State.{state, slot_at, task_at}
+use Rattle.tp_record.specs.Effects.{reserves}
+use Rattle.tp_record.specs.Fields.{rank, submitted, is_cancelled}
+use Rattle.tp_record.specs.State.{State, state, slot_at, task_at}
 use Rattle.tp_record.specs.Step.{Gives, Legal, within_room, leaves_room}
 use Rattle.tp_model.proofs.Given.{Given, IsAt, HasRow}
 use Rattle.tp_model.proofs.Readings.{tasks_counted, row_read, slot_read}
@@ -25,6 +25,8 @@ use Rattle.tp_tasks.specs.Tasks.{row_of}
 use Rattle.tp_shapes.specs.View.{View, Effect}
 use Rattle.tp_shapes.proofs.Invariants.{is_gone}
 use Rattle.tp_shapes.proofs.Facts.{open_row}
+use Rattle.tp_parts.specs.Shows.{Shows}
+use Rattle.tp_parts.specs.Tied.{IsTied}
 use Rattle.tp_parts.specs.Steps.{Stands, Fits, Accepts, IsFitting}
 
 -- what is given where an answer fits
@@ -38,15 +40,6 @@ gives_owed c h a d config legal fits low =
     let room = room_is_enough c h config legal in
     let leaves : leaves_room c (state c h) d ≡ true = le-leb _ _ (omega (arith, falls, room)) in
     (ap (within_room c (state c h)) fits.0 ∙ ap (λ b. cond b (Ok d) (Err BookFull)) leaves, fits.1)
-
--- each completion has its entry
-completions_counted : (h : List Entry) → completions h ≤ length h
-completions_counted [] = omega arith
-completions_counted (e ∷ h) = by (is_completion e.did) (completions_counted h)
-  where
-    by : (b : Bool) → completions h ≤ length h → cond b (suc (completions h)) (completions h) ≤ suc (length h)
-    by true le = omega (arith, le)
-    by false le = omega (arith, le)
 
 module _ {P : Type 0} (p : Parts P) (stands : Stands p) where
   -- so is each that is owed at every run state
@@ -63,13 +56,6 @@ module _ {P : Type 0} (p : Parts P) (stands : Stands p) where
 
   pub few_steps : p.steps + p.due < 2 ^ 32 - 1
   few_steps = let l = stands.tied.config.greatest_limit in let r = room_left in omega (arith, l, r)
-
-  pub few_completions : p.completions ≤ p.steps
-  few_completions =
-      let n = completions_counted stands.history in
-      let e = stands.shows.entries in
-      let f = stands.shows.seen.completed in
-      omega (arith, n, e, f)
 
   -- what is given at its history
   pub given_here : (a : Ask) (d : Did) → Fits p a d → Given p.config stands.history d
@@ -109,3 +95,20 @@ module _ {P : Type 0} (p : Parts P) (stands : Stands p) where
       let few = few_steps in
       let owed = owed_here d v fall rise (effect (given_here a d fits)) in
       (omega (arith, few), omega (arith, owed, net))
+
+-- structures that show the same states, with the same settings, stand and accept alike
+module _ {P : Type 0} (old new : Parts P) (config : new.config ≡ old.config) (same : (s : State) → Shows old s ↔ Shows new s) where
+  before : (h : List Entry) → Shows new (state new.config h) → Shows old (state old.config h)
+  before h sh = subst (λ c. Shows old (state c h)) config ((same (state new.config h)).1 sh)
+
+  pub stands_same : new.steps ≡ old.steps → ((c : Config) (n : ℕ) → IsTied c n old → IsTied c n new) → Stands old → Stands new
+  stands_same steps tied stands = record {
+    history = stands.history;
+    legal = subst (λ c. Legal c stands.history) (sym config) stands.legal;
+    shows = subst (λ c. Shows new (state c stands.history)) (sym config) ((same (state old.config stands.history)).0 stands.shows);
+    tied = subst (λ n. IsTied new.config n new) (sym steps) (subst (λ c. IsTied c old.steps new) (sym config) (tied old.config old.steps stands.tied));
+  }
+
+  pub accepts_same : (a : Ask) (d : Did) → Accepts old a d → Accepts new a d
+  accepts_same a d accepts = λ h legal sh.
+      subst (λ c. Gives c (state c h) a d) (sym config) (accepts h (subst (λ c. Legal c h) config legal) (before h sh))
