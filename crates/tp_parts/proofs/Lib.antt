@@ -8,3 +8,4 @@ pub mod Few
 pub mod Slots
 pub mod Removals
 pub mod Answering
+pub mod Falls
