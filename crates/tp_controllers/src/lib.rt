@@ -1,3 +1,6 @@
 //! Controllers' steps: each in a module named as the step, with `answer`, which reads what the step answers, and `apply`, which makes
 //! an accepted answer.
 #![tactic(auto)]
+
+pub mod cancel;
+pub mod take_done;
