@@ -5,3 +5,4 @@ pub mod Leading
 pub mod Queued
 pub mod Removals
 pub mod Answering
+pub mod Slots

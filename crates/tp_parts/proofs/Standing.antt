@@ -79,3 +79,11 @@ module _ {P : Type 0} (p : Parts P) (stands : Stands p) where
       let e = effect.owes in
       let f = stands.shows.owed in
       omega (arith, e, f)
+
+  -- what it takes to count an entry by which n fewer are owed
+  pub entry_here : (a : Ask) (d : Did) (v : View) (fall rise n : ℕ) → Fits p a d → (Given p.config stands.history d → Effect (state p.config stands.history) d v fall rise) → fall ≡ n + rise →
+      (p.steps < 2 ^ 32 - 1) × (n ≤ p.due)
+  entry_here a d v fall rise n fits effect net =
+      let few = few_steps in
+      let owed = owed_here d v fall rise (effect (given_here a d fits)) in
+      (omega (arith, few), omega (arith, owed, net))

@@ -1,12 +1,14 @@
 -- What ties the structures together lasts through a change of one of them.
-use Rattle.std.proofs.Common.{◌≡◌, ℕ, suc, List, [], ◌∷◌, drop, Some, None, Option, arith, sym, ap, subst, ◌∙◌, inl, inr}
-use Rattle.std.specs.Prelude.{is_some, nat_eq, ◌&&◌}
+use Rattle.std.proofs.Common.{◌≡◌, ℕ, suc, List, [], ◌∷◌, drop, Some, None, Option, arith, sym, ap, subst, ◌∙◌, false, inl, inr}
+use Rattle.std.specs.Prelude.{is_some, nat_eq, ◌&&◌, IfSome}
 use Rattle.std.specs.List.{Contains}
 use Rattle.std.proofs.lemmas.List.Elements.{Contains-append_right}
 use Rattle.std.proofs.lemmas.Bool.{ne_eqb, cases_eq}
+use Rattle.tp_types.specs.Promise.{FitsPromise}
 use Rattle.tp_types.specs.declared.configs.Config.{Config}
 use Rattle.tp_types.specs.declared.tasks.Promise.{Promise}
 use Rattle.tp_record.specs.declared.rows.TaskRow.{TaskRow}
+use Rattle.tp_record.specs.Effects.{Outcome}
 use Rattle.tp_tasks.specs.declared.tasks.Tasks.{Tasks}
 use Rattle.tp_tasks.specs.declared.table.Task.{Task}
 use Rattle.tp_tasks.specs.Table.{row_of_task, promise_of_task, number_of_task, payload_of_task}
@@ -63,6 +65,19 @@ module _ {P : Type 0} (c : Config) (n : ℕ) (old : Parts P) (tied : IsTied c n 
   tied_row tasks t r y there set waiting ended =
       tied_paid tasks t r y there set.row set.others set.submitted set.number set.promise ended
       (ap (λ o. is_some o) set.payload ∙ tied.payloads t ∙ ap waits there ∙ sym waiting)
+
+  -- task t, which did not wait, has a row with this outcome, which is as promised, and does not wait
+  pub tied_ended : (tasks : Tasks P) (t : ℕ) (r y : TaskRow) (o : Outcome) → row_of old.tasks t ≡ Some r → is_waiting r ≡ false → SetsRow old.tasks tasks t y → is_waiting y ≡ false → y.outcome ≡ Some o →
+      IfSome (promise_of old.tasks t) (λ p. FitsPromise p o) → IsTied c n (record old { tasks = tasks })
+  tied_ended tasks t r y o there begun set gone ended fits =
+      let Q : Option Promise → Option TaskRow → Type 0 = λ p x. KeepsPromise p x in
+      tied_task tasks t set.others set.submitted set.number
+      (ap (λ x. is_some x) set.payload ∙ tied.payloads t ∙ ap waits there ∙ begun ∙ sym gone ∙ sym (ap waits set.row))
+      (subst (Q (promise_of tasks t)) (sym set.row) (subst (λ p. Q p (Some y)) (sym set.promise) (keeps (promise_of old.tasks t) fits)))
+    where
+      keeps : (p : Option Promise) → IfSome p (λ x. FitsPromise x o) → KeepsPromise p (Some y)
+      keeps None fits = tt
+      keeps (Some p) fits = let F : Option Outcome → Type 0 = λ x. IfSome x (FitsPromise p) in subst F (sym ended) fits
 
 -- what is in a list's rest is in the list
 pub contains_drop : {A : Type 0} (xs : List A) (x : A) → Contains (drop 1 xs) x → Contains xs x
