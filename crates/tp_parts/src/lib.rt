@@ -2,9 +2,11 @@
 #![tactic(auto)]
 
 pub mod entries;
+pub mod offer_changes;
 pub mod parts;
 pub mod queue_changes;
 pub mod removal_changes;
 pub mod room;
+pub mod readings;
 pub mod slot_changes;
 pub mod task_changes;
