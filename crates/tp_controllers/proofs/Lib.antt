@@ -1,1 +1,2 @@
 pub mod Cancels
+pub mod Removals

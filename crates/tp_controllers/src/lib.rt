@@ -3,4 +3,5 @@
 #![tactic(auto)]
 
 pub mod cancel;
+pub mod remove;
 pub mod take_done;
