@@ -8,3 +8,6 @@ pub mod keep;
 pub mod maximum;
 pub mod shutdown;
 pub mod tick;
+pub mod cancel;
+pub mod remove;
+pub mod take_done;
