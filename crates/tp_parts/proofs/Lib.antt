@@ -11,3 +11,4 @@ pub mod Removals
 pub mod Answering
 pub mod Falls
 pub mod Reading
+pub mod Submissions
