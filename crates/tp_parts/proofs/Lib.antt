@@ -9,4 +9,5 @@ pub mod Slots
 pub mod Offers
 pub mod Removals
 pub mod Answering
+pub mod Falls
 pub mod Reading

@@ -1,5 +1,5 @@
 -- What is known where structures stand.
-use Rattle.std.proofs.Common.{◌≡◌, ℕ, ◌+◌, ◌-◌, ◌^◌, ◌<◌, ◌≤◌, Bool, true, List, Option, Some, Ok, Err, cond, arith, sym, ap, subst, ◌∙◌}
+use Rattle.std.proofs.Common.{◌≡◌, ℕ, ◌+◌, ◌-◌, ◌^◌, ◌<◌, ◌≤◌, Bool, true, false, List, Option, Some, None, Ok, Err, cond, arith, sym, ap, subst, ◌∙◌}
 use Rattle.std.specs.Prelude.{unwrap_or, ◌↔◌, ◌&&◌, not}
 use Rattle.std.proofs.lemmas.Bool.{le-leb}
 use Rattle.tp_types.specs.Config.{IsConfig}
@@ -11,10 +11,10 @@ use Rattle.tp_record.specs.declared.entries.Entry.{Entry}
 use Rattle.tp_record.specs.declared.entries.Ask.{Ask}
 use Rattle.tp_record.specs.declared.entries.Did.{Did}
 use Rattle.tp_record.specs.declared.rows.Stage.{Stage}
-use Rattle.tp_record.specs.declared.rows.TaskRow.{TaskRow}
 use Rattle.tp_record.specs.Effects.{reserves}
 use Rattle.tp_record.specs.Fields.{rank, submitted, is_cancelled}
 use Rattle.tp_record.specs.State.{State, state, slot_at, task_at}
+use Rattle.tp_record.specs.declared.rows.TaskRow.{TaskRow}
 use Rattle.tp_record.specs.Step.{Gives, Legal, within_room, leaves_room}
 use Rattle.tp_model.proofs.Given.{Given, IsAt, HasRow}
 use Rattle.tp_model.proofs.Readings.{tasks_counted, row_read, slot_read}
@@ -25,8 +25,10 @@ use Rattle.tp_parts.specs.declared.parts.Parts.{Parts}
 use Rattle.tp_tasks.specs.declared.tasks.Tasks.{Tasks}
 use Rattle.tp_tasks.specs.Tasks.{row_of}
 use Rattle.tp_shapes.specs.View.{View, Effect}
+use Rattle.tp_parts.specs.Tied.{is_before, is_waiting, IsTied}
+use Rattle.tp_shapes.proofs.Invariants.{is_gone}
+use Rattle.tp_shapes.proofs.Facts.{open_row}
 use Rattle.tp_parts.specs.Shows.{Shows}
-use Rattle.tp_parts.specs.Tied.{IsTied, is_before, is_waiting}
 use Rattle.tp_parts.specs.Steps.{Stands, Fits, Accepts, IsFitting}
 
 -- what is given where an answer fits
@@ -69,6 +71,10 @@ module _ {P : Type 0} (p : Parts P) (stands : Stands p) where
   pub task_here : (t : ℕ) (place : Place) → IsAt stands.history t place →
       (row_of p.tasks t ≡ Some (task_at (state p.config stands.history) t)) × ((task_at (state p.config stands.history) t).place ≡ place)
   task_here t place is = (row_here t is.0, ap (λ r. r.place) (row_read stands.history t is.0) ∙ is.1)
+
+  -- where it is not gone it has no ending
+  pub open_here : (t : ℕ) (place : Place) → IsAt stands.history t place → is_gone place ≡ false → (task_at (state p.config stands.history) t).ending ≡ None
+  open_here t place is there = open_row p.config stands.history stands.legal t (ap is_gone is.1 ∙ there)
 
   -- whether it was cancelled
   pub cancelled_here : (t : ℕ) (b : Bool) → t < submitted stands.history → is_cancelled stands.history t ≡ b → (task_at (state p.config stands.history) t).cancelled ≡ b

@@ -17,8 +17,6 @@ use Rattle.tp_tasks.specs.declared.table.Task.{Task}
 use Rattle.tp_tasks.specs.Table.{row_of_task, promise_of_task, number_of_task, payload_of_task}
 use Rattle.tp_tasks.specs.Tasks.{row_of, promise_of, number_of, payload_of, submissions, KeepsOthers, SetsRow, IsUnchanged}
 use Rattle.tp_parts.specs.declared.parts.Parts.{Parts}
-use Rattle.tp_shapes.specs.View.{View}
-use Rattle.tp_parts.specs.Shows.{Views, numbers}
 use Rattle.tp_parts.specs.Tied.{IsTied, waits, is_waiting, KeepsPromise}
 
 module _ {P : Type 0} (c : Config) (n : ℕ) (old : Parts P) (tied : IsTied c n old) where
@@ -170,26 +168,4 @@ tied_more c n p tied =
       numbered = tied.numbered;
       payloads = tied.payloads;
       promises = tied.promises;
-    }
-
--- another queue is seen, and nothing else
-pub views_queue : {P : Type 0} (p : Parts P) (v : View) → Views p v → (queue : Queue) (ts : List ℕ) → ts ≡ numbers (waiting_of queue).items → Views (record p { queue = queue }) (record v { queue = ts })
-views_queue p v views queue ts is =
-    record {
-      rank = views.rank;
-      core_size = views.core_size;
-      maximum_size = views.maximum_size;
-      keep_alive = views.keep_alive;
-      times_out = views.times_out;
-      present = views.present;
-      submitted = views.submitted;
-      rows = views.rows;
-      unknown = views.unknown;
-      fates = views.fates;
-      queued = is;
-      seats = views.seats;
-      order = views.order;
-      done = views.done;
-      completed = views.completed;
-      most = views.most;
     }

@@ -5,9 +5,9 @@ ghost use Rattle.tp_record.specs.State.{slot_at};
 ghost use Rattle.tp_parts.specs.Steps.{Stands, Fits, Refuses, Leads};
 ghost use Rattle.tp_parts.specs.Payloads.{Keeps};
 
+use crate::owed::owed_at_take;
 use tp_parts::parts::Parts;
 use tp_record::entries::{Ask, Did, Opened};
-use tp_record::owed::stage_weight;
 use tp_record::rows::Stage;
 use tp_types::ids::{SlotId, TaskId};
 use tp_types::refusals::PoolError;
@@ -71,8 +71,8 @@ fn live_bare<P>(parts: &mut Parts<P>, w: SlotId)
     ensures leads { Leads parts.old (Did.Open w Opened.Live) parts.new }
     ensures payloads { Keeps parts.old.tasks parts.new.tasks }
 {
-    let left = stage_weight(parts.state.rank(), false, Stage::Working);
-    parts.count_entry(3 - left);
+    let owed = owed_at_take(parts.state);
+    parts.count_entry(3 - owed);
     parts.open(w);
 }
 
