@@ -1,3 +1,4 @@
+pub mod Looks
 pub mod Payloads
 pub mod Submitting
 pub mod Retrying
