@@ -1,6 +1,6 @@
 -- What a submission answers.
 use Rattle.std.proofs.Common.{◌≡◌, ℕ, Bool, true, false, cond, List, None, Ok, Err, refl, arith, ap, ◌∙◌}
-use Rattle.std.specs.Prelude.{◌^◌, ◌-◌, ◌||◌, length, nat_lt, is_none, IfSome}
+use Rattle.std.specs.Prelude.{◌^◌, ◌-◌, ◌||◌, length, nat_lt, is_none, unwrap_or, IfSome}
 use Rattle.std.proofs.lemmas.Bool.{lt-ltb}
 use Rattle.tp_types.specs.declared.configs.Config.{Config}
 use Rattle.tp_types.specs.declared.ids.TaskId.{TaskId}
@@ -24,7 +24,17 @@ use Rattle.tp_parts.specs.Steps.{Stands}
 use Rattle.tp_parts.proofs.Few.{few_tasks}
 use Rattle.tp_submitters.specs.Owed.{rise_of}
 
--- what a submission owes does not depend on the number of the slot that it reserves
+-- a look answers by two tests, and reserves the number that it is told
+pub look_again : (s : State) (n : ℕ) → look s (unwrap_or (reserved_looked (look s n)) 0) ≡ look s n
+look_again s n = again (nat_lt 0 s.rank) (nat_lt (slot_count s) s.core)
+  where
+    again : (a b : Bool) → cond a looked.Refuse (cond b (looked.Reserve (record { 0 = unwrap_or (reserved_looked (cond a looked.Refuse (cond b (looked.Reserve (record { 0 = n })) looked.Queue))) 0 })) looked.Queue)
+        ≡ cond a looked.Refuse (cond b (looked.Reserve (record { 0 = n })) looked.Queue)
+    again true b = refl
+    again false true = refl
+    again false false = refl
+
+-- what a submission owes does not depend on that number
 pub same_rise : (s : State) (n w : ℕ) → rise_of (look s w) ≡ rise_of (look s n)
 same_rise s n w = by (nat_lt 0 s.rank) (nat_lt (slot_count s) s.core)
   where

@@ -11,8 +11,7 @@ use Rattle.tp_parts.specs.Room.{TellsRoom}
 use Rattle.tp_parts.proofs.Answering.{accepts_room, refuses_room}
 use Rattle.tp_parts.proofs.Reading.{number_free}
 use Rattle.tp_submitters.specs.Owed.{rise_of}
-use Rattle.tp_submitters.proofs.Looks.{look_numbered}
-use Rattle.tp_submitters.proofs.Submitting.{look_free, same_rise, submit_moves, submit_fits}
+use Rattle.tp_submitters.proofs.Submitting.{look_again, look_free, same_rise, submit_moves, submit_fits}
 use Rattle.tp_submitters.proofs.submit.answer.Goals as goal
 
 pub returns-then-has_room-clause-accepts : goal.returns-then-has_room-clause-accepts
@@ -23,7 +22,8 @@ returns-then-has_room-clause-accepts g c =
     accepts_room p (ask.Submit k) (did.Submit (record { 0 = submissions p.tasks }) k l) 0 (rise_of l) c.has_room.result (subst (λ n. TellsRoom p 0 n c.has_room.result) c.rise.ensures.rise c.has_room.ensures) c.if-has_room.true
     (λ h legal sh.
     let s = state p.config h in
-    let again = look_numbered s l p.slots.next (c.look-looked.ensures.looked s sh) in (
+    let is = c.look-looked.ensures.looked s sh in
+    let again = ap (λ x. look s (unwrap_or (reserved_looked x) 0)) is ∙ look_again s p.slots.next ∙ sym is in (
       submit_fits p c.requires.stands k h sh (unwrap_or (reserved_looked l) 0) ∙ ap (λ x. Ok (did.Submit (record { 0 = submissions p.tasks }) k x)) again,
       number_free p s sh (did.Submit (record { 0 = submissions p.tasks }) k l) (reserved_looked l) c.look-looked.ensures.free,
     ))
