@@ -6,3 +6,5 @@ pub mod Queued
 pub mod Removals
 pub mod Answering
 pub mod Slots
+pub mod Places
+pub mod Purging

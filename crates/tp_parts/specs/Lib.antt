@@ -3,3 +3,4 @@ pub mod Tied
 pub mod Steps
 pub mod Payloads
 pub mod Room
+pub mod Purges
