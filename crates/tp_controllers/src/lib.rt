@@ -3,5 +3,6 @@
 #![tactic(auto)]
 
 pub mod cancel;
+pub mod purge;
 pub mod remove;
 pub mod take_done;
