@@ -13,3 +13,4 @@ pub mod Seats
 pub mod Functions
 pub mod Totals
 pub mod Weights
+pub mod Short

@@ -3,8 +3,14 @@ pub mod Sums
 pub mod Standing
 pub mod Leading
 pub mod Queued
+pub mod New
+pub mod Few
+pub mod Slots
+pub mod Offers
 pub mod Removals
 pub mod Answering
-pub mod Slots
 pub mod Places
 pub mod Purging
+pub mod Falls
+pub mod Reading
+pub mod Submissions

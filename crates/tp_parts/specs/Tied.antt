@@ -1,5 +1,5 @@
 -- What ties a pool's structures to one another and to its settings.
-use Rattle.std.specs.Prelude.{ℕ, ◌≡◌, ◌≤◌, Bool, true, false, not, ◌&&◌, Option, Some, None, is_some, IfSome}
+use Rattle.std.specs.Prelude.{ℕ, ◌≡◌, ◌≤◌, Bool, true, false, not, ◌&&◌, [], Option, Some, None, is_some, IfSome}
 use Rattle.std.specs.List.{Contains}
 use Rattle.tp_types.specs.Config.{IsConfig}
 use Rattle.tp_types.specs.Promise.{FitsPromise}
@@ -12,7 +12,9 @@ use Rattle.tp_types.specs.declared.tasks.Promise.{Promise}
 use Rattle.tp_record.specs.declared.rows.TaskRow.{TaskRow}
 use Rattle.tp_queue.specs.Queues.{waiting_of}
 use Rattle.tp_tasks.specs.Tasks.{row_of, number_of, payload_of, promise_of, submissions}
+use Rattle.tp_record.specs.State.{state}
 use Rattle.tp_parts.specs.declared.parts.Parts.{Parts}
+use Rattle.tp_parts.specs.Shows.{Shows}
 
 -- a task in this place has not begun and is not gone
 abbrev pub is_before : Place → Bool
@@ -54,3 +56,10 @@ pub record IsTied {P : Type 0} (c : Config) (n : ℕ) (p : Parts P) : Type 0 whe
   pub payloads : (t : ℕ) → is_some (payload_of p.tasks t) ≡ waits (row_of p.tasks t)
   -- each task ended as it promised
   pub promises : (t : ℕ) → KeepsPromise (promise_of p.tasks t) (row_of p.tasks t)
+
+-- the structures of a pool without tasks that is made with c
+pub record IsNew {P : Type 0} (c : Config) (p : Parts P) : Type 0 where
+  pub shows : Shows p (state c [])
+  pub tied : IsTied c 0 p
+  pub payloads : (t : ℕ) → payload_of p.tasks t ≡ None
+  pub promises : (t : ℕ) → promise_of p.tasks t ≡ None

@@ -2,11 +2,15 @@
 #![tactic(auto)]
 
 pub mod entries;
+pub mod looks;
 pub mod offer_changes;
+pub mod owing;
 pub mod parts;
 pub mod queue_changes;
 pub mod readings;
 pub mod removal_changes;
 pub mod room;
+pub mod setting_changes;
 pub mod slot_changes;
+pub mod submission_changes;
 pub mod task_changes;

@@ -1,5 +1,10 @@
 //! What a pool keeps beside its record.
 
+ghost use Rattle.std.specs.Prelude.{IfOk};
+ghost use Rattle.tp_types.specs.Config.{IsConfig};
+ghost use Rattle.tp_parts.specs.Tied.{IsNew};
+
+use std::alloc::{AllocError, Global};
 use tp_queue::queues::Queue;
 use tp_slots::slots::Slots;
 use tp_tasks::tasks::Tasks;
@@ -37,4 +42,32 @@ pub struct Parts<P> {
     pub largest: usize,
     /// How many entries are still owed.
     pub due: u64,
+}
+
+impl<P> Parts<P> {
+    /// A pool without tasks that runs, at tick 0. The places of a bounded queue and those of the slots below the maximum are
+    /// taken here; an error is want of memory, refusal 4.
+    pub fn new(alloc: Global, config: Config) -> Result<Parts<P>, AllocError>
+        requires { IsConfig config }
+        ensures { IfOk result (IsNew config) }
+    {
+        let queue = Queue::new(alloc, config.queue)?;
+        let slots = Slots::new(alloc, config.maximum as usize)?;
+        Ok(Parts {
+            config,
+            steps: 0,
+            tasks: Tasks::new(alloc),
+            queue,
+            slots,
+            state: RunState::Running,
+            core: config.core,
+            maximum: config.maximum,
+            keep: config.keep,
+            core_timeout: config.core_timeout,
+            moment: 0,
+            completions: 0,
+            largest: 0,
+            due: 4,
+        })
+    }
 }
