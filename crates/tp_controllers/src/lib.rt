@@ -11,6 +11,7 @@ pub mod prestart;
 pub mod shutdown;
 pub mod tick;
 pub mod cancel;
+pub mod purge;
 pub mod remove;
 pub mod take_done;
 pub mod tidy;
