@@ -20,7 +20,7 @@ use tp_types::states::RunState;
 /// is stopped answers.
 pub fn answer<P>(parts: &Parts<P>) -> Result<u32, PoolError>
     requires stands { Stands parts.now }
-    ensures fits { IfOk result (λ n. Accepts parts.now Ask.Stop (Did.Stop n)) }
+    ensures accepts { IfOk result (λ n. Accepts parts.now Ask.Stop (Did.Stop n)) }
     ensures refuses { IfErr result (λ e. Refuses parts.now Ask.Stop e) }
 {
     let count = parts.queue.len() as u32;

@@ -6,7 +6,11 @@ pub mod Queued
 pub mod New
 pub mod Few
 pub mod Slots
+pub mod Offers
 pub mod Removals
 pub mod Answering
+pub mod Places
+pub mod Purging
 pub mod Falls
 pub mod Drains
+pub mod Reading

@@ -1,0 +1,6 @@
+pub mod Seconds
+pub mod Offering
+pub mod Payloads
+pub mod Submitting
+pub mod Retrying
+pub mod Verdicts

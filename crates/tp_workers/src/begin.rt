@@ -1,9 +1,11 @@
 //! A worker begins the task that it took, as `beforeExecute` and the task's `run` do.
 
 ghost use Rattle.std.specs.Prelude.{ℕ, ◌≡◌, Some, None, IfOk, IfErr};
-ghost use Rattle.tp_parts.specs.Payloads.{HandsOut};
+ghost use Rattle.tp_parts.specs.Payloads.{Keeps, HandsOut};
 ghost use Rattle.tp_parts.specs.Steps.{Stands, Fits, Refuses, Leads};
+ghost use Rattle.tp_workers.specs.Begun.{Begins};
 
+use crate::owed::owed_at_take;
 use tp_parts::parts::Parts;
 use tp_record::entries::{Ask, Did, Started};
 use tp_record::rows::{SlotRow, Stage};
@@ -11,7 +13,8 @@ use tp_types::ids::{SlotId, TaskId};
 use tp_types::refusals::PoolError;
 use tp_types::tasks::Place;
 
-/// What the worker begins: the task that it took, or nothing, where that was cancelled. UnknownSlot (7) or NotThere (8).
+/// What the worker begins: the task that it took, or nothing, where that was cancelled. UnknownSlot (7) where there is no such
+/// slot, NotThere (8) where its worker has taken no task.
 pub fn answer<P>(parts: &Parts<P>, w: SlotId) -> Result<Started, PoolError>
     ensures fits { IfOk result (λ b. Fits parts.now (Ask.Begin w) (Did.Begin w b)) }
     ensures refuses { IfErr result (λ e. Refuses parts.now (Ask.Begin w) e) }
@@ -31,6 +34,7 @@ pub fn answer<P>(parts: &Parts<P>, w: SlotId) -> Result<Started, PoolError>
     let Place::Taken(_) = row.place else {
         return Err(PoolError::NotThere);
     };
+    // A cancel may have come since the task was taken. One that comes after this can no longer keep the body from running.
     if row.cancelled {
         Ok(Started::Skip(t))
     } else {
@@ -38,8 +42,24 @@ pub fn answer<P>(parts: &Parts<P>, w: SlotId) -> Result<Started, PoolError>
     }
 }
 
+/// Makes an accepted answer, and hands out the payload of a task that runs. A skipped task has none.
+pub fn apply<P>(parts: &mut Parts<P>, w: SlotId, started: Started) -> Option<P>
+    requires stands { Stands parts.old }
+    requires fits { Fits parts.old (Ask.Begin w) (Did.Begin w started) }
+    ensures leads { Leads parts.old (Did.Begin w started) parts.new }
+    ensures payloads { Begins parts.old.tasks started parts.new.tasks result }
+{
+    match started {
+        Started::Run(t) => Some(run(parts, w, t)),
+        Started::Skip(t) => {
+            skip(parts, w, t);
+            None
+        }
+    }
+}
+
 /// The worker begins the task, and has its payload.
-pub fn run<P>(parts: &mut Parts<P>, w: SlotId, t: TaskId) -> P
+fn run<P>(parts: &mut Parts<P>, w: SlotId, t: TaskId) -> P
     requires stands { Stands parts.old }
     requires fits { Fits parts.old (Ask.Begin w) (Did.Begin w (Started.Run t)) }
     ensures leads { Leads parts.old (Did.Begin w (Started.Run t)) parts.new }
@@ -55,4 +75,23 @@ pub fn run<P>(parts: &mut Parts<P>, w: SlotId, t: TaskId) -> P
         },
     );
     payload
+}
+
+/// The worker skips the task, which was cancelled, and is about to take.
+fn skip<P>(parts: &mut Parts<P>, w: SlotId, t: TaskId)
+    requires stands { Stands parts.old }
+    requires fits { Fits parts.old (Ask.Begin w) (Did.Begin w (Started.Skip t)) }
+    ensures leads { Leads parts.old (Did.Begin w (Started.Skip t)) parts.new }
+    ensures payloads { Keeps parts.old.tasks parts.new.tasks }
+{
+    parts.count_entry(6 - owed_at_take(parts.state));
+    parts.place_task(t, Place::Gone);
+    parts.set_slot(
+        w,
+        SlotRow {
+            stage: Stage::Working,
+            task: None,
+        },
+    );
+    parts.count_completion();
 }

@@ -3,6 +3,9 @@
 #![tactic(auto)]
 
 pub mod begin;
+pub mod end;
 pub mod fail;
+pub mod leave;
 pub mod open;
+mod owed;
 pub mod take;

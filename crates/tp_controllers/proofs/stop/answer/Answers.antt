@@ -24,8 +24,8 @@ returns-then-not-has_room-clause-refuses g c =
     let n = c.len-count.result in
     refuses_fitting p ask.Stop (did.Stop n) c.fall.result 0 c.has_room.result c.has_room.ensures c.if-not-has_room.true (fits p n c.len-count.ensures) (λ s w. refl) (moves p n c.fall.result c.fall.ensures)
 
-pub returns-clause-fits : goal.returns-clause-fits
-returns-clause-fits g c =
+pub returns-clause-accepts : goal.returns-clause-accepts
+returns-clause-accepts g c =
     let p = c.args.parts.now in
     let n = c.len-count.result in
     accepts_room p ask.Stop (did.Stop n) c.fall.result 0 c.has_room.result c.has_room.ensures c.if-not-has_room.false (fits p n c.len-count.ensures) (moves p n c.fall.result c.fall.ensures)
