@@ -83,32 +83,6 @@ module _ {P : Type 0} (c : Config) (n : ℕ) (old : Parts P) (tied : IsTied c n 
       keeps None fits = tt
       keeps (Some p) fits = let F : Option Outcome → Type 0 = λ x. IfSome x (FitsPromise p) in subst F (sym ended) fits
 
-  -- a queue that has lost some of its tasks
-  pub tied_less : (queue : Queue) (items : List (TaskId × ℕ)) → waiting_of queue ≡ record (waiting_of old.queue) { items = items } → ((x : TaskId × ℕ) → Contains items x → Contains (waiting_of old.queue).items x) →
-      IsTied c n (record old { queue = queue })
-  tied_less queue items is fewer =
-      let places = ap (λ w. w.capacity) is in
-      let came = ap (λ w. w.offers) is in
-      let offers = tied.offers in
-      record {
-        made_with = tied.made_with;
-        config = tied.config;
-        least = tied.least;
-        sizes = tied.sizes;
-        places = tied.places;
-        kind = ap (λ w. w.kind) is ∙ tied.kind;
-        queue_places = λ unbounded. let k = tied.queue_places unbounded in omega (arith, places, k);
-        offers = omega (arith, came, offers);
-        idlings = tied.idlings;
-        numbered = λ t k has. tied.numbered t k (fewer (t, k) (subst (λ w. Contains w.items (t, k)) is has));
-        payloads = tied.payloads;
-        promises = tied.promises;
-      }
-
--- what passes a test is in the list
-pub contains_filter : {A : Type 0} (p : A → Bool) (xs : List A) (x : A) → Contains (filter p xs) x → Contains xs x
-contains_filter p xs x has = All-contains (Contains xs) (filter p xs) x (All-filter p (Contains xs) xs (All-contains_itself xs)) has
-
 -- more places in the queue leave the structures tied, and so does more memory for tasks
 pub tied_roomier : {P : Type 0} (c : Config) (n : ℕ) (p : Parts P) → IsTied c n p → (tasks : Tasks P) → IsUnchanged p.tasks tasks → (queue : Queue) →
     waiting_of queue ≡ record (waiting_of p.queue) { capacity = (waiting_of queue).capacity } → (waiting_of p.queue).capacity ≤ (waiting_of queue).capacity →
