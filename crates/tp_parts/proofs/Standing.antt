@@ -15,7 +15,8 @@ use Rattle.tp_record.specs.Effects.{reserves}
 use Rattle.tp_record.specs.Fields.{rank, submitted, is_cancelled}
 use Rattle.tp_record.specs.State.{State, state, slot_at, task_at}
 use Rattle.tp_record.specs.declared.rows.TaskRow.{TaskRow}
-use Rattle.tp_record.specs.Step.{Gives, Legal, within_room, leaves_room}
+use Rattle.tp_record.specs.Step.{Gives, Legal, fitting, within_room, leaves_room}
+use Rattle.tp_model.proofs.Weak.{within}
 use Rattle.tp_model.proofs.Given.{Given, IsAt, HasRow}
 use Rattle.tp_model.proofs.Readings.{tasks_counted, row_read, slot_read}
 use Rattle.tp_model.proofs.Told.{given_answer, sound_legal}
@@ -106,6 +107,13 @@ module _ {P : Type 0} (p : Parts P) (stands : Stands p) where
       let there = task_here t from is in
       let r = task_at (state p.config stands.history) t in
       (r, ap (λ x. row_of x t) same ∙ there.0, ap (λ b. b && not r.cancelled) (alike ∙ sym (ap is_before there.1)))
+
+-- what is accepted fits
+pub fits_accepted : {P : Type 0} (p : Parts P) (a : Ask) (d : Did) → Accepts p a d → Fits p a d
+fits_accepted p a d accepts = λ h legal sh.
+    let s = state p.config h in
+    let gives = accepts h legal sh in
+    (within p.config s (fitting p.config s (unwrap_or (reserves d) 0) a) d gives.0, gives.1)
 
 -- structures that show the same states, with the same settings, stand and accept alike
 module _ {P : Type 0} (old new : Parts P) (config : new.config ≡ old.config) (same : (s : State) → Shows old s ↔ Shows new s) where
