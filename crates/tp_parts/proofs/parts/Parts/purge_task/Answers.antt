@@ -13,8 +13,8 @@ use Rattle.tp_tasks.specs.Tasks.{row_of}
 use Rattle.tp_parts.specs.Purges.{was_cancelled}
 use Rattle.tp_parts.specs.Shows.{numbers}
 use Rattle.tp_parts.specs.Tied.{is_before}
-use Rattle.tp_parts.proofs.Ties.{tied_less, tied_row, contains_filter}
-use Rattle.tp_parts.proofs.Queued.{numbers-unqueued}
+use Rattle.tp_parts.proofs.Ties.{tied_row}
+use Rattle.tp_parts.proofs.Queued.{contains_filter, numbers-unqueued, tied_less}
 use Rattle.tp_parts.proofs.Purging.{waits_at}
 use Rattle.tp_parts.proofs.parts.Parts.purge_task.Goals as goal
 
