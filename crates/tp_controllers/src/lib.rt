@@ -5,10 +5,13 @@
 pub mod cancel;
 pub mod core_size;
 pub mod core_timeout;
+pub mod ended;
 pub mod keep;
 pub mod maximum;
+pub mod prestart;
 pub mod purge;
 pub mod remove;
 pub mod shutdown;
 pub mod take_done;
 pub mod tick;
+pub mod tidy;

@@ -13,4 +13,3 @@ pub mod Places
 pub mod Purging
 pub mod Falls
 pub mod Reading
-pub mod Submissions

@@ -31,6 +31,32 @@ pub fn answer<P>(parts: &Parts<P>, kind: Kind) -> Result<Looked, PoolError>
     }
 }
 
+/// Makes an accepted answer, for a job that promises this and has this payload, and gives the new task's number. Memory for
+/// it was made (`make_room`), after the answer.
+pub fn apply<P>(
+    parts: &mut Parts<P>,
+    kind: Kind,
+    promise: Promise,
+    payload: P,
+    looked: Looked,
+) -> TaskId
+where
+    P: Drop,
+    requires stands { Stands parts.old }
+    requires memory { HasMemory parts.old kind }
+    requires fits { Fits parts.old (Ask.Submit kind) (Did.Submit (record { 0 = submissions parts.old.tasks }) kind looked) }
+    requires next { IfSome (reserved_looked looked) (λ w. w ≡ parts.old.slots.next) }
+    ensures number { result.0 ≡ submissions parts.old.tasks }
+    ensures leads { Leads parts.old (Did.Submit result kind looked) parts.new }
+    ensures payloads { PutsIn parts.old.tasks parts.new.tasks result.0 promise payload }
+{
+    match looked {
+        Looked::Reserve(w) => reserve(parts, kind, promise, payload, w),
+        Looked::Queue => queue(parts, kind, promise, payload),
+        Looked::Refuse => refuse(parts, kind, promise, payload),
+    }
+}
+
 /// How many more entries are owed after a submission with this look.
 fn rise(looked: Looked) -> u64
     ensures rise { result ≡ rise_of looked }
@@ -89,30 +115,4 @@ where
 {
     parts.count_rising_entry(2);
     parts.put_task(kind, Place::Refused, promise, payload)
-}
-
-/// Makes what was answered, for a job that promises this and has this payload, and gives the new task's number. Memory for it was
-/// made (`make_room`), after the answer.
-pub fn apply<P>(
-    parts: &mut Parts<P>,
-    kind: Kind,
-    promise: Promise,
-    payload: P,
-    looked: Looked,
-) -> TaskId
-where
-    P: Drop,
-    requires stands { Stands parts.old }
-    requires memory { HasMemory parts.old kind }
-    requires fits { Fits parts.old (Ask.Submit kind) (Did.Submit (record { 0 = submissions parts.old.tasks }) kind looked) }
-    requires next { IfSome (reserved_looked looked) (λ w. w ≡ parts.old.slots.next) }
-    ensures number { result.0 ≡ submissions parts.old.tasks }
-    ensures leads { Leads parts.old (Did.Submit result kind looked) parts.new }
-    ensures payloads { PutsIn parts.old.tasks parts.new.tasks result.0 promise payload }
-{
-    match looked {
-        Looked::Reserve(w) => reserve(parts, kind, promise, payload, w),
-        Looked::Queue => queue(parts, kind, promise, payload),
-        Looked::Refuse => refuse(parts, kind, promise, payload),
-    }
 }
