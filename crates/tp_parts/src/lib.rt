@@ -4,6 +4,7 @@
 pub mod entries;
 pub mod looks;
 pub mod offer_changes;
+pub mod owing;
 pub mod parts;
 pub mod queue_changes;
 pub mod readings;
