@@ -1,4 +1,5 @@
 pub mod WordSplits
+pub mod LineSplits
 pub mod NumberTexts
 pub mod CommandWords
 pub mod PoolLaws
