@@ -8,3 +8,4 @@ pub mod TextLaws
 pub mod LineLaws
 pub mod RunLaws
 pub mod WorkedOutputs
+pub mod Outputs
