@@ -328,7 +328,7 @@ length-cut text line behind whole = omega (arith, ap length whole, length-append
 pub of_reading : (c : Config) (body rest : List ℕ) (es : List Entry) (count : ℕ) → Reading body rest es count → FitsConfig c → checked c ≡ Ok tt → Body c body es rest
 of_reading c body rest es count so_far fits ok = record { config = fits; accepted = ok; steps = so_far.steps; count = omega (arith, so_far.counted, so_far.short); parts = so_far.parts }
 
-entry_texts-push : (n : ℕ) (es : List Entry) (e : Entry) → entry_texts (suc n) (es ++ e ∷ []) ≡ entry_texts (suc n) es ++ entry_text (suc (n + length es)) e ∷ []
+pub entry_texts-push : (n : ℕ) (es : List Entry) (e : Entry) → entry_texts (suc n) (es ++ e ∷ []) ≡ entry_texts (suc n) es ++ entry_text (suc (n + length es)) e ∷ []
 entry_texts-push n [] e = let same : suc n ≡ suc (n + 0) = omega arith in ap (λ k. entry_text k e ∷ []) same
 entry_texts-push n (d ∷ es) e =
     let same : suc (suc n + length es) ≡ suc (n + suc (length es)) = omega arith in

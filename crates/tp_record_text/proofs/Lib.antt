@@ -8,3 +8,4 @@ pub mod PoolTexts
 pub mod RecordLines
 pub mod BodyLines
 pub mod FirstWrong
+pub mod WrittenText

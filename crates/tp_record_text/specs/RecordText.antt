@@ -8,7 +8,7 @@ use Rattle.tp_text.specs.declared.pools.PoolLine.{PoolLine}
 use Rattle.tp_text.specs.EntryLine.{words}
 use Rattle.tp_text.specs.Fits.{Fits32}
 use Rattle.tp_text.specs.Lines.{ended}
-use Rattle.tp_text.specs.Pools.{FitsPool, pool_text}
+use Rattle.tp_text.specs.Pools.{FitsPool, options_text, pool_text}
 use Rattle.tp_text.specs.Reads.{spaced}
 use Rattle.tp_record_text.specs.EntryWords.{IsStep, entry_words}
 
@@ -28,6 +28,15 @@ written c =
       core_timeout = c.core_timeout;
       limit = written_limit c.record_limit;
     }
+
+-- what may follow a word, behind its space
+abbrev pub behind_word : Option (List ℕ) → List ℕ
+behind_word None = []
+behind_word (Some rest) = 32 ∷ rest
+
+-- what follows the policy in a written pool line
+abbrev pub written_options : Config → List ℕ
+written_options c = behind_word (options_text (c.core_timeout, written_limit c.record_limit))
 
 abbrev pub FitsConfig : Config → Type 0
 FitsConfig c = FitsPool (written c) × Fits32 c.record_limit

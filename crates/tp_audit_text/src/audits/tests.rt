@@ -2,6 +2,9 @@
 
 use super::*;
 use std::io;
+use std::test::Fail;
+use tp_record_text::records::read_record;
+use tp_record_text::writing::write_record;
 use tp_types::limits::MAX_TEXT_BYTES;
 
 /// Row 21: the worker takes before it is opened.
@@ -223,6 +226,66 @@ fn refuses_each_cut_text(rt: HostRuntime) {
         );
         assert!(rt; written.is_empty());
     }
+}
+
+/// What a text says, written again; None where it is refused.
+fn written_again(alloc: Global, text: &[u8]) -> Result<Option<Vec<u8>>, PoolError> {
+    match read_record(alloc, text) {
+        Ok(record) => {
+            let mut written = Vec::new(alloc);
+            write_record(
+                alloc,
+                &mut written,
+                &record.config,
+                record.entries.as_slice(),
+            )?;
+            Ok(Some(written))
+        }
+        Err(PoolError::NoMemory) => Err(PoolError::NoMemory),
+        Err(_) => Ok(None),
+    }
+}
+
+/// Whether this is how a text may be refused that was read whole.
+fn refuses_a_text(refusal: PoolError) -> bool {
+    match refusal {
+        PoolError::BadEntry(_)
+        | PoolError::BadSizes
+        | PoolError::BadCapacity
+        | PoolError::BadLimit
+        | PoolError::KeepZero => true,
+        _ => false,
+    }
+}
+
+/// A text with any one byte changed is refused, or it is the text of what it says.
+#[test]
+fn reads_each_changed_text_as_itself(rt: HostRuntime) -> Result<(), Fail> {
+    let alloc = rt.alloc();
+    let mut read = 0;
+    for place in 0..LEGAL.len() {
+        for byte in 0..=255u8 {
+            let mut text = Vec::new(alloc);
+            text.extend_from_slice(LEGAL)?;
+            text[place] = byte;
+            let (written, given) = outcome_of(alloc, text.as_slice());
+            match given {
+                Ok(legal) => {
+                    let again = written_again(alloc, text.as_slice())?;
+                    assert!(rt; again == Some(text), "byte {place} as {byte}");
+                    assert_eq!(rt; written.starts_with(b"legal 5\n"), legal);
+                    read += 1;
+                }
+                Err(refusal) => {
+                    assert!(rt; refuses_a_text(refusal), "byte {place} as {byte}: {refusal}");
+                    assert!(rt; written.is_empty());
+                }
+            }
+        }
+    }
+    // Each byte left as it was, and the settings, names, slots, tasks and outcomes that another byte makes.
+    assert!(rt; read > LEGAL.len());
+    Ok(())
 }
 
 /// Gives one byte a call, and at one call it has an error instead.
