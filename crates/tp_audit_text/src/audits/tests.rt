@@ -204,32 +204,28 @@ fn refuses_a_pool_in_its_place(rt: HostRuntime) {
     }
 }
 
-fn line_feeds(text: &[u8]) -> u32 {
-    let mut count = 0;
-    for byte in text {
-        if *byte == b'\n' {
-            count += 1;
-        }
-    }
-    count
-}
-
 #[test]
 fn refuses_each_cut_text(rt: HostRuntime) {
     for end in 0..LEGAL.len() {
         let text = &LEGAL[..end];
         let (written, given) = outcome_of(rt.alloc(), text);
-        assert_eq!(rt;
-            given,
-            Err(PoolError::BadEntry(line_feeds(text) + 1)),
-            "{end} bytes"
-        );
         assert!(rt; written.is_empty());
+        match given {
+            Err(PoolError::BadEntry(line)) => {
+                let whole = text.iter().filter(|byte| **byte == b'\n').count();
+                let cut = (whole as u64).checked_add(1);
+                assert_eq!(rt; Some(u64::from(line)), cut, "{end} bytes");
+            }
+            other => assert!(rt; false, "{end} bytes: {other:?}"),
+        }
     }
 }
 
 /// What a text says, written again; None where it is refused.
 fn written_again(alloc: Global, text: &[u8]) -> Result<Option<Vec<u8>>, PoolError> {
+    if text.len() > MAX_TEXT_BYTES {
+        return Ok(None);
+    }
     match read_record(alloc, text) {
         Ok(record) => {
             let mut written = Vec::new(alloc);
@@ -262,29 +258,33 @@ fn refuses_a_text(refusal: PoolError) -> bool {
 #[test]
 fn reads_each_changed_text_as_itself(rt: HostRuntime) -> Result<(), Fail> {
     let alloc = rt.alloc();
-    let mut read = 0;
+    let mut reads_another = false;
     for place in 0..LEGAL.len() {
         for byte in 0..=255u8 {
             let mut text = Vec::new(alloc);
             text.extend_from_slice(LEGAL)?;
-            text[place] = byte;
+            if let Some(changed) = text.get_mut(place) {
+                *changed = byte;
+            }
             let (written, given) = outcome_of(alloc, text.as_slice());
             match given {
                 Ok(legal) => {
+                    reads_another |= text.as_slice() != LEGAL;
+                    assert_eq!(rt; written.starts_with(b"legal 5\n"), legal);
                     let again = written_again(alloc, text.as_slice())?;
                     assert!(rt; again == Some(text), "byte {place} as {byte}");
-                    assert_eq!(rt; written.starts_with(b"legal 5\n"), legal);
-                    read += 1;
                 }
                 Err(refusal) => {
-                    assert!(rt; refuses_a_text(refusal), "byte {place} as {byte}: {refusal}");
+                    assert!(rt;
+                        refuses_a_text(refusal),
+                        "byte {place} as {byte}: {refusal}"
+                    );
                     assert!(rt; written.is_empty());
                 }
             }
         }
     }
-    // Each byte left as it was, and the settings, names, slots, tasks and outcomes that another byte makes.
-    assert!(rt; read > LEGAL.len());
+    assert!(rt; reads_another);
     Ok(())
 }
 
