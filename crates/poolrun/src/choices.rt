@@ -9,13 +9,15 @@ use std::alloc::{AllocError, Global};
 pub enum Choice {
     /// Run the scenario in the file at this path.
     Steps(String),
+    /// Judge the record in the file at this path.
+    Audit(String),
 }
 
 impl Choice {
     /// The path of the file that is to be read.
     pub fn path(&self) -> &str {
         match self {
-            Choice::Steps(path) => path.as_str(),
+            Choice::Steps(path) | Choice::Audit(path) => path.as_str(),
         }
     }
 }
@@ -48,11 +50,13 @@ impl From<Error> for Unchosen {
 
 /// What stands under the help: an example of each command, and the statuses.
 const EXAMPLES: &str = "Examples:
-  poolrun steps data/shortest-life.txt    runs a scenario, step by step
+  poolrun steps data/shortest-life.txt     runs a scenario, step by step
+  poolrun audit data/shortest-record.txt   judges a record by the model
 
 Status:
-  0  the run went to its end
-  1  the run was refused: its refusal is the last line on the standard output
+  0  the run went to its end, or the record is legal
+  1  the run was refused: its refusal is the last line on the standard output;
+     or the record has a flaw
   2  the command line is bad, or asks for help";
 
 /// A command with one file.
@@ -77,17 +81,27 @@ pub fn chosen(alloc: Global, words: &[String]) -> Result<Choice, Unchosen> {
         "Runs a scenario of atomic steps and prints its record",
         "the scenario's text",
     )?;
+    let audit = with_file(
+        alloc,
+        "audit",
+        "Tells whether a record is legal, or its first flaw",
+        "the record's text",
+    )?;
     let command = Command::new(alloc, "poolrun")
-        .about("Runs scenarios of a bounded thread pool")
+        .about("Runs scenarios of a bounded thread pool, and judges its records")
         .version("0.1.0")
         .after_help(EXAMPLES)
         .subcommand_required(true)
-        .subcommand(steps)?;
+        .subcommand(steps)?
+        .subcommand(audit)?;
     let matches = command.try_get_matches_from(words)?;
     match matches.subcommand() {
-        Some((_, inner)) => {
-            let path = inner.get_str("FILE").unwrap_or("");
-            Ok(Choice::Steps(String::from_str(alloc, path)?))
+        Some((name, inner)) => {
+            let path = String::from_str(alloc, inner.get_str("FILE").unwrap_or(""))?;
+            match name {
+                "audit" => Ok(Choice::Audit(path)),
+                _ => Ok(Choice::Steps(path)),
+            }
         }
         None => Err(Unchosen::NoMemory),
     }

@@ -1,10 +1,11 @@
 //! `poolrun steps FILE`: runs a scenario of atomic steps of one pool and prints its record, the
-//! refusals, each task's fate, the run state and the counters.
+//! refusals, each task's fate, the run state and the counters. `poolrun audit FILE`: judges a record.
 //!
-//! The status is 0 where the run went to its end, 1 where it was refused (its refusal is the last line
-//! of the output), and 2 for a bad command line or a request for help, whose text goes to the standard
-//! error. `--version` is printed on the standard output, with status 0. Where a file can't be opened or
-//! read, or the standard output fails, the standard error has the system's reason.
+//! The status is 0 where the run went to its end or the record is legal, 1 where it was refused (its
+//! refusal is the last line of the output) or the record has a flaw, and 2 for a bad command line or a
+//! request for help, whose text goes to the standard error. `--version` is printed on the standard
+//! output, with status 0. Where a file can't be opened or read, or the standard output fails, the
+//! standard error has the system's reason.
 #![tactic(auto)]
 
 mod choices;

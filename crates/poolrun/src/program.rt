@@ -25,6 +25,7 @@ fn run<R: Read, W: Write>(
             tp_scenario::run::run(alloc, reader, out)?;
             Ok(true)
         }
+        Choice::Audit(_) => tp_scenario::audit_text(alloc, reader, out),
     }
 }
 

@@ -4,6 +4,8 @@
 //! A history lists a record's entries latest first, so that a front of the record is a tail of the
 //! history: `later ++ h` is a record whose front is `h`. A law that is said of every legal `h` holds
 //! at every front of every legal record.
+//!
+//! Whether a record is legal is told by the auditor of `tp_audit`, which stands here under a second name.
 #![tactic(auto)]
 
 pub mod limits;
@@ -12,3 +14,6 @@ pub mod shutdown;
 pub mod tasks;
 pub mod waiting;
 pub mod workers;
+
+pub use tp_audit::plain::audit_plain;
+pub use tp_audit::summary::{Flaw, Summary};

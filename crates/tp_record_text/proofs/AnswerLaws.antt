@@ -1,5 +1,5 @@
 -- Which words are those of no answer.
-use Rattle.std.proofs.Common.{◌≡◌, ◌≢◌, ℕ, List, [], ◌∷◌, ◌++◌, Option, Some, None, refl, codes}
+use Rattle.std.proofs.Common.{◌≡◌, ◌≢◌, ℕ, List, ◌∷◌, ◌++◌, Option, Some, None, refl, codes}
 use Rattle.std.specs.Fmt.{decimal}
 use Rattle.tp_types.specs.declared.ids.SlotId.{SlotId}
 use Rattle.tp_types.specs.declared.ids.TaskId.{TaskId}

@@ -5,3 +5,7 @@ pub mod Pieces
 pub mod EntryTexts
 pub mod EntryLaws
 pub mod PoolTexts
+pub mod RecordLines
+pub mod BodyLines
+pub mod FirstWrong
+pub mod WrittenText

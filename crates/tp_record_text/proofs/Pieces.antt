@@ -1,8 +1,8 @@
--- The words of each entry are ASCII and have no space.
-use Rattle.std.proofs.Common.{◌≡◌, ◌≢◌, ℕ, zero, suc, ◌<◌, ◌^◌, List, [], ◌∷◌, ◌++◌, length, get_or, Bool, true, false, not, ◌&&◌, ◌==◌, Option, Some, None, Ok, Err, refl, sym, ◌∙◌, ap, subst, arith, codes, inl, inr}
+-- The words of each entry are ASCII and have neither a space nor a line feed.
+use Rattle.std.proofs.Common.{◌≡◌, ◌≢◌, ℕ, zero, suc, ◌<◌, ◌^◌, List, [], ◌∷◌, ◌++◌, length, get_or, Bool, true, false, not, ◌&&◌, ◌==◌, Option, Some, None, Ok, Err, refl, ◌∙◌, ap, arith, codes, inl, inr}
 use Rattle.std.specs.Prelude.{ℤ, pos, negsuc, nat_lt}
 use Rattle.std.specs.Fmt.{decimal, signed_decimal}
-use Rattle.std.specs.List.{All, list_all, slice_split}
+use Rattle.std.specs.List.{All, list_all}
 use Rattle.std.specs.Str.{IsAscii}
 use Rattle.std.proofs.lemmas.Bool.{ltb-true}
 use Rattle.std.proofs.lemmas.Bool.Decides.{eqb_tells}
@@ -10,7 +10,7 @@ use Rattle.std.proofs.lemmas.Fmt.{IsAscii-decimal}
 use Rattle.std.proofs.lemmas.List.Splits.{slice_split_none, slice_split_at}
 use Rattle.std.proofs.lemmas.List.Elements.{All-from_get_or}
 use Rattle.std.proofs.lemmas.Str.{IsAscii-append}
-use Rattle.std.proofs.lemmas.Str.Ascii.{IsAscii-from_all, IsAscii-nil}
+use Rattle.std.proofs.lemmas.Str.Ascii.{IsAscii-from_all}
 use Rattle.tp_types.specs.declared.configs.Verdict.{Verdict}
 use Rattle.tp_types.specs.declared.configs.Verdict.TheVariants as verdict
 use Rattle.tp_types.specs.declared.ids.SlotId.{SlotId}
@@ -49,18 +49,20 @@ use Rattle.tp_text.specs.declared.commands.SizeVerb.TheVariants as size
 use Rattle.tp_text.specs.declared.commands.TickVerb.TheVariants as ticks
 use Rattle.tp_text.specs.Commands.{command_word}
 use Rattle.tp_text.specs.EntryLine.{words, task_name, slot_name, pass_name, effect_word, switch_word}
-use Rattle.tp_text.specs.Fits.{Fits32, Fits64, FitsKind, FitsOutcome, FitsValue}
+use Rattle.tp_text.specs.Fits.{Fits32, FitsKind, FitsOutcome, FitsValue}
+use Rattle.tp_text.specs.Lines.{HasNoLineFeed}
 use Rattle.tp_text.specs.Reads.{IsWord}
-use Rattle.tp_text.proofs.NumberTexts.{word_decimal}
+use Rattle.tp_text.proofs.LineSplits.{single-append, single_from_test}
+use Rattle.tp_text.proofs.NumberTexts.{single_decimal, word_decimal}
 use Rattle.tp_text.proofs.WordSplits.{word_from_test}
-use Rattle.tp_text.proofs.CommandWords.{word_of_command}
 use Rattle.tp_record_text.specs.EntryWords.{FitsTask, FitsSlot, FitsLooked, FitsOffered, FitsSeconded, FitsGrown, FitsRuled, FitsOpened, FitsFailed, FitsTook, FitsStarted, FitsReserved, FitsDid, kind_words, outcome_words, looked_words, offered_words, seconded_words, grown_words, ruled_words, opened_words, failed_words, took_words, started_words, reserved_words, prestart_words, flag_words, command_of, argument_words, did_words, pass_words, entry_words}
 use Rattle.tp_record_text.specs.Rests.{split_words}
 
--- a word without a space and in ASCII
+-- a word in ASCII without a space and without a line feed
 pub record IsPiece (w : List ℕ) : Type 0 where
   pub is_word : IsWord w
   pub ascii : IsAscii w
+  pub single : HasNoLineFeed w
 
 abbrev pub Pieces : List (List ℕ) → Type 0
 Pieces [] = Unit {0}
@@ -90,11 +92,15 @@ no_spaces (b ∷ w) test =
     let there = no_spaces w (and_right (not (b == 32) && nat_lt b 128) (list_all (λ x. not (x == 32) && nat_lt x 128) w) test) in
     ap (λ x. x && list_all (λ y. not (y == 32)) w) here ∙ there
 
-code : (w : List ℕ) → list_all (λ b. not (b == 32) && nat_lt b 128) w ≡ true → IsPiece w
-code w test = record { is_word = word_from_test w (no_spaces w test); ascii = IsAscii-from_all w (All-from_get_or (λ b. b < 128) w 0 (all_ascii w test)) }
+pub code : (w : List ℕ) → list_all (λ b. not (b == 32) && nat_lt b 128) w ≡ true → list_all (λ b. not (b == 10)) w ≡ true → IsPiece w
+code w test feeds = record {
+  is_word = word_from_test w (no_spaces w test);
+  ascii = IsAscii-from_all w (All-from_get_or (λ b. b < 128) w 0 (all_ascii w test));
+  single = single_from_test w feeds;
+}
 
 pub number_piece : (n : ℕ) → n < 2 ^ 64 → IsPiece (decimal n)
-number_piece n small = record { is_word = word_decimal n small; ascii = IsAscii-decimal n small }
+number_piece n small = record { is_word = word_decimal n small; ascii = IsAscii-decimal n small; single = single_decimal n small }
 
 longer_word : (b : ℕ) (w : List ℕ) → b ≢ 32 → IsWord w → IsWord (b ∷ w)
 longer_word b w other is zero within = other
@@ -102,131 +108,135 @@ longer_word b w other is (suc i) within = is i (omega arith)
 
 -- a letter before a number
 marked_piece : (b n : ℕ) → b ≢ 32 → IsPiece (b ∷ []) → n < 2 ^ 64 → IsPiece (b ∷ decimal n)
-marked_piece b n other mark small = record { is_word = longer_word b (decimal n) other (word_decimal n small); ascii = IsAscii-append (b ∷ []) (decimal n) mark.ascii (IsAscii-decimal n small) }
+marked_piece b n other mark small = record {
+  is_word = longer_word b (decimal n) other (word_decimal n small);
+  ascii = IsAscii-append (b ∷ []) (decimal n) mark.ascii (IsAscii-decimal n small);
+  single = single-append (b ∷ []) (decimal n) mark.single (single_decimal n small);
+}
 
 task_piece : (t : TaskId) → FitsTask t → IsPiece (task_name t)
-task_piece t fits = marked_piece 116 t.0 (λ e. absurd (omega arith)) (code (codes "t") refl) (omega (arith, fits))
+task_piece t fits = marked_piece 116 t.0 (λ e. absurd (omega arith)) (code (codes "t") refl refl) (omega (arith, fits))
 
 slot_piece : (w : SlotId) → FitsSlot w → IsPiece (slot_name w)
-slot_piece w fits = marked_piece 119 w.0 (λ e. absurd (omega arith)) (code (codes "w") refl) fits
+slot_piece w fits = marked_piece 119 w.0 (λ e. absurd (omega arith)) (code (codes "w") refl refl) fits
 
 pass_piece : (by : ℕ) → Fits32 by → IsPiece (pass_name by)
-pass_piece by fits = marked_piece 112 by (λ e. absurd (omega arith)) (code (codes "p") refl) (omega (arith, fits))
+pass_piece by fits = marked_piece 112 by (λ e. absurd (omega arith)) (code (codes "p") refl refl) (omega (arith, fits))
 
 value_piece : (v : ℤ) → FitsValue v → IsPiece (signed_decimal v)
 value_piece (pos n) fits = number_piece n (omega arith)
-value_piece (negsuc n) fits = marked_piece 45 (suc n) (λ e. absurd (omega arith)) (code (codes "-") refl) (omega arith)
+value_piece (negsuc n) fits = marked_piece 45 (suc n) (λ e. absurd (omega arith)) (code (codes "-") refl refl) (omega arith)
 
 effect_piece : (b : Bool) → IsPiece (effect_word b)
-effect_piece true = code (codes "yes") refl
-effect_piece false = code (codes "no") refl
+effect_piece true = code (codes "yes") refl refl
+effect_piece false = code (codes "no") refl refl
 
 switch_piece : (b : Bool) → IsPiece (switch_word b)
-switch_piece true = code (codes "on") refl
-switch_piece false = code (codes "off") refl
+switch_piece true = code (codes "on") refl refl
+switch_piece false = code (codes "off") refl refl
 
 verdict_piece : (v : Verdict) → IsPiece (verdict_name v)
-verdict_piece verdict.Abort = code (codes "abort") refl
-verdict_piece verdict.CallerRuns = code (codes "callerruns") refl
-verdict_piece verdict.Discard = code (codes "discard") refl
-verdict_piece verdict.DiscardOldest = code (codes "discardoldest") refl
+verdict_piece verdict.Abort = code (codes "abort") refl refl
+verdict_piece verdict.CallerRuns = code (codes "callerruns") refl refl
+verdict_piece verdict.Discard = code (codes "discard") refl refl
+verdict_piece verdict.DiscardOldest = code (codes "discardoldest") refl refl
 
 kind_pieces : (k : Kind) → FitsKind k → Pieces (kind_words k)
-kind_pieces kinds.Plain fits = (code (codes "plain") refl, tt)
-kind_pieces kinds.Future fits = (code (codes "future") refl, tt)
-kind_pieces (kinds.Group g) fits = (code (codes "group") refl, (number_piece g (omega (arith, fits)), tt))
+kind_pieces kinds.Plain fits = (code (codes "plain") refl refl, tt)
+kind_pieces kinds.Future fits = (code (codes "future") refl refl, tt)
+kind_pieces (kinds.Group g) fits = (code (codes "group") refl refl, (number_piece g (omega (arith, fits)), tt))
 
 outcome_pieces : (o : Outcome) → FitsOutcome o → Pieces (outcome_words o)
-outcome_pieces (Ok v) fits = (code (codes "value") refl, (value_piece v fits, tt))
-outcome_pieces (Err n) fits = (code (codes "fault") refl, (number_piece n (omega (arith, fits)), tt))
+outcome_pieces (Ok v) fits = (code (codes "value") refl refl, (value_piece v fits, tt))
+outcome_pieces (Err n) fits = (code (codes "fault") refl refl, (number_piece n (omega (arith, fits)), tt))
 
 reserved_pieces : (o : Option SlotId) → FitsReserved o → Pieces (reserved_words o)
 reserved_pieces None fits = tt
-reserved_pieces (Some w) fits = (code (codes "reserve") refl, (slot_piece w fits, tt))
+reserved_pieces (Some w) fits = (code (codes "reserve") refl refl, (slot_piece w fits, tt))
 
 prestart_pieces : (o : Option SlotId) → FitsReserved o → Pieces (prestart_words o)
-prestart_pieces None fits = (code (codes "none") refl, tt)
-prestart_pieces (Some w) fits = (code (codes "reserve") refl, (slot_piece w fits, tt))
+prestart_pieces None fits = (code (codes "none") refl refl, tt)
+prestart_pieces (Some w) fits = (code (codes "reserve") refl refl, (slot_piece w fits, tt))
 
 flag_pieces : (flag effect : Bool) → Pieces (flag_words flag effect)
-flag_pieces true effect = (code (codes "flag") refl, (effect_piece effect, tt))
+flag_pieces true effect = (code (codes "flag") refl refl, (effect_piece effect, tt))
 flag_pieces false effect = (effect_piece effect, tt)
 
 looked_pieces : (x : Looked) → FitsLooked x → Pieces (looked_words x)
-looked_pieces (looked.Reserve w) fits = (code (codes "reserve") refl, (slot_piece w fits, tt))
-looked_pieces looked.Queue fits = (code (codes "queue") refl, tt)
-looked_pieces looked.Refuse fits = (code (codes "refuse") refl, tt)
+looked_pieces (looked.Reserve w) fits = (code (codes "reserve") refl refl, (slot_piece w fits, tt))
+looked_pieces looked.Queue fits = (code (codes "queue") refl refl, tt)
+looked_pieces looked.Refuse fits = (code (codes "refuse") refl refl, tt)
 
 offered_pieces : (x : Offered) → FitsOffered x → Pieces (offered_words x)
-offered_pieces offered.Queued fits = (code (codes "queued") refl, tt)
-offered_pieces (offered.Hand w) fits = (code (codes "hand") refl, (slot_piece w fits, tt))
-offered_pieces offered.Full fits = (code (codes "full") refl, tt)
+offered_pieces offered.Queued fits = (code (codes "queued") refl refl, tt)
+offered_pieces (offered.Hand w) fits = (code (codes "hand") refl refl, (slot_piece w fits, tt))
+offered_pieces offered.Full fits = (code (codes "full") refl refl, tt)
 
 seconded_pieces : (x : Seconded) → FitsSeconded x → Pieces (seconded_words x)
-seconded_pieces seconded.Stay fits = (code (codes "stay") refl, tt)
-seconded_pieces (seconded.StayReserve w) fits = (code (codes "stay") refl, (code (codes "reserve") refl, (slot_piece w fits, tt)))
-seconded_pieces seconded.Back fits = (code (codes "back") refl, tt)
+seconded_pieces seconded.Stay fits = (code (codes "stay") refl refl, tt)
+seconded_pieces (seconded.StayReserve w) fits = (code (codes "stay") refl refl, (code (codes "reserve") refl refl, (slot_piece w fits, tt)))
+seconded_pieces seconded.Back fits = (code (codes "back") refl refl, tt)
 
 grown_pieces : (x : Grown) → FitsGrown x → Pieces (grown_words x)
-grown_pieces (grown.Reserve w) fits = (code (codes "reserve") refl, (slot_piece w fits, tt))
-grown_pieces grown.Refuse fits = (code (codes "refuse") refl, tt)
+grown_pieces (grown.Reserve w) fits = (code (codes "reserve") refl refl, (slot_piece w fits, tt))
+grown_pieces grown.Refuse fits = (code (codes "refuse") refl refl, tt)
 
 ruled_pieces : (x : Ruled) → FitsRuled x → Pieces (ruled_words x)
-ruled_pieces ruled.Rejected fits = (code (codes "rejected") refl, tt)
-ruled_pieces ruled.Caller fits = (code (codes "caller") refl, tt)
-ruled_pieces ruled.Skip fits = (code (codes "skip") refl, tt)
-ruled_pieces ruled.Discarded fits = (code (codes "discarded") refl, tt)
-ruled_pieces ruled.Retry fits = (code (codes "retry") refl, tt)
-ruled_pieces (ruled.RetryDrop t) fits = (code (codes "retry") refl, (code (codes "drop") refl, (task_piece t fits, tt)))
+ruled_pieces ruled.Rejected fits = (code (codes "rejected") refl refl, tt)
+ruled_pieces ruled.Caller fits = (code (codes "caller") refl refl, tt)
+ruled_pieces ruled.Skip fits = (code (codes "skip") refl refl, tt)
+ruled_pieces ruled.Discarded fits = (code (codes "discarded") refl refl, tt)
+ruled_pieces ruled.Retry fits = (code (codes "retry") refl refl, tt)
+ruled_pieces (ruled.RetryDrop t) fits = (code (codes "retry") refl refl, (code (codes "drop") refl refl, (task_piece t fits, tt)))
 
 opened_pieces : (x : Opened) → FitsOpened x → Pieces (opened_words x)
-opened_pieces opened.Live fits = (code (codes "live") refl, tt)
-opened_pieces opened.GivenUp fits = (code (codes "givenup") refl, tt)
-opened_pieces (opened.GivenUpRefuse t) fits = (code (codes "givenup") refl, (task_piece t fits, (code (codes "refuse") refl, tt)))
+opened_pieces opened.Live fits = (code (codes "live") refl refl, tt)
+opened_pieces opened.GivenUp fits = (code (codes "givenup") refl refl, tt)
+opened_pieces (opened.GivenUpRefuse t) fits = (code (codes "givenup") refl refl, (task_piece t fits, (code (codes "refuse") refl refl, tt)))
 
 failed_pieces : (x : Failed) → FitsFailed x → Pieces (failed_words x)
-failed_pieces failed.Nothing fits = (code (codes "none") refl, tt)
-failed_pieces (failed.Offer t) fits = (task_piece t fits, (code (codes "offer") refl, tt))
-failed_pieces (failed.Refuse t) fits = (task_piece t fits, (code (codes "refuse") refl, tt))
+failed_pieces failed.Nothing fits = (code (codes "none") refl refl, tt)
+failed_pieces (failed.Offer t) fits = (task_piece t fits, (code (codes "offer") refl refl, tt))
+failed_pieces (failed.Refuse t) fits = (task_piece t fits, (code (codes "refuse") refl refl, tt))
 
 took_pieces : (x : Took) → FitsTook x → Pieces (took_words x)
-took_pieces (took.Held t) fits = (code (codes "held") refl, (task_piece t fits, tt))
-took_pieces (took.Head t) fits = (code (codes "head") refl, (task_piece t fits, tt))
-took_pieces took.Leave fits = (code (codes "leave") refl, tt)
-took_pieces took.Idle fits = (code (codes "idle") refl, tt)
+took_pieces (took.Held t) fits = (code (codes "held") refl refl, (task_piece t fits, tt))
+took_pieces (took.Head t) fits = (code (codes "head") refl refl, (task_piece t fits, tt))
+took_pieces took.Leave fits = (code (codes "leave") refl refl, tt)
+took_pieces took.Idle fits = (code (codes "idle") refl refl, tt)
 
 started_pieces : (x : Started) → FitsStarted x → Pieces (started_words x)
 started_pieces (started.Run t) fits = (task_piece t fits, tt)
-started_pieces (started.Skip t) fits = (code (codes "skip") refl, (task_piece t fits, tt))
+started_pieces (started.Skip t) fits = (code (codes "skip") refl refl, (task_piece t fits, tt))
 
 command_piece : (c : Command) → IsPiece (command_word c)
-command_piece command.Submit = code (codes "submit") refl
-command_piece command.Verdict = code (codes "verdict") refl
-command_piece command.Cancel = code (codes "cancel") refl
-command_piece command.CoreTimeout = code (codes "coretimeout") refl
-command_piece (command.OfTask task.Look) = code (codes "look") refl
-command_piece (command.OfTask task.Offer) = code (codes "offer") refl
-command_piece (command.OfTask task.Second) = code (codes "second") refl
-command_piece (command.OfTask task.Grow) = code (codes "grow") refl
-command_piece (command.OfTask task.CallerEnd) = code (codes "callerend") refl
-command_piece (command.OfTask task.Remove) = code (codes "remove") refl
-command_piece (command.OfSlot slot.Open) = code (codes "open") refl
-command_piece (command.OfSlot slot.Fail) = code (codes "fail") refl
-command_piece (command.OfSlot slot.Take) = code (codes "take") refl
-command_piece (command.OfSlot slot.Begin) = code (codes "begin") refl
-command_piece (command.OfSlot slot.End) = code (codes "end") refl
-command_piece (command.OfSlot slot.Leave) = code (codes "leave") refl
-command_piece (command.OfPool pool.Shutdown) = code (codes "shutdown") refl
-command_piece (command.OfPool pool.Stop) = code (codes "stop") refl
-command_piece (command.OfPool pool.Tidy) = code (codes "tidy") refl
-command_piece (command.OfPool pool.Ended) = code (codes "ended") refl
-command_piece (command.OfPool pool.Purge) = code (codes "purge") refl
-command_piece (command.OfPool pool.Prestart) = code (codes "prestart") refl
-command_piece (command.OfSize size.TakeDone) = code (codes "takedone") refl
-command_piece (command.OfSize size.Core) = code (codes "core") refl
-command_piece (command.OfSize size.Maximum) = code (codes "max") refl
-command_piece (command.OfTicks ticks.Keep) = code (codes "keep") refl
-command_piece (command.OfTicks ticks.Tick) = code (codes "tick") refl
+command_piece command.Submit = code (codes "submit") refl refl
+command_piece command.Verdict = code (codes "verdict") refl refl
+command_piece command.Cancel = code (codes "cancel") refl refl
+command_piece command.CoreTimeout = code (codes "coretimeout") refl refl
+command_piece (command.OfTask task.Look) = code (codes "look") refl refl
+command_piece (command.OfTask task.Offer) = code (codes "offer") refl refl
+command_piece (command.OfTask task.Second) = code (codes "second") refl refl
+command_piece (command.OfTask task.Grow) = code (codes "grow") refl refl
+command_piece (command.OfTask task.CallerEnd) = code (codes "callerend") refl refl
+command_piece (command.OfTask task.Remove) = code (codes "remove") refl refl
+command_piece (command.OfSlot slot.Open) = code (codes "open") refl refl
+command_piece (command.OfSlot slot.Fail) = code (codes "fail") refl refl
+command_piece (command.OfSlot slot.Take) = code (codes "take") refl refl
+command_piece (command.OfSlot slot.Begin) = code (codes "begin") refl refl
+command_piece (command.OfSlot slot.End) = code (codes "end") refl refl
+command_piece (command.OfSlot slot.Leave) = code (codes "leave") refl refl
+command_piece (command.OfPool pool.Shutdown) = code (codes "shutdown") refl refl
+command_piece (command.OfPool pool.Stop) = code (codes "stop") refl refl
+command_piece (command.OfPool pool.Tidy) = code (codes "tidy") refl refl
+command_piece (command.OfPool pool.Ended) = code (codes "ended") refl refl
+command_piece (command.OfPool pool.Purge) = code (codes "purge") refl refl
+command_piece (command.OfPool pool.Prestart) = code (codes "prestart") refl refl
+command_piece (command.OfSize size.TakeDone) = code (codes "takedone") refl refl
+command_piece (command.OfSize size.Core) = code (codes "core") refl refl
+command_piece (command.OfSize size.Maximum) = code (codes "max") refl refl
+command_piece (command.OfTicks ticks.Keep) = code (codes "keep") refl refl
+command_piece (command.OfTicks ticks.Tick) = code (codes "tick") refl refl
 
 argument_pieces : (d : Did) → FitsDid d → Pieces (argument_words d)
 argument_pieces (did.Submit t k l) fits = (task_piece t fits.0, both (kind_words k) (looked_words l) (kind_pieces k fits.1) (looked_pieces l fits.2))
@@ -245,12 +255,12 @@ argument_pieces (did.End w t o) fits = (slot_piece w fits.0, (task_piece t fits.
 argument_pieces did.Shutdown fits = tt
 argument_pieces did.Tidy fits = tt
 argument_pieces did.Ended fits = tt
-argument_pieces (did.Stop n) fits = (code (codes "drained") refl, (number_piece n (omega (arith, fits)), tt))
+argument_pieces (did.Stop n) fits = (code (codes "drained") refl refl, (number_piece n (omega (arith, fits)), tt))
 argument_pieces (did.Remove t e) fits = (task_piece t fits, (effect_piece e, tt))
 argument_pieces (did.Purge n) fits = (number_piece n (omega (arith, fits)), tt)
 argument_pieces (did.Cancel t flag e) fits = (task_piece t fits, flag_pieces flag e)
 argument_pieces (did.TakeDone g t) fits = (number_piece g (omega (arith, fits.0)), (task_piece t fits.1, tt))
-argument_pieces (did.Core n k) fits = (number_piece n (omega (arith, fits.0)), (code (codes "add") refl, (number_piece k (omega (arith, fits.1)), tt)))
+argument_pieces (did.Core n k) fits = (number_piece n (omega (arith, fits.0)), (code (codes "add") refl refl, (number_piece k (omega (arith, fits.1)), tt)))
 argument_pieces (did.Maximum n) fits = (number_piece n (omega (arith, fits)), tt)
 argument_pieces (did.Keep n) fits = (number_piece n fits, tt)
 argument_pieces (did.Tick n) fits = (number_piece n fits, tt)
@@ -273,13 +283,15 @@ pub split-words : (w : List ℕ) (ws : List (List ℕ)) → Pieces (w ∷ ws) �
 split-words w [] are = slice_split_none (λ b. b == 32) w (no_space w are.0.is_word)
 split-words w (v ∷ vs) are = slice_split_at (λ b. b == 32) w 32 (words (v ∷ vs)) (no_space w are.0.is_word) refl ∙ ap (λ x. w ∷ x) (split-words v vs are.1)
 
+-- a space alone
+
+space_below : (i : ℕ) → i < length {A = ℕ} (32 ∷ []) → get_or {A = ℕ} (32 ∷ []) i 0 < 128
+space_below zero within = omega arith
+space_below (suc i) within = absurd (omega arith)
+
+pub space_ascii : IsAscii (32 ∷ [])
+space_ascii = IsAscii-from_all (32 ∷ []) (All-from_get_or (λ b. b < 128) (32 ∷ []) 0 space_below)
+
 pub words_are_ascii : (w : List ℕ) (ws : List (List ℕ)) → Pieces (w ∷ ws) → IsAscii (words (w ∷ ws))
 words_are_ascii w [] are = are.0.ascii
-words_are_ascii w (v ∷ vs) are = IsAscii-append w (32 ∷ words (v ∷ vs)) are.0.ascii (IsAscii-append (32 ∷ []) (words (v ∷ vs)) space (words_are_ascii v vs are.1))
-  where
-    below : (i : ℕ) → i < length {A = ℕ} (32 ∷ []) → get_or {A = ℕ} (32 ∷ []) i 0 < 128
-    below zero within = omega arith
-    below (suc i) within = absurd (omega arith)
-
-    space : IsAscii (32 ∷ [])
-    space = IsAscii-from_all (32 ∷ []) (All-from_get_or (λ b. b < 128) (32 ∷ []) 0 below)
+words_are_ascii w (v ∷ vs) are = IsAscii-append w (32 ∷ words (v ∷ vs)) are.0.ascii (IsAscii-append (32 ∷ []) (words (v ∷ vs)) space_ascii (words_are_ascii v vs are.1))

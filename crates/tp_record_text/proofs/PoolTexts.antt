@@ -1,5 +1,5 @@
 -- Which texts are written pool lines.
-use Rattle.std.proofs.Common.{◌≡◌, ◌≢◌, ℕ, ◌<◌, List, Bool, true, false, ◌==◌, Option, Some, None, refl, sym, ◌∙◌, ap, subst, arith, inl, inr}
+use Rattle.std.proofs.Common.{◌≡◌, ◌≢◌, ℕ, List, Option, Some, None, refl, sym, ◌∙◌, ap, subst, arith, inl, inr}
 use Rattle.std.specs.Prelude.{IfSome, unwrap_or}
 use Rattle.std.proofs.lemmas.Bool.Decides.{eqb_tells}
 use Rattle.std.proofs.lemmas.Option.{none-some, same_Some}
@@ -42,3 +42,18 @@ pub no_usual : (bs : List ℕ) (p : PoolLine) → FitsPool p → bs ≡ pool_tex
 no_usual bs p fits is usual c good same =
     let one : p ≡ written c = pool_text-injective p (written c) fits good.0 (sym is ∙ same) in
     usual_unwritten c.record_limit (sym (ap (λ (x : PoolLine). x.limit) one) ∙ usual)
+
+back_limit : (n : ℕ) → unwrap_or (written_limit n) 4096 ≡ n
+back_limit n = elim (eqb_tells n 4096) [ inl p ↦ rw p.0 (sym p.1) | inr p ↦ rw p.0 refl ]
+
+with_limit : Config → ℕ → Config
+with_limit c n = record c { record_limit = n }
+
+-- a configuration is the one that its pool line says
+written_again : (c : Config) → config_of (written c) ≡ c
+unfolding with_limit
+written_again c = ap (with_limit c) (back_limit c.record_limit)
+
+-- no text is the written pool line of two configurations
+pub pool_line-injective : (c d : Config) → FitsConfig c → FitsConfig d → pool_line c ≡ pool_line d → c ≡ d
+pool_line-injective c d x y same = sym (written_again c) ∙ ap config_of (pool_text-injective (written c) (written d) x.0 y.0 same) ∙ written_again d

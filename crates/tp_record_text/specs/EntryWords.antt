@@ -1,5 +1,5 @@
 -- The words of each entry of a record.
-use Rattle.std.specs.Prelude.{◌==◌, ◌≡◌, ◌≢◌, ℕ, ◌<◌, Bool, true, false, List, [], ◌∷◌, ◌++◌, Option, Some, None, Ok, Err, codes, if◌then◌else◌}
+use Rattle.std.specs.Prelude.{◌==◌, ◌≡◌, ◌≢◌, ℕ, Bool, true, false, List, [], ◌∷◌, ◌++◌, Option, Some, None, Ok, Err, codes, if◌then◌else◌}
 use Rattle.std.specs.Fmt.{decimal, signed_decimal}
 use Rattle.tp_types.specs.declared.ids.SlotId.{SlotId}
 use Rattle.tp_types.specs.declared.ids.TaskId.{TaskId}
@@ -39,7 +39,7 @@ use Rattle.tp_text.specs.declared.commands.SizeVerb.TheVariants as size
 use Rattle.tp_text.specs.declared.commands.TickVerb.TheVariants as ticks
 use Rattle.tp_text.specs.Commands.{command_word}
 use Rattle.tp_text.specs.EntryLine.{task_name, slot_name, pass_name, effect_word, switch_word}
-use Rattle.tp_text.specs.Fits.{Fits32, Fits64, FitsKind, FitsOutcome, FitsValue}
+use Rattle.tp_text.specs.Fits.{Fits32, Fits64, FitsKind, FitsOutcome}
 
 abbrev pub kind_words : Kind → List (List ℕ)
 kind_words kinds.Plain = codes "plain" ∷ []

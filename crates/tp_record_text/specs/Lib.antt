@@ -1,3 +1,4 @@
 pub mod Rests
 pub mod EntryWords
 pub mod RecordText
+pub mod ReadRecord

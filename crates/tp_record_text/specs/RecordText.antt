@@ -1,14 +1,16 @@
 -- The text of a record.
 use Rattle.std.specs.Prelude.{◌==◌, ℕ, suc, List, [], ◌∷◌, ◌++◌, length, Option, Some, None, codes, if◌then◌else◌}
 use Rattle.std.specs.Fmt.{decimal}
+use Rattle.std.specs.List.{AllByRecursion, flat_map}
 use Rattle.tp_types.specs.declared.configs.Config.{Config}
 use Rattle.tp_record.specs.declared.entries.Entry.{Entry}
 use Rattle.tp_text.specs.declared.pools.PoolLine.{PoolLine}
-use Rattle.tp_text.specs.EntryLine.{entry_line}
+use Rattle.tp_text.specs.EntryLine.{words}
 use Rattle.tp_text.specs.Fits.{Fits32}
 use Rattle.tp_text.specs.Lines.{ended}
-use Rattle.tp_text.specs.Pools.{FitsPool, pool_text}
+use Rattle.tp_text.specs.Pools.{FitsPool, options_text, pool_text}
 use Rattle.tp_text.specs.Reads.{spaced}
+use Rattle.tp_record_text.specs.EntryWords.{IsStep, entry_words}
 
 -- a record limit is written where it is not the usual one
 abbrev pub written_limit : ℕ → Option ℕ
@@ -27,6 +29,15 @@ written c =
       limit = written_limit c.record_limit;
     }
 
+-- what may follow a word, behind its space
+abbrev pub behind_word : Option (List ℕ) → List ℕ
+behind_word None = []
+behind_word (Some rest) = 32 ∷ rest
+
+-- what follows the policy in a written pool line
+abbrev pub written_options : Config → List ℕ
+written_options c = behind_word (options_text (c.core_timeout, written_limit c.record_limit))
+
 abbrev pub FitsConfig : Config → Type 0
 FitsConfig c = FitsPool (written c) × Fits32 c.record_limit
 
@@ -38,14 +49,29 @@ header = codes "tprecord 1"
 abbrev pub pool_line : Config → List ℕ
 pool_line c = pool_text (written c)
 
+-- entry n
+abbrev pub entry_text : ℕ → Entry → List ℕ
+entry_text n e = words (entry_words n e)
+
+-- entries, the first of which has number n
+abbrev pub entry_texts : ℕ → List Entry → List (List ℕ)
+entry_texts n [] = []
+entry_texts n (e ∷ es) = entry_text n e ∷ entry_texts (suc n) es
+
 abbrev pub end_line : ℕ → List ℕ
 end_line n = spaced (codes "end") (decimal n)
 
--- the lines of entries, the first of which has number n
-abbrev pub entry_lines : ℕ → List Entry → List ℕ
-entry_lines n [] = []
-entry_lines n (e ∷ es) = entry_line n e ++ entry_lines (suc n) es
+-- all lines of a record: its configuration and its entries, oldest first
+abbrev pub record_lines : Config → List Entry → List (List ℕ)
+record_lines c es = header ∷ pool_line c ∷ (entry_texts 1 es ++ end_line (length es) ∷ [])
 
--- the text of a record: its configuration and its entries, oldest first
+-- the text of a record
 abbrev pub record_text : Config → List Entry → List ℕ
-record_text c es = ended header ++ (ended (pool_line c) ++ (entry_lines 1 es ++ ended (end_line (length es))))
+record_text c es = flat_map ended (record_lines c es)
+
+-- a record that has a text: its numbers are in the range of their types, and the answer of each entry is of the form of
+-- its ask
+pub record HasText (c : Config) (es : List Entry) : Type 0 where
+  pub config : FitsConfig c
+  pub count : Fits32 (length es)
+  pub steps : AllByRecursion IsStep es

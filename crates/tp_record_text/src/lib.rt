@@ -7,3 +7,4 @@ pub mod entries;
 pub mod records;
 mod steps;
 mod words;
+pub mod writing;

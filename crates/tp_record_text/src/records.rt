@@ -1,14 +1,40 @@
-//! The lines of a record text, read one after another.
-ghost use Rattle.std.specs.Prelude.{◌≡◌, ◌↔◌, ◌≢◌, List, ℕ, Some, None, IsTrue};
+//! Record texts: the configuration of a pool and the entries of its record, read line by line.
+ghost use Rattle.std.specs.Prelude.{◌≡◌, ◌↔◌, ◌≢◌, ◌≤◌, ◌<◌, ◌+◌, ◌^◌, ◌++◌, List, ℕ, length, Some, None, Ok, IsTrue, MatchResult};
+ghost use Rattle.tp_types.specs.declared.configs.Config.{Config};
+ghost use Rattle.tp_types.specs.Config.{checked};
 ghost use Rattle.tp_text.specs.Fits.{Fits32};
 ghost use Rattle.tp_text.specs.Reads.{ReadsAs};
 ghost use Rattle.tp_record_text.specs.RecordText.{FitsConfig, end_line, header, pool_line};
+ghost use Rattle.tp_record_text.specs.ReadRecord.{FitsBody, IsBody, IsNoBody, IsWrongAt, ReadsRecord, body_text, head};
 
+use crate::entries::read_entry;
+use std::alloc::Global;
+use tp_record::entries::Entry;
+use tp_text::lines::next_line;
 use tp_text::numbers::number;
 use tp_text::pools::pool_of;
 use tp_text::words::behind;
 use tp_types::configs::Config;
 use tp_types::limits::DEFAULT_RECORD_LIMIT;
+use tp_types::refusals::PoolError;
+
+/// What a record text says.
+#[derive(Debug, PartialEq, Eq, Drop)]
+pub struct Record {
+    /// The configuration with which the pool was made.
+    pub config: Config,
+    /// The entries of its record, oldest first.
+    pub entries: Vec<Entry>,
+}
+
+/// What a line says behind the pool line.
+#[derive(Clone, Copy, Debug, PartialEq, Eq)]
+pub enum BodyLine {
+    /// The next entry.
+    Entry(Entry),
+    /// The record ends.
+    End,
+}
 
 /// Whether a line begins a record text of version 1.
 pub fn is_header(line: &[u8]) -> bool
@@ -28,9 +54,106 @@ fn written_pool(text: &str) -> Option<Config>
     Some(pool.config())
 }
 
+/// The configuration that a line is the written pool line of: without a limit where it is 4,096.
+/// Its settings may be some that no pool can have.
+pub fn read_pool_line(line: &[u8]) -> Option<Config>
+    ensures { ReadsAs pool_line FitsConfig line.now result }
+{
+    written_pool(str::from_utf8(line).ok()?)
+}
+
 /// How many entries the last line of a record text says.
 fn ending(text: &str) -> Option<u32>
     ensures { ReadsAs end_line Fits32 text.now result }
 {
     number(behind(text, "end")?)
+}
+
+/// How many entries a line says that ends a record text, as `end 5`.
+pub fn read_end_line(line: &[u8]) -> Option<u32>
+    ensures { ReadsAs end_line Fits32 line.now result }
+{
+    ending(str::from_utf8(line).ok()?)
+}
+
+/// What a line says behind the pool line and so many entries: the next entry, or that there are no
+/// more.
+pub fn read_body_line(line: &[u8], before: u32) -> Option<BodyLine>
+    requires { before + 1 < 2 ^ 32 }
+    ensures { ReadsAs (body_text before) FitsBody line.now result }
+{
+    if let Some((number, entry)) = read_entry(line) {
+        return (number == before + 1).then_some(BodyLine::Entry(entry));
+    }
+    (read_end_line(line)? == before).then_some(BodyLine::End)
+}
+
+/// The configuration that the first two lines of a record text say, and what stands behind them; 24
+/// with the number of the first wrong line.
+fn read_head(text: &[u8]) -> Result<(Config, &[u8]), PoolError>
+    ensures { MatchResult result (λ p. FitsConfig p.0 × (text.now ≡ head p.0 ++ p.1.now)) (λ e. IsWrongAt text.now e) }
+{
+    let Some((line, rest)) = next_line(text) else {
+        return Err(PoolError::BadEntry(1));
+    };
+    if !is_header(line) {
+        return Err(PoolError::BadEntry(1));
+    }
+    let Some((line, body)) = next_line(rest) else {
+        return Err(PoolError::BadEntry(2));
+    };
+    match read_pool_line(line) {
+        Some(config) => Ok((config, body)),
+        None => Err(PoolError::BadEntry(2)),
+    }
+}
+
+/// The entries that the lines behind the pool line say; 24 with the number of the first wrong line,
+/// counted from the text's first.
+fn read_entries(alloc: Global, body: &[u8]) -> Result<Vec<Entry>, PoolError>
+    requires { length body.now ≤ 1048576 }
+    ensures { (c : Config) → FitsConfig c → checked c ≡ Ok tt
+        → MatchResult result (λ v. IsBody c body.now v.items) (IsNoBody c body.now) }
+{
+    let mut entries = Vec::new(alloc);
+    let mut rest = body;
+    let mut count = 0;
+    while let Some((line, behind)) = next_line(rest) {
+        match read_body_line(line, count) {
+            Some(BodyLine::Entry(entry)) => {
+                if entries.push(entry).is_err() {
+                    return Err(PoolError::NoMemory);
+                }
+            }
+            Some(BodyLine::End) => {
+                if behind.is_empty() {
+                    return Ok(entries);
+                }
+                return Err(PoolError::BadEntry(count + 4));
+            }
+            None => return Err(PoolError::BadEntry(count + 3)),
+        }
+        rest = behind;
+        count += 1;
+    }
+    Err(PoolError::BadEntry(count + 3))
+}
+
+/// The record that a text says. Else its refusal: that of a configuration that no pool can have
+/// (1 `BadSizes`, 2 `BadCapacity`, 3 `BadLimit`, 11 `KeepZero`) where all is good up to the pool
+/// line, 24 `BadEntry` with the number of the first wrong line, or 4 `NoMemory`. A line is wrong that
+/// can't stand in its place in the text of any record; where the `end` is missing, it is the line
+/// after the last.
+pub fn read_record(alloc: Global, text: &[u8]) -> Result<Record, PoolError>
+    requires { length text.now ≤ 1048576 }
+    ensures { ReadsRecord text.now result }
+{
+    let (config, body) = read_head(text)?;
+    if let Err(refusal) = config.check() {
+        return Err(refusal);
+    }
+    match read_entries(alloc, body) {
+        Ok(entries) => Ok(Record { config, entries }),
+        Err(refusal) => Err(refusal),
+    }
 }

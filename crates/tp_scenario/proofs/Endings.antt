@@ -11,6 +11,7 @@ use Rattle.tp_record.specs.State.{State, state}
 use Rattle.tp_text.specs.RunText.{Answer, after_all, run_lines, end_lines, IsFront}
 use Rattle.tp_text.specs.declared.pools.PoolLine.{PoolLine}
 use Rattle.tp_text.specs.Pools.{config_of}
+use Rattle.tp_text.proofs.Outputs.{known_or, no_more}
 use Rattle.tp_scenario.specs.Scenario.{Asked, Said}
 use Rattle.tp_scenario.specs.Played.{Ending, IsPlay, IsPlayed, IsRun, ComesOf, ComesOfPool, BreaksOff, ending_of, written}
 use Rattle.tp_scenario.specs.Answered.{Breaks, PlaysFrom, Playing, Stands}
@@ -105,24 +106,7 @@ ran input old new text out (Err ReadFailed) known played appends = absurd (never
 ran input old new text out (Err WriteFailed) known played appends = tt
 ran input old new text out (Err e) known played appends = (text, out, known, played, appends)
 
-known_or : (input : Option (List ℕ)) → IfSome input (λ xs. unwrap_or input [] ≡ xs)
-known_or None = tt
-known_or (Some xs) = refl
-
-no_more : (old : Option (List ℕ)) → Appends old old []
-no_more None = tt
-no_more (Some xs) = sym (append-nil xs)
-
 -- a run that was not read
 pub unread : (input old : Option (List ℕ)) (e : PoolError) → (e ≡ ReadFailed) ⊎ (e ≡ NoMemory) → IsRun input old old (Err e)
 unread input old e (inl is) = subst (λ x. IsRun input old old (Err x)) (sym is) (Keeps-refl old)
 unread input old e (inr is) = subst (λ x. IsRun input old old (Err x)) (sym is) (unwrap_or input [], [], known_or input, inr (refl, inl refl), no_more old)
-
--- what holds on success, where there was one
-pub on_success : {A E : Type 0} (r : Result A E) (P : Type 0) → false ≡ is_err r → OnOk r P → P
-on_success (Ok a) P none holds = holds
-on_success (Err e) P none holds = cc
-
--- what was written before a flush
-pub written_out : (old mid new : Option (List ℕ)) (text out : List ℕ) → text ≡ out → Appends old mid text → Keeps mid new → Appends old new out
-written_out old mid new text out same appends keeps = subst (Appends old new) same (Appends-kept old mid new text appends keeps)

@@ -1,6 +1,5 @@
 -- A text says one thing.
-use Rattle.std.proofs.Common.{◌≡◌, ℕ, suc, ◌<◌, List, [], ◌∷◌, ◌++◌, get_or, Option, Some, None, Ok, Err, true, refl, sym, ◌∙◌, ap, subst, arith, append_assoc, inl, inr}
-use Rattle.std.specs.List.{flat_map}
+use Rattle.std.proofs.Common.{◌≡◌, ℕ, suc, ◌<◌, List, [], ◌∷◌, get_or, Option, Some, None, Ok, Err, true, refl, sym, ◌∙◌, ap, subst, arith, inl, inr}
 use Rattle.std.specs.Prelude.{nat_lt}
 use Rattle.std.proofs.lemmas.Bool.{ltb-true}
 use Rattle.tp_text.specs.Reads.{followed}
@@ -21,8 +20,8 @@ use Rattle.tp_scenario.specs.Lines.{arguments, command_of, line_text}
 use Rattle.tp_text.specs.Commands.{command_word}
 use Rattle.tp_text.specs.Pools.{pool_text}
 use Rattle.tp_scenario.specs.Scenario.{AskFor, Asked, Before, BeforePool, IsSkipped, ReadsLine, ReadsPoolLine, Said, Says, IsScenario}
-use Rattle.tp_text.specs.Lines.{HasNoLineFeed, IsLines, ended}
 use Rattle.tp_scenario.proofs.OneReading.{line_text-injective}
+use Rattle.tp_text.proofs.LineSplits.{same_lines}
 use Rattle.tp_text.proofs.PoolReading.{pool_text-injective}
 
 -- each command begins with a letter
@@ -96,36 +95,6 @@ same_pool_read bytes (head.Pool p) head.Bad a b = absurd (b.1 a.0 p a.1 a.2 a.3)
 same_pool_read bytes head.Bad head.Skipped a b = absurd (a.0 b)
 same_pool_read bytes head.Bad (head.Pool q) a b = absurd (a.1 b.0 q b.1 b.2 b.3)
 same_pool_read bytes head.Bad head.Bad a b = refl
-
-front_line : (m : List ℕ) (ms : List (List ℕ)) (rest : List ℕ) → flat_map ended (m ∷ ms) ++ rest ≡ m ++ 10 ∷ (flat_map ended ms ++ rest)
-front_line m ms rest = append_assoc (ended m) (flat_map ended ms) rest ∙ append_assoc m (10 ∷ []) (flat_map ended ms ++ rest)
-
-rest_of_line : (b : ℕ) (bs : List ℕ) → HasNoLineFeed (b ∷ bs) → HasNoLineFeed bs
-rest_of_line b bs none i within = none (suc i) (omega arith)
-
--- a text with a line feed has one
-no_cut : (x m q : List ℕ) → HasNoLineFeed x → x ≡ m ++ 10 ∷ q → ⊥
-no_cut [] [] q none e = cc
-no_cut [] (c ∷ m) q none e = cc
-no_cut (b ∷ x) [] q none e = none 0 (omega arith) cc
-no_cut (b ∷ x) (c ∷ m) q none e = no_cut x m q (rest_of_line b x none) cc
-
--- texts fall apart at their first line feed
-same_cut : (l m r q : List ℕ) → HasNoLineFeed l → HasNoLineFeed m → l ++ 10 ∷ r ≡ m ++ 10 ∷ q → (l ≡ m) × (r ≡ q)
-same_cut [] [] r q x y e = (refl, cc)
-same_cut [] (c ∷ m) r q x y e = absurd (y 0 (omega arith) cc)
-same_cut (b ∷ l) [] r q x y e = absurd (x 0 (omega arith) cc)
-same_cut (b ∷ l) (c ∷ m) r q x y e = let p = same_cut l m r q (rest_of_line b l x) (rest_of_line c m y) cc in (cc, p.1)
-
--- a text falls apart into lines in one way
-same_lines : (text : List ℕ) (ls ms : List (List ℕ)) (x y : List ℕ) → IsLines text ls x → IsLines text ms y → (ls ≡ ms) × (x ≡ y)
-same_lines text [] [] x y a b = (refl, sym a.whole ∙ b.whole)
-same_lines text [] (m ∷ ms) x y a b = absurd (no_cut x m (flat_map ended ms ++ y) a.last (sym a.whole ∙ b.whole ∙ front_line m ms y))
-same_lines text (l ∷ ls) [] x y a b = absurd (no_cut y l (flat_map ended ls ++ x) b.last (sym b.whole ∙ a.whole ∙ front_line l ls x))
-same_lines text (l ∷ ls) (m ∷ ms) x y a b =
-    let p = same_cut l m (flat_map ended ls ++ x) (flat_map ended ms ++ y) a.each.0 b.each.0 (sym (front_line l ls x) ∙ sym a.whole ∙ b.whole ∙ front_line m ms y) in
-    let q = same_lines (flat_map ended ls ++ x) ls ms x y (record { whole = refl; each = a.each.1; last = a.last }) (record { whole = p.1; each = b.each.1; last = b.last }) in
-    (ap (λ v. v ∷ ls) p.0 ∙ ap (λ v. m ∷ v) q.0, q.1)
 
 same_before : (r : LineRead) (k : ℕ) (on : Asked → Type 0) → ((a b : Asked) → on a → on b → a ≡ b) → (a b : Asked) → Before r k on a → Before r k on b → a ≡ b
 same_before read.Skipped k on one a b x y = one a b x y

@@ -1,5 +1,5 @@
 //! Scenarios: their texts, read line by line, and the runner that plays them on a pool and writes
-//! what comes of each line.
+//! what comes of each line. Beside them the audit of a record's text.
 #![tactic(auto)]
 
 pub mod lines;
@@ -9,3 +9,5 @@ pub mod run;
 pub mod scenarios;
 pub mod step;
 pub mod texts;
+
+pub use tp_audit_text::audits::audit_text;

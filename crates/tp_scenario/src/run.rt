@@ -7,32 +7,8 @@ ghost use Rattle.tp_scenario.specs.Played.{IsRun};
 use crate::play::play;
 use std::alloc::Global;
 use std::io::{Read, Write};
-use tp_types::limits::MAX_TEXT_BYTES;
+use tp_text::inputs::read_text;
 use tp_types::refusals::PoolError;
-
-/// Reads all that a reader gives, at most 1,048,576 bytes.
-fn read_text<R: Read>(alloc: Global, reader: &mut R) -> Result<Vec<u8>, PoolError>
-    ensures short { IfOk result (λ text. length text.items ≤ 1048576) }
-    ensures whole { IfOk result (λ text. IfSome (R.remaining reader.old) (λ xs. text.items ≡ xs)) }
-    ensures refused { IfErr result (λ e. (e ≡ PoolError.ReadFailed) ⊎ (e ≡ PoolError.NoMemory)) }
-{
-    let mut text = Vec::new(alloc);
-    let mut piece = [0u8; 4_096];
-    for _ in 0..u64::MAX {
-        match reader.read(&mut piece) {
-            Ok(0) => return Ok(text),
-            Ok(count) => {
-                if MAX_TEXT_BYTES - text.len() < count {
-                    return Err(PoolError::ReadFailed);
-                }
-                text.extend_from_slice(&piece[..count])
-                    .map_err(|_| PoolError::NoMemory)?;
-            }
-            Err(_) => return Err(PoolError::ReadFailed),
-        }
-    }
-    Err(PoolError::ReadFailed)
-}
 
 /// Reads a scenario whole, plays it, and writes what comes of it. What the run ends with is the
 /// answer: 23 at the first bad line, the refusal of a pool's configuration, or 4 for want of memory

@@ -1,4 +1,5 @@
 pub mod WordSplits
+pub mod LineSplits
 pub mod NumberTexts
 pub mod CommandWords
 pub mod PoolLaws
@@ -7,3 +8,4 @@ pub mod TextLaws
 pub mod LineLaws
 pub mod RunLaws
 pub mod WorkedOutputs
+pub mod Outputs

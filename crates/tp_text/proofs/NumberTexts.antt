@@ -10,6 +10,7 @@ use Rattle.std.proofs.lemmas.Str.Parse.{IsNumeralModel, numerals_by_value, tells
 use Rattle.std.proofs.lemmas.Str.Parse.{parse_signed_minus, parse_signed_plain}
 use Rattle.std.proofs.lemmas.Bool.Decides.{eqb_tells}
 use Rattle.tp_text.specs.Fits.{FitsValue}
+use Rattle.tp_text.specs.Lines.{HasNoLineFeed}
 use Rattle.tp_text.specs.Reads.{IsPlain, IsPlainValue, IsWord, ReadsAs}
 
 pub own : IsNumeralModel (AllDigits 10) (digits_value 10)
@@ -25,6 +26,10 @@ plain_decimal (suc n) h =
 -- a printed number has no space
 pub word_decimal : (n : ℕ) → n < 2 ^ 64 → IsWord (decimal n)
 word_decimal n h = not_in_digits own (decimal n) 32 (digits_decimal own n h) (λ r. absurd (omega arith))
+
+-- a printed number has no line feed
+pub single_decimal : (n : ℕ) → n < 2 ^ 64 → HasNoLineFeed (decimal n)
+single_decimal n h = not_in_digits own (decimal n) 10 (digits_decimal own n h) (λ r. absurd (omega arith))
 
 -- what `parse` makes of a plain text, without the error
 pub plain_read : {E : Type 0} (k : ℕ) (bs : List ℕ) (r : Result ℕ E) → 2 ^ k ≤ 2 ^ 64 → IsPlain bs → ParsesUnsigned k 10 bs r → ReadsAs decimal (λ n. n < 2 ^ k) bs (result_ok r)

@@ -6,6 +6,7 @@ mod answers;
 pub mod commands;
 pub mod ends;
 pub mod entries;
+pub mod inputs;
 pub mod lines;
 pub mod numbers;
 pub mod pools;

@@ -58,10 +58,16 @@ fn call<F: Files>(files: &F, alloc: Global, line: &str) -> Result<Called, Fail> 
     })
 }
 
-/// Calls the program on a file of this text.
-fn call_on<F: Files>(files: &F, alloc: Global, name: &str, text: &str) -> Result<Called, Fail> {
+/// Calls the program by a command on a file of this text.
+fn call_on<F: Files>(
+    files: &F,
+    alloc: Global,
+    command: &str,
+    name: &str,
+    text: &str,
+) -> Result<Called, Fail> {
     fs::write(files, name, text)?;
-    let line = format!(in alloc; "poolrun steps {name}")?;
+    let line = format!(in alloc; "poolrun {command} {name}")?;
     let called = call(files, alloc, line.as_str())?;
     fs::remove_file(files, name)?;
     Ok(called)
@@ -69,7 +75,7 @@ fn call_on<F: Files>(files: &F, alloc: Global, name: &str, text: &str) -> Result
 
 #[test]
 fn runs_a_scenario(rt: HostRuntime) -> Result<(), Fail> {
-    let good = call_on(&rt, rt.alloc(), "good-run.txt", ROW_01)?;
+    let good = call_on(&rt, rt.alloc(), "steps", "good-run.txt", ROW_01)?;
     assert!(rt; good.gave(0, ROW_01_OUTPUT, ""), "{good:?}");
     Ok(())
 }
@@ -84,8 +90,41 @@ fn ends_with_the_refusal_of_a_run(rt: HostRuntime) -> Result<(), Fail> {
         ),
         ("", "refused 23 BadLine 1\n"),
     ] {
-        let refused = call_on(&rt, rt.alloc(), "refused-run.txt", text)?;
+        let refused = call_on(&rt, rt.alloc(), "steps", "refused-run.txt", text)?;
         assert!(rt; refused.gave(1, out, ""), "{refused:?}");
+    }
+    Ok(())
+}
+
+#[test]
+fn judges_a_record(rt: HostRuntime) -> Result<(), Fail> {
+    for (text, status, out) in [
+        (
+            "tprecord 1\npool 1 1 unbounded keep 0 abort\n1 shutdown\n2 tidy\nend 2\n",
+            0,
+            "legal 2
+state tidying
+counts submitted=0 run=0 caller=0 rejected=0 discarded=0 handedback=0 removed=0 cancelled=0 completed=0 queued=0 live=0 largest=0
+",
+        ),
+        (
+            "tprecord 1\npool 1 1 unbounded keep 0 abort\n1 tidy\nend 1\n",
+            1,
+            "flaw 1\n",
+        ),
+        (
+            "tprecord 1\npool 3 2 unbounded keep 0 abort\nend 1\n",
+            1,
+            "refused 1 BadSizes\n",
+        ),
+        (
+            "tprecord 1\npool 1 1 unbounded keep 0 abort\nend 1\n",
+            1,
+            "refused 24 BadEntry 3\n",
+        ),
+    ] {
+        let judged = call_on(&rt, rt.alloc(), "audit", "a-record.txt", text)?;
+        assert!(rt; judged.gave(status, out, ""), "{judged:?}");
     }
     Ok(())
 }
@@ -96,6 +135,10 @@ fn tells_why_a_file_is_not_read(rt: HostRuntime) -> Result<(), Fail> {
     for (line, errors) in [
         (
             "poolrun steps no-such-file.txt",
+            "poolrun: no-such-file.txt: No such file or directory (os error 2)\n",
+        ),
+        (
+            "poolrun audit no-such-file.txt",
             "poolrun: no-such-file.txt: No such file or directory (os error 2)\n",
         ),
         (
@@ -137,6 +180,7 @@ fn shows_the_usage_of_a_bad_command_line(rt: HostRuntime) -> Result<(), Fail> {
         "poolrun",
         "poolrun steps",
         "poolrun steps a b",
+        "poolrun audit",
         "poolrun steps --loud a",
         "poolrun listen a",
         "poolrun --loud",
@@ -153,7 +197,13 @@ fn helps_on_the_standard_error(rt: HostRuntime) -> Result<(), Fail> {
     for line in ["poolrun --help", "poolrun -h", "poolrun help"] {
         let help = call(&rt, rt.alloc(), line)?;
         assert!(rt; help.status == 2 && help.out.is_empty(), "{line}: {help:?}");
-        for part in ["Usage: poolrun", "poolrun steps data/", "Status:", "  2  "] {
+        for part in [
+            "Usage: poolrun",
+            "poolrun steps data/",
+            "poolrun audit data/",
+            "Status:",
+            "  2  ",
+        ] {
             assert!(rt; has(&help.errors, part), "{line}: {help:?}");
         }
     }

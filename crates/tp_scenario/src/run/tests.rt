@@ -2,6 +2,7 @@
 
 use super::*;
 use std::io;
+use tp_types::limits::MAX_TEXT_BYTES;
 
 const ROW_01: &[u8] = b"pool 1 1 unbounded keep 0 abort\n\
 submit plain 5\n\

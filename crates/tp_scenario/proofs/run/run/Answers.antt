@@ -1,6 +1,7 @@
 use Rattle.std.proofs.Common.{subst}
 use Rattle.tp_scenario.specs.Played.{IsPlayed}
-use Rattle.tp_scenario.proofs.Endings.{ran, unread, on_success, written_out}
+use Rattle.tp_text.proofs.Outputs.{on_success, written_out}
+use Rattle.tp_scenario.proofs.Endings.{ran, unread}
 use Rattle.tp_scenario.proofs.run.run.Goals as goal
 
 pub returns-in-Err-clause-runs : goal.returns-in-Err-clause-runs

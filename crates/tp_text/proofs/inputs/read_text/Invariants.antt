@@ -1,6 +1,6 @@
 use Rattle.std.proofs.Common.{◌≤◌, ℕ, length, List, Option}
 use Rattle.std.specs.Io.KnownBytes.{Consumes}
-use Rattle.tp_scenario.proofs.run.read_text.Given as goal
+use Rattle.tp_text.proofs.inputs.read_text.Given as goal
 
 -- what was read so far
 pub record Reading (before now : Option (List ℕ)) (text : List ℕ) : Type 0 where
