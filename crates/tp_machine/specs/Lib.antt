@@ -1,5 +1,2 @@
-pub mod Handed
-pub mod Owed
-pub mod Parts
 pub mod Seen
-pub mod Settings
+pub mod Steps

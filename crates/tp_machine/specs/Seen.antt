@@ -1,47 +1,40 @@
--- What a contract sees of a machine.
-use Rattle.std.specs.Prelude.{false, ℕ, ◌≡◌, ◌≤◌, Bool, List, Option, Some, None, Result, IfSome, length, reverse, slice_index_or, pos, ℤ}
+-- What a contract sees of a machine, and the histories at which it stands.
+use Rattle.std.specs.Prelude.{ℕ, ◌≡◌, ◌+◌, ◌≤◌, List, Option}
 use Rattle.tp_types.specs.declared.configs.Config.{Config}
-use Rattle.tp_types.specs.declared.ids.TaskId.{TaskId}
 use Rattle.tp_types.specs.declared.tasks.Promise.{Promise}
-use Rattle.tp_types.specs.Promise.{FitsPromise}
 use Rattle.tp_record.specs.declared.entries.Entry.{Entry}
-use Rattle.tp_record.specs.declared.rows.SlotRow.{SlotRow}
-use Rattle.tp_record.specs.State.{State, state, slot_at}
+use Rattle.tp_record.specs.State.{state}
 use Rattle.tp_record.specs.Step.{Legal}
-use Rattle.tp_machine.specs.declared.parts.Parts.{Parts}
-use Rattle.tp_machine.specs.Parts.{shown, Tallied, IsSingle, waiting_rows}
+use Rattle.tp_tasks.specs.Tasks.{payload_of, promise_of}
+use Rattle.tp_parts.specs.declared.parts.Parts.{Parts}
+use Rattle.tp_parts.specs.Shows.{Shows}
+use Rattle.tp_parts.specs.Steps.{Stands}
 
--- a pool's settings, its record latest entry first, by each task's number the payload that it was submitted with while it
--- waits, and by each task's number its promise
-pub record Seen (P : Type 0) : Type 0 where
-  pub config : Config
-  pub history : List Entry
-  pub payloads : List (Option P)
-  pub promises : List Promise
+-- what a pool keeps, and what was noted of its entries
+pub record Seen (P R : Type 0) : Type 0 where
+  pub parts : Parts P
+  pub noted : R
 
--- what is true of every machine: its record is legal, its structures show the state that the record gives, and there is a
--- payload just for each task that waits, and a promise for each task
-pub record Sound (c : Config) (entries : List Entry) (promises : ℕ) (kept : List Bool) (places : ℕ) (p : Parts) : Type 0 where
-  pub legal : Legal c (reverse entries)
-  pub shows : shown (length entries) p ≡ state c (reverse entries)
-  pub tallied : Tallied c (length entries) p
-  pub single : IsSingle c p
-  pub places_kept : c.record_limit ≤ places
-  pub payloads_kept : kept ≡ waiting_rows p
-  pub promises_kept : promises ≡ length kept
+module _ {P R : Type 0} where
+  abbrev pub config_of : Seen P R → Config
+  config_of m = m.parts.config
 
--- the task in a slot of this number
-abbrev pub task_of_row : Option SlotRow → Option TaskId
-task_of_row None = None
-task_of_row (Some r) = r.task
+  -- task t's payload, while the task waits
+  abbrev pub payload : Seen P R → ℕ → Option P
+  payload m t = payload_of m.parts.tasks t
 
-abbrev pub task_in_slot : State → ℕ → Option TaskId
-task_in_slot s w = task_of_row (slot_at s.slots w)
+  -- what task t's job promised
+  abbrev pub promise : Seen P R → ℕ → Option Promise
+  promise m t = promise_of m.parts.tasks t
 
--- what is read of a task that promised nothing
-abbrev pub no_promise : Promise
-no_promise = record { low = pos 0; high = pos 0; may_fault = false }
+  -- a machine stands at a history: it is legal, it is the one that was noted, and the machine is in its state
+  pub record At (tells : R → List Entry → Type 0) (m : Seen P R) (h : List Entry) : Type 0 where
+    pub told : tells m.noted h
+    pub legal : Legal (config_of m) h
+    pub shows : Shows m.parts (state (config_of m) h)
 
--- the outcome is as the task promised that is in the slot, where there is one
-abbrev pub FitsThere : {P : Type 0} → Seen P → ℕ → Result ℤ ℕ → Type 0
-FitsThere m w o = IfSome (task_in_slot (state m.config m.history) w) (λ t. FitsPromise (slice_index_or m.promises t.0 no_promise) o)
+  -- it stands at some history, and there are places for the rest of the record
+  pub record IsSound (tells : R → List Entry → Type 0) (places : R → ℕ) (m : Seen P R) : Type 0 where
+    pub stands : Stands m.parts
+    pub told : tells m.noted stands.history
+    pub room : m.parts.config.record_limit ≤ places m.noted + m.parts.steps
