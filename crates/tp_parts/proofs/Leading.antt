@@ -1,6 +1,6 @@
 -- How a step leads from structures that show a state to structures that show the next: what is seen of the next state, and what the changes of the
 -- structures keep in view, are the same.
-use Rattle.std.proofs.Common.{◌≡◌, ℕ, suc, ◌+◌, cond, List, Some, refl, arith, sym, ap, ◌∙◌}
+use Rattle.std.proofs.Common.{◌≡◌, ℕ, suc, ◌+◌, ◌-◌, cond, List, Some, refl, arith, sym, ap, ◌∙◌}
 use Rattle.std.specs.Prelude.{is_some}
 use Rattle.tp_record.specs.declared.entries.Entry.{Entry}
 use Rattle.tp_record.specs.declared.entries.Ask.{Ask}
@@ -13,9 +13,10 @@ use Rattle.tp_parts.specs.declared.parts.Parts.{Parts}
 use Rattle.tp_shapes.specs.View.{View, view, Reads, Effect}
 use Rattle.tp_parts.specs.Shows.{Views, Shows}
 use Rattle.tp_parts.specs.Tied.{IsTied}
-use Rattle.tp_parts.specs.Steps.{Fits, Leads}
-use Rattle.tp_parts.proofs.Standing.{given_fitting}
+use Rattle.tp_parts.specs.Steps.{Stands, Fits, Leads}
+use Rattle.tp_parts.proofs.Standing.{given_fitting, given_here, owed_here}
 use Rattle.tp_parts.proofs.Sums.{sums_agree}
+use Rattle.tp_parts.proofs.Ties.{tied_more}
 
 module _ {P : Type 0} where
   -- what is read of a state is what is seen of it
@@ -68,3 +69,12 @@ module _ {P : Type 0} where
     config = config;
     steps = steps;
   }
+
+  -- the same, of structures that stand, where one entry was counted by which n fewer are owed
+  pub leads_from : (old new : Parts P) (a : Ask) (d : Did) (fall rise n : ℕ) → Stands old → Fits old a d →
+      ((h : List Entry) → Legal old.config h → Given old.config h d → Shows old (state old.config h) → (v : View) × Effect (state old.config h) d v fall rise × Views new v) →
+      fall ≡ n + rise → new.config ≡ old.config → new.steps ≡ suc old.steps → new.due ≡ old.due - n → (IsTied old.config (suc old.steps) old → IsTied old.config (suc old.steps) new) → Leads old d new
+  leads_from old new a d fall rise n stands fits effects net config steps due tied =
+      let e = effects stands.history stands.legal (given_here old stands a d fits) stands.shows in
+      let owed = owed_here old stands d e.0 fall rise e.1 in
+      leads_by old new a d fall rise fits effects config steps (omega (arith, due, owed, net)) (tied (tied_more old.config old.steps old stands.tied))

@@ -5,3 +5,6 @@ pub mod Leading
 pub mod Queued
 pub mod New
 pub mod Few
+pub mod Slots
+pub mod Removals
+pub mod Answering

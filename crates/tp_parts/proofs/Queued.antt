@@ -1,7 +1,12 @@
--- The head of the queue, by the numbers of the tasks that wait.
-use Rattle.std.proofs.Common.{◌≡◌, ℕ, List, [], ◌∷◌, drop, Some, None, refl, ap}
-use Rattle.std.specs.Prelude.{option_map, slice_get}
+-- The tasks that wait, by their numbers, and their places in the queue.
+use Rattle.std.proofs.Common.{◌≡◌, ℕ, zero, suc, ◌<◌, ◌≤◌, Bool, true, false, not, cond, List, [], ◌∷◌, drop, length, Some, None, refl, arith, sym, ap, ◌∙◌, subst, ◌⊎◌, inl, inr}
+use Rattle.std.specs.Prelude.{◌==◌, option_map, slice_get, slice_index_or}
+use Rattle.std.specs.List.{Contains}
+use Rattle.std.proofs.lemmas.Bool.{eq-eqb, ne_eqb, cases_eq}
+use Rattle.std.proofs.lemmas.List.Elements.{Contains-append_right}
+use Rattle.tp_line.specs.Line.{Ordered, without_place}
 use Rattle.tp_types.specs.declared.ids.TaskId.{TaskId}
+use Rattle.tp_record.specs.Lists.{without}
 use Rattle.tp_parts.specs.Shows.{numbers}
 
 pub queue_head : (items : List (TaskId × ℕ)) (t : TaskId) → option_map (λ x. x.0) (slice_get items 0) ≡ Some t → numbers items ≡ t.0 ∷ numbers (drop 1 items)
@@ -11,3 +16,64 @@ queue_head (x ∷ xs) t is = let e : x.0 ≡ t = cc in ap (λ y. y.0 ∷ numbers
 pub queue_empty : (items : List (TaskId × ℕ)) → option_map (λ x. x.0) (slice_get items 0) ≡ None → numbers items ≡ []
 queue_empty [] is = refl
 queue_empty (x ∷ xs) is = absurd (let n : ⊥ = cc in n)
+
+-- in a list: its head, or in its rest
+contains_cases : {A : Type 0} (y : A) (ys : List A) (x : A) → Contains (y ∷ ys) x → (y ≡ x) ⊎ Contains ys x
+contains_cases y ys x has = at_index has.0 has.1 has.2
+  where
+    at_index : (k : ℕ) → k < suc (length ys) → slice_index_or (y ∷ ys) k x ≡ x → (y ≡ x) ⊎ Contains ys x
+    at_index zero within found = inl found
+    at_index (suc k) within found = inr (k, omega arith, found)
+
+-- a task that waits has a place
+pub place_there : (items : List (TaskId × ℕ)) (t : TaskId) → Contains (numbers items) t.0 → (k : ℕ) × Contains items (t, k)
+place_there [] t has = absurd (omega (arith, has.1))
+place_there (x ∷ xs) t has = elim (contains_cases x.0.0 (numbers xs) t.0 has) [
+  | inl here ↦ let e : x ≡ (t, x.1) = ap (λ n. (record { 0 = n }, x.1)) here in (x.1, (0, omega arith, e))
+  | inr there ↦ let r = place_there xs t there in (r.0, Contains-append_right (x ∷ []) xs (t, r.0) r.1)
+]
+
+-- each place stands from low on
+place_from : (low : ℕ) (xs : List (TaskId × ℕ)) (next : ℕ) (x : TaskId × ℕ) → Ordered low xs next → Contains xs x → low ≤ x.1
+place_from low [] next x o has = absurd (omega (arith, has.1))
+place_from low (y ∷ ys) next x o has = elim (contains_cases y ys x has) [
+  | inl here ↦ let a = o.0 in let e = ap (λ z. z.1) here in omega (arith, a, e)
+  | inr there ↦ let a = o.0 in let b = place_from (suc y.1) ys next x o.1 there in omega (arith, a, b)
+]
+
+-- one place, one task
+place_once : (low : ℕ) (xs : List (TaskId × ℕ)) (next : ℕ) (x z : TaskId × ℕ) → Ordered low xs next → Contains xs x → Contains xs z → x.1 ≡ z.1 → x ≡ z
+place_once low [] next x z o has also same = absurd (omega (arith, has.1))
+place_once low (y ∷ ys) next x z o has also same = elim (contains_cases y ys x has) [
+  | inl here ↦ elim (contains_cases y ys z also) [
+    | inl too ↦ sym here ∙ too
+    | inr later ↦ let a = place_from (suc y.1) ys next z o.1 later in let e = ap (λ w. w.1) here in absurd (omega (arith, a, e, same))
+  ]
+  | inr there ↦ elim (contains_cases y ys z also) [
+    | inl too ↦ let a = place_from (suc y.1) ys next x o.1 there in let e = ap (λ w. w.1) too in absurd (omega (arith, a, e, same))
+    | inr later ↦ place_once (suc y.1) ys next x z o.1 there later same
+  ]
+]
+
+-- to leave out a place is to leave out the task that waits there
+numbers-without_place : (xs : List (TaskId × ℕ)) (t k : ℕ) → ((x : TaskId × ℕ) → Contains xs x → (x.1 == k) ≡ (x.0.0 == t)) → numbers (without_place k xs) ≡ without t (numbers xs)
+numbers-without_place [] t k same = refl
+numbers-without_place (x ∷ xs) t k same =
+    let rest = numbers-without_place xs t k (λ y has. same y (Contains-append_right (x ∷ []) xs y has)) in
+    rw (same x (0, omega arith, refl)) (by (x.0.0 == t) rest)
+  where
+    by : (b : Bool) → numbers (without_place k xs) ≡ without t (numbers xs) → numbers (cond (not b) (x ∷ without_place k xs) (without_place k xs)) ≡ cond (not b) (x.0.0 ∷ without t (numbers xs)) (without t (numbers xs))
+    by true rest = rest
+    by false rest = ap (λ ys. x.0.0 ∷ ys) rest
+
+-- a task that waits at this place alone leaves with it
+pub numbers-unqueued : (xs : List (TaskId × ℕ)) (next : ℕ) (t : TaskId) (k : ℕ) → Ordered 0 xs next → Contains (numbers xs) t.0 → ((m : ℕ) → Contains xs (t, m) → m ≡ k) → numbers (without_place k xs) ≡ without t.0 (numbers xs)
+numbers-unqueued xs next t k o has only =
+    let there = place_there xs t has in
+    numbers-without_place xs t.0 k (λ x within. elim (cases_eq x.0.0 t.0) [
+      | inl same ↦
+          let e : x.0 ≡ t = ap (λ n. record { 0 = n }) same in
+          eq-eqb x.1 k (only x.1 (subst (λ u. Contains xs (u, x.1)) e within)) ∙ sym (eq-eqb x.0.0 t.0 same)
+      | inr apart ↦
+          ne_eqb x.1 k (λ e. apart (ap (λ w. w.0.0) (place_once 0 xs next x (t, there.0) o within there.1 (e ∙ sym (only there.0 there.1))))) ∙ sym (ne_eqb x.0.0 t.0 apart)
+    ])

@@ -1,6 +1,6 @@
 -- What is known where structures stand.
-use Rattle.std.proofs.Common.{◌≡◌, ℕ, ◌+◌, ◌-◌, ◌^◌, ◌<◌, ◌≤◌, Bool, true, List, Option, Some, Ok, Err, cond, arith, sym, ap, ◌∙◌}
-use Rattle.std.specs.Prelude.{unwrap_or}
+use Rattle.std.proofs.Common.{◌≡◌, ℕ, ◌+◌, ◌-◌, ◌^◌, ◌<◌, ◌≤◌, Bool, true, List, Option, Some, Ok, Err, cond, arith, sym, ap, subst, ◌∙◌}
+use Rattle.std.specs.Prelude.{unwrap_or, ◌↔◌}
 use Rattle.std.proofs.lemmas.Bool.{le-leb}
 use Rattle.tp_types.specs.Config.{IsConfig}
 use Rattle.tp_types.specs.declared.configs.Config.{Config}
@@ -13,7 +13,7 @@ use Rattle.tp_record.specs.declared.entries.Did.{Did}
 use Rattle.tp_record.specs.declared.rows.Stage.{Stage}
 use Rattle.tp_record.specs.Effects.{reserves}
 use Rattle.tp_record.specs.Fields.{rank, submitted, is_cancelled}
-use Rattle.tp_record.specs.State.{state, slot_at, task_at}
+use Rattle.tp_record.specs.State.{State, state, slot_at, task_at}
 use Rattle.tp_record.specs.Step.{Gives, Legal, within_room, leaves_room}
 use Rattle.tp_model.proofs.Given.{Given, IsAt, HasRow}
 use Rattle.tp_model.proofs.Readings.{tasks_counted, row_read, slot_read}
@@ -23,6 +23,8 @@ use Rattle.tp_room.proofs.OwedLaws.{owed_falls, room_is_enough}
 use Rattle.tp_parts.specs.declared.parts.Parts.{Parts}
 use Rattle.tp_tasks.specs.Tasks.{row_of}
 use Rattle.tp_shapes.specs.View.{View, Effect}
+use Rattle.tp_parts.specs.Shows.{Shows}
+use Rattle.tp_parts.specs.Tied.{IsTied}
 use Rattle.tp_parts.specs.Steps.{Stands, Fits, Accepts, IsFitting}
 
 -- what is given where an answer fits
@@ -79,3 +81,27 @@ module _ {P : Type 0} (p : Parts P) (stands : Stands p) where
       let e = effect.owes in
       let f = stands.shows.owed in
       omega (arith, e, f)
+
+  -- what it takes to count an entry by which n fewer are owed
+  pub entry_here : (a : Ask) (d : Did) (v : View) (fall rise n : ℕ) → Fits p a d → (Given p.config stands.history d → Effect (state p.config stands.history) d v fall rise) → fall ≡ n + rise →
+      (p.steps < 2 ^ 32 - 1) × (n ≤ p.due)
+  entry_here a d v fall rise n fits effect net =
+      let few = few_steps in
+      let owed = owed_here d v fall rise (effect (given_here a d fits)) in
+      (omega (arith, few), omega (arith, owed, net))
+-- structures that show the same states, with the same settings, stand and accept alike
+module _ {P : Type 0} (old new : Parts P) (config : new.config ≡ old.config) (same : (s : State) → Shows old s ↔ Shows new s) where
+  before : (h : List Entry) → Shows new (state new.config h) → Shows old (state old.config h)
+  before h sh = subst (λ c. Shows old (state c h)) config ((same (state new.config h)).1 sh)
+
+  pub stands_same : new.steps ≡ old.steps → ((c : Config) (n : ℕ) → IsTied c n old → IsTied c n new) → Stands old → Stands new
+  stands_same steps tied stands = record {
+    history = stands.history;
+    legal = subst (λ c. Legal c stands.history) (sym config) stands.legal;
+    shows = subst (λ c. Shows new (state c stands.history)) (sym config) ((same (state old.config stands.history)).0 stands.shows);
+    tied = subst (λ n. IsTied new.config n new) (sym steps) (subst (λ c. IsTied c old.steps new) (sym config) (tied old.config old.steps stands.tied));
+  }
+
+  pub accepts_same : (a : Ask) (d : Did) → Accepts old a d → Accepts new a d
+  accepts_same a d accepts = λ h legal sh.
+      subst (λ c. Gives c (state c h) a d) (sym config) (accepts h (subst (λ c. Legal c h) config legal) (before h sh))

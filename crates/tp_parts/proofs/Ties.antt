@@ -1,17 +1,25 @@
 -- What ties the structures together lasts through a change of one of them.
-use Rattle.std.proofs.Common.{◌≡◌, ℕ, suc, List, [], ◌∷◌, drop, Some, None, Option, arith, sym, ap, subst, ◌∙◌, inl, inr}
-use Rattle.std.specs.Prelude.{is_some, nat_eq, ◌&&◌}
+use Rattle.std.proofs.Common.{◌≡◌, ℕ, suc, List, [], ◌∷◌, drop, Some, None, Option, arith, sym, ap, subst, ◌∙◌, false, inl, inr, Bool, ◌<◌, ◌≤◌, true, refl}
+use Rattle.std.specs.Prelude.{is_some, nat_eq, ◌&&◌, IfSome, filter}
 use Rattle.std.specs.List.{Contains}
-use Rattle.std.proofs.lemmas.List.Elements.{Contains-append_right}
-use Rattle.std.proofs.lemmas.Bool.{ne_eqb, cases_eq}
+use Rattle.std.proofs.lemmas.List.Elements.{All-contains, All-filter, All-contains_itself, Contains-append_right}
+use Rattle.std.proofs.lemmas.Bool.{ne_eqb, cases_eq, false≢true}
+use Rattle.tp_types.specs.Promise.{FitsPromise}
 use Rattle.tp_types.specs.declared.configs.Config.{Config}
+use Rattle.tp_types.specs.declared.ids.TaskId.{TaskId}
+use Rattle.tp_types.specs.declared.configs.QueueKind.TheVariants.{Unbounded}
 use Rattle.tp_types.specs.declared.tasks.Promise.{Promise}
 use Rattle.tp_record.specs.declared.rows.TaskRow.{TaskRow}
+use Rattle.tp_record.specs.Effects.{Outcome}
+use Rattle.tp_queue.specs.declared.queues.Queue.{Queue}
+use Rattle.tp_queue.specs.Queues.{waiting_of}
 use Rattle.tp_tasks.specs.declared.tasks.Tasks.{Tasks}
 use Rattle.tp_tasks.specs.declared.table.Task.{Task}
 use Rattle.tp_tasks.specs.Table.{row_of_task, promise_of_task, number_of_task, payload_of_task}
-use Rattle.tp_tasks.specs.Tasks.{row_of, promise_of, number_of, payload_of, submissions, KeepsOthers, SetsRow}
+use Rattle.tp_tasks.specs.Tasks.{row_of, promise_of, number_of, payload_of, submissions, KeepsOthers, SetsRow, IsUnchanged}
 use Rattle.tp_parts.specs.declared.parts.Parts.{Parts}
+use Rattle.tp_shapes.specs.View.{View}
+use Rattle.tp_parts.specs.Shows.{Views, numbers}
 use Rattle.tp_parts.specs.Tied.{IsTied, waits, is_waiting, KeepsPromise}
 
 module _ {P : Type 0} (c : Config) (n : ℕ) (old : Parts P) (tied : IsTied c n old) where
@@ -64,6 +72,106 @@ module _ {P : Type 0} (c : Config) (n : ℕ) (old : Parts P) (tied : IsTied c n 
       tied_paid tasks t r y there set.row set.others set.submitted set.number set.promise ended
       (ap (λ o. is_some o) set.payload ∙ tied.payloads t ∙ ap waits there ∙ sym waiting)
 
+  -- task t, which did not wait, has a row with this outcome, which is as promised, and does not wait
+  pub tied_ended : (tasks : Tasks P) (t : ℕ) (r y : TaskRow) (o : Outcome) → row_of old.tasks t ≡ Some r → is_waiting r ≡ false → SetsRow old.tasks tasks t y → is_waiting y ≡ false → y.outcome ≡ Some o →
+      IfSome (promise_of old.tasks t) (λ p. FitsPromise p o) → IsTied c n (record old { tasks = tasks })
+  tied_ended tasks t r y o there begun set gone ended fits =
+      let Q : Option Promise → Option TaskRow → Type 0 = λ p x. KeepsPromise p x in
+      tied_task tasks t set.others set.submitted set.number
+      (ap (λ x. is_some x) set.payload ∙ tied.payloads t ∙ ap waits there ∙ begun ∙ sym gone ∙ sym (ap waits set.row))
+      (subst (Q (promise_of tasks t)) (sym set.row) (subst (λ p. Q p (Some y)) (sym set.promise) (keeps (promise_of old.tasks t) fits)))
+    where
+      keeps : (p : Option Promise) → IfSome p (λ x. FitsPromise x o) → KeepsPromise p (Some y)
+      keeps None fits = tt
+      keeps (Some p) fits = let F : Option Outcome → Type 0 = λ x. IfSome x (FitsPromise p) in subst F (sym ended) fits
+  -- a queue that has lost some of its tasks
+  pub tied_less : (queue : Queue) (items : List (TaskId × ℕ)) → waiting_of queue ≡ record (waiting_of old.queue) { items = items } → ((x : TaskId × ℕ) → Contains items x → Contains (waiting_of old.queue).items x) →
+      IsTied c n (record old { queue = queue })
+  tied_less queue items is fewer =
+      let places = ap (λ w. w.capacity) is in
+      let came = ap (λ w. w.offers) is in
+      let offers = tied.offers in
+      record {
+        made_with = tied.made_with;
+        config = tied.config;
+        least = tied.least;
+        sizes = tied.sizes;
+        places = tied.places;
+        kind = ap (λ w. w.kind) is ∙ tied.kind;
+        queue_places = λ unbounded. let k = tied.queue_places unbounded in omega (arith, places, k);
+        offers = omega (arith, came, offers);
+        idlings = tied.idlings;
+        numbered = λ t k has. tied.numbered t k (fewer (t, k) (subst (λ w. Contains w.items (t, k)) is has));
+        payloads = tied.payloads;
+        promises = tied.promises;
+      }
+
+-- what passes a test is in the list
+pub contains_filter : {A : Type 0} (p : A → Bool) (xs : List A) (x : A) → Contains (filter p xs) x → Contains xs x
+contains_filter p xs x has = All-contains (Contains xs) (filter p xs) x (All-filter p (Contains xs) xs (All-contains_itself xs)) has
+-- more places in the queue leave the structures tied, and so does more memory for tasks
+pub tied_roomier : {P : Type 0} (c : Config) (n : ℕ) (p : Parts P) → IsTied c n p → (tasks : Tasks P) → IsUnchanged p.tasks tasks → (queue : Queue) →
+    waiting_of queue ≡ record (waiting_of p.queue) { capacity = (waiting_of queue).capacity } → (waiting_of p.queue).capacity ≤ (waiting_of queue).capacity →
+    IsTied c n (record p { tasks = tasks; queue = queue })
+tied_roomier {P = P} c n p tied tasks kept queue same more =
+    let counted = kept.submitted in
+    let offers = tied.offers in
+    let made = ap (λ w. w.offers) same in
+    record {
+      made_with = tied.made_with;
+      config = tied.config;
+      least = tied.least;
+      sizes = tied.sizes;
+      places = tied.places;
+      kind = ap (λ w. w.kind) same ∙ tied.kind;
+      queue_places = λ is. let k = tied.queue_places is in omega (arith, counted, k, more);
+      offers = omega (arith, made, offers);
+      idlings = tied.idlings;
+      numbered = λ u k has. ap number_of_task (kept.tasks u.0) ∙ tied.numbered u k (subst (λ w. Contains w.items (u, k)) same has);
+      payloads = λ u. let o = kept.tasks u in ap (λ k. is_some (payload_of_task k)) o ∙ tied.payloads u ∙ ap (λ k. waits (row_of_task k)) (sym o);
+      promises = λ u. let Q : Option (Task P) → Type 0 = λ k. KeepsPromise (promise_of_task k) (row_of_task k) in subst Q (sym (kept.tasks u)) (tied.promises u);
+    }
+
+-- a task that is not kept was never queued
+pub unqueued : {P : Type 0} (o : Option (Task P)) → is_some o ≡ false → number_of_task o ≡ None
+unqueued None is = refl
+unqueued (Some k) is = absurd (false≢true (sym is))
+
+-- a new task that waits, with a place for it in an unbounded queue, leaves the structures tied
+pub tied_new : {P : Type 0} (c : Config) (n : ℕ) (p : Parts P) → IsTied c n p → (tasks : Tasks P) (t : ℕ) (r : TaskRow) → row_of tasks t ≡ Some r → is_waiting r ≡ true → r.outcome ≡ None →
+    is_some (payload_of tasks t) ≡ true → number_of p.tasks t ≡ None → KeepsOthers p.tasks tasks t → submissions tasks ≡ suc (submissions p.tasks) →
+    ((waiting_of p.queue).kind ≡ Unbounded → submissions p.tasks < (waiting_of p.queue).capacity) → IsTied c n (record p { tasks = tasks })
+tied_new {P = P} c n p tied tasks t r there waiting none paid new others counted place = record {
+  made_with = tied.made_with;
+  config = tied.config;
+  least = tied.least;
+  sizes = tied.sizes;
+  places = tied.places;
+  kind = tied.kind;
+  queue_places = λ is. let k = place (tied.kind ∙ is) in omega (arith, counted, k);
+  offers = tied.offers;
+  idlings = tied.idlings;
+  numbered = λ u k has. elim (cases_eq u.0 t) [
+    | inl same ↦ absurd (let a = tied.numbered u k has in let b = ap (number_of p.tasks) same in let e : ⊥ = cc in e)
+    | inr apart ↦ ap number_of_task (others u.0 (ne_eqb t u.0 (λ b. apart (sym b)))) ∙ tied.numbered u k has
+  ];
+  payloads = λ u. elim (cases_eq u t) [
+    | inl same ↦ ap (λ x. is_some (payload_of tasks x)) same ∙ paid ∙ sym waiting ∙ ap waits (sym there) ∙ ap (λ x. waits (row_of tasks x)) (sym same)
+    | inr apart ↦ let o = others u (ne_eqb t u (λ b. apart (sym b))) in ap (λ k. is_some (payload_of_task k)) o ∙ tied.payloads u ∙ ap (λ k. waits (row_of_task k)) (sym o)
+  ];
+  promises = λ u. elim (cases_eq u t) [
+    | inl same ↦
+        let Q : ℕ → Type 0 = λ x. KeepsPromise (promise_of tasks x) (row_of tasks x) in
+        let R : Option TaskRow → Type 0 = λ o. KeepsPromise (promise_of tasks t) o in
+        subst Q (sym same) (subst R (sym there) (unended (promise_of tasks t) r none))
+    | inr apart ↦ let Q : Option (Task P) → Type 0 = λ k. KeepsPromise (promise_of_task k) (row_of_task k) in subst Q (sym (others u (ne_eqb t u (λ b. apart (sym b))))) (tied.promises u)
+  ];
+}
+  where
+    unended : (p : Option Promise) (r : TaskRow) → r.outcome ≡ None → KeepsPromise p (Some r)
+    unended None r none = tt
+    unended (Some p) r none = let F : _ → Type 0 = λ o. Rattle.std.specs.Prelude.IfSome o (Rattle.tp_types.specs.Promise.FitsPromise p) in subst F (sym none) tt
+
 -- what is in a list's rest is in the list
 pub contains_drop : {A : Type 0} (xs : List A) (x : A) → Contains (drop 1 xs) x → Contains xs x
 contains_drop [] x has = has
@@ -87,4 +195,26 @@ tied_more c n p tied =
       numbered = tied.numbered;
       payloads = tied.payloads;
       promises = tied.promises;
+    }
+
+-- another queue is seen, and nothing else
+pub views_queue : {P : Type 0} (p : Parts P) (v : View) → Views p v → (queue : Queue) (ts : List ℕ) → ts ≡ numbers (waiting_of queue).items → Views (record p { queue = queue }) (record v { queue = ts })
+views_queue p v views queue ts is =
+    record {
+      rank = views.rank;
+      core_size = views.core_size;
+      maximum_size = views.maximum_size;
+      keep_alive = views.keep_alive;
+      times_out = views.times_out;
+      present = views.present;
+      submitted = views.submitted;
+      rows = views.rows;
+      unknown = views.unknown;
+      fates = views.fates;
+      queued = is;
+      seats = views.seats;
+      order = views.order;
+      done = views.done;
+      completed = views.completed;
+      most = views.most;
     }

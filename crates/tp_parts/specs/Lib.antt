@@ -2,3 +2,5 @@ pub mod Shows
 pub mod Tied
 pub mod Steps
 pub mod Payloads
+pub mod Memory
+pub mod Room

@@ -20,4 +20,15 @@ impl<P> Parts<P> {
         self.steps += 1;
         self.due -= fall;
     }
+    /// One more entry was made, and so many more are owed.
+    pub fn count_rising_entry(&mut self, rise: u64)
+        requires few { self.old.steps < 2 ^ 32 - 1 }
+        requires rise { self.old.due + rise < 2 ^ 64 }
+        ensures views { (v : View) → Views self.old v → Views self.new v }
+        ensures tied { (c : Config) (n : ℕ) → IsTied c n self.old → IsTied c n self.new }
+        ensures rest { self.new ≡ record self.old { steps = suc self.old.steps; due = self.old.due + rise } }
+    {
+        self.steps += 1;
+        self.due += rise;
+    }
 }

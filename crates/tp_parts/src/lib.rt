@@ -2,7 +2,14 @@
 #![tactic(auto)]
 
 pub mod entries;
+pub mod offer_changes;
 pub mod parts;
 pub mod queue_changes;
+pub mod readings;
+pub mod looks;
+pub mod removal_changes;
+pub mod room;
+pub mod setting_changes;
 pub mod slot_changes;
+pub mod submission_changes;
 pub mod task_changes;

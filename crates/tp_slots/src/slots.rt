@@ -36,7 +36,7 @@ impl Model for Slots {
 
     ghost Value = { Table };
 
-    ghost view = { λ s. record { slots = rows_of s.seats.slots; idling = ids s.idle.items; places = s.places; idlings = s.idle.offers } };
+    ghost view = { λ s. record { slots = rows_of s.seats.slots; idling = ids s.idle.items; places = s.places; idlings = s.idle.offers; next = s.seats.vacant_key } };
 
     ghost invariant = { λ s. IsSound s.seats s.idle s.places s.live };
 }
@@ -45,7 +45,7 @@ impl Slots {
     /// A table without slots, with room for `places` of them, such as the maximum pool size. An error is want of memory,
     /// refusal 4.
     pub fn new(alloc: Global, places: usize) -> Result<Slots, AllocError>
-        ensures { IfOk result (λ s. s ≡ record { slots = []; idling = []; places = places; idlings = 0 }) }
+        ensures { IfOk result (λ s. s ≡ record { slots = []; idling = []; places = places; idlings = 0; next = 0 }) }
     {
         Ok(Slots {
             seats: Slab::with_capacity(alloc, places)?,
@@ -92,6 +92,14 @@ impl Slots {
         ensures within { result ≤ self.now.places }
     {
         self.live
+    }
+
+    /// The number that the next slot gets, which is none now. Where a slot was freed and none made since, it is that slot's.
+    pub fn next_number(&self) -> SlotId
+        ensures next { result.0 ≡ self.now.next }
+        ensures free { slot_at self.now.slots self.now.next ≡ None }
+    {
+        SlotId(self.seats.vacant_key())
     }
 
     /// The row of a slot, if there is a slot of this number.
@@ -142,13 +150,14 @@ impl Slots {
         moment.saturating_sub(waits_since(stage, moment)) >= keep
     }
 
-    /// Makes a slot, under a number that was none, for a worker that is still to be made: for a first task or, with none, bare.
+    /// Makes a slot, under the next number, for a worker that is still to be made: for a first task or, with none, bare.
     pub fn reserve(&mut self, stage: Stage, task: Option<TaskId>) -> SlotId
         requires room { count_by is_some self.old.slots < self.old.places }
         requires reserved { is_reserved stage ≡ true }
+        ensures number { result.0 ≡ self.old.next }
         ensures free { slot_at self.old.slots result.0 ≡ None }
         ensures slots { IsSet self.old.slots self.new.slots result.0 (Some (record { stage = stage; task = task })) }
-        ensures rest { self.new ≡ record self.old { slots = self.new.slots } }
+        ensures rest { self.new ≡ record self.old { slots = self.new.slots; next = self.new.next } }
     {
         let seat = Seat {
             row: SlotRow { stage, task },
@@ -161,18 +170,19 @@ impl Slots {
     pub fn open(&mut self, w: SlotId)
         requires { is_reserved_row (slot_at self.old.slots w.0) ≡ true }
         ensures slots { IsSet self.old.slots self.new.slots w.0 (working_row (slot_at self.old.slots w.0)) }
+        ensures live { count_by is_live self.new.slots ≡ count_by is_live self.old.slots + 1 }
         ensures rest { self.new ≡ record self.old { slots = self.new.slots } }
     {
         self.seats[w.0].row.stage = Stage::Working;
         self.live += 1;
     }
 
-    /// Frees a reserved slot that gets no worker, and gives the row that it had, as `addWorkerFailed`.
+    /// Frees a reserved slot that gets no worker, and gives the row that it had, as `addWorkerFailed`. The next slot gets its number.
     pub fn give_up(&mut self, w: SlotId) -> SlotRow
         requires { is_reserved_row (slot_at self.old.slots w.0) ≡ true }
         ensures was { slot_at self.old.slots w.0 ≡ Some result }
         ensures slots { IsSet self.old.slots self.new.slots w.0 None }
-        ensures rest { self.new ≡ record self.old { slots = self.new.slots } }
+        ensures rest { self.new ≡ record self.old { slots = self.new.slots; next = w.0 } }
     {
         self.seats.remove(w.0).row
     }
@@ -194,7 +204,7 @@ impl Slots {
         ensures slots { IsSet self.old.slots self.new.slots w.0 (Some (record { stage = Stage.Idle moment; task = None })) }
         ensures idling { self.new.idling ≡ self.old.idling ++ w.0 ∷ [] }
         ensures idlings { self.new.idlings ≡ self.old.idlings + 1 }
-        ensures places { self.new.places ≡ self.old.places }
+        ensures rest { self.new ≡ record self.old { slots = self.new.slots; idling = self.new.idling; idlings = self.new.idlings } }
     {
         let Ok(number) = self.idle.offer(w.0) else {
             unreachable!()
@@ -238,13 +248,14 @@ impl Slots {
         }
     }
 
-    /// Frees a live slot, which may be idle, and gives the row that it had, as `processWorkerExit`.
+    /// Frees a live slot, which may be idle, and gives the row that it had, as `processWorkerExit`. The next slot gets its number.
     pub fn free(&mut self, w: SlotId) -> SlotRow
         requires { is_live (slot_at self.old.slots w.0) ≡ true }
         ensures was { slot_at self.old.slots w.0 ≡ Some result }
         ensures slots { IsSet self.old.slots self.new.slots w.0 None }
+        ensures len { count_by is_some self.new.slots + 1 ≡ count_by is_some self.old.slots }
         ensures idling { self.new.idling ≡ without w.0 self.old.idling }
-        ensures rest { self.new ≡ record self.old { slots = self.new.slots; idling = self.new.idling } }
+        ensures rest { self.new ≡ record self.old { slots = self.new.slots; idling = self.new.idling; next = w.0 } }
     {
         let seat = self.seats.remove(w.0);
         leave_order(&mut self.idle, w.0, seat.place);

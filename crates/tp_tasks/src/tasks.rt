@@ -267,6 +267,13 @@ impl<P> Tasks<P> {
         groups::take_done(&mut self.groups, g).map(TaskId)
     }
 
+    /// The task of the group that `take_done` would hand out, None where none is left.
+    pub fn first_done(&self, g: u32) -> Option<TaskId>
+        ensures { option_map (λ t. t.0) result ≡ slice_get (done_of self.now g) 0 }
+    {
+        groups::first_done(&self.groups, g).map(TaskId)
+    }
+
     /// Whether a completed task of the group is not handed out.
     pub fn has_done(&self, g: u32) -> bool
         ensures { IsTrue result ↔ (0 < length (done_of self.now g)) }

@@ -125,6 +125,8 @@ fn completes_in_order(rt: HostRuntime) {
     run(&rt, &mut tasks, other, Err(9));
     assert!(rt; !tasks.is_open(3));
     assert!(rt; tasks.has_done(3));
+    assert_eq!(rt; tasks.first_done(2), None);
+    assert_eq!(rt; tasks.first_done(3), Some(second));
     assert_eq!(rt; tasks.take_done(2), None);
     assert_eq!(rt; tasks.take_done(3), Some(second));
     assert_eq!(rt; tasks.take_done(3), Some(first));

@@ -1,7 +1,7 @@
 //! A worker begins the task that it took, as `beforeExecute` and the task's `run` do.
 
 ghost use Rattle.std.specs.Prelude.{ℕ, ◌≡◌, Some, None, IfOk, IfErr};
-ghost use Rattle.tp_tasks.specs.Tasks.{payload_of};
+ghost use Rattle.tp_parts.specs.Payloads.{HandsOut};
 ghost use Rattle.tp_parts.specs.Steps.{Stands, Fits, Refuses, Leads};
 
 use tp_parts::parts::Parts;
@@ -43,7 +43,7 @@ pub fn run<P>(parts: &mut Parts<P>, w: SlotId, t: TaskId) -> P
     requires stands { Stands parts.old }
     requires fits { Fits parts.old (Ask.Begin w) (Did.Begin w (Started.Run t)) }
     ensures leads { Leads parts.old (Did.Begin w (Started.Run t)) parts.new }
-    ensures payload { payload_of parts.old.tasks t.0 ≡ Some result }
+    ensures payloads { HandsOut parts.old.tasks parts.new.tasks t.0 (Some result) }
 {
     parts.count_entry(1);
     let payload = parts.begin_task(t, Place::Running(w));

@@ -3,4 +3,6 @@
 #![tactic(auto)]
 
 pub mod begin;
+pub mod fail;
+pub mod open;
 pub mod take;

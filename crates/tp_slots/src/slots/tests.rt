@@ -17,7 +17,10 @@ fn reserve(rt: &impl Abort, slots: &mut Slots, stage: Stage, task: Option<TaskId
     ensures { slots.new.idlings ≡ slots.old.idlings }
 {
     assert!(rt; slots.len() < slots.places());
-    slots.reserve(stage, task)
+    let next = slots.next_number();
+    let w = slots.reserve(stage, task);
+    assert_eq!(rt; w, next);
+    w
 }
 
 /// Reserves a bare slot, and opens it.

@@ -1,4 +1,4 @@
-use Rattle.std.proofs.Common.{suc, Some, false, arith, refl, sym, ap, ◌∙◌}
+use Rattle.std.proofs.Common.{suc, Some, false, arith, refl, ap, ◌∙◌}
 use Rattle.std.specs.Prelude.{is_some, not, ◌&&◌}
 use Rattle.tp_types.specs.declared.tasks.Place.TheVariants as at
 use Rattle.tp_record.specs.declared.entries.Ask.TheVariants as ask
@@ -46,8 +46,8 @@ set_slot-requires g c =
       row = refl;
     }
 
-pub returns : goal.returns
-returns g c =
+pub returns-clause-leads : goal.returns-clause-leads
+returns-clause-leads g c =
     let stands = c.requires.stands in
     let old = c.args.parts.now in
     let d = did.Begin c.args.w (started.Run c.args.t) in
@@ -57,10 +57,7 @@ returns g c =
     let given = given_here old stands (ask.Begin c.args.w) d c.requires.fits in
     let fall = owed_here old stands _ _ 1 0 (begin_run old.config stands.history c.args.w c.args.t stands.legal given) in
     let due = ap (λ p. p.due) r ∙ ap (λ p. p.due) m ∙ ap (λ p. p.due) k in
-    record {
-      leads = leads_by old c.set_slot.new.self (ask.Begin c.args.w) d 1 0 c.requires.fits
-          (λ h legal given sh. (_, begin_run old.config h c.args.w c.args.t legal given, c.set_slot.ensures.views _ (c.begin_task-payload.ensures.views _ (c.count_entry.ensures.views _ sh.seen))))
-          (ap (λ p. p.config) r ∙ ap (λ p. p.config) m ∙ ap (λ p. p.config) k) (ap (λ p. p.steps) r ∙ ap (λ p. p.steps) m ∙ ap (λ p. p.steps) k) (omega (arith, due, fall))
-          (c.set_slot.ensures.tied old.config (suc old.steps) (c.begin_task-payload.ensures.tied old.config (suc old.steps) (c.count_entry.ensures.tied old.config (suc old.steps) (tied_more old.config old.steps old stands.tied))));
-      payload = sym (ap (λ p. payload_of p.tasks c.args.t.0) k) ∙ c.begin_task-payload.ensures.payload;
-    }
+    leads_by old c.set_slot.new.self (ask.Begin c.args.w) d 1 0 c.requires.fits
+    (λ h legal given sh. (_, begin_run old.config h c.args.w c.args.t legal given, c.set_slot.ensures.views _ (c.begin_task-payload.ensures.views _ (c.count_entry.ensures.views _ sh.seen))))
+    (ap (λ p. p.config) r ∙ ap (λ p. p.config) m ∙ ap (λ p. p.config) k) (ap (λ p. p.steps) r ∙ ap (λ p. p.steps) m ∙ ap (λ p. p.steps) k) (omega (arith, due, fall))
+    (c.set_slot.ensures.tied old.config (suc old.steps) (c.begin_task-payload.ensures.tied old.config (suc old.steps) (c.count_entry.ensures.tied old.config (suc old.steps) (tied_more old.config old.steps old stands.tied))))

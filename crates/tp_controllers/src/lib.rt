@@ -1,0 +1,3 @@
+//! Controllers' steps: each in a module named as the step, with `answer`, which reads what the step answers, and `apply`, which makes
+//! an accepted answer.
+#![tactic(auto)]

@@ -1,0 +1,46 @@
+-- The slots that are seen, said otherwise.
+use Rattle.std.proofs.Common.{◌≡◌, ℕ, Bool, true, false, cond, List, Option, ap, refl, ◌∙◌}
+use Rattle.std.specs.Prelude.{◌==◌, ◌&&◌}
+use Rattle.tp_record.specs.declared.entries.Entry.{Entry}
+use Rattle.tp_record.specs.declared.rows.SlotRow.{SlotRow}
+use Rattle.tp_record.specs.Fields.{idling, idled, is_idle}
+use Rattle.tp_record.specs.Lists.{without}
+use Rattle.tp_model.proofs.Queues.{is_among, among-filter}
+use Rattle.tp_shapes.proofs.Lists.{without_absent}
+use Rattle.tp_shapes.specs.View.{View, put}
+use Rattle.tp_parts.specs.declared.parts.Parts.{Parts}
+use Rattle.tp_parts.specs.Shows.{Views}
+
+-- slots are seen number by number, and what is seen does not hold their counts
+pub views_slots : {P : Type 0} (p : Parts P) (v : View) (slots : ℕ → Option SlotRow) (order : List ℕ) (taken live : ℕ) → ((w : ℕ) → slots w ≡ v.slots w) → order ≡ v.idling → Views p v →
+    Views p (record v { slots = slots; idling = order; taken = taken; live = live })
+views_slots p v slots order taken live same idle views = record {
+  rank = views.rank;
+  core_size = views.core_size;
+  maximum_size = views.maximum_size;
+  keep_alive = views.keep_alive;
+  times_out = views.times_out;
+  present = views.present;
+  submitted = views.submitted;
+  rows = views.rows;
+  unknown = views.unknown;
+  fates = views.fates;
+  queued = views.queued;
+  seats = λ w. same w ∙ views.seats w;
+  order = idle ∙ views.order;
+  done = views.done;
+  completed = views.completed;
+  most = views.most;
+}
+
+-- a row that is put twice was put the last time
+pub put_again : {A : Type 0} (w : ℕ) (a b : A) (f : ℕ → A) (x : ℕ) → put w a f x ≡ put w a (put w b f) x
+put_again w a b f x = by (x == w)
+  where
+    by : (is : Bool) → cond is a (f x) ≡ cond is a (cond is b (f x))
+    by true = refl
+    by false = refl
+
+-- a slot that is not idle does not stand in the order
+pub busy_order : (h : List Entry) (w : ℕ) → is_idle h w ≡ false → without w (idling h) ≡ idling h
+busy_order h w busy = without_absent w (idling h) (among-filter w (is_idle h) (idled h) ∙ ap (λ b. b && is_among w (idled h)) busy)

@@ -1,0 +1,50 @@
+//! Changes by which tasks are cancelled, taken and purged.
+
+ghost use Rattle.std.specs.Prelude.{ℕ, ◌≡◌, ◌+◌, ◌==◌, ◌++◌, ◌∷◌, [], true, drop, slice_get, option_map, Some, None, if◌then◌else◌};
+ghost use Rattle.tp_types.specs.declared.configs.Config.{Config};
+ghost use Rattle.tp_types.specs.declared.tasks.Fate.{Fate};
+ghost use Rattle.tp_record.specs.declared.rows.TaskRow.{TaskRow};
+ghost use Rattle.tp_record.specs.State.{fate_of, is_fate};
+ghost use Rattle.tp_record.specs.Step.{is_of_group};
+ghost use Rattle.tp_tasks.specs.Tasks.{row_of, done_of};
+ghost use Rattle.tp_shapes.specs.View.{View, put};
+ghost use Rattle.tp_parts.specs.Shows.{Views};
+ghost use Rattle.tp_parts.specs.Tied.{IsTied};
+ghost use Rattle.tp_parts.specs.Payloads.{Keeps, HandsOut};
+
+use crate::parts::Parts;
+use tp_types::ids::TaskId;
+
+impl<P> Parts<P> {
+    /// Cancels an open task, which completes it where it is of a group. It stays where it is. Its payload is handed out, if it
+    /// waited.
+    pub fn cancel_task(&mut self, t: TaskId) -> Option<P>
+        requires known { (r : TaskRow) × (row_of self.old.tasks t.0 ≡ Some r) × (fate_of r ≡ None) }
+        ensures views { (v : View) → Views self.old v → Views self.new (record v {
+          tasks = put t.0 (record (v.tasks t.0) { cancelled = true }) v.tasks;
+          fates = λ f. v.fates f + (if is_fate f (Some Fate.Cancelled) then 1 else 0);
+          done = λ g. if is_of_group g (v.tasks t.0).kind then v.done g ++ t.0 ∷ [] else v.done g;
+        }) }
+        ensures tied { (c : Config) (n : ℕ) → IsTied c n self.old → IsTied c n self.new }
+        ensures rest { self.new ≡ record self.old { tasks = self.new.tasks } }
+        ensures payloads { HandsOut self.old.tasks self.new.tasks t.0 result }
+    {
+        let Some(row) = self.tasks.row(t) else {
+            unreachable!()
+        };
+        let payload = self.tasks.take_payload(t);
+        self.tasks.cancel(t, row);
+        payload
+    }
+
+    /// Hands out the completed task of the group that was completed first, None where none is left.
+    pub fn take_done(&mut self, g: u32) -> Option<TaskId>
+        ensures first { option_map (λ t. t.0) result ≡ slice_get (done_of self.old.tasks g) 0 }
+        ensures views { (v : View) → Views self.old v → Views self.new (record v { done = λ h. if h == g then drop 1 (v.done h) else v.done h }) }
+        ensures tied { (c : Config) (n : ℕ) → IsTied c n self.old → IsTied c n self.new }
+        ensures rest { self.new ≡ record self.old { tasks = self.new.tasks } }
+        ensures payloads { Keeps self.old.tasks self.new.tasks }
+    {
+        self.tasks.take_done(g)
+    }
+}

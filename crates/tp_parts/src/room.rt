@@ -1,0 +1,20 @@
+//! Whether there is room for one more entry.
+
+ghost use Rattle.std.specs.Prelude.{◌^◌, ◌<◌};
+ghost use Rattle.tp_parts.specs.Steps.{Stands};
+ghost use Rattle.tp_parts.specs.Room.{TellsRoom};
+
+use crate::parts::Parts;
+
+impl<P> Parts<P> {
+    /// Whether the record has room for an entry by which what is owed falls by `fall` and rises by `rise`, in entries: for itself
+    /// and for all that is owed after it. Where it has not, the step is refused with BookFull (5).
+    pub fn has_room(&self, fall: u64, rise: u64) -> bool
+        requires stands { Stands self.now }
+        requires few { rise < 2 ^ 32 }
+        ensures { TellsRoom self.now fall rise result }
+    {
+        let needed = u64::from(self.steps) + 1 + self.due + rise;
+        needed <= u64::from(self.config.record_limit).saturating_add(fall)
+    }
+}

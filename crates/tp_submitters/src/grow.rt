@@ -1,0 +1,34 @@
+//! A submitter asks for a slot up to the maximum size, after its offer found the queue full: the last `addWorker` in `execute`.
+
+ghost use Rattle.std.specs.Prelude.{ℕ, ◌≡◌, ◌^◌, IfOk, IfErr, IfSome};
+ghost use Rattle.tp_record.specs.Effects.{reserves};
+ghost use Rattle.tp_parts.specs.Payloads.{Keeps};
+ghost use Rattle.tp_parts.specs.Steps.{Stands, Fits, Refuses, Leads};
+
+use tp_parts::parts::Parts;
+use tp_record::entries::{Ask, Did, Grown};
+use tp_record::rows::Stage;
+use tp_types::ids::{SlotId, TaskId};
+use tp_types::refusals::PoolError;
+use tp_types::states::RunState;
+use tp_types::tasks::Place;
+
+/// Whether a slot is reserved for the task, or it is refused. UnknownTask (6) or NotThere (8).
+pub fn answer<P>(parts: &Parts<P>, t: TaskId) -> Result<Grown, PoolError>
+    ensures fits { IfOk result (λ g. Fits parts.now (Ask.Grow t) (Did.Grow t g)) }
+    ensures next { IfOk result (λ g. IfSome (reserves (Did.Grow t g)) (λ w. w ≡ parts.now.slots.next)) }
+    ensures refuses { IfErr result (λ e. Refuses parts.now (Ask.Grow t) e) }
+{
+    let Some(row) = parts.tasks.row(t) else {
+        return Err(PoolError::UnknownTask);
+    };
+    let Place::ToGrow = row.place else {
+        return Err(PoolError::NotThere);
+    };
+    // Reserved and live slots count together, so that no two submitters fill the same gap
+    if parts.state == RunState::Running && parts.slots.len() < parts.maximum as usize {
+        Ok(Grown::Reserve(parts.slots.next_number()))
+    } else {
+        Ok(Grown::Refuse)
+    }
+}

@@ -1,0 +1,8 @@
+//! Submitters' steps: each in a module named as the step, with `answer`, which reads what the step answers, and `apply`, which
+//! makes an accepted answer. They are the branches of `ThreadPoolExecutor.execute`.
+#![tactic(auto)]
+
+pub mod callerend;
+pub mod grow;
+pub mod submit;
+pub mod verdict;
