@@ -1,11 +1,11 @@
 //! A pool as one value: what it keeps, and the record of its entries.
 
-ghost use Rattle.std.specs.Prelude.{ℕ, ◌≡◌, ◌⊎◌, ◌+◌, ◌≤◌, ◌∷◌, [], List, IfOk, IfErr, OnOk, Err, None};
+ghost use Rattle.std.specs.Prelude.{ℕ, ◌≡◌, ◌⊎◌, ◌+◌, ◌≤◌, ◌∷◌, [], List, true, IfOk, IfErr, OnOk, Err, None};
 ghost use Rattle.tp_types.specs.Config.{IsConfig, checked};
 ghost use Rattle.tp_record.specs.declared.entries.Entry.{Entry};
 ghost use Rattle.tp_room.specs.Room.{lowers};
 ghost use Rattle.tp_parts.specs.Steps.{Stands, Fits, Accepts};
-ghost use Rattle.tp_machine.specs.Seen.{At, config_of, payload, promise};
+ghost use Rattle.tp_machine.specs.Seen.{At, config_of, payload};
 
 use std::alloc::Global;
 use std::marker::Model;
@@ -20,25 +20,29 @@ use tp_types::refusals::PoolError;
 #[derive(Drop)]
 pub struct Machine<P, R: Recorder> {
     parts: Parts<P>,
-    record: R,
+    noted: R,
 }
 
 impl<P, R: Recorder> Model for Machine<P, R> {
+    ghost use Rattle.std.specs.Coded.{codes};
+    ghost use Rattle.tp_tasks.specs.contracts.tasks.Tasks as tasks;
     ghost use Rattle.tp_machine.specs.Seen.{Seen, IsSound};
 
     ghost Value = { Seen P R };
 
-    ghost view = { λ m. record { parts = m.parts; noted = m.record } };
+    ghost coded = { Prim.hlevel (codes, (tasks.the_row P).coded) };
 
-    ghost invariant = { λ m. IsSound R.tells R.places (record { parts = m.parts; noted = m.record }) };
+    ghost view = { λ m. record { parts = m.parts; noted = m.noted } };
+
+    ghost invariant = { λ m. IsSound R.tells R.places (record { parts = m.parts; noted = m.noted }) };
 }
 
 impl<P, R: Recorder> Machine<P, R> {
     /// A pool with these settings and no tasks, which runs, at tick 0, and notes its entries here. BadSizes (1), BadCapacity (2),
     /// BadLimit (3), KeepZero (11), or NoMemory (4) for the queue's and the slots' places.
-    pub fn over(alloc: Global, config: Config, record: R) -> Result<Machine<P, R>, PoolError>
-        requires fresh { R.tells record [] }
-        requires room { config.record_limit ≤ R.places record }
+    pub fn over(alloc: Global, config: Config, noted: R) -> Result<Machine<P, R>, PoolError>
+        requires fresh { R.tells noted [] }
+        requires room { config.record_limit ≤ R.places noted }
         ensures stands { IfOk result (λ m. At R.tells m []) }
         ensures config { IfOk result (λ m. config_of m ≡ config) }
         ensures empty { IfOk result (λ m. (t : ℕ) → payload m t ≡ None) }
@@ -49,30 +53,30 @@ impl<P, R: Recorder> Machine<P, R> {
         let Ok(parts) = Parts::new(alloc, config) else {
             return Err(PoolError::NoMemory);
         };
-        Ok(Machine { parts, record })
+        Ok(Machine { parts, noted })
     }
 }
 
 /// Notes the entry of an accepted answer, for which there is a place.
-fn note<P, R: Recorder>(parts: &Parts<P>, record: &mut R, by: u32, ask: Ask, did: Did)
+fn note<P, R: Recorder>(parts: &Parts<P>, noted: &mut R, by: u32, ask: Ask, did: Did)
     requires stands { Stands parts.now }
     requires accepts { Accepts parts.now ask did }
-    requires room { parts.now.config.record_limit ≤ R.places record.old + parts.now.steps }
-    ensures tells { (h : List Entry) → R.tells record.old h → R.tells record.new (record { by = by; ask = ask; did = did } ∷ h) }
-    ensures places { R.places record.new + 1 ≡ R.places record.old }
+    requires room { parts.now.config.record_limit ≤ R.places noted.old + parts.now.steps }
+    ensures tells { (h : List Entry) → R.tells noted.old h → R.tells noted.new (record { by = by; ask = ask; did = did } ∷ h) }
+    ensures places { R.places noted.new + 1 ≡ R.places noted.old }
 {
-    record.note(Entry { by, ask, did });
+    noted.note(Entry { by, ask, did });
 }
 
 /// Notes the entry of an answer that is owed: there is room for it.
-fn note_owed<P, R: Recorder>(parts: &Parts<P>, record: &mut R, by: u32, ask: Ask, did: Did)
+fn note_owed<P, R: Recorder>(parts: &Parts<P>, noted: &mut R, by: u32, ask: Ask, did: Did)
     requires stands { Stands parts.now }
     requires fits { Fits parts.now ask did }
     requires owed { (n : ℕ) → lowers n did ≡ true }
-    requires room { parts.now.config.record_limit ≤ R.places record.old + parts.now.steps }
+    requires room { parts.now.config.record_limit ≤ R.places noted.old + parts.now.steps }
     ensures accepts { Accepts parts.now ask did }
-    ensures tells { (h : List Entry) → R.tells record.old h → R.tells record.new (record { by = by; ask = ask; did = did } ∷ h) }
-    ensures places { R.places record.new + 1 ≡ R.places record.old }
+    ensures tells { (h : List Entry) → R.tells noted.old h → R.tells noted.new (record { by = by; ask = ask; did = did } ∷ h) }
+    ensures places { R.places noted.new + 1 ≡ R.places noted.old }
 {
-    note(parts, record, by, ask, did);
+    note(parts, noted, by, ask, did);
 }
