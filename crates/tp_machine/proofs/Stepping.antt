@@ -1,5 +1,5 @@
 -- An accepted answer that is made and noted is a step.
-use Rattle.std.proofs.Common.{◌≡◌, ℕ, suc, ◌+◌, ◌≤◌, ◌<◌, List, ◌∷◌, arith, sym, ap, subst, ◌∙◌}
+use Rattle.std.proofs.Common.{◌≡◌, ℕ, suc, ◌+◌, ◌≤◌, ◌<◌, List, [], ◌∷◌, arith, sym, ap, subst, ◌∙◌}
 use Rattle.tp_types.specs.declared.configs.Config.{Config}
 use Rattle.tp_record.specs.declared.entries.Entry.{Entry}
 use Rattle.tp_record.specs.declared.entries.Ask.{Ask}
@@ -8,6 +8,7 @@ use Rattle.tp_record.specs.State.{State, state, next}
 use Rattle.tp_record.specs.Step.{Legal, Gives}
 use Rattle.tp_model.proofs.NextState.{next_is_state}
 use Rattle.tp_parts.specs.declared.parts.Parts.{Parts}
+use Rattle.tp_parts.specs.Tied.{IsTied, IsNew}
 use Rattle.tp_parts.specs.Shows.{Shows}
 use Rattle.tp_parts.specs.Steps.{Stands, Accepts, Leads}
 use Rattle.tp_machine.specs.Seen.{Seen, At, IsSound, config_of}
@@ -46,8 +47,26 @@ module _ {P R : Type 0} (tells : R → List Entry → Type 0) (old new : Seen P 
           history = record { by = by; ask = a; did = d } ∷ s.history;
           legal = legal_after s.history s.legal s.shows;
           shows = shows_after s.history s.legal s.shows;
-          tied = subst (λ k. Rattle.tp_parts.specs.Tied.IsTied k new.parts.steps new.parts) (sym leads.config) (subst (λ k. Rattle.tp_parts.specs.Tied.IsTied old.parts.config k new.parts) (sym leads.steps) leads.tied);
+          tied = subst (λ k. IsTied k new.parts.steps new.parts) (sym leads.config) (subst (λ k. IsTied old.parts.config k new.parts) (sym leads.steps) leads.tied);
         };
         told = noted s.history sound.told;
         room = omega (arith, c, n, r, counted);
       }
+
+-- a machine over new structures is sound
+pub new_sound : {P R : Type 0} (tells : R → List Entry → Type 0) (places : R → ℕ) (c : Config) (parts : Parts P) (noted : R) → IsNew c parts → tells noted [] → c.record_limit ≤ places noted →
+    IsSound tells places (record { parts = parts; noted = noted })
+new_sound tells places c parts noted new told room =
+    let made = new.tied.made_with in
+    let steps : 0 ≡ parts.steps = new.shows.entries in
+    let limit = ap (λ x. x.record_limit) made in
+    record {
+      stands = record {
+        history = [];
+        legal = tt;
+        shows = subst (λ k. Shows parts (state k [])) (sym made) new.shows;
+        tied = subst (λ k. IsTied k parts.steps parts) (sym made) (subst (λ n. IsTied c n parts) steps new.tied);
+      };
+      told = told;
+      room = omega (arith, room, limit);
+    }

@@ -25,12 +25,12 @@ pub struct Machine<P, R: Recorder> {
 
 impl<P, R: Recorder> Model for Machine<P, R> {
     ghost use Rattle.std.specs.Coded.{codes};
-    ghost use Rattle.tp_tasks.specs.contracts.tasks.Tasks as tasks;
+    ghost use Rattle.tp_tasks.specs.Codes.{tasks_code};
     ghost use Rattle.tp_machine.specs.Seen.{Seen, IsSound};
 
     ghost Value = { Seen P R };
 
-    ghost coded = { Prim.hlevel (codes, (tasks.the_row P).coded) };
+    ghost coded = { Prim.hlevel (codes, tasks_code P.code) };
 
     ghost view = { λ m. record { parts = m.parts; noted = m.noted } };
 
