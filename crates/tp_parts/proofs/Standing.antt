@@ -1,5 +1,5 @@
 -- What is known where structures stand.
-use Rattle.std.proofs.Common.{◌≡◌, ℕ, ◌+◌, ◌-◌, ◌^◌, ◌<◌, ◌≤◌, Bool, true, List, Option, Some, Ok, Err, cond, arith, sym, ap, subst, ◌∙◌}
+use Rattle.std.proofs.Common.{◌≡◌, ℕ, ◌+◌, ◌-◌, ◌^◌, ◌<◌, ◌≤◌, Bool, true, List, Option, Some, Ok, Err, cond, arith, sym, ap, subst, ◌∙◌, suc, false, [], ◌∷◌, length, None}
 use Rattle.std.specs.Prelude.{unwrap_or, ◌↔◌}
 use Rattle.std.proofs.lemmas.Bool.{le-leb}
 use Rattle.tp_types.specs.Config.{IsConfig}
@@ -11,8 +11,8 @@ use Rattle.tp_record.specs.declared.entries.Entry.{Entry}
 use Rattle.tp_record.specs.declared.entries.Ask.{Ask}
 use Rattle.tp_record.specs.declared.entries.Did.{Did}
 use Rattle.tp_record.specs.declared.rows.Stage.{Stage}
-use Rattle.tp_record.specs.Effects.{reserves}
-use Rattle.tp_record.specs.Fields.{rank, submitted, is_cancelled}
+use Rattle.tp_record.specs.Effects.{reserves, is_completion}
+use Rattle.tp_record.specs.Fields.{rank, submitted, is_cancelled, completions}
 use Rattle.tp_record.specs.State.{State, state, slot_at, task_at}
 use Rattle.tp_record.specs.Step.{Gives, Legal, within_room, leaves_room}
 use Rattle.tp_model.proofs.Given.{Given, IsAt, HasRow}
@@ -25,6 +25,8 @@ use Rattle.tp_tasks.specs.Tasks.{row_of}
 use Rattle.tp_shapes.specs.View.{View, Effect}
 use Rattle.tp_parts.specs.Shows.{Shows}
 use Rattle.tp_parts.specs.Tied.{IsTied}
+use Rattle.tp_shapes.proofs.Invariants.{is_gone}
+use Rattle.tp_shapes.proofs.Facts.{open_row}
 use Rattle.tp_parts.specs.Steps.{Stands, Fits, Accepts, IsFitting}
 
 -- what is given where an answer fits
@@ -38,6 +40,15 @@ gives_owed c h a d config legal fits low =
     let room = room_is_enough c h config legal in
     let leaves : leaves_room c (state c h) d ≡ true = le-leb _ _ (omega (arith, falls, room)) in
     (ap (within_room c (state c h)) fits.0 ∙ ap (λ b. cond b (Ok d) (Err BookFull)) leaves, fits.1)
+
+-- each completion has its entry
+completions_counted : (h : List Entry) → completions h ≤ length h
+completions_counted [] = omega arith
+completions_counted (e ∷ h) = by (is_completion e.did) (completions_counted h)
+  where
+    by : (b : Bool) → completions h ≤ length h → cond b (suc (completions h)) (completions h) ≤ suc (length h)
+    by true le = omega (arith, le)
+    by false le = omega (arith, le)
 
 module _ {P : Type 0} (p : Parts P) (stands : Stands p) where
   -- so is each that is owed at every run state
@@ -55,6 +66,13 @@ module _ {P : Type 0} (p : Parts P) (stands : Stands p) where
   pub few_steps : p.steps + p.due < 2 ^ 32 - 1
   few_steps = let l = stands.tied.config.greatest_limit in let r = room_left in omega (arith, l, r)
 
+  pub few_completions : p.completions ≤ p.steps
+  few_completions =
+      let n = completions_counted stands.history in
+      let e = stands.shows.entries in
+      let f = stands.shows.seen.completed in
+      omega (arith, n, e, f)
+
   -- what is given at its history
   pub given_here : (a : Ask) (d : Did) → Fits p a d → Given p.config stands.history d
   given_here a d fits = given_fitting p.config stands.history a d stands.legal (fits stands.history stands.legal stands.shows)
@@ -66,6 +84,10 @@ module _ {P : Type 0} (p : Parts P) (stands : Stands p) where
       let n = tasks_counted stands.history in
       let known = is.0 in
       (stands.shows.seen.rows t (omega (arith, n, known)), ap (λ r. r.place) (row_read stands.history t known) ∙ is.1)
+
+  -- where it is not gone it has no ending
+  pub open_here : (t : ℕ) (place : Place) → IsAt stands.history t place → is_gone place ≡ false → (task_at (state p.config stands.history) t).ending ≡ None
+  open_here t place is there = open_row p.config stands.history stands.legal t (ap is_gone is.1 ∙ there)
 
   -- whether it was cancelled
   pub cancelled_here : (t : ℕ) (b : Bool) → t < submitted stands.history → is_cancelled stands.history t ≡ b → (task_at (state p.config stands.history) t).cancelled ≡ b

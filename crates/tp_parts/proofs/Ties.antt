@@ -84,6 +84,7 @@ module _ {P : Type 0} (c : Config) (n : ℕ) (old : Parts P) (tied : IsTied c n 
       keeps : (p : Option Promise) → IfSome p (λ x. FitsPromise x o) → KeepsPromise p (Some y)
       keeps None fits = tt
       keeps (Some p) fits = let F : Option Outcome → Type 0 = λ x. IfSome x (FitsPromise p) in subst F (sym ended) fits
+
   -- a queue that has lost some of its tasks
   pub tied_less : (queue : Queue) (items : List (TaskId × ℕ)) → waiting_of queue ≡ record (waiting_of old.queue) { items = items } → ((x : TaskId × ℕ) → Contains items x → Contains (waiting_of old.queue).items x) →
       IsTied c n (record old { queue = queue })

@@ -1,9 +1,11 @@
 //! A worker begins the task that it took, as `beforeExecute` and the task's `run` do.
 
 ghost use Rattle.std.specs.Prelude.{ℕ, ◌≡◌, Some, None, IfOk, IfErr};
-ghost use Rattle.tp_parts.specs.Payloads.{HandsOut};
+ghost use Rattle.tp_parts.specs.Payloads.{Keeps, HandsOut};
 ghost use Rattle.tp_parts.specs.Steps.{Stands, Fits, Refuses, Leads};
+ghost use Rattle.tp_workers.specs.Begun.{Begins};
 
+use crate::owed::owed_at_take;
 use tp_parts::parts::Parts;
 use tp_record::entries::{Ask, Did, Started};
 use tp_record::rows::{SlotRow, Stage};
@@ -38,8 +40,24 @@ pub fn answer<P>(parts: &Parts<P>, w: SlotId) -> Result<Started, PoolError>
     }
 }
 
+/// Makes an accepted answer, and hands out the payload of a task that runs.
+pub fn apply<P>(parts: &mut Parts<P>, w: SlotId, started: Started) -> Option<P>
+    requires stands { Stands parts.old }
+    requires fits { Fits parts.old (Ask.Begin w) (Did.Begin w started) }
+    ensures leads { Leads parts.old (Did.Begin w started) parts.new }
+    ensures payloads { Begins parts.old.tasks started parts.new.tasks result }
+{
+    match started {
+        Started::Run(t) => Some(run(parts, w, t)),
+        Started::Skip(t) => {
+            skip(parts, w, t);
+            None
+        }
+    }
+}
+
 /// The worker begins the task, and has its payload.
-pub fn run<P>(parts: &mut Parts<P>, w: SlotId, t: TaskId) -> P
+fn run<P>(parts: &mut Parts<P>, w: SlotId, t: TaskId) -> P
     requires stands { Stands parts.old }
     requires fits { Fits parts.old (Ask.Begin w) (Did.Begin w (Started.Run t)) }
     ensures leads { Leads parts.old (Did.Begin w (Started.Run t)) parts.new }
@@ -55,4 +73,23 @@ pub fn run<P>(parts: &mut Parts<P>, w: SlotId, t: TaskId) -> P
         },
     );
     payload
+}
+
+/// The worker skips the task, which was cancelled, and is about to take.
+fn skip<P>(parts: &mut Parts<P>, w: SlotId, t: TaskId)
+    requires stands { Stands parts.old }
+    requires fits { Fits parts.old (Ask.Begin w) (Did.Begin w (Started.Skip t)) }
+    ensures leads { Leads parts.old (Did.Begin w (Started.Skip t)) parts.new }
+    ensures payloads { Keeps parts.old.tasks parts.new.tasks }
+{
+    parts.count_entry(6 - owed_at_take(parts.state));
+    parts.place_task(t, Place::Gone);
+    parts.set_slot(
+        w,
+        SlotRow {
+            stage: Stage::Working,
+            task: None,
+        },
+    );
+    parts.count_completion();
 }

@@ -3,6 +3,8 @@
 #![tactic(auto)]
 
 pub mod begin;
+pub mod end;
 pub mod fail;
 pub mod open;
+mod owed;
 pub mod take;

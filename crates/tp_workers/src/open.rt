@@ -1,10 +1,15 @@
 //! The factory made a worker for a reserved slot, as where `ThreadFactory.newThread` in `addWorker` gave a thread.
 
-ghost use Rattle.std.specs.Prelude.{ℕ, ◌≡◌, IfOk, IfErr};
+ghost use Rattle.std.specs.Prelude.{ℕ, ◌≡◌, Some, None, IfOk, IfErr};
+ghost use Rattle.tp_types.specs.declared.ids.TaskId.{TaskId};
+ghost use Rattle.tp_record.specs.State.{slot_at};
 ghost use Rattle.tp_parts.specs.Steps.{Stands, Fits, Refuses, Leads};
+ghost use Rattle.tp_parts.specs.Payloads.{Keeps};
 
 use tp_parts::parts::Parts;
 use tp_record::entries::{Ask, Did, Opened};
+use tp_record::owed::stage_weight;
+use tp_record::rows::Stage;
 use tp_types::ids::SlotId;
 use tp_types::refusals::PoolError;
 use tp_types::states::RunState;
@@ -32,4 +37,52 @@ pub fn answer<P>(parts: &Parts<P>, w: SlotId) -> Result<Opened, PoolError>
         Some(t) => Ok(Opened::GivenUpRefuse(t)),
         None => Ok(Opened::GivenUp),
     }
+}
+
+/// A bare slot is live: its worker is about to take a task.
+fn live_bare<P>(parts: &mut Parts<P>, w: SlotId)
+    requires stands { Stands parts.old }
+    requires fits { Fits parts.old (Ask.Open w) (Did.Open w Opened.Live) }
+    requires seat { slot_at parts.old.slots.slots w.0 ≡ Some (record { stage = Stage.ReservedBare; task = None }) }
+    ensures leads { Leads parts.old (Did.Open w Opened.Live) parts.new }
+    ensures payloads { Keeps parts.old.tasks parts.new.tasks }
+{
+    let left = stage_weight(parts.state.rank(), false, Stage::Working);
+    parts.count_entry(3 - left);
+    parts.open(w);
+}
+
+/// A slot of the core is live, with its first task.
+fn live_core<P>(parts: &mut Parts<P>, w: SlotId)
+    requires stands { Stands parts.old }
+    requires fits { Fits parts.old (Ask.Open w) (Did.Open w Opened.Live) }
+    requires seat { (t : TaskId) × (slot_at parts.old.slots.slots w.0 ≡ Some (record { stage = Stage.ReservedCore; task = Some t })) }
+    ensures leads { Leads parts.old (Did.Open w Opened.Live) parts.new }
+    ensures payloads { Keeps parts.old.tasks parts.new.tasks }
+{
+    parts.count_entry(5);
+    parts.open(w);
+}
+
+/// A slot up to the maximum is live, with its first task.
+fn live_maximum<P>(parts: &mut Parts<P>, w: SlotId)
+    requires stands { Stands parts.old }
+    requires fits { Fits parts.old (Ask.Open w) (Did.Open w Opened.Live) }
+    requires seat { (t : TaskId) × (slot_at parts.old.slots.slots w.0 ≡ Some (record { stage = Stage.ReservedMaximum; task = Some t })) }
+    ensures leads { Leads parts.old (Did.Open w Opened.Live) parts.new }
+    ensures payloads { Keeps parts.old.tasks parts.new.tasks }
+{
+    parts.count_entry(1);
+    parts.open(w);
+}
+
+/// A bare slot is freed.
+fn give_up<P>(parts: &mut Parts<P>, w: SlotId)
+    requires stands { Stands parts.old }
+    requires fits { Fits parts.old (Ask.Open w) (Did.Open w Opened.GivenUp) }
+    ensures leads { Leads parts.old (Did.Open w Opened.GivenUp) parts.new }
+    ensures payloads { Keeps parts.old.tasks parts.new.tasks }
+{
+    parts.count_entry(3);
+    parts.give_up(w);
 }

@@ -41,8 +41,8 @@ set_slot-requires g c =
       row = refl;
     }
 
-pub returns : goal.returns
-returns g c =
+pub returns-clause-leads : goal.returns-clause-leads
+returns-clause-leads g c =
     let stands = c.requires.stands in
     let old = c.args.parts.now in
     let d = did.Take c.args.w (took.Held c.args.t) in

@@ -31,8 +31,8 @@ idle-requires g c =
       few = omega (arith, few, idlings, k);
     }
 
-pub returns : goal.returns
-returns g c =
+pub returns-clause-leads : goal.returns-clause-leads
+returns-clause-leads g c =
     let stands = c.requires.stands in
     let old = c.args.parts.now in
     let d = did.Take c.args.w took.Idle in

@@ -1,0 +1,67 @@
+use Rattle.std.proofs.Common.{◌-◌, refl, ap, arith, ◌∙◌}
+use Rattle.tp_types.specs.declared.tasks.Place.TheVariants as at
+use Rattle.tp_record.specs.declared.entries.Ask.TheVariants as ask
+use Rattle.tp_record.specs.declared.entries.Did.TheVariants as did
+use Rattle.tp_record.specs.State.{task_at, state}
+use Rattle.tp_tasks.specs.Tasks.{row_of}
+use Rattle.tp_shapes.proofs.Workers.End.{end_works}
+use Rattle.tp_parts.specs.Tied.{is_before}
+use Rattle.tp_parts.proofs.Standing.{entry_here, given_here, task_here, open_here, few_steps, few_completions}
+use Rattle.tp_parts.proofs.Leading.{leads_from}
+use Rattle.tp_workers.proofs.Falls.{rises_at_take}
+use Rattle.tp_workers.proofs.end.works.Goals as goal
+
+pub count_entry-requires : goal.count_entry-requires
+count_entry-requires g c =
+    let old = c.args.parts.now in
+    let stands = c.requires.stands in
+    let o = c.args.outcome in
+    let d = did.End c.args.w c.args.t o in
+    let n = c.owed_at_take.result in
+    let small = c.owed_at_take.ensures.bound in
+    let entry = entry_here old stands (ask.End c.args.w o) d _ 5 n (5 - n) c.requires.fits
+    (λ given. rises_at_take old _ d _ stands.shows n 5 c.owed_at_take.ensures.owed (end_works old.config stands.history c.args.w c.args.t o stands.legal given (c.requires.lives _ stands.shows))) (omega (arith, small)) in
+    record { few = entry.0; fall = entry.1 }
+
+pub complete_task-requires-clause-known : goal.complete_task-requires-clause-known
+complete_task-requires-clause-known g c =
+    let old = c.args.parts.now in
+    let stands = c.requires.stands in
+    let given = given_here old stands (ask.End c.args.w c.args.outcome) (did.End c.args.w c.args.t c.args.outcome) c.requires.fits in
+    let there = task_here old stands c.args.t.0 (at.Running c.args.w) given.1 in (
+      task_at (state old.config stands.history) c.args.t.0,
+      ap (λ p. row_of p.tasks c.args.t.0) c.count_entry.ensures.rest ∙ there.0,
+      open_here old stands c.args.t.0 (at.Running c.args.w) given.1 refl,
+      ap is_before there.1,
+    )
+
+pub count_completion-requires : goal.count_completion-requires
+count_completion-requires g c =
+    let old = c.args.parts.now in
+    let few = few_steps old c.requires.stands in
+    let done = few_completions old c.requires.stands in
+    let same = ap (λ p. p.completions) c.set_slot.ensures.rest ∙ ap (λ p. p.completions) c.complete_task.ensures.rest ∙ ap (λ p. p.completions) c.count_entry.ensures.rest in
+    omega (arith, few, done, same)
+
+pub returns-clause-leads : goal.returns-clause-leads
+returns-clause-leads g c =
+    let old = c.args.parts.now in
+    let o = c.args.outcome in
+    let d = did.End c.args.w c.args.t o in
+    let n = c.owed_at_take.result in
+    let small = c.owed_at_take.ensures.bound in
+    let k = c.count_entry.ensures in
+    let m = c.complete_task.ensures in
+    let r = c.set_slot.ensures in
+    let e = c.count_completion.ensures in
+    leads_from old c.count_completion.new.self (ask.End c.args.w o) d 5 n (5 - n) c.requires.stands c.requires.fits
+    (λ h legal given sh. (
+      _,
+      rises_at_take old _ d _ sh n 5 c.owed_at_take.ensures.owed (end_works old.config h c.args.w c.args.t o legal given (c.requires.lives _ sh)),
+      e.views _ (r.views _ (m.views _ (k.views _ sh.seen))),
+    ))
+    (omega (arith, small))
+    (ap (λ p. p.config) e.rest ∙ ap (λ p. p.config) r.rest ∙ ap (λ p. p.config) m.rest ∙ ap (λ p. p.config) k.rest)
+    (ap (λ p. p.steps) e.rest ∙ ap (λ p. p.steps) r.rest ∙ ap (λ p. p.steps) m.rest ∙ ap (λ p. p.steps) k.rest)
+    (ap (λ p. p.due) e.rest ∙ ap (λ p. p.due) r.rest ∙ ap (λ p. p.due) m.rest ∙ ap (λ p. p.due) k.rest)
+    (λ tied. e.tied _ _ (r.tied _ _ (m.tied _ _ (k.tied _ _ tied))))
