@@ -14,42 +14,44 @@ use Rattle.tp_parts.specs.Steps.{Stands, Accepts, Leads}
 use Rattle.tp_machine.specs.Seen.{Seen, At, IsSound, config_of}
 use Rattle.tp_machine.specs.Steps.{IsStep}
 
-module _ {P R : Type 0} (tells : R → List Entry → Type 0) (old new : Seen P R) (by : ℕ) (a : Ask) (d : Did)
-    (accepts : Accepts old.parts a d) (leads : Leads old.parts d new.parts) where
-  -- the new structures show the state of the history with the entry
-  shows_after : (h : List Entry) → Legal (config_of old) h → Shows old.parts (state (config_of old) h) →
-      Shows new.parts (state (config_of new) (record { by = by; ask = a; did = d } ∷ h))
-  shows_after h legal shows =
+-- from structures and a record that are seen as `old` to those of `new`
+module _ {P R : Type 0} (tells : R → List Entry → Type 0) (places : R → ℕ) (parts : Parts P) (noted : R) (new : Seen P R) (by : ℕ) (a : Ask) (d : Did)
+    (accepts : Accepts parts a d) (leads : Leads parts d new.parts)
+    (tell : (h : List Entry) → tells noted h → tells new.noted (record { by = by; ask = a; did = d } ∷ h)) where
+  -- the new structures show the state of the history with the entry, and it is legal
+  after : (h : List Entry) → Legal parts.config h → Shows parts (state parts.config h) →
+      Legal new.parts.config (record { by = by; ask = a; did = d } ∷ h) × Shows new.parts (state new.parts.config (record { by = by; ask = a; did = d } ∷ h))
+  after h legal shows =
       let e : Entry = record { by = by; ask = a; did = d } in
-      let same : state (config_of new) (e ∷ h) ≡ next (state (config_of old) h) d =
-          ap (λ c. state c (e ∷ h)) leads.config ∙ next_is_state (config_of old) h e legal (accepts h legal shows) in
-      subst (Shows new.parts) (sym same) (leads.shows h legal shows)
+      let given = accepts h legal shows in
+      let same : state new.parts.config (e ∷ h) ≡ next (state parts.config h) d = ap (λ c. state c (e ∷ h)) leads.config ∙ next_is_state parts.config h e legal given in
+      (subst (λ c. Legal c (e ∷ h)) (sym leads.config) (given, legal), subst (Shows new.parts) (sym same) (leads.shows h legal shows))
 
-  legal_after : (h : List Entry) → Legal (config_of old) h → Shows old.parts (state (config_of old) h) → Legal (config_of new) (record { by = by; ask = a; did = d } ∷ h)
-  legal_after h legal shows = subst (λ c. Legal c (record { by = by; ask = a; did = d } ∷ h)) (sym leads.config) (accepts h legal shows, legal)
-
-  pub step_made : ((h : List Entry) → tells old.noted h → tells new.noted (record { by = by; ask = a; did = d } ∷ h)) → IsStep tells old new by a d
-  step_made noted = record {
+  step_from : IsStep tells (record { parts = parts; noted = noted }) new by a d
+  step_from = record {
     gives = λ h at. accepts h at.legal at.shows;
-    writes = λ h at. record { told = noted h at.told; legal = legal_after h at.legal at.shows; shows = shows_after h at.legal at.shows };
+    writes = λ h at. let s = after h at.legal at.shows in record { told = tell h at.told; legal = s.0; shows = s.1 };
     config = leads.config;
   }
 
-  pub step_sound : (places : R → ℕ) → IsSound tells places old → ((h : List Entry) → tells old.noted h → tells new.noted (record { by = by; ask = a; did = d } ∷ h)) →
-      places new.noted + 1 ≡ places old.noted → IsSound tells places new
-  step_sound places sound noted counted =
+  pub step_made : (old : Seen P R) → record { parts = parts; noted = noted } ≡ old → IsStep tells old new by a d
+  step_made old is = subst (λ m. IsStep tells m new by a d) is step_from
+
+  pub step_sound : IsSound tells places (record { parts = parts; noted = noted }) → places new.noted + 1 ≡ places noted → IsSound tells places new
+  step_sound sound counted =
       let s = sound.stands in
       let c = ap (λ x. x.record_limit) leads.config in
       let n = leads.steps in
       let r = sound.room in
+      let x = after s.history s.legal s.shows in
       record {
         stands = record {
           history = record { by = by; ask = a; did = d } ∷ s.history;
-          legal = legal_after s.history s.legal s.shows;
-          shows = shows_after s.history s.legal s.shows;
-          tied = subst (λ k. IsTied k new.parts.steps new.parts) (sym leads.config) (subst (λ k. IsTied old.parts.config k new.parts) (sym leads.steps) leads.tied);
+          legal = x.0;
+          shows = x.1;
+          tied = subst (λ k. IsTied k new.parts.steps new.parts) (sym leads.config) (subst (λ k. IsTied parts.config k new.parts) (sym leads.steps) leads.tied);
         };
-        told = noted s.history sound.told;
+        told = tell s.history sound.told;
         room = omega (arith, c, n, r, counted);
       }
 

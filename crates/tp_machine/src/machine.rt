@@ -80,3 +80,5 @@ fn note_owed<P, R: Recorder>(parts: &Parts<P>, noted: &mut R, by: u32, ask: Ask,
 {
     note(parts, noted, by, ask, did);
 }
+
+pub mod workers;
