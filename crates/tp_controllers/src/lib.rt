@@ -1,3 +1,13 @@
-//! Controllers' steps: each in a module named as the step, with `answer`, which reads what the step answers, and `apply`, which makes
-//! an accepted answer.
+//! Controllers' steps: each in a module named as the step (the core size's as `core_size`), with `answer`, which reads what the step
+//! answers, and `apply`, which makes an accepted answer.
 #![tactic(auto)]
+
+pub mod core_size;
+pub mod core_timeout;
+pub mod keep;
+pub mod maximum;
+pub mod shutdown;
+pub mod tick;
+pub mod cancel;
+pub mod remove;
+pub mod take_done;

@@ -1,9 +1,8 @@
 -- What is counted of a pool is small: there is no more of it than entries.
-use Rattle.std.proofs.Common.{◌≡◌, ℕ, ◌≤◌, List, [], ◌∷◌, suc, length, arith, sym, ap, ◌∙◌}
+use Rattle.std.proofs.Common.{◌≡◌, ℕ, ◌≤◌, List, [], ◌∷◌, length, arith, ap, ◌∙◌}
 use Rattle.std.specs.Prelude.{count_by}
 use Rattle.tp_types.specs.declared.ids.TaskId.{TaskId}
 use Rattle.tp_record.specs.Fields.{is_live}
-use Rattle.tp_record.specs.State.{state}
 use Rattle.tp_queue.specs.Queues.{waiting_of}
 use Rattle.tp_tasks.specs.Tasks.{submissions}
 use Rattle.tp_model.proofs.Readings.{tasks_counted}

@@ -6,5 +6,9 @@ pub mod Queued
 pub mod New
 pub mod Few
 pub mod Slots
+pub mod Offers
 pub mod Removals
 pub mod Answering
+pub mod Falls
+pub mod Reading
+pub mod Submissions

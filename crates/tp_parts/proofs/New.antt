@@ -1,5 +1,5 @@
 -- The structures of a pool without tasks show the state of the empty history, and are tied.
-use Rattle.std.proofs.Common.{◌≡◌, ℕ, ◌≤◌, [], None, refl, arith, sym, ap, subst, ◌∙◌}
+use Rattle.std.proofs.Common.{◌≡◌, ℕ, [], None, refl, arith, sym, ap, subst, ◌∙◌}
 use Rattle.std.specs.Prelude.{is_some, count_by}
 use Rattle.std.specs.List.{Contains}
 use Rattle.tp_types.specs.Config.{IsConfig}

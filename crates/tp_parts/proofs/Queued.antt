@@ -1,13 +1,19 @@
--- The tasks that wait, by their numbers, and their places in the queue.
+-- The tasks that wait, by their numbers, and their places in the queue; and what a change of the queue keeps.
 use Rattle.std.proofs.Common.{◌≡◌, ℕ, zero, suc, ◌<◌, ◌≤◌, Bool, true, false, not, cond, List, [], ◌∷◌, drop, length, Some, None, refl, arith, sym, ap, ◌∙◌, subst, ◌⊎◌, inl, inr}
-use Rattle.std.specs.Prelude.{◌==◌, option_map, slice_get, slice_index_or}
+use Rattle.std.specs.Prelude.{◌==◌, filter, option_map, slice_get, slice_index_or}
 use Rattle.std.specs.List.{Contains}
 use Rattle.std.proofs.lemmas.Bool.{eq-eqb, ne_eqb, cases_eq}
-use Rattle.std.proofs.lemmas.List.Elements.{Contains-append_right}
+use Rattle.std.proofs.lemmas.List.Elements.{All-contains, All-filter, All-contains_itself, Contains-append_right}
 use Rattle.tp_line.specs.Line.{Ordered, without_place}
+use Rattle.tp_types.specs.declared.configs.Config.{Config}
 use Rattle.tp_types.specs.declared.ids.TaskId.{TaskId}
 use Rattle.tp_record.specs.Lists.{without}
-use Rattle.tp_parts.specs.Shows.{numbers}
+use Rattle.tp_queue.specs.declared.queues.Queue.{Queue}
+use Rattle.tp_queue.specs.Queues.{waiting_of}
+use Rattle.tp_shapes.specs.View.{View}
+use Rattle.tp_parts.specs.declared.parts.Parts.{Parts}
+use Rattle.tp_parts.specs.Shows.{Views, numbers}
+use Rattle.tp_parts.specs.Tied.{IsTied}
 
 pub queue_head : (items : List (TaskId × ℕ)) (t : TaskId) → option_map (λ x. x.0) (slice_get items 0) ≡ Some t → numbers items ≡ t.0 ∷ numbers (drop 1 items)
 queue_head [] t is = absurd (let n : ⊥ = cc in n)
@@ -77,3 +83,52 @@ numbers-unqueued xs next t k o has only =
       | inr apart ↦
           ne_eqb x.1 k (λ e. apart (ap (λ w. w.0.0) (place_once 0 xs next x (t, there.0) o within there.1 (e ∙ sym (only there.0 there.1))))) ∙ sym (ne_eqb x.0.0 t.0 apart)
     ])
+
+-- what passes a test is in the list
+pub contains_filter : {A : Type 0} (p : A → Bool) (xs : List A) (x : A) → Contains (filter p xs) x → Contains xs x
+contains_filter p xs x has = All-contains (Contains xs) (filter p xs) x (All-filter p (Contains xs) xs (All-contains_itself xs)) has
+
+module _ {P : Type 0} (c : Config) (n : ℕ) (old : Parts P) (tied : IsTied c n old) where
+  -- a queue that has lost some of its tasks
+  pub tied_less : (queue : Queue) (items : List (TaskId × ℕ)) → waiting_of queue ≡ record (waiting_of old.queue) { items = items } → ((x : TaskId × ℕ) → Contains items x → Contains (waiting_of old.queue).items x) →
+      IsTied c n (record old { queue = queue })
+  tied_less queue items is fewer =
+      let places = ap (λ w. w.capacity) is in
+      let came = ap (λ w. w.offers) is in
+      let offers = tied.offers in
+      record {
+        made_with = tied.made_with;
+        config = tied.config;
+        least = tied.least;
+        sizes = tied.sizes;
+        places = tied.places;
+        kind = ap (λ w. w.kind) is ∙ tied.kind;
+        queue_places = λ unbounded. let k = tied.queue_places unbounded in omega (arith, places, k);
+        offers = omega (arith, came, offers);
+        idlings = tied.idlings;
+        numbered = λ t k has. tied.numbered t k (fewer (t, k) (subst (λ w. Contains w.items (t, k)) is has));
+        payloads = tied.payloads;
+        promises = tied.promises;
+      }
+
+-- another queue is seen, and nothing else
+pub views_queue : {P : Type 0} (p : Parts P) (v : View) → Views p v → (queue : Queue) (ts : List ℕ) → ts ≡ numbers (waiting_of queue).items → Views (record p { queue = queue }) (record v { queue = ts })
+views_queue p v views queue ts is =
+    record {
+      rank = views.rank;
+      core_size = views.core_size;
+      maximum_size = views.maximum_size;
+      keep_alive = views.keep_alive;
+      times_out = views.times_out;
+      present = views.present;
+      submitted = views.submitted;
+      rows = views.rows;
+      unknown = views.unknown;
+      fates = views.fates;
+      queued = is;
+      seats = views.seats;
+      order = views.order;
+      done = views.done;
+      completed = views.completed;
+      most = views.most;
+    }

@@ -1,6 +1,6 @@
 -- What is known where structures stand.
-use Rattle.std.proofs.Common.{◌≡◌, ℕ, ◌+◌, ◌-◌, ◌^◌, ◌<◌, ◌≤◌, Bool, true, List, Option, Some, Ok, Err, cond, arith, sym, ap, subst, ◌∙◌, suc, false, [], ◌∷◌, length, None}
-use Rattle.std.specs.Prelude.{unwrap_or, ◌↔◌}
+use Rattle.std.proofs.Common.{◌≡◌, ℕ, ◌+◌, ◌-◌, ◌^◌, ◌<◌, ◌≤◌, Bool, true, false, List, Option, Some, None, Ok, Err, cond, arith, sym, ap, subst, ◌∙◌, suc, [], ◌∷◌, length}
+use Rattle.std.specs.Prelude.{unwrap_or, ◌↔◌, ◌&&◌, not}
 use Rattle.std.proofs.lemmas.Bool.{le-leb}
 use Rattle.tp_types.specs.Config.{IsConfig}
 use Rattle.tp_types.specs.declared.configs.Config.{Config}
@@ -14,6 +14,7 @@ use Rattle.tp_record.specs.declared.rows.Stage.{Stage}
 use Rattle.tp_record.specs.Effects.{reserves, is_completion}
 use Rattle.tp_record.specs.Fields.{rank, submitted, is_cancelled, completions}
 use Rattle.tp_record.specs.State.{State, state, slot_at, task_at}
+use Rattle.tp_record.specs.declared.rows.TaskRow.{TaskRow}
 use Rattle.tp_record.specs.Step.{Gives, Legal, within_room, leaves_room}
 use Rattle.tp_model.proofs.Given.{Given, IsAt, HasRow}
 use Rattle.tp_model.proofs.Readings.{tasks_counted, row_read, slot_read}
@@ -21,12 +22,13 @@ use Rattle.tp_model.proofs.Told.{given_answer, sound_legal}
 use Rattle.tp_room.specs.Room.{lowers}
 use Rattle.tp_room.proofs.OwedLaws.{owed_falls, room_is_enough}
 use Rattle.tp_parts.specs.declared.parts.Parts.{Parts}
+use Rattle.tp_tasks.specs.declared.tasks.Tasks.{Tasks}
 use Rattle.tp_tasks.specs.Tasks.{row_of}
 use Rattle.tp_shapes.specs.View.{View, Effect}
-use Rattle.tp_parts.specs.Shows.{Shows}
-use Rattle.tp_parts.specs.Tied.{IsTied}
+use Rattle.tp_parts.specs.Tied.{is_before, is_waiting, IsTied}
 use Rattle.tp_shapes.proofs.Invariants.{is_gone}
 use Rattle.tp_shapes.proofs.Facts.{open_row}
+use Rattle.tp_parts.specs.Shows.{Shows}
 use Rattle.tp_parts.specs.Steps.{Stands, Fits, Accepts, IsFitting}
 
 -- what is given where an answer fits
@@ -40,15 +42,6 @@ gives_owed c h a d config legal fits low =
     let room = room_is_enough c h config legal in
     let leaves : leaves_room c (state c h) d ≡ true = le-leb _ _ (omega (arith, falls, room)) in
     (ap (within_room c (state c h)) fits.0 ∙ ap (λ b. cond b (Ok d) (Err BookFull)) leaves, fits.1)
-
--- each completion has its entry
-completions_counted : (h : List Entry) → completions h ≤ length h
-completions_counted [] = omega arith
-completions_counted (e ∷ h) = by (is_completion e.did) (completions_counted h)
-  where
-    by : (b : Bool) → completions h ≤ length h → cond b (suc (completions h)) (completions h) ≤ suc (length h)
-    by true le = omega (arith, le)
-    by false le = omega (arith, le)
 
 module _ {P : Type 0} (p : Parts P) (stands : Stands p) where
   -- so is each that is owed at every run state
@@ -65,13 +58,6 @@ module _ {P : Type 0} (p : Parts P) (stands : Stands p) where
 
   pub few_steps : p.steps + p.due < 2 ^ 32 - 1
   few_steps = let l = stands.tied.config.greatest_limit in let r = room_left in omega (arith, l, r)
-
-  pub few_completions : p.completions ≤ p.steps
-  few_completions =
-      let n = completions_counted stands.history in
-      let e = stands.shows.entries in
-      let f = stands.shows.seen.completed in
-      omega (arith, n, e, f)
 
   -- what is given at its history
   pub given_here : (a : Ask) (d : Did) → Fits p a d → Given p.config stands.history d
@@ -111,6 +97,15 @@ module _ {P : Type 0} (p : Parts P) (stands : Stands p) where
       let few = few_steps in
       let owed = owed_here d v fall rise (effect (given_here a d fits)) in
       (omega (arith, few), omega (arith, owed, net))
+
+  -- a task that is there, and that waits in another place just as in this one
+  pub known_here : (tasks : Tasks P) (t : ℕ) (from to : Place) → tasks ≡ p.tasks → IsAt stands.history t from → is_before to ≡ is_before from →
+      (r : TaskRow) × (row_of tasks t ≡ Some r) × (is_waiting (record r { place = to }) ≡ is_waiting r)
+  known_here tasks t from to same is alike =
+      let there = task_here t from is in
+      let r = task_at (state p.config stands.history) t in
+      (r, ap (λ x. row_of x t) same ∙ there.0, ap (λ b. b && not r.cancelled) (alike ∙ sym (ap is_before there.1)))
+
 -- structures that show the same states, with the same settings, stand and accept alike
 module _ {P : Type 0} (old new : Parts P) (config : new.config ≡ old.config) (same : (s : State) → Shows old s ↔ Shows new s) where
   before : (h : List Entry) → Shows new (state new.config h) → Shows old (state old.config h)

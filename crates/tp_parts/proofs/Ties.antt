@@ -1,13 +1,13 @@
 -- What ties the structures together lasts through a change of one of them.
-use Rattle.std.proofs.Common.{◌≡◌, ℕ, suc, List, [], ◌∷◌, drop, Some, None, Option, arith, sym, ap, subst, ◌∙◌, false, inl, inr, Bool, ◌<◌, ◌≤◌, true, refl}
+use Rattle.std.proofs.Common.{◌≡◌, ℕ, suc, Bool, List, [], ◌∷◌, drop, Some, None, Option, arith, sym, ap, subst, ◌∙◌, false, inl, inr, ◌<◌, ◌≤◌, true, refl}
 use Rattle.std.specs.Prelude.{is_some, nat_eq, ◌&&◌, IfSome, filter}
 use Rattle.std.specs.List.{Contains}
 use Rattle.std.proofs.lemmas.List.Elements.{All-contains, All-filter, All-contains_itself, Contains-append_right}
 use Rattle.std.proofs.lemmas.Bool.{ne_eqb, cases_eq, false≢true}
 use Rattle.tp_types.specs.Promise.{FitsPromise}
 use Rattle.tp_types.specs.declared.configs.Config.{Config}
-use Rattle.tp_types.specs.declared.ids.TaskId.{TaskId}
 use Rattle.tp_types.specs.declared.configs.QueueKind.TheVariants.{Unbounded}
+use Rattle.tp_types.specs.declared.ids.TaskId.{TaskId}
 use Rattle.tp_types.specs.declared.tasks.Promise.{Promise}
 use Rattle.tp_record.specs.declared.rows.TaskRow.{TaskRow}
 use Rattle.tp_record.specs.Effects.{Outcome}
@@ -110,6 +110,8 @@ module _ {P : Type 0} (c : Config) (n : ℕ) (old : Parts P) (tied : IsTied c n 
 -- what passes a test is in the list
 pub contains_filter : {A : Type 0} (p : A → Bool) (xs : List A) (x : A) → Contains (filter p xs) x → Contains xs x
 contains_filter p xs x has = All-contains (Contains xs) (filter p xs) x (All-filter p (Contains xs) xs (All-contains_itself xs)) has
+
+
 -- more places in the queue leave the structures tied, and so does more memory for tasks
 pub tied_roomier : {P : Type 0} (c : Config) (n : ℕ) (p : Parts P) → IsTied c n p → (tasks : Tasks P) → IsUnchanged p.tasks tasks → (queue : Queue) →
     waiting_of queue ≡ record (waiting_of p.queue) { capacity = (waiting_of queue).capacity } → (waiting_of p.queue).capacity ≤ (waiting_of queue).capacity →

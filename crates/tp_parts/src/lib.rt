@@ -2,11 +2,12 @@
 #![tactic(auto)]
 
 pub mod entries;
+pub mod looks;
 pub mod offer_changes;
+pub mod owing;
 pub mod parts;
 pub mod queue_changes;
 pub mod readings;
-pub mod looks;
 pub mod removal_changes;
 pub mod room;
 pub mod setting_changes;

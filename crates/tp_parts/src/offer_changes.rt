@@ -1,20 +1,52 @@
 //! Changes of a task that its submitter offers, and looks at a second time.
 
-ghost use Rattle.std.specs.Prelude.{ℕ, ◌≡◌, Some};
+ghost use Rattle.std.specs.Prelude.{ℕ, ◌≡◌, ◌-◌, ◌^◌, ◌<◌, ◌++◌, ◌∷◌, [], true, false, Some};
 ghost use Rattle.std.specs.List.{Contains};
 ghost use Rattle.tp_types.specs.declared.configs.Config.{Config};
+ghost use Rattle.tp_record.specs.declared.rows.TaskRow.{TaskRow};
 ghost use Rattle.tp_record.specs.Lists.{without};
 ghost use Rattle.tp_queue.specs.Queues.{waiting_of};
-ghost use Rattle.tp_tasks.specs.Tasks.{number_of};
-ghost use Rattle.tp_shapes.specs.View.{View};
+ghost use Rattle.tp_tasks.specs.Tasks.{row_of, number_of};
+ghost use Rattle.tp_shapes.specs.View.{View, put};
+ghost use Rattle.tp_parts.specs.Offers.{HasRoom};
+ghost use Rattle.tp_parts.specs.Payloads.{Keeps};
 ghost use Rattle.tp_parts.specs.Shows.{Views, numbers};
-ghost use Rattle.tp_parts.specs.Tied.{IsTied};
+ghost use Rattle.tp_parts.specs.Tied.{IsTied, is_before};
 
 use crate::parts::Parts;
 use tp_queue::work::WorkQueue;
-use tp_types::ids::TaskId;
+use tp_record::rows::TaskRow;
+use tp_types::ids::{SlotId, TaskId};
+use tp_types::tasks::Place;
 
 impl<P> Parts<P> {
+    /// Puts a task that waits at the queue's end. Its submitter owes it a second look.
+    pub fn enqueue(&mut self, t: TaskId)
+        requires known { (r : TaskRow) × (row_of self.old.tasks t.0 ≡ Some r) × (is_before r.place ≡ true) }
+        requires absent { Contains (numbers (waiting_of self.old.queue).items) t.0 → ⊥ }
+        requires room { HasRoom (waiting_of self.old.queue) }
+        requires few { (waiting_of self.old.queue).offers < 2 ^ 64 - 1 }
+        ensures views { (v : View) → Views self.old v → Views self.new (record v { tasks = put t.0 (record (v.tasks t.0) { place = Place.Queued; second = true }) v.tasks; queue = v.queue ++ t.0 ∷ [] }) }
+        ensures tied { (c : Config) (n : ℕ) → IsTied c n self.old → (waiting_of self.old.queue).offers < n → IsTied c n self.new }
+        ensures rest { self.new ≡ record self.old { tasks = self.new.tasks; queue = self.new.queue } }
+        ensures payloads { Keeps self.old.tasks self.new.tasks }
+    {
+        let Some(row) = self.tasks.row(t) else {
+            unreachable!()
+        };
+        self.queue.is_lawful();
+        let Ok(number) = self.queue.offer(t) else {
+            unreachable!()
+        };
+        self.tasks.set_place_number(t, number);
+        let to = TaskRow {
+            place: Place::Queued,
+            second: true,
+            ..row
+        };
+        self.tasks.set_row(t, row, to);
+    }
+
     /// Takes a queued task out of the queue, wherever it stands there. Its row stays.
     pub fn unqueue(&mut self, t: TaskId)
         requires queued { Contains (numbers (waiting_of self.old.queue).items) t.0 }
@@ -28,5 +60,61 @@ impl<P> Parts<P> {
         };
         self.queue.is_lawful();
         self.queue.remove(number);
+    }
+
+    /// A task that waits is held by this slot from now on, and its submitter owes it a second look.
+    pub fn hand_task(&mut self, t: TaskId, w: SlotId)
+        requires known { (r : TaskRow) × (row_of self.old.tasks t.0 ≡ Some r) × (is_before r.place ≡ true) }
+        ensures views { (v : View) → Views self.old v → Views self.new (record v { tasks = put t.0 (record (v.tasks t.0) { place = Place.Held w; second = true }) v.tasks }) }
+        ensures tied { (c : Config) (n : ℕ) → IsTied c n self.old → IsTied c n self.new }
+        ensures rest { self.new ≡ record self.old { tasks = self.new.tasks } }
+        ensures payloads { Keeps self.old.tasks self.new.tasks }
+    {
+        let Some(row) = self.tasks.row(t) else {
+            unreachable!()
+        };
+        let to = TaskRow {
+            place: Place::Held(w),
+            second: true,
+            ..row
+        };
+        self.tasks.set_row(t, row, to);
+    }
+
+    /// A task is not owed its second look any more, and is where it was.
+    pub fn settle_task(&mut self, t: TaskId)
+        requires known { (r : TaskRow) × (row_of self.old.tasks t.0 ≡ Some r) }
+        ensures views { (v : View) → Views self.old v → Views self.new (record v { tasks = put t.0 (record (v.tasks t.0) { second = false }) v.tasks }) }
+        ensures tied { (c : Config) (n : ℕ) → IsTied c n self.old → IsTied c n self.new }
+        ensures rest { self.new ≡ record self.old { tasks = self.new.tasks } }
+        ensures payloads { Keeps self.old.tasks self.new.tasks }
+    {
+        let Some(row) = self.tasks.row(t) else {
+            unreachable!()
+        };
+        let to = TaskRow {
+            second: false,
+            ..row
+        };
+        self.tasks.set_row(t, row, to);
+    }
+
+    /// A task that waits is refused by its second look, which it is not owed any more.
+    pub fn return_task(&mut self, t: TaskId)
+        requires known { (r : TaskRow) × (row_of self.old.tasks t.0 ≡ Some r) × (is_before r.place ≡ true) }
+        ensures views { (v : View) → Views self.old v → Views self.new (record v { tasks = put t.0 (record (v.tasks t.0) { place = Place.Refused; second = false }) v.tasks }) }
+        ensures tied { (c : Config) (n : ℕ) → IsTied c n self.old → IsTied c n self.new }
+        ensures rest { self.new ≡ record self.old { tasks = self.new.tasks } }
+        ensures payloads { Keeps self.old.tasks self.new.tasks }
+    {
+        let Some(row) = self.tasks.row(t) else {
+            unreachable!()
+        };
+        let to = TaskRow {
+            place: Place::Refused,
+            second: false,
+            ..row
+        };
+        self.tasks.set_row(t, row, to);
     }
 }

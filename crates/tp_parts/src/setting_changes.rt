@@ -1,8 +1,9 @@
-//! Changes of the settings, of the moment and of the run state.
+//! Changes of the settings, of the moment and of the run state, by which idle workers wake.
 
-ghost use Rattle.std.specs.Prelude.{ℕ, ◌≡◌, ◌≤◌, max, OnOk, OnErr};
+ghost use Rattle.std.specs.Prelude.{ℕ, ◌≡◌, ◌≤◌, [], max, OnOk, OnErr};
 ghost use Rattle.tp_types.specs.declared.configs.Config.{Config};
 ghost use Rattle.tp_types.specs.RunState.{state_rank};
+ghost use Rattle.tp_slots.specs.Table.{woken_row};
 ghost use Rattle.tp_shapes.specs.View.{View};
 ghost use Rattle.tp_parts.specs.Shows.{Views};
 ghost use Rattle.tp_parts.specs.Tied.{IsTied};
@@ -78,5 +79,14 @@ impl<P> Parts<P> {
         if self.state.rank() < state.rank() {
             self.state = state;
         }
+    }
+
+    /// All idle workers work from now on, as a shutdown interrupts them.
+    pub fn wake_all(&mut self)
+        ensures views { (v : View) → Views self.old v → Views self.new (record v { slots = λ w. woken_row (v.slots w); idling = [] }) }
+        ensures tied { (c : Config) (n : ℕ) → IsTied c n self.old → IsTied c n self.new }
+        ensures rest { self.new ≡ record self.old { slots = self.new.slots } }
+    {
+        self.slots.wake_all();
     }
 }

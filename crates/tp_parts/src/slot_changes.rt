@@ -76,7 +76,7 @@ impl<P> Parts<P> {
     pub fn free(&mut self, w: SlotId)
         requires { is_live (slot_at self.old.slots.slots w.0) ≡ true }
         ensures views { (v : View) → Views self.old v → Views self.new (record v { slots = put w.0 None v.slots; idling = without w.0 v.idling; taken = v.taken - 1; live = v.live - 1 }) }
-        ensures next { self.new.slots.next ≡ w.0 }
+        ensures table { self.new.slots ≡ record self.old.slots { slots = self.new.slots.slots; idling = self.new.slots.idling; next = w.0 } }
         ensures taken { count_by is_some self.new.slots.slots + 1 ≡ count_by is_some self.old.slots.slots }
         ensures tied { (c : Config) (n : ℕ) → IsTied c n self.old → IsTied c n self.new }
         ensures rest { self.new ≡ record self.old { slots = self.new.slots } }

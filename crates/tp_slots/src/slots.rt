@@ -6,7 +6,7 @@ ghost use Rattle.tp_record.specs.Lists.{without};
 ghost use Rattle.tp_record.specs.Fields.{is_live, is_idle_row};
 ghost use Rattle.tp_record.specs.State.{State, slot_at};
 ghost use Rattle.tp_record.specs.Step.{is_reserved, since, timed_out as is_timed_out};
-ghost use Rattle.tp_slots.specs.Table.{IsSet, is_reserved_row, is_awake, working_row, AreWoken, first_slot, IsStateOf};
+ghost use Rattle.tp_slots.specs.Table.{IsSet, is_reserved_row, is_awake, is_at_take, working_row, AreWoken, first_slot, IsStateOf};
 ghost use Rattle.tp_slots.specs.Tied.{HasPlace, without_place_of};
 
 use crate::seats::Seat;
@@ -100,6 +100,23 @@ impl Slots {
         ensures free { slot_at self.now.slots self.now.next ≡ None }
     {
         SlotId(self.seats.vacant_key())
+    }
+
+    /// How many workers are about to take: live without a task, and neither idle nor dying. It takes as many steps as there
+    /// are slots.
+    pub fn at_take(&self) -> usize
+        ensures count { result ≡ count_by is_at_take self.now.slots }
+        ensures within { result ≤ count_by is_some self.now.slots }
+    {
+        // There are no more of them than places, so the count fits
+        let _places = self.places;
+        let mut count = 0;
+        for (_, seat) in self.seats.iter() {
+            if seat.row.stage == Stage::Working && seat.row.task.is_none() {
+                count += 1;
+            }
+        }
+        count
     }
 
     /// The row of a slot, if there is a slot of this number.

@@ -1,0 +1,5 @@
+pub mod Looks
+pub mod Payloads
+pub mod Submitting
+pub mod Retrying
+pub mod Verdicts

@@ -1,13 +1,16 @@
 //! A submitter has run its task itself, as under `CallerRunsPolicy`.
 
-ghost use Rattle.std.specs.Prelude.{IfOk, IfErr};
+ghost use Rattle.std.specs.Prelude.{IfOk, IfErr, IfSome};
+ghost use Rattle.tp_types.specs.Promise.{FitsPromise};
+ghost use Rattle.tp_tasks.specs.Tasks.{promise_of};
+ghost use Rattle.tp_parts.specs.Payloads.{Keeps};
 ghost use Rattle.tp_parts.specs.Steps.{Stands, Fits, Refuses, Leads};
 
 use tp_parts::parts::Parts;
 use tp_record::entries::{Ask, Did};
 use tp_types::ids::TaskId;
 use tp_types::refusals::PoolError;
-use tp_types::tasks::{Outcome, Place};
+use tp_types::tasks::{Fate, Outcome, Place};
 
 /// Whether the submitter runs the task, so that it may end it. UnknownTask (6) or NotThere (8).
 pub fn answer<P>(parts: &Parts<P>, t: TaskId, outcome: Outcome) -> Result<(), PoolError>
@@ -19,4 +22,17 @@ pub fn answer<P>(parts: &Parts<P>, t: TaskId, outcome: Outcome) -> Result<(), Po
         Some(row) if row.place == Place::Caller => Ok(()),
         Some(_) => Err(PoolError::NotThere),
     }
+}
+
+/// The submitter ended its task: it is gone, with the fate run by its caller unless it was cancelled meanwhile. The outcome is as its job
+/// promised.
+pub fn apply<P>(parts: &mut Parts<P>, t: TaskId, outcome: Outcome)
+    requires stands { Stands parts.old }
+    requires fits { Fits parts.old (Ask.CallerEnd t outcome) (Did.CallerEnd t outcome) }
+    requires promised { IfSome (promise_of parts.old.tasks t.0) (λ p. FitsPromise p outcome) }
+    ensures leads { Leads parts.old (Did.CallerEnd t outcome) parts.new }
+    ensures payloads { Keeps parts.old.tasks parts.new.tasks }
+{
+    parts.count_entry(1);
+    parts.complete_task(t, Fate::RunByCaller, outcome);
 }

@@ -32,3 +32,41 @@ pub fn answer<P>(parts: &Parts<P>, t: TaskId) -> Result<Grown, PoolError>
         Ok(Grown::Refuse)
     }
 }
+
+/// A slot is reserved up to the maximum size, and holds the task.
+fn reserve<P>(parts: &mut Parts<P>, t: TaskId, w: SlotId)
+    requires stands { Stands parts.old }
+    requires fits { Fits parts.old (Ask.Grow t) (Did.Grow t (Grown.Reserve w)) }
+    requires next { w.0 ≡ parts.old.slots.next }
+    ensures leads { Leads parts.old (Did.Grow t (Grown.Reserve w)) parts.new }
+    ensures payloads { Keeps parts.old.tasks parts.new.tasks }
+{
+    parts.count_entry(1);
+    parts.place_task(t, Place::Held(w));
+    parts.reserve(Stage::ReservedMaximum, Some(t));
+}
+
+/// The pool may not grow: the task awaits a verdict.
+fn refuse<P>(parts: &mut Parts<P>, t: TaskId)
+    requires stands { Stands parts.old }
+    requires fits { Fits parts.old (Ask.Grow t) (Did.Grow t Grown.Refuse) }
+    ensures leads { Leads parts.old (Did.Grow t Grown.Refuse) parts.new }
+    ensures payloads { Keeps parts.old.tasks parts.new.tasks }
+{
+    parts.count_entry(7);
+    parts.place_task(t, Place::Refused);
+}
+
+/// Makes what was answered.
+pub fn apply<P>(parts: &mut Parts<P>, t: TaskId, grown: Grown)
+    requires stands { Stands parts.old }
+    requires fits { Fits parts.old (Ask.Grow t) (Did.Grow t grown) }
+    requires next { IfSome (reserves (Did.Grow t grown)) (λ w. w ≡ parts.old.slots.next) }
+    ensures leads { Leads parts.old (Did.Grow t grown) parts.new }
+    ensures payloads { Keeps parts.old.tasks parts.new.tasks }
+{
+    match grown {
+        Grown::Reserve(w) => reserve(parts, t, w),
+        Grown::Refuse => refuse(parts, t),
+    }
+}

@@ -4,5 +4,8 @@
 
 pub mod callerend;
 pub mod grow;
+pub mod look;
+pub mod offer;
+pub mod second;
 pub mod submit;
 pub mod verdict;

@@ -1,26 +1,28 @@
 //! A new task, and its first look for a core slot, as `execute` and `submit` begin.
 
-ghost use Rattle.std.specs.Prelude.{ℕ, ◌≡◌, IfOk, IfErr, IfSome};
+ghost use Rattle.std.specs.Prelude.{ℕ, ◌≡◌, ◌≤◌, IfOk, IfErr, IfSome};
 ghost use Rattle.tp_record.specs.Effects.{reserved_looked};
 ghost use Rattle.tp_tasks.specs.Tasks.{submissions};
-ghost use Rattle.tp_parts.specs.Steps.{Stands, Accepts, Refuses, Leads};
+ghost use Rattle.tp_parts.specs.Memory.{HasMemory};
+ghost use Rattle.tp_parts.specs.Payloads.{PutsIn};
+ghost use Rattle.tp_parts.specs.Steps.{Stands, Fits, Accepts, Refuses, Leads};
+ghost use Rattle.tp_submitters.specs.Owed.{rise_of};
 
 use tp_parts::parts::Parts;
 use tp_record::entries::{Ask, Did, Looked};
-use tp_types::ids::TaskId;
+use tp_record::rows::Stage;
+use tp_types::ids::{SlotId, TaskId};
 use tp_types::refusals::PoolError;
-use tp_types::tasks::Kind;
+use tp_types::tasks::{Kind, Place, Promise};
 
-/// Whether the next task is held by a new core slot, is to be offered, or is refused. BookFull (5) where the record has no room for it.
+/// Whether the next task is held by a new core slot, is to be offered, or is refused. BookFull (5) where the record has no
+/// room for it.
 pub fn answer<P>(parts: &Parts<P>, kind: Kind) -> Result<Looked, PoolError>
     requires stands { Stands parts.now }
     ensures accepts { IfOk result (λ l. Accepts parts.now (Ask.Submit kind) (Did.Submit (record { 0 = submissions parts.now.tasks }) kind l)) }
     ensures next { IfOk result (λ l. IfSome (reserved_looked l) (λ w. w ≡ parts.now.slots.next)) }
     ensures refuses { IfErr result (λ e. Refuses parts.now (Ask.Submit kind) e) }
 {
-    if parts.tasks.submitted() == u32::MAX {
-        return Err(PoolError::BookFull);
-    }
     let looked = parts.look();
     if parts.has_room(0, rise(looked)) {
         Ok(looked)
@@ -30,10 +32,87 @@ pub fn answer<P>(parts: &Parts<P>, kind: Kind) -> Result<Looked, PoolError>
 }
 
 /// How many more entries are owed after a submission with this look.
-fn rise(looked: Looked) -> u64 {
+fn rise(looked: Looked) -> u64
+    ensures rise { result ≡ rise_of looked }
+    ensures bound { result ≤ 12 }
+{
     match looked {
         Looked::Reserve(_) => 12,
         Looked::Queue => 11,
         Looked::Refuse => 2,
+    }
+}
+
+/// The next slot is reserved for the core, and holds the task.
+fn reserve<P>(parts: &mut Parts<P>, kind: Kind, promise: Promise, payload: P, w: SlotId) -> TaskId
+where
+    P: Drop,
+    requires stands { Stands parts.old }
+    requires memory { HasMemory parts.old kind }
+    requires fits { Fits parts.old (Ask.Submit kind) (Did.Submit (record { 0 = submissions parts.old.tasks }) kind (Looked.Reserve w)) }
+    requires next { w.0 ≡ parts.old.slots.next }
+    ensures number { result.0 ≡ submissions parts.old.tasks }
+    ensures leads { Leads parts.old (Did.Submit result kind (Looked.Reserve w)) parts.new }
+    ensures payloads { PutsIn parts.old.tasks parts.new.tasks result.0 promise payload }
+{
+    parts.count_rising_entry(12);
+    let t = parts.put_task(kind, Place::Held(w), promise, payload);
+    parts.reserve(Stage::ReservedCore, Some(t));
+    t
+}
+
+/// The task is to be offered.
+fn queue<P>(parts: &mut Parts<P>, kind: Kind, promise: Promise, payload: P) -> TaskId
+where
+    P: Drop,
+    requires stands { Stands parts.old }
+    requires memory { HasMemory parts.old kind }
+    requires fits { Fits parts.old (Ask.Submit kind) (Did.Submit (record { 0 = submissions parts.old.tasks }) kind Looked.Queue) }
+    ensures number { result.0 ≡ submissions parts.old.tasks }
+    ensures leads { Leads parts.old (Did.Submit result kind Looked.Queue) parts.new }
+    ensures payloads { PutsIn parts.old.tasks parts.new.tasks result.0 promise payload }
+{
+    parts.count_rising_entry(11);
+    parts.put_task(kind, Place::ToOffer, promise, payload)
+}
+
+/// The pool is shut down: the task awaits a verdict.
+fn refuse<P>(parts: &mut Parts<P>, kind: Kind, promise: Promise, payload: P) -> TaskId
+where
+    P: Drop,
+    requires stands { Stands parts.old }
+    requires memory { HasMemory parts.old kind }
+    requires fits { Fits parts.old (Ask.Submit kind) (Did.Submit (record { 0 = submissions parts.old.tasks }) kind Looked.Refuse) }
+    ensures number { result.0 ≡ submissions parts.old.tasks }
+    ensures leads { Leads parts.old (Did.Submit result kind Looked.Refuse) parts.new }
+    ensures payloads { PutsIn parts.old.tasks parts.new.tasks result.0 promise payload }
+{
+    parts.count_rising_entry(2);
+    parts.put_task(kind, Place::Refused, promise, payload)
+}
+
+/// Makes what was answered, for a job that promises this and has this payload, and gives the new task's number. Memory for it was
+/// made (`make_room`), after the answer.
+pub fn apply<P>(
+    parts: &mut Parts<P>,
+    kind: Kind,
+    promise: Promise,
+    payload: P,
+    looked: Looked,
+) -> TaskId
+where
+    P: Drop,
+    requires stands { Stands parts.old }
+    requires memory { HasMemory parts.old kind }
+    requires fits { Fits parts.old (Ask.Submit kind) (Did.Submit (record { 0 = submissions parts.old.tasks }) kind looked) }
+    requires next { IfSome (reserved_looked looked) (λ w. w ≡ parts.old.slots.next) }
+    ensures number { result.0 ≡ submissions parts.old.tasks }
+    ensures leads { Leads parts.old (Did.Submit result kind looked) parts.new }
+    ensures payloads { PutsIn parts.old.tasks parts.new.tasks result.0 promise payload }
+{
+    match looked {
+        Looked::Reserve(w) => reserve(parts, kind, promise, payload, w),
+        Looked::Queue => queue(parts, kind, promise, payload),
+        Looked::Refuse => refuse(parts, kind, promise, payload),
     }
 }

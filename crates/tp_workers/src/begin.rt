@@ -13,7 +13,8 @@ use tp_types::ids::{SlotId, TaskId};
 use tp_types::refusals::PoolError;
 use tp_types::tasks::Place;
 
-/// What the worker begins: the task that it took, or nothing, where that was cancelled. UnknownSlot (7) or NotThere (8).
+/// What the worker begins: the task that it took, or nothing, where that was cancelled. UnknownSlot (7) where there is no such
+/// slot, NotThere (8) where its worker has taken no task.
 pub fn answer<P>(parts: &Parts<P>, w: SlotId) -> Result<Started, PoolError>
     ensures fits { IfOk result (λ b. Fits parts.now (Ask.Begin w) (Did.Begin w b)) }
     ensures refuses { IfErr result (λ e. Refuses parts.now (Ask.Begin w) e) }
@@ -33,6 +34,7 @@ pub fn answer<P>(parts: &Parts<P>, w: SlotId) -> Result<Started, PoolError>
     let Place::Taken(_) = row.place else {
         return Err(PoolError::NotThere);
     };
+    // A cancel may have come since the task was taken. One that comes after this can no longer keep the body from running.
     if row.cancelled {
         Ok(Started::Skip(t))
     } else {
@@ -40,7 +42,7 @@ pub fn answer<P>(parts: &Parts<P>, w: SlotId) -> Result<Started, PoolError>
     }
 }
 
-/// Makes an accepted answer, and hands out the payload of a task that runs.
+/// Makes an accepted answer, and hands out the payload of a task that runs. A skipped task has none.
 pub fn apply<P>(parts: &mut Parts<P>, w: SlotId, started: Started) -> Option<P>
     requires stands { Stands parts.old }
     requires fits { Fits parts.old (Ask.Begin w) (Did.Begin w started) }

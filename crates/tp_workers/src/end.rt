@@ -17,7 +17,8 @@ use tp_types::ids::{SlotId, TaskId};
 use tp_types::refusals::PoolError;
 use tp_types::tasks::{Fate, Kind, Outcome, Place};
 
-/// Which task the worker ends, whatever its outcome. UnknownSlot (7) or NotThere (8).
+/// Which task the worker ends, whatever its outcome. UnknownSlot (7) where there is no such slot, NotThere (8) where its worker
+/// runs no task.
 pub fn answer<P>(parts: &Parts<P>, w: SlotId) -> Result<TaskId, PoolError>
     ensures fits { (o : Outcome) → IfOk result (λ t. Fits parts.now (Ask.End w o) (Did.End w t o)) }
     ensures refuses { (o : Outcome) → IfErr result (λ e. Refuses parts.now (Ask.End w o) e) }

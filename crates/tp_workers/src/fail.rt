@@ -1,14 +1,17 @@
 //! The factory made no worker for a reserved slot, as `addWorkerFailed`.
 
-ghost use Rattle.std.specs.Prelude.{ℕ, ◌≡◌, IfOk, IfErr};
+ghost use Rattle.std.specs.Prelude.{ℕ, ◌≡◌, Some, IfOk, IfErr};
+ghost use Rattle.tp_record.specs.State.{slot_at};
 ghost use Rattle.tp_parts.specs.Steps.{Stands, Fits, Refuses, Leads};
+ghost use Rattle.tp_parts.specs.Payloads.{Keeps};
 
 use tp_parts::parts::Parts;
 use tp_record::entries::{Ask, Did, Failed};
 use tp_record::rows::Stage;
-use tp_types::ids::SlotId;
+use tp_types::ids::{SlotId, TaskId};
 use tp_types::refusals::PoolError;
 use tp_types::states::RunState;
+use tp_types::tasks::Place;
 
 /// What becomes of the slot's first task: offered to the queue, where the slot was of the core and the pool runs, else
 /// refused. UnknownSlot (7) or NotThere (8).
@@ -29,4 +32,73 @@ pub fn answer<P>(parts: &Parts<P>, w: SlotId) -> Result<Failed, PoolError>
         Stage::ReservedCore if parts.state == RunState::Running => Ok(Failed::Offer(t)),
         _ => Ok(Failed::Refuse(t)),
     }
+}
+
+/// Makes an accepted answer: the slot is freed, and its first task is to be offered, or refused.
+pub fn apply<P>(parts: &mut Parts<P>, w: SlotId, failed: Failed)
+    requires stands { Stands parts.old }
+    requires fits { Fits parts.old (Ask.Fail w) (Did.Fail w failed) }
+    ensures leads { Leads parts.old (Did.Fail w failed) parts.new }
+    ensures payloads { Keeps parts.old.tasks parts.new.tasks }
+{
+    let Some(slot) = parts.slots.get(w) else {
+        unreachable!()
+    };
+    match failed {
+        Failed::Nothing => give_up(parts, w),
+        Failed::Offer(t) => offer(parts, w, t),
+        Failed::Refuse(t) => match slot.stage {
+            Stage::ReservedCore => refuse_core(parts, w, t),
+            _ => refuse_maximum(parts, w, t),
+        },
+    }
+}
+
+/// A bare slot is freed.
+fn give_up<P>(parts: &mut Parts<P>, w: SlotId)
+    requires stands { Stands parts.old }
+    requires fits { Fits parts.old (Ask.Fail w) (Did.Fail w Failed.Nothing) }
+    ensures leads { Leads parts.old (Did.Fail w Failed.Nothing) parts.new }
+    ensures payloads { Keeps parts.old.tasks parts.new.tasks }
+{
+    parts.count_entry(3);
+    parts.give_up(w);
+}
+
+/// A slot of the core is freed, and its first task is to be offered to the queue.
+fn offer<P>(parts: &mut Parts<P>, w: SlotId, t: TaskId)
+    requires stands { Stands parts.old }
+    requires fits { Fits parts.old (Ask.Fail w) (Did.Fail w (Failed.Offer t)) }
+    ensures leads { Leads parts.old (Did.Fail w (Failed.Offer t)) parts.new }
+    ensures payloads { Keeps parts.old.tasks parts.new.tasks }
+{
+    parts.count_entry(1);
+    parts.place_task(t, Place::ToOffer);
+    parts.give_up(w);
+}
+
+/// A slot of the core is freed, and its first task refused.
+fn refuse_core<P>(parts: &mut Parts<P>, w: SlotId, t: TaskId)
+    requires stands { Stands parts.old }
+    requires fits { Fits parts.old (Ask.Fail w) (Did.Fail w (Failed.Refuse t)) }
+    requires seat { slot_at parts.old.slots.slots w.0 ≡ Some (record { stage = Stage.ReservedCore; task = Some t }) }
+    ensures leads { Leads parts.old (Did.Fail w (Failed.Refuse t)) parts.new }
+    ensures payloads { Keeps parts.old.tasks parts.new.tasks }
+{
+    parts.count_entry(10);
+    parts.place_task(t, Place::Refused);
+    parts.give_up(w);
+}
+
+/// A slot up to the maximum is freed, and its first task refused.
+fn refuse_maximum<P>(parts: &mut Parts<P>, w: SlotId, t: TaskId)
+    requires stands { Stands parts.old }
+    requires fits { Fits parts.old (Ask.Fail w) (Did.Fail w (Failed.Refuse t)) }
+    requires seat { slot_at parts.old.slots.slots w.0 ≡ Some (record { stage = Stage.ReservedMaximum; task = Some t }) }
+    ensures leads { Leads parts.old (Did.Fail w (Failed.Refuse t)) parts.new }
+    ensures payloads { Keeps parts.old.tasks parts.new.tasks }
+{
+    parts.count_entry(6);
+    parts.place_task(t, Place::Refused);
+    parts.give_up(w);
 }

@@ -5,6 +5,7 @@
 pub mod begin;
 pub mod end;
 pub mod fail;
+pub mod leave;
 pub mod open;
 mod owed;
 pub mod take;

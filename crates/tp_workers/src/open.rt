@@ -1,18 +1,18 @@
 //! The factory made a worker for a reserved slot, as where `ThreadFactory.newThread` in `addWorker` gave a thread.
 
 ghost use Rattle.std.specs.Prelude.{ℕ, ◌≡◌, Some, None, IfOk, IfErr};
-ghost use Rattle.tp_types.specs.declared.ids.TaskId.{TaskId};
 ghost use Rattle.tp_record.specs.State.{slot_at};
 ghost use Rattle.tp_parts.specs.Steps.{Stands, Fits, Refuses, Leads};
 ghost use Rattle.tp_parts.specs.Payloads.{Keeps};
 
+use crate::owed::owed_at_take;
 use tp_parts::parts::Parts;
 use tp_record::entries::{Ask, Did, Opened};
-use tp_record::owed::stage_weight;
 use tp_record::rows::Stage;
-use tp_types::ids::SlotId;
+use tp_types::ids::{SlotId, TaskId};
 use tp_types::refusals::PoolError;
 use tp_types::states::RunState;
+use tp_types::tasks::Place;
 
 /// What becomes of the slot: live, or freed, where the pool was shut down while the worker was made; a first task is
 /// refused then. UnknownSlot (7) or NotThere (8).
@@ -39,6 +39,30 @@ pub fn answer<P>(parts: &Parts<P>, w: SlotId) -> Result<Opened, PoolError>
     }
 }
 
+/// Makes an accepted answer: the slot is live, or freed and its first task refused.
+pub fn apply<P>(parts: &mut Parts<P>, w: SlotId, opened: Opened)
+    requires stands { Stands parts.old }
+    requires fits { Fits parts.old (Ask.Open w) (Did.Open w opened) }
+    ensures leads { Leads parts.old (Did.Open w opened) parts.new }
+    ensures payloads { Keeps parts.old.tasks parts.new.tasks }
+{
+    let Some(slot) = parts.slots.get(w) else {
+        unreachable!()
+    };
+    match opened {
+        Opened::Live => match slot.stage {
+            Stage::ReservedCore => live_core(parts, w),
+            Stage::ReservedMaximum => live_maximum(parts, w),
+            _ => live_bare(parts, w),
+        },
+        Opened::GivenUp => give_up(parts, w),
+        Opened::GivenUpRefuse(t) => match slot.stage {
+            Stage::ReservedCore => refuse_core(parts, w, t),
+            _ => refuse_maximum(parts, w, t),
+        },
+    }
+}
+
 /// A bare slot is live: its worker is about to take a task.
 fn live_bare<P>(parts: &mut Parts<P>, w: SlotId)
     requires stands { Stands parts.old }
@@ -47,8 +71,8 @@ fn live_bare<P>(parts: &mut Parts<P>, w: SlotId)
     ensures leads { Leads parts.old (Did.Open w Opened.Live) parts.new }
     ensures payloads { Keeps parts.old.tasks parts.new.tasks }
 {
-    let left = stage_weight(parts.state.rank(), false, Stage::Working);
-    parts.count_entry(3 - left);
+    let owed = owed_at_take(parts.state);
+    parts.count_entry(3 - owed);
     parts.open(w);
 }
 
@@ -84,5 +108,31 @@ fn give_up<P>(parts: &mut Parts<P>, w: SlotId)
     ensures payloads { Keeps parts.old.tasks parts.new.tasks }
 {
     parts.count_entry(3);
+    parts.give_up(w);
+}
+
+/// A slot of the core is freed, and its first task refused.
+fn refuse_core<P>(parts: &mut Parts<P>, w: SlotId, t: TaskId)
+    requires stands { Stands parts.old }
+    requires fits { Fits parts.old (Ask.Open w) (Did.Open w (Opened.GivenUpRefuse t)) }
+    requires seat { slot_at parts.old.slots.slots w.0 ≡ Some (record { stage = Stage.ReservedCore; task = Some t }) }
+    ensures leads { Leads parts.old (Did.Open w (Opened.GivenUpRefuse t)) parts.new }
+    ensures payloads { Keeps parts.old.tasks parts.new.tasks }
+{
+    parts.count_entry(10);
+    parts.place_task(t, Place::Refused);
+    parts.give_up(w);
+}
+
+/// A slot up to the maximum is freed, and its first task refused.
+fn refuse_maximum<P>(parts: &mut Parts<P>, w: SlotId, t: TaskId)
+    requires stands { Stands parts.old }
+    requires fits { Fits parts.old (Ask.Open w) (Did.Open w (Opened.GivenUpRefuse t)) }
+    requires seat { slot_at parts.old.slots.slots w.0 ≡ Some (record { stage = Stage.ReservedMaximum; task = Some t }) }
+    ensures leads { Leads parts.old (Did.Open w (Opened.GivenUpRefuse t)) parts.new }
+    ensures payloads { Keeps parts.old.tasks parts.new.tasks }
+{
+    parts.count_entry(6);
+    parts.place_task(t, Place::Refused);
     parts.give_up(w);
 }

@@ -20,7 +20,8 @@ use tp_types::states::RunState;
 use tp_types::tasks::Place;
 
 /// What the worker takes: the task that its slot holds, before all else, and else what the queue has for it. UnknownSlot (7)
-/// or NotThere (8), also where an idle worker stays idle.
+/// where there is no such slot, NotThere (8) where its worker is not made, dying or busy with a task that it took, and where an
+/// idle worker stays idle.
 pub fn answer<P>(parts: &Parts<P>, w: SlotId) -> Result<Took, PoolError>
     ensures fits { IfOk result (λ k. Fits parts.now (Ask.Take w) (Did.Take w k)) }
     ensures refuses { IfErr result (λ e. Refuses parts.now (Ask.Take w) e) }
@@ -86,10 +87,11 @@ fn retires<P>(parts: &Parts<P>) -> bool
         _ => true,
     };
     let count = parts.slots.len();
+    // The bracket always holds, since the maximum is at least 1: it is what `getTask` asks, in its order.
     is_over || (count > parts.maximum as usize && (count > 1 || is_empty))
 }
 
-/// Makes an accepted answer.
+/// Makes an accepted answer. No payload is handed out before the task begins.
 pub fn apply<P>(parts: &mut Parts<P>, w: SlotId, took: Took)
     requires stands { Stands parts.old }
     requires fits { Fits parts.old (Ask.Take w) (Did.Take w took) }

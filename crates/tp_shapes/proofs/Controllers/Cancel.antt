@@ -25,6 +25,10 @@ whole : (b : Bool) (t : ℕ) → ◌≡◌ {A = Option ℕ} (cond b (Some t) Non
 whole true t = refl
 whole false t = refl
 
+either : (b : Bool) (xs ys : List ℕ) → (if b && true then xs else ys) ≡ (if b then xs else ys)
+either true xs ys = refl
+either false xs ys = refl
+
 newly : (f : Fate) (b : Bool) (o : Option Fate) → b ≡ false → o ≡ None →
     ◌≡◌ {A = ℕ} (cond (is_fate f (Some fate.Cancelled)) 1 0) (cond (is_fate f (if b then Some fate.Cancelled else o)) 1 0 + cond (is_fate f (Some fate.Cancelled)) 1 0)
 newly f b o alive none = rw (alive, none) (by_fate f)
@@ -41,7 +45,7 @@ pub cancel : (c : Config) (h : List Entry) (t : TaskId) (flag : Bool) → Legal 
     (record (view (state c h)) {
       tasks = put t.0 (record (task_at (state c h) t.0) { cancelled = true }) (task_at (state c h));
       fates = λ f. fated f (state c h) + cond (is_fate f (Some fate.Cancelled)) 1 0;
-      done = λ g. if is_of_group g (task_at (state c h) t.0).kind && true then done_of (state c h) g ++ t.0 ∷ [] else done_of (state c h) g;
+      done = λ g. if is_of_group g (task_at (state c h) t.0).kind then done_of (state c h) g ++ t.0 ∷ [] else done_of (state c h) g;
     }) 0 0
 cancel c h t flag legal given =
     let d = did.Cancel t flag true in
@@ -50,7 +54,9 @@ cancel c h t flag legal given =
           (task_fated c h d legal given refl refl t.0 refl refl refl (record (task_at (state c h) t.0) { cancelled = true }) (rw (eq-eqb t.0 t.0 refl) refl) (λ f. cond (is_fate f (Some fate.Cancelled)) 1 0) (λ f. newly f (task_at (state c h) t.0).cancelled (task_at (state c h) t.0).ending (cancelled_read c h legal t.0 ∙ given.2) (ending_read c h legal t.0 ∙ given.3)))
           (queue_still c h d refl refl refl)
           (slots_kept c h d legal given refl refl refl refl)
-          (done_more c h d legal given refl refl t.0 true (whole (is_group (task_at (state c h) t.0).kind) t.0) (λ is. unclosed c h legal t.0 given.2 given.3)) refl;
+          (λ g.
+            done_more c h d legal given refl refl t.0 true (whole (is_group (task_at (state c h) t.0).kind) t.0) (λ is. unclosed c h legal t.0 given.2 given.3) g
+            ∙ either (is_of_group g (task_at (state c h) t.0).kind) (done_of (state c h) g ++ t.0 ∷ []) (done_of (state c h) g)) refl;
       owes = owes_by c h d legal given refl 0 0 (cancel_falls c h t flag given);
     }
 

@@ -6,7 +6,8 @@ use Rattle.tp_record.specs.State.{task_at, state}
 use Rattle.tp_tasks.specs.Tasks.{row_of}
 use Rattle.tp_shapes.proofs.Workers.End.{end_works}
 use Rattle.tp_parts.specs.Tied.{is_before}
-use Rattle.tp_parts.proofs.Standing.{entry_here, given_here, task_here, open_here, few_steps, few_completions}
+use Rattle.tp_parts.proofs.Standing.{entry_here, given_here, task_here, open_here}
+use Rattle.tp_parts.proofs.Few.{few_completions}
 use Rattle.tp_parts.proofs.Leading.{leads_from}
 use Rattle.tp_workers.proofs.Falls.{rises_at_take}
 use Rattle.tp_workers.proofs.end.works.Goals as goal
@@ -38,10 +39,9 @@ complete_task-requires-clause-known g c =
 pub count_completion-requires : goal.count_completion-requires
 count_completion-requires g c =
     let old = c.args.parts.now in
-    let few = few_steps old c.requires.stands in
-    let done = few_completions old c.requires.stands in
+    let few = few_completions old c.requires.stands in
     let same = ap (λ p. p.completions) c.set_slot.ensures.rest ∙ ap (λ p. p.completions) c.complete_task.ensures.rest ∙ ap (λ p. p.completions) c.count_entry.ensures.rest in
-    omega (arith, few, done, same)
+    omega (arith, few, same)
 
 pub returns-clause-leads : goal.returns-clause-leads
 returns-clause-leads g c =

@@ -9,8 +9,9 @@ use Rattle.tp_workers.proofs.open.give_up.Goals as goal
 
 pub count_entry-requires : goal.count_entry-requires
 count_entry-requires g c =
+    let old = c.args.parts.now in
     let stands = c.requires.stands in
-    let e = entry_here c.args.parts.now stands (ask.Open c.args.w) (did.Open c.args.w opened.GivenUp) _ 3 0 3 c.requires.fits (open_given_up c.args.parts.now.config stands.history c.args.w stands.legal) refl in
+    let e = entry_here old stands (ask.Open c.args.w) (did.Open c.args.w opened.GivenUp) _ 3 0 3 c.requires.fits (λ given. open_given_up old.config stands.history c.args.w stands.legal given) refl in
     record { few = e.0; fall = e.1 }
 
 pub returns-clause-leads : goal.returns-clause-leads

@@ -1,4 +1,5 @@
-use Rattle.tp_parts.proofs.Ties.{contains_drop, tied_less}
+use Rattle.tp_parts.proofs.Queued.{tied_less}
+use Rattle.tp_parts.proofs.Ties.{contains_drop}
 use Rattle.tp_parts.proofs.parts.Parts.dequeue.Goals as goal
 
 pub returns-clause-tied : goal.returns-clause-tied

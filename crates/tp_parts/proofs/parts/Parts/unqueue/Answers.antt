@@ -3,8 +3,7 @@ use Rattle.std.proofs.lemmas.Option.{same_Some}
 use Rattle.tp_record.specs.Lists.{without}
 use Rattle.tp_queue.specs.Queues.{waiting_of}
 use Rattle.tp_parts.specs.Shows.{numbers}
-use Rattle.tp_parts.proofs.Queued.{place_there, numbers-unqueued}
-use Rattle.tp_parts.proofs.Ties.{views_queue, tied_less, contains_filter}
+use Rattle.tp_parts.proofs.Queued.{place_there, numbers-unqueued, views_queue, tied_less, contains_filter}
 use Rattle.tp_parts.proofs.parts.Parts.unqueue.Goals as goal
 
 pub unreachable-requires : goal.unreachable-requires

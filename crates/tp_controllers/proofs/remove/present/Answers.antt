@@ -1,0 +1,49 @@
+use Rattle.std.proofs.Common.{◌≡◌, ℕ, true, suc, Some, Contains, arith, refl, sym, ap, subst, ◌∙◌}
+use Rattle.tp_record.specs.declared.entries.Ask.TheVariants as ask
+use Rattle.tp_record.specs.declared.entries.Did.TheVariants as did
+use Rattle.tp_shapes.proofs.Controllers.Remove.{remove}
+use Rattle.tp_parts.specs.declared.parts.Parts.{Parts}
+use Rattle.tp_parts.specs.Shows.{numbers}
+use Rattle.tp_queue.specs.Queues.{waiting_of}
+use Rattle.tp_tasks.specs.Tasks.{row_of, number_of}
+use Rattle.tp_parts.proofs.Ties.{tied_more}
+use Rattle.tp_parts.proofs.Standing.{entry_here}
+use Rattle.tp_parts.proofs.Leading.{leads_by}
+use Rattle.tp_controllers.proofs.Removals.{removed_waits, removed_row}
+use Rattle.tp_controllers.proofs.remove.present.Goals as goal
+
+pub count_entry-requires : goal.count_entry-requires
+count_entry-requires g c =
+    let old = c.args.parts.now in
+    let e = entry_here old c.requires.stands (ask.Remove c.args.t) (did.Remove c.args.t true) _ 6 0 6 c.requires.fits (remove old.config c.requires.stands.history c.args.t c.requires.stands.legal) refl in
+    record { few = e.0; fall = e.1 }
+
+pub unqueue-requires : goal.unqueue-requires
+unqueue-requires g c =
+    let stands = c.requires.stands in
+    let back = sym c.count_entry.ensures.rest in
+    let W : Parts g.row.P.Denot → Type 0 = λ p. Contains (numbers (waiting_of p.queue).items) c.args.t.0 in
+    let N : Parts g.row.P.Denot → Type 0 = λ p. (k : ℕ) → Contains (waiting_of p.queue).items (c.args.t, k) → number_of p.tasks c.args.t.0 ≡ Some k in
+    record {
+      queued = subst W back (removed_waits c.args.parts.now stands c.args.t c.requires.fits);
+      numbered = subst N back (stands.tied.numbered c.args.t);
+    }
+
+pub finish_task-requires : goal.finish_task-requires
+finish_task-requires g c =
+    let r = removed_row c.args.parts.now c.requires.stands c.args.t c.requires.fits in
+    record { known = (r.0, ap (λ p. row_of p.tasks c.args.t.0) c.unqueue.ensures.rest ∙ ap (λ p. row_of p.tasks c.args.t.0) c.count_entry.ensures.rest ∙ r.1, r.2) }
+
+pub returns-clause-leads : goal.returns-clause-leads
+returns-clause-leads g c =
+    let old = c.args.parts.now in
+    let k = c.count_entry.ensures in
+    let q = c.unqueue.ensures in
+    let m = c.finish_task.ensures in
+    let e = entry_here old c.requires.stands (ask.Remove c.args.t) (did.Remove c.args.t true) _ 6 0 6 c.requires.fits (remove old.config c.requires.stands.history c.args.t c.requires.stands.legal) refl in
+    let fall = e.1 in
+    let due = ap (λ p. p.due) m.rest ∙ ap (λ p. p.due) q.rest ∙ ap (λ p. p.due) k.rest in
+    leads_by old c.finish_task.new.self (ask.Remove c.args.t) (did.Remove c.args.t true) 6 0 c.requires.fits
+    (λ h legal given sh. (_, remove old.config h c.args.t legal given, m.views _ (q.views _ (k.views _ sh.seen))))
+    (ap (λ p. p.config) m.rest ∙ ap (λ p. p.config) q.rest ∙ ap (λ p. p.config) k.rest) (ap (λ p. p.steps) m.rest ∙ ap (λ p. p.steps) q.rest ∙ ap (λ p. p.steps) k.rest) (omega (arith, due, fall))
+    (m.tied old.config (suc old.steps) (q.tied old.config (suc old.steps) (k.tied old.config (suc old.steps) (tied_more old.config old.steps old c.requires.stands.tied))))

@@ -1,0 +1,50 @@
+//! The maximum size is set, as `setMaximumPoolSize` does.
+
+ghost use Rattle.std.specs.Prelude.{◌≡◌, ◌≤◌, max, OnOk, OnErr, IfErr, IsOkUnless};
+ghost use Rattle.tp_parts.specs.Payloads.{Keeps};
+ghost use Rattle.tp_parts.specs.Steps.{Stands, Fits, Accepts, Refuses, Leads};
+
+use tp_parts::parts::Parts;
+use tp_record::entries::{Ask, Did};
+use tp_types::refusals::PoolError;
+
+/// Whether the maximum size may be `maximum` workers. BadSizes (1) where it is 0, above 1,024 or below the core size, else
+/// BookFull (5).
+pub fn answer<P>(parts: &Parts<P>, maximum: u32) -> Result<(), PoolError>
+    requires stands { Stands parts.now }
+    ensures fits { OnOk result (Accepts parts.now (Ask.Maximum maximum) (Did.Maximum maximum)) }
+    ensures refuses { IfErr result (λ e. Refuses parts.now (Ask.Maximum maximum) e) }
+{
+    if maximum < 1 || 1024 < maximum || maximum < parts.core {
+        return Err(PoolError::BadSizes);
+    }
+    if !parts.has_room(0, 0) {
+        return Err(PoolError::BookFull);
+    }
+    Ok(())
+}
+
+/// Makes the places for a maximum that was accepted. NoMemory (4), where nothing has changed.
+pub fn prepare<P>(parts: &mut Parts<P>, maximum: u32) -> Result<(), PoolError>
+    ensures ok { OnOk result (parts.new ≡ record parts.old { slots = record parts.old.slots { places = max parts.old.slots.places maximum } }) }
+    ensures err { OnErr result (parts.new ≡ parts.old) }
+    ensures refused { IsOkUnless result PoolError.NoMemory }
+{
+    match parts.make_places(maximum) {
+        Ok(()) => Ok(()),
+        Err(_) => Err(PoolError::NoMemory),
+    }
+}
+
+/// The maximum size is `maximum` workers from now on, for which there are places. Where there are more slots, each worker above it
+/// leaves at its next take.
+pub fn apply<P>(parts: &mut Parts<P>, maximum: u32)
+    requires stands { Stands parts.old }
+    requires fits { Fits parts.old (Ask.Maximum maximum) (Did.Maximum maximum) }
+    requires places { maximum ≤ parts.old.slots.places }
+    ensures leads { Leads parts.old (Did.Maximum maximum) parts.new }
+    ensures payloads { Keeps parts.old.tasks parts.new.tasks }
+{
+    parts.count_entry(0);
+    parts.set_maximum(maximum);
+}

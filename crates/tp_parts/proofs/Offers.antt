@@ -1,0 +1,94 @@
+-- What ties the structures together lasts where a task comes to the queue's end.
+use Rattle.std.proofs.Common.{◌≡◌, ℕ, ◌+◌, ◌<◌, List, [], ◌∷◌, ◌++◌, Some, Option, arith, sym, ap, subst, ◌∙◌, inl, inr}
+use Rattle.std.specs.Prelude.{is_some, true, not, ◌&&◌}
+use Rattle.std.specs.List.{Contains}
+use Rattle.std.proofs.lemmas.Bool.{ne_eqb, cases_eq}
+use Rattle.std.proofs.lemmas.List.{length-map}
+use Rattle.std.proofs.lemmas.List.Elements.{Contains-push_cases}
+use Rattle.std.proofs.Math.ListN.{get_or-map}
+use Rattle.tp_types.specs.declared.configs.Config.{Config}
+use Rattle.tp_types.specs.declared.ids.TaskId.{TaskId}
+use Rattle.tp_types.specs.declared.tasks.Promise.{Promise}
+use Rattle.tp_record.specs.declared.rows.TaskRow.{TaskRow}
+use Rattle.tp_queue.specs.declared.queues.Queue.{Queue}
+use Rattle.tp_queue.specs.Queues.{waiting_of}
+use Rattle.tp_tasks.specs.declared.tasks.Tasks.{Tasks}
+use Rattle.tp_tasks.specs.declared.table.Task.{Task}
+use Rattle.tp_tasks.specs.Table.{row_of_task, promise_of_task, number_of_task, payload_of_task}
+use Rattle.tp_tasks.specs.Tasks.{row_of, promise_of, number_of, payload_of, submissions, KeepsOthers}
+use Rattle.tp_parts.specs.declared.parts.Parts.{Parts}
+use Rattle.tp_parts.specs.Shows.{numbers}
+use Rattle.tp_parts.specs.Tied.{IsTied, is_before, is_waiting, waits, KeepsPromise}
+
+-- a row of a task that has not begun waits as one does that is in another such place
+pub waits_on : (r y : TaskRow) → Some r ≡ Some y → is_before r.place ≡ true → not y.cancelled ≡ is_waiting y
+waits_on r y same before =
+    let row : r ≡ y = cc in
+    ap (λ b. b && not y.cancelled) (sym (ap (λ x. is_before x.place) (sym row) ∙ before))
+
+-- a task that waits under some place number waits
+contains_number : (items : List (TaskId × ℕ)) (t : TaskId) (k : ℕ) → Contains items (t, k) → Contains (numbers items) t.0
+contains_number items t k has =
+    let same = length-map items (λ (x : TaskId × ℕ). x.0.0) in
+    (has.0, omega (arith, same, has.1), get_or-map (λ (x : TaskId × ℕ). x.0.0) items has.0 (t, k) ∙ ap (λ x. x.0.0) has.2)
+
+module _ {P : Type 0} (c : Config) (n : ℕ) (old : Parts P) (tied : IsTied c n old) where
+  -- another place number of a task that is not in the queue
+  pub tied_number : (tasks : Tasks P) (t : TaskId) → (Contains (numbers (waiting_of old.queue).items) t.0 → ⊥) → KeepsOthers old.tasks tasks t.0 → submissions tasks ≡ submissions old.tasks →
+      row_of tasks t.0 ≡ row_of old.tasks t.0 → promise_of tasks t.0 ≡ promise_of old.tasks t.0 → payload_of tasks t.0 ≡ payload_of old.tasks t.0 → IsTied c n (record old { tasks = tasks })
+  tied_number tasks t absent others counted row promised paid =
+      let e = counted in
+      record {
+        made_with = tied.made_with;
+        config = tied.config;
+        least = tied.least;
+        sizes = tied.sizes;
+        places = tied.places;
+        kind = tied.kind;
+        queue_places = λ is. let k = tied.queue_places is in omega (arith, e, k);
+        offers = tied.offers;
+        idlings = tied.idlings;
+        numbered = λ u k has. elim (cases_eq u.0 t.0) [
+          | inl same ↦ absurd (absent (subst (λ x. Contains (numbers (waiting_of old.queue).items) x) same (contains_number (waiting_of old.queue).items u k has)))
+          | inr apart ↦ ap number_of_task (others u.0 (ne_eqb t.0 u.0 (λ b. apart (sym b)))) ∙ tied.numbered u k has
+        ];
+        payloads = λ u. elim (cases_eq u t.0) [
+          | inl same ↦
+              ap (λ x. is_some (payload_of tasks x)) same ∙ ap (λ o. is_some o) paid ∙ tied.payloads t.0 ∙ ap waits (sym row)
+              ∙ ap (λ x. waits (row_of tasks x)) (sym same)
+          | inr apart ↦ let o = others u (ne_eqb t.0 u (λ b. apart (sym b))) in ap (λ k. is_some (payload_of_task k)) o ∙ tied.payloads u ∙ ap (λ k. waits (row_of_task k)) (sym o)
+        ];
+        promises = λ u. elim (cases_eq u t.0) [
+          | inl same ↦
+              let Q : Option Promise → Option TaskRow → Type 0 = λ p o. KeepsPromise p o in
+              let R : ℕ → Type 0 = λ x. Q (promise_of tasks x) (row_of tasks x) in
+              subst R (sym same) (subst (Q (promise_of tasks t.0)) (sym row) (subst (λ p. Q p (row_of old.tasks t.0)) (sym promised) (tied.promises t.0)))
+          | inr apart ↦ let Q : Option (Task P) → Type 0 = λ k. KeepsPromise (promise_of_task k) (row_of_task k) in subst Q (sym (others u (ne_eqb t.0 u (λ b. apart (sym b))))) (tied.promises u)
+        ];
+      }
+
+  -- a queue with one task more, which knows its place number
+  pub tied_longer : (queue : Queue) (t : TaskId) → waiting_of queue ≡ record (waiting_of old.queue) {
+    items = (waiting_of old.queue).items ++ (t, (waiting_of old.queue).offers) ∷ [];
+    offers = (waiting_of old.queue).offers + 1;
+  } → (waiting_of old.queue).offers < n → number_of old.tasks t.0 ≡ Some (waiting_of old.queue).offers → IsTied c n (record old { queue = queue })
+  tied_longer queue t is few number =
+      let places = ap (λ w. w.capacity) is in
+      let came = ap (λ w. w.offers) is in
+      record {
+        made_with = tied.made_with;
+        config = tied.config;
+        least = tied.least;
+        sizes = tied.sizes;
+        places = tied.places;
+        kind = ap (λ w. w.kind) is ∙ tied.kind;
+        queue_places = λ unbounded. let k = tied.queue_places unbounded in omega (arith, places, k);
+        offers = omega (arith, came, few);
+        idlings = tied.idlings;
+        numbered = λ u k has. elim (Contains-push_cases (waiting_of old.queue).items (t, (waiting_of old.queue).offers) (u, k) (subst (λ w. Contains w.items (u, k)) is has)) [
+          | inl before ↦ tied.numbered u k before
+          | inr last ↦ ap (λ x. number_of old.tasks x.0.0) (sym last) ∙ number ∙ ap (λ x. Some x.1) last
+        ];
+        payloads = tied.payloads;
+        promises = tied.promises;
+      }

@@ -1,0 +1,58 @@
+use Rattle.std.proofs.Common.{suc, Some, arith, refl, sym, ap, subst, ◌∙◌}
+use Rattle.std.specs.Prelude.{count_by, is_some, length}
+use Rattle.tp_types.specs.declared.tasks.Place.TheVariants as at
+use Rattle.tp_record.specs.declared.entries.Ask.TheVariants as ask
+use Rattle.tp_record.specs.declared.entries.Did.TheVariants as did
+use Rattle.tp_record.specs.declared.entries.Looked.TheVariants as looked
+use Rattle.tp_record.specs.State.{state, task_at}
+use Rattle.tp_record.specs.Step.{slot_count}
+use Rattle.tp_tasks.specs.Tasks.{submissions}
+use Rattle.tp_shapes.specs.View.{view, put}
+use Rattle.tp_shapes.proofs.Rows.{new_row, for_core}
+use Rattle.tp_shapes.proofs.Submitters.Submit.{submit_reserve}
+use Rattle.tp_parts.specs.Steps.{Fits}
+use Rattle.tp_parts.proofs.Ties.{tied_more}
+use Rattle.tp_parts.proofs.Standing.{few_steps, given_here}
+use Rattle.tp_parts.proofs.Leading.{leads_by}
+use Rattle.tp_parts.proofs.Slots.{seats_left, views_numbered}
+use Rattle.tp_submitters.proofs.submit.reserve.Goals as goal
+
+pub count_rising_entry-requires : goal.count_rising_entry-requires
+count_rising_entry-requires g c = let few = few_steps c.args.parts.now c.requires.stands in record { few = omega (arith, few); rise = omega (arith, few) }
+
+pub reserve-requires : goal.reserve-requires
+reserve-requires g c =
+    let old = c.args.parts.now in
+    let stands = c.requires.stands in
+    let given = given_here old stands (ask.Submit c.args.kind) (did.Submit (record { 0 = submissions old.tasks }) c.args.kind (looked.Reserve c.args.w)) c.requires.fits in
+    let below = given.1.1 in
+    let core = stands.shows.seen.core_size in
+    let sizes = stands.tied.sizes in
+    let left = seats_left old stands old.core (omega (arith, sizes)) (omega (arith, below, core)) in
+    let same = ap (λ p. p.slots) c.put_task-t.ensures.rest ∙ ap (λ p. p.slots) c.count_rising_entry.ensures.rest in
+    let taken = ap (λ s. count_by is_some s.slots) same in
+    let places = ap (λ s. s.places) same in
+    record { room = omega (arith, left, taken, places); reserved = refl }
+
+pub returns-clause-leads : goal.returns-clause-leads
+returns-clause-leads g c =
+    let old = c.args.parts.now in
+    let kind = c.args.kind in
+    let w = c.args.w in
+    let t = c.put_task-t.result in
+    let k = c.count_rising_entry.ensures.rest in
+    let m = c.put_task-t.ensures.rest in
+    let r = c.reserve.ensures.rest in
+    let number = c.put_task-t.ensures.number ∙ ap (λ p. submissions p.tasks) k in
+    let slot = c.reserve.ensures.number ∙ ap (λ p. p.slots.next) m ∙ ap (λ p. p.slots.next) k ∙ sym c.requires.next in
+    let due = ap (λ p. p.due) r ∙ ap (λ p. p.due) m ∙ ap (λ p. p.due) k in
+    leads_by old c.reserve.new.self (ask.Submit kind) (did.Submit t kind (looked.Reserve w)) 0 12 (subst (λ n. Fits old (ask.Submit kind) (did.Submit (record { 0 = n }) kind (looked.Reserve w))) (sym number) c.requires.fits)
+    (λ h legal given sh.
+    let s = state old.config h in
+    let v = record (view s) { submitted = suc (length s.tasks); tasks = put t.0 (new_row kind (at.Held w)) (task_at s) } in (
+      _,
+      submit_reserve old.config h t kind w legal given,
+      views_numbered c.reserve.new.self v _ _ (Some (for_core t)) (suc (slot_count s)) slot (c.reserve.ensures.views v (c.put_task-t.ensures.views _ (c.count_rising_entry.ensures.views _ sh.seen))),
+    ))
+    (ap (λ p. p.config) r ∙ ap (λ p. p.config) m ∙ ap (λ p. p.config) k) (ap (λ p. p.steps) r ∙ ap (λ p. p.steps) m ∙ ap (λ p. p.steps) k) (omega (arith, due))
+    (c.reserve.ensures.tied old.config (suc old.steps) (c.put_task-t.ensures.tied old.config (suc old.steps) (c.count_rising_entry.ensures.tied old.config (suc old.steps) (tied_more old.config old.steps old c.requires.stands.tied))))

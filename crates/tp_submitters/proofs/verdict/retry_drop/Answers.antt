@@ -1,0 +1,91 @@
+use Rattle.std.proofs.Common.{suc, ◌+◌, cond, Some, None, arith, ap, subst, ◌∙◌}
+use Rattle.std.specs.Prelude.{drop, if◌then◌else◌}
+use Rattle.tp_types.specs.declared.tasks.Fate.TheVariants as fate
+use Rattle.tp_types.specs.declared.tasks.Place.TheVariants as at
+use Rattle.tp_record.specs.declared.entries.Ask.TheVariants as ask
+use Rattle.tp_record.specs.declared.entries.Did.TheVariants as did
+use Rattle.tp_record.specs.declared.entries.Ruled.TheVariants as ruled
+use Rattle.tp_record.specs.declared.rows.TaskRow.{TaskRow}
+use Rattle.tp_record.specs.State.{state, task_at, fated, is_fate}
+use Rattle.tp_model.proofs.Readings.{row_read, tasks_counted}
+use Rattle.tp_tasks.specs.Tasks.{row_of}
+use Rattle.tp_shapes.specs.View.{view, put}
+use Rattle.tp_shapes.proofs.Invariants.{is_gone}
+use Rattle.tp_shapes.proofs.Facts.{open_row}
+use Rattle.tp_shapes.proofs.Submitters.Verdict.{verdict_retry_drop}
+use Rattle.tp_parts.specs.Shows.{Views}
+use Rattle.tp_parts.specs.Tied.{is_before}
+use Rattle.tp_parts.proofs.Ties.{tied_more}
+use Rattle.tp_parts.proofs.Standing.{few_steps, given_here, task_here}
+use Rattle.tp_parts.proofs.Leading.{leads_by}
+use Rattle.tp_submitters.proofs.Retrying.{places_apart, put_other}
+use Rattle.tp_submitters.proofs.verdict.retry_drop.Goals as goal
+
+pub count_rising_entry-requires : goal.count_rising_entry-requires
+count_rising_entry-requires g c = let few = few_steps c.args.parts.now c.requires.stands in record { few = omega (arith, few); rise = omega (arith, few) }
+
+pub finish_task-payload-requires : goal.finish_task-payload-requires
+finish_task-payload-requires g c =
+    let old = c.args.parts.now in
+    let stands = c.requires.stands in
+    let u = c.args.head in
+    let given = given_here old stands (ask.Verdict c.args.t c.args.verdict) (did.Verdict c.args.t c.args.verdict (ruled.RetryDrop u)) c.requires.fits in
+    let there = task_here old stands u.0 at.Queued given.1.3 in
+    record {
+      known = (
+        task_at (state old.config stands.history) u.0,
+        ap (λ p. row_of p.tasks u.0) c.dequeue.ensures.rest ∙ ap (λ p. row_of p.tasks u.0) c.count_rising_entry.ensures.rest ∙ there.0,
+        open_row old.config stands.history stands.legal u.0 (ap is_gone given.1.3.1),
+      );
+    }
+
+pub retry_task-requires : goal.retry_task-requires
+retry_task-requires g c =
+    let old = c.args.parts.now in
+    let stands = c.requires.stands in
+    let t = c.args.t in
+    let u = c.args.head in
+    let s = state old.config stands.history in
+    let given = given_here old stands (ask.Verdict t c.args.verdict) (did.Verdict t c.args.verdict (ruled.RetryDrop u)) c.requires.fits in
+    let there = task_here old stands t.0 at.Refused given.0 in
+    let seen = c.finish_task-payload.ensures.views _ (c.dequeue.ensures.views _ (c.count_rising_entry.ensures.views (view s) stands.shows.seen)) in
+    let counted = tasks_counted stands.history in
+    let known = given.0.0 in
+    let few = given.1.1 in
+    let read = ap (λ r. r.retries) (row_read stands.history t.0 given.0.0) in
+    record {
+      known = (
+        task_at s t.0,
+        seen.rows t.0 (omega (arith, counted, known)) ∙ ap (λ r. Some r) (put_other u.0 _ (task_at s) t.0 (places_apart stands.history t.0 u.0 at.Refused at.Queued given.0 given.1.3 (λ e. let n : ⊥ = cc in n))),
+        ap is_before there.1,
+        omega (arith, few, read),
+      );
+    }
+
+pub returns-clause-leads : goal.returns-clause-leads
+returns-clause-leads g c =
+    let old = c.args.parts.now in
+    let t = c.args.t in
+    let u = c.args.head in
+    let k = c.count_rising_entry.ensures.rest in
+    let q = c.dequeue.ensures.rest in
+    let m = c.finish_task-payload.ensures.rest in
+    let r = c.retry_task.ensures.rest in
+    let due = ap (λ p. p.due) r ∙ ap (λ p. p.due) m ∙ ap (λ p. p.due) q ∙ ap (λ p. p.due) k in
+    leads_by old c.retry_task.new.self (ask.Verdict t c.args.verdict) (did.Verdict t c.args.verdict (ruled.RetryDrop u)) 0 5 c.requires.fits
+    (λ h legal given sh.
+    let s = state old.config h in
+    let v = record (view s) {
+      tasks = put u.0 (record (task_at s u.0) { place = at.Gone; ending = Some fate.Discarded }) (task_at s);
+      fates = λ f. fated f s + cond (is_fate f (if (task_at s u.0).cancelled then None else Some fate.Discarded)) 1 0;
+      queue = drop 1 s.queue;
+    } in
+    let seen = c.retry_task.ensures.views v (c.finish_task-payload.ensures.views _ (c.dequeue.ensures.views _ (c.count_rising_entry.ensures.views _ sh.seen))) in (
+      _,
+      verdict_retry_drop old.config h t u c.args.verdict legal given,
+      subst {A = TaskRow} (λ x. Views c.retry_task.new.self (record v { tasks = put t.0 (record x { place = at.Looking; retries = suc x.retries }) v.tasks }))
+          (put_other u.0 _ (task_at s) t.0 (places_apart h t.0 u.0 at.Refused at.Queued given.0 given.1.3 (λ e. let n : ⊥ = cc in n))) seen,
+    ))
+    (ap (λ p. p.config) r ∙ ap (λ p. p.config) m ∙ ap (λ p. p.config) q ∙ ap (λ p. p.config) k) (ap (λ p. p.steps) r ∙ ap (λ p. p.steps) m ∙ ap (λ p. p.steps) q ∙ ap (λ p. p.steps) k) (omega (arith, due))
+    (c.retry_task.ensures.tied old.config (suc old.steps) (c.finish_task-payload.ensures.tied old.config (suc old.steps) (c.dequeue.ensures.tied old.config (suc old.steps)
+    (c.count_rising_entry.ensures.tied old.config (suc old.steps) (tied_more old.config old.steps old c.requires.stands.tied)))))

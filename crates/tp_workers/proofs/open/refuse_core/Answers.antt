@@ -1,0 +1,33 @@
+use Rattle.std.proofs.Common.{suc, refl, ap, ◌∙◌}
+use Rattle.tp_record.specs.declared.entries.Ask.TheVariants as ask
+use Rattle.tp_record.specs.declared.entries.Did.TheVariants as did
+use Rattle.tp_types.specs.declared.tasks.Place.TheVariants as at
+use Rattle.tp_record.specs.declared.entries.Opened.TheVariants as opened
+use Rattle.tp_shapes.proofs.Workers.Open.{open_refuse_core}
+use Rattle.tp_parts.proofs.Standing.{given_here, known_here, entry_here}
+use Rattle.tp_parts.proofs.Leading.{leads_from}
+use Rattle.tp_workers.proofs.open.refuse_core.Goals as goal
+
+pub count_entry-requires : goal.count_entry-requires
+count_entry-requires g c =
+    let old = c.args.parts.now in
+    let stands = c.requires.stands in
+    let e = entry_here old stands (ask.Open c.args.w) (did.Open c.args.w (opened.GivenUpRefuse c.args.t)) _ 10 0 10 c.requires.fits (λ given. open_refuse_core old.config stands.history c.args.w c.args.t stands.legal given (stands.shows.seen.seats c.args.w.0 ∙ c.requires.seat)) refl in
+    record { few = e.0; fall = e.1 }
+
+pub place_task-requires : goal.place_task-requires
+place_task-requires g c =
+    let old = c.args.parts.now in
+    let given = given_here old c.requires.stands (ask.Open c.args.w) (did.Open c.args.w (opened.GivenUpRefuse c.args.t)) c.requires.fits in
+    record { known = known_here old c.requires.stands c.count_entry.new.self.tasks c.args.t.0 (at.Held c.args.w) at.Refused (ap (λ p. p.tasks) c.count_entry.ensures.rest) given.1 refl }
+
+pub returns-clause-leads : goal.returns-clause-leads
+returns-clause-leads g c =
+    let old = c.args.parts.now in
+    let k = c.count_entry.ensures.rest in
+    let m = c.place_task.ensures.rest in
+    let r = c.give_up.ensures.rest in
+    leads_from old c.give_up.new.self (ask.Open c.args.w) (did.Open c.args.w (opened.GivenUpRefuse c.args.t)) 10 0 10 c.requires.stands c.requires.fits
+    (λ h legal given sh. (_, open_refuse_core old.config h c.args.w c.args.t legal given (sh.seen.seats c.args.w.0 ∙ c.requires.seat), c.give_up.ensures.views _ (c.place_task.ensures.views _ (c.count_entry.ensures.views _ sh.seen))))
+    refl (ap (λ p. p.config) r ∙ ap (λ p. p.config) m ∙ ap (λ p. p.config) k) (ap (λ p. p.steps) r ∙ ap (λ p. p.steps) m ∙ ap (λ p. p.steps) k) (ap (λ p. p.due) r ∙ ap (λ p. p.due) m ∙ ap (λ p. p.due) k)
+    (λ tied. c.give_up.ensures.tied old.config (suc old.steps) (c.place_task.ensures.tied old.config (suc old.steps) (c.count_entry.ensures.tied old.config (suc old.steps) tied)))
