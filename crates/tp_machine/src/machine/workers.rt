@@ -1,6 +1,6 @@
 //! Workers' steps.
 
-ghost use Rattle.std.specs.Prelude.{◌≡◌, ◌×◌, IfOk, IfErr, OnErr, IfSome, Some, None};
+ghost use Rattle.std.specs.Prelude.{◌≡◌, IfOk, IfErr, OnErr, IfSome, Some, None};
 ghost use Rattle.tp_parts.specs.Payloads.{Keeps};
 ghost use Rattle.tp_workers.specs.Begun.{Begins};
 ghost use Rattle.tp_machine.specs.Answers.{started_of, payload_begun};
@@ -9,7 +9,7 @@ ghost use Rattle.tp_machine.specs.Steps.{IsStep, IsRefusedBy};
 
 use super::{Machine, note_owed};
 use crate::answers::Begun;
-use tp_record::entries::{Ask, Did, Started};
+use tp_record::entries::{Ask, Did};
 use tp_record::recorders::Recorder;
 use tp_types::ids::SlotId;
 use tp_types::refusals::PoolError;
@@ -85,11 +85,8 @@ impl<P, R: Recorder> Machine<P, R> {
         };
         let did = Did::Begin(w, started);
         note_owed(&self.parts, &mut self.noted, by, Ask::Begin(w), did);
-        match (started, begin::apply(&mut self.parts, w, started)) {
-            (Started::Run(t), Some(payload)) => Ok(Begun::Run(t, payload)),
-            (Started::Skip(t), None) => Ok(Begun::Skip(t)),
-            _ => unreachable!(),
-        }
+        let payload = begin::apply(&mut self.parts, w, started);
+        Ok(Begun::of(started, payload))
     }
 
     /// The worker ran its task to this outcome, which is as the task promised; `afterExecute` ran. UnknownSlot (7) or NotThere
