@@ -1,2 +1,3 @@
 pub mod Cancels
+pub mod Purges
 pub mod Removals

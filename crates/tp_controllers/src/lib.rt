@@ -4,10 +4,14 @@
 
 pub mod core_size;
 pub mod core_timeout;
+pub mod ended;
 pub mod keep;
 pub mod maximum;
+pub mod prestart;
 pub mod shutdown;
 pub mod tick;
 pub mod cancel;
+pub mod purge;
 pub mod remove;
 pub mod take_done;
+pub mod tidy;

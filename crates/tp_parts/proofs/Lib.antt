@@ -9,6 +9,7 @@ pub mod Slots
 pub mod Offers
 pub mod Removals
 pub mod Answering
+pub mod Places
+pub mod Purging
 pub mod Falls
 pub mod Reading
-pub mod Submissions

@@ -1,5 +1,5 @@
 -- What is known where structures stand.
-use Rattle.std.proofs.Common.{◌≡◌, ℕ, ◌+◌, ◌-◌, ◌^◌, ◌<◌, ◌≤◌, Bool, true, false, List, Option, Some, None, Ok, Err, cond, arith, sym, ap, subst, ◌∙◌, suc, [], ◌∷◌, length}
+use Rattle.std.proofs.Common.{◌≡◌, ℕ, ◌+◌, ◌-◌, ◌^◌, ◌<◌, ◌≤◌, Bool, true, false, List, Option, Some, None, Ok, Err, cond, arith, sym, ap, subst, ◌∙◌}
 use Rattle.std.specs.Prelude.{unwrap_or, ◌↔◌, ◌&&◌, not}
 use Rattle.std.proofs.lemmas.Bool.{le-leb}
 use Rattle.tp_types.specs.Config.{IsConfig}
@@ -11,11 +11,12 @@ use Rattle.tp_record.specs.declared.entries.Entry.{Entry}
 use Rattle.tp_record.specs.declared.entries.Ask.{Ask}
 use Rattle.tp_record.specs.declared.entries.Did.{Did}
 use Rattle.tp_record.specs.declared.rows.Stage.{Stage}
-use Rattle.tp_record.specs.Effects.{reserves, is_completion}
-use Rattle.tp_record.specs.Fields.{rank, submitted, is_cancelled, completions}
+use Rattle.tp_record.specs.Effects.{reserves}
+use Rattle.tp_record.specs.Fields.{rank, submitted, is_cancelled}
 use Rattle.tp_record.specs.State.{State, state, slot_at, task_at}
 use Rattle.tp_record.specs.declared.rows.TaskRow.{TaskRow}
-use Rattle.tp_record.specs.Step.{Gives, Legal, within_room, leaves_room}
+use Rattle.tp_record.specs.Step.{Gives, Legal, fitting, within_room, leaves_room}
+use Rattle.tp_model.proofs.Weak.{within}
 use Rattle.tp_model.proofs.Given.{Given, IsAt, HasRow}
 use Rattle.tp_model.proofs.Readings.{tasks_counted, row_read, slot_read}
 use Rattle.tp_model.proofs.Told.{given_answer, sound_legal}
@@ -63,13 +64,14 @@ module _ {P : Type 0} (p : Parts P) (stands : Stands p) where
   pub given_here : (a : Ask) (d : Did) → Fits p a d → Given p.config stands.history d
   given_here a d fits = given_fitting p.config stands.history a d stands.legal (fits stands.history stands.legal stands.shows)
 
+  -- a submitted task's row in the structures
+  pub row_here : (t : ℕ) → t < submitted stands.history → row_of p.tasks t ≡ Some (task_at (state p.config stands.history) t)
+  row_here t known = let n = tasks_counted stands.history in stands.shows.seen.rows t (omega (arith, n, known))
+
   -- a task that is there: its row in the structures, and its place
   pub task_here : (t : ℕ) (place : Place) → IsAt stands.history t place →
       (row_of p.tasks t ≡ Some (task_at (state p.config stands.history) t)) × ((task_at (state p.config stands.history) t).place ≡ place)
-  task_here t place is =
-      let n = tasks_counted stands.history in
-      let known = is.0 in
-      (stands.shows.seen.rows t (omega (arith, n, known)), ap (λ r. r.place) (row_read stands.history t known) ∙ is.1)
+  task_here t place is = (row_here t is.0, ap (λ r. r.place) (row_read stands.history t is.0) ∙ is.1)
 
   -- where it is not gone it has no ending
   pub open_here : (t : ℕ) (place : Place) → IsAt stands.history t place → is_gone place ≡ false → (task_at (state p.config stands.history) t).ending ≡ None
@@ -105,6 +107,13 @@ module _ {P : Type 0} (p : Parts P) (stands : Stands p) where
       let there = task_here t from is in
       let r = task_at (state p.config stands.history) t in
       (r, ap (λ x. row_of x t) same ∙ there.0, ap (λ b. b && not r.cancelled) (alike ∙ sym (ap is_before there.1)))
+
+-- what is accepted fits
+pub fits_accepted : {P : Type 0} (p : Parts P) (a : Ask) (d : Did) → Accepts p a d → Fits p a d
+fits_accepted p a d accepts = λ h legal sh.
+    let s = state p.config h in
+    let gives = accepts h legal sh in
+    (within p.config s (fitting p.config s (unwrap_or (reserves d) 0) a) d gives.0, gives.1)
 
 -- structures that show the same states, with the same settings, stand and accept alike
 module _ {P : Type 0} (old new : Parts P) (config : new.config ≡ old.config) (same : (s : State) → Shows old s ↔ Shows new s) where

@@ -1,8 +1,8 @@
 -- What ties the structures together lasts through a change of one of them.
-use Rattle.std.proofs.Common.{◌≡◌, ℕ, suc, Bool, List, [], ◌∷◌, drop, Some, None, Option, arith, sym, ap, subst, ◌∙◌, false, inl, inr, ◌<◌, ◌≤◌, true, refl}
+use Rattle.std.proofs.Common.{◌≡◌, ℕ, suc, List, [], ◌∷◌, drop, Some, None, Option, arith, sym, ap, subst, ◌∙◌, false, inl, inr, ◌<◌, ◌≤◌, true, refl, Bool}
 use Rattle.std.specs.Prelude.{is_some, nat_eq, ◌&&◌, IfSome, filter}
 use Rattle.std.specs.List.{Contains}
-use Rattle.std.proofs.lemmas.List.Elements.{All-contains, All-filter, All-contains_itself, Contains-append_right}
+use Rattle.std.proofs.lemmas.List.Elements.{Contains-append_right}
 use Rattle.std.proofs.lemmas.Bool.{ne_eqb, cases_eq, false≢true}
 use Rattle.tp_types.specs.Promise.{FitsPromise}
 use Rattle.tp_types.specs.declared.configs.Config.{Config}
@@ -18,8 +18,6 @@ use Rattle.tp_tasks.specs.declared.table.Task.{Task}
 use Rattle.tp_tasks.specs.Table.{row_of_task, promise_of_task, number_of_task, payload_of_task}
 use Rattle.tp_tasks.specs.Tasks.{row_of, promise_of, number_of, payload_of, submissions, KeepsOthers, SetsRow, IsUnchanged}
 use Rattle.tp_parts.specs.declared.parts.Parts.{Parts}
-use Rattle.tp_shapes.specs.View.{View}
-use Rattle.tp_parts.specs.Shows.{Views, numbers}
 use Rattle.tp_parts.specs.Tied.{IsTied, waits, is_waiting, KeepsPromise}
 
 module _ {P : Type 0} (c : Config) (n : ℕ) (old : Parts P) (tied : IsTied c n old) where
@@ -84,33 +82,6 @@ module _ {P : Type 0} (c : Config) (n : ℕ) (old : Parts P) (tied : IsTied c n 
       keeps : (p : Option Promise) → IfSome p (λ x. FitsPromise x o) → KeepsPromise p (Some y)
       keeps None fits = tt
       keeps (Some p) fits = let F : Option Outcome → Type 0 = λ x. IfSome x (FitsPromise p) in subst F (sym ended) fits
-
-  -- a queue that has lost some of its tasks
-  pub tied_less : (queue : Queue) (items : List (TaskId × ℕ)) → waiting_of queue ≡ record (waiting_of old.queue) { items = items } → ((x : TaskId × ℕ) → Contains items x → Contains (waiting_of old.queue).items x) →
-      IsTied c n (record old { queue = queue })
-  tied_less queue items is fewer =
-      let places = ap (λ w. w.capacity) is in
-      let came = ap (λ w. w.offers) is in
-      let offers = tied.offers in
-      record {
-        made_with = tied.made_with;
-        config = tied.config;
-        least = tied.least;
-        sizes = tied.sizes;
-        places = tied.places;
-        kind = ap (λ w. w.kind) is ∙ tied.kind;
-        queue_places = λ unbounded. let k = tied.queue_places unbounded in omega (arith, places, k);
-        offers = omega (arith, came, offers);
-        idlings = tied.idlings;
-        numbered = λ t k has. tied.numbered t k (fewer (t, k) (subst (λ w. Contains w.items (t, k)) is has));
-        payloads = tied.payloads;
-        promises = tied.promises;
-      }
-
--- what passes a test is in the list
-pub contains_filter : {A : Type 0} (p : A → Bool) (xs : List A) (x : A) → Contains (filter p xs) x → Contains xs x
-contains_filter p xs x has = All-contains (Contains xs) (filter p xs) x (All-filter p (Contains xs) xs (All-contains_itself xs)) has
-
 
 -- more places in the queue leave the structures tied, and so does more memory for tasks
 pub tied_roomier : {P : Type 0} (c : Config) (n : ℕ) (p : Parts P) → IsTied c n p → (tasks : Tasks P) → IsUnchanged p.tasks tasks → (queue : Queue) →
@@ -198,26 +169,4 @@ tied_more c n p tied =
       numbered = tied.numbered;
       payloads = tied.payloads;
       promises = tied.promises;
-    }
-
--- another queue is seen, and nothing else
-pub views_queue : {P : Type 0} (p : Parts P) (v : View) → Views p v → (queue : Queue) (ts : List ℕ) → ts ≡ numbers (waiting_of queue).items → Views (record p { queue = queue }) (record v { queue = ts })
-views_queue p v views queue ts is =
-    record {
-      rank = views.rank;
-      core_size = views.core_size;
-      maximum_size = views.maximum_size;
-      keep_alive = views.keep_alive;
-      times_out = views.times_out;
-      present = views.present;
-      submitted = views.submitted;
-      rows = views.rows;
-      unknown = views.unknown;
-      fates = views.fates;
-      queued = is;
-      seats = views.seats;
-      order = views.order;
-      done = views.done;
-      completed = views.completed;
-      most = views.most;
     }

@@ -5,3 +5,4 @@ pub mod Payloads
 pub mod Offers
 pub mod Memory
 pub mod Room
+pub mod Purges

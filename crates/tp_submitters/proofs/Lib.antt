@@ -1,4 +1,5 @@
-pub mod Looks
+pub mod Seconds
+pub mod Offering
 pub mod Payloads
 pub mod Submitting
 pub mod Retrying

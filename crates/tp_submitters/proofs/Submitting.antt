@@ -1,5 +1,5 @@
 -- What a submission answers.
-use Rattle.std.proofs.Common.{◌≡◌, ℕ, suc, ◌≤◌, Bool, true, false, cond, List, [], ◌∷◌, None, Ok, Err, refl, arith, ap, ◌∙◌}
+use Rattle.std.proofs.Common.{◌≡◌, ℕ, Bool, true, false, cond, List, None, Ok, Err, refl, arith, ap, ◌∙◌}
 use Rattle.std.specs.Prelude.{◌^◌, ◌-◌, ◌||◌, length, nat_lt, is_none, unwrap_or, IfSome}
 use Rattle.std.proofs.lemmas.Bool.{lt-ltb}
 use Rattle.tp_types.specs.declared.configs.Config.{Config}
@@ -11,19 +11,17 @@ use Rattle.tp_record.specs.declared.entries.Ask.TheVariants as ask
 use Rattle.tp_record.specs.declared.entries.Did.TheVariants as did
 use Rattle.tp_record.specs.declared.entries.Looked.{Looked}
 use Rattle.tp_record.specs.declared.entries.Looked.TheVariants as looked
-use Rattle.tp_record.specs.Effects.{reserved_looked, is_submit}
-use Rattle.tp_record.specs.Fields.{submitted}
+use Rattle.tp_record.specs.Effects.{reserved_looked}
 use Rattle.tp_record.specs.State.{State, state, slot_at}
 use Rattle.tp_record.specs.Step.{Legal, look, slot_count, fitting}
 use Rattle.tp_model.proofs.Given.{Given}
-use Rattle.tp_model.proofs.Readings.{tasks_counted}
 use Rattle.tp_tasks.specs.Tasks.{submissions}
 use Rattle.tp_shapes.specs.View.{View, Effect}
 use Rattle.tp_shapes.proofs.Submitters.Submit.{submit_reserve, submit_queue, submit_refuse}
 use Rattle.tp_parts.specs.declared.parts.Parts.{Parts}
 use Rattle.tp_parts.specs.Shows.{Shows}
 use Rattle.tp_parts.specs.Steps.{Stands}
-use Rattle.tp_parts.proofs.Standing.{few_steps}
+use Rattle.tp_parts.proofs.Few.{few_tasks}
 use Rattle.tp_submitters.specs.Owed.{rise_of}
 
 -- a look answers by two tests, and reserves the number that it is told
@@ -60,21 +58,12 @@ submit_moves c h t k (looked.Reserve w) legal given = (_, submit_reserve c h t k
 submit_moves c h t k looked.Queue legal given = (_, submit_queue c h t k legal given)
 submit_moves c h t k looked.Refuse legal given = (_, submit_refuse c h t k legal given)
 
--- there were no more submissions than entries
-few_submitted : (h : List Entry) → submitted h ≤ length h
-few_submitted [] = omega arith
-few_submitted (e ∷ h) = by (few_submitted h) (is_submit e.did)
-  where
-    by : submitted h ≤ length h → (b : Bool) → cond b (suc (submitted h)) (submitted h) ≤ suc (length h)
-    by few true = omega (arith, few)
-    by few false = omega (arith, few)
-
 -- a submission fits always, and gets the next number
 pub submit_fits : {P : Type 0} (p : Parts P) → Stands p → (k : Kind) (h : List Entry) → Shows p (state p.config h) → (w : ℕ) →
     fitting p.config (state p.config h) w (ask.Submit k) ≡ Ok (did.Submit (record { 0 = submissions p.tasks }) k (look (state p.config h) w))
 submit_fits p stands k h sh w =
     let s = state p.config h in
-    let few = few_steps p stands in
-    let entries = sh.entries in
-    let below : nat_lt (length s.tasks) (2 ^ 32 - 1) ≡ true = lt-ltb _ _ (omega (arith, few, entries, tasks_counted h, few_submitted h)) in
+    let few = few_tasks p stands in
+    let counted = sh.seen.submitted in
+    let below : nat_lt (length s.tasks) (2 ^ 32 - 1) ≡ true = lt-ltb _ _ (omega (arith, few, counted)) in
     ap (λ b. cond b (Ok (did.Submit (record { 0 = length s.tasks }) k (look s w))) (Err BookFull)) below ∙ ap (λ n. Ok (did.Submit (record { 0 = n }) k (look s w))) sh.seen.submitted

@@ -1,13 +1,12 @@
 -- What a verdict answers.
-use Rattle.std.proofs.Common.{◌≡◌, ℕ, ◌<◌, Bool, true, false, cond, List, [], ◌∷◌, Some, Ok, Err, refl, arith, sym, ap, subst, ◌∙◌, inl, inr}
-use Rattle.std.specs.Prelude.{◌||◌, ◌&&◌, not, length, nat_lt, nat_le, if◌then◌else◌}
-use Rattle.std.proofs.lemmas.Bool.{cases_lt, lt-ltb}
+use Rattle.std.proofs.Common.{◌≡◌, ℕ, ◌<◌, Bool, true, false, cond, List, [], ◌∷◌, Some, Ok, Err, refl, arith, sym, ap, subst, ◌∙◌}
+use Rattle.std.specs.Prelude.{◌||◌, ◌&&◌, not, nat_lt, nat_le, if◌then◌else◌}
 use Rattle.std.proofs.lemmas.Bool.Decides.{nat_tests}
 use Rattle.tp_types.specs.declared.configs.Config.{Config}
 use Rattle.tp_types.specs.declared.configs.Verdict.{Verdict}
 use Rattle.tp_types.specs.declared.configs.Verdict.TheVariants as verdict
 use Rattle.tp_types.specs.declared.ids.TaskId.{TaskId}
-use Rattle.tp_types.specs.declared.refusals.PoolError.TheVariants.{BookFull, UnknownTask, NotThere}
+use Rattle.tp_types.specs.declared.refusals.PoolError.TheVariants.{BookFull, NotThere}
 use Rattle.tp_types.specs.declared.tasks.Place.TheVariants as at
 use Rattle.tp_record.specs.declared.entries.Entry.{Entry}
 use Rattle.tp_record.specs.declared.entries.Ask.TheVariants as ask
@@ -17,7 +16,7 @@ use Rattle.tp_record.specs.declared.entries.Ruled.TheVariants as ruled
 use Rattle.tp_record.specs.declared.rows.TaskRow.{TaskRow}
 use Rattle.tp_record.specs.Effects.{is_retry}
 use Rattle.tp_record.specs.Fields.{rank, submitted, retries, queue}
-use Rattle.tp_record.specs.State.{State, state, task_at}
+use Rattle.tp_record.specs.State.{State, state}
 use Rattle.tp_record.specs.Step.{Legal, leaves_room, within_room, retry_of, retried, rule, allows, is_refused_place, verdict_answer}
 use Rattle.tp_model.proofs.Given.{IsAt}
 use Rattle.tp_model.proofs.Readings.{row_read, tasks_counted}
@@ -31,6 +30,7 @@ use Rattle.tp_parts.specs.Room.{TellsRoom}
 use Rattle.tp_parts.specs.Shows.{Shows}
 use Rattle.tp_parts.specs.Steps.{Stands, Accepts, IsFitting}
 use Rattle.tp_parts.proofs.Standing.{accepts_owed}
+use Rattle.tp_parts.proofs.Reading.{row_shown, task_answers}
 use Rattle.tp_submitters.specs.Owed.{retry_rise}
 
 -- what is owed rises with a retry
@@ -41,13 +41,6 @@ retry_moves c h t v legal there runs few (u ∷ us) is =
     (_, verdict_retry_drop c h t (record { 0 = u }) v legal (there, (runs, few, (us, is), head_at h (sound_legal c h legal) u us is)))
 
 module _ {P : Type 0} (p : Parts P) (h : List Entry) (sh : Shows p (state p.config h)) (t : TaskId) (row : TaskRow) (there : row_of p.tasks t.0 ≡ Some row) where
-  -- a task that is kept was submitted, and its row is the state's
-  pub known_row : (t.0 < length (state p.config h).tasks) × (task_at (state p.config h) t.0 ≡ row)
-  known_row = elim (cases_lt t.0 (length (state p.config h).tasks)) [
-    | inl known ↦ (known, (let read = sh.seen.rows t.0 known in let e : task_at (state p.config h) t.0 ≡ row = cc in e))
-    | inr past ↦ absurd (let none = sh.seen.unknown t.0 past in let n : ⊥ = cc in n)
-  ]
-
   -- a retry by its tests: b tells whether there is room for it
   pub retried_by : Legal p.config h → row.place ≡ at.Refused → rank h ≡ 0 → row.retries < 64 → (b : Bool) → TellsRoom p 0 (retry_rise (retry_of (queue h))) b →
       (if b then retry_of (queue h) else ruled.Discarded) ≡ retried p.config (state p.config h) t row
@@ -55,8 +48,9 @@ module _ {P : Type 0} (p : Parts P) (h : List Entry) (sh : Shows p (state p.conf
       let s = state p.config h in
       let d = did.Verdict t verdict.DiscardOldest (retry_of (queue h)) in
       let counted = tasks_counted h in
-      let known : t.0 < submitted h = let k = known_row.0 in omega (arith, counted, k) in
-      let read = sym (row_read h t.0 known) ∙ known_row.1 in
+      let shown = row_shown p s sh t.0 row there in
+      let known : t.0 < submitted h = let k = shown.0 in omega (arith, counted, k) in
+      let read = sym (row_read h t.0 known) ∙ shown.1 in
       let tried = ap (λ r. r.retries) read in
       let moves = retry_moves p.config h t verdict.DiscardOldest legal (known, ap (λ r. r.place) read ∙ refused) runs (omega (arith, few, tried)) (queue h) refl in
       sym (ap (λ x. cond x ruled.Discarded (cond (leaves_room p.config s d) (retry_of (queue h)) ruled.Discarded)) (may (rank h) row.retries runs few)
@@ -90,10 +84,8 @@ accepts_verdict p stands t row v r there refused allowed ruled_so = by (is_retry
   where
     fits : (h : List Entry) → Legal p.config h → Shows p (state p.config h) → IsFitting p.config (state p.config h) (ask.Verdict t v) (did.Verdict t v r)
     fits h legal sh =
-        let s = state p.config h in
-        let known = known_row p h sh t row there in (
-          ap (λ b. cond b (verdict_answer p.config s t v (task_at s t.0)) (Err UnknownTask)) (lt-ltb _ _ known.0)
-              ∙ ap (verdict_answer p.config s t v) known.1
+        let s = state p.config h in (
+          task_answers p s sh t row (verdict_answer p.config s t v) there
               ∙ ap (λ b. cond (b && allows p.config.policy v) (Ok (did.Verdict t v (rule p.config s t row v))) (Err NotThere)) (ap is_refused_place refused)
               ∙ ap (λ b. cond b (Ok (did.Verdict t v (rule p.config s t row v))) (Err NotThere)) allowed
               ∙ ap (λ x. Ok (did.Verdict t v x)) (sym (ruled_so h legal sh)),

@@ -2,6 +2,7 @@
 
 ghost use Rattle.std.specs.Prelude.{IfOk, IfErr, IfSome};
 ghost use Rattle.tp_types.specs.Promise.{FitsPromise};
+ghost use Rattle.tp_record.specs.Effects.{Outcome};
 ghost use Rattle.tp_tasks.specs.Tasks.{promise_of};
 ghost use Rattle.tp_parts.specs.Payloads.{Keeps};
 ghost use Rattle.tp_parts.specs.Steps.{Stands, Fits, Refuses, Leads};
@@ -12,10 +13,11 @@ use tp_types::ids::TaskId;
 use tp_types::refusals::PoolError;
 use tp_types::tasks::{Fate, Outcome, Place};
 
-/// Whether the submitter runs the task, so that it may end it. UnknownTask (6) or NotThere (8).
-pub fn answer<P>(parts: &Parts<P>, t: TaskId, outcome: Outcome) -> Result<(), PoolError>
-    ensures fits { IfOk result (λ _. Fits parts.now (Ask.CallerEnd t outcome) (Did.CallerEnd t outcome)) }
-    ensures refuses { IfErr result (λ e. Refuses parts.now (Ask.CallerEnd t outcome) e) }
+/// Whether the submitter runs the task, so that it may end it, whatever the outcome. UnknownTask (6) where there is no such
+/// task, NotThere (8) where its submitter does not run it.
+pub fn answer<P>(parts: &Parts<P>, t: TaskId) -> Result<(), PoolError>
+    ensures fits { (o : Outcome) → IfOk result (λ _. Fits parts.now (Ask.CallerEnd t o) (Did.CallerEnd t o)) }
+    ensures refuses { (o : Outcome) → IfErr result (λ e. Refuses parts.now (Ask.CallerEnd t o) e) }
 {
     match parts.tasks.row(t) {
         None => Err(PoolError::UnknownTask),
@@ -24,8 +26,8 @@ pub fn answer<P>(parts: &Parts<P>, t: TaskId, outcome: Outcome) -> Result<(), Po
     }
 }
 
-/// The submitter ended its task: it is gone, with the fate run by its caller unless it was cancelled meanwhile. The outcome is as its job
-/// promised.
+/// Makes an accepted answer: the submitter ended its task with this outcome, which is as its job promised. The task is
+/// gone, with the fate run by its caller, unless it was cancelled meanwhile.
 pub fn apply<P>(parts: &mut Parts<P>, t: TaskId, outcome: Outcome)
     requires stands { Stands parts.old }
     requires fits { Fits parts.old (Ask.CallerEnd t outcome) (Did.CallerEnd t outcome) }

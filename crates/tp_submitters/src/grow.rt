@@ -13,7 +13,8 @@ use tp_types::refusals::PoolError;
 use tp_types::states::RunState;
 use tp_types::tasks::Place;
 
-/// Whether a slot is reserved for the task, or it is refused. UnknownTask (6) or NotThere (8).
+/// Whether a slot is reserved for the task, or it is refused. UnknownTask (6) where there is no such task, NotThere (8)
+/// where it is not to grow the pool.
 pub fn answer<P>(parts: &Parts<P>, t: TaskId) -> Result<Grown, PoolError>
     ensures fits { IfOk result (λ g. Fits parts.now (Ask.Grow t) (Did.Grow t g)) }
     ensures next { IfOk result (λ g. IfSome (reserves (Did.Grow t g)) (λ w. w ≡ parts.now.slots.next)) }
@@ -25,11 +26,25 @@ pub fn answer<P>(parts: &Parts<P>, t: TaskId) -> Result<Grown, PoolError>
     let Place::ToGrow = row.place else {
         return Err(PoolError::NotThere);
     };
-    // Reserved and live slots count together, so that no two submitters fill the same gap
+    // Reserved and live slots count together, so that no two submitters fill the same gap.
     if parts.state == RunState::Running && parts.slots.len() < parts.maximum as usize {
         Ok(Grown::Reserve(parts.slots.next_number()))
     } else {
         Ok(Grown::Refuse)
+    }
+}
+
+/// Makes an accepted answer.
+pub fn apply<P>(parts: &mut Parts<P>, t: TaskId, grown: Grown)
+    requires stands { Stands parts.old }
+    requires fits { Fits parts.old (Ask.Grow t) (Did.Grow t grown) }
+    requires next { IfSome (reserves (Did.Grow t grown)) (λ w. w ≡ parts.old.slots.next) }
+    ensures leads { Leads parts.old (Did.Grow t grown) parts.new }
+    ensures payloads { Keeps parts.old.tasks parts.new.tasks }
+{
+    match grown {
+        Grown::Reserve(w) => reserve(parts, t, w),
+        Grown::Refuse => refuse(parts, t),
     }
 }
 
@@ -55,18 +70,4 @@ fn refuse<P>(parts: &mut Parts<P>, t: TaskId)
 {
     parts.count_entry(7);
     parts.place_task(t, Place::Refused);
-}
-
-/// Makes what was answered.
-pub fn apply<P>(parts: &mut Parts<P>, t: TaskId, grown: Grown)
-    requires stands { Stands parts.old }
-    requires fits { Fits parts.old (Ask.Grow t) (Did.Grow t grown) }
-    requires next { IfSome (reserves (Did.Grow t grown)) (λ w. w ≡ parts.old.slots.next) }
-    ensures leads { Leads parts.old (Did.Grow t grown) parts.new }
-    ensures payloads { Keeps parts.old.tasks parts.new.tasks }
-{
-    match grown {
-        Grown::Reserve(w) => reserve(parts, t, w),
-        Grown::Refuse => refuse(parts, t),
-    }
 }

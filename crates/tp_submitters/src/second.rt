@@ -1,17 +1,18 @@
 //! The submitter looks a second time, after its offer was taken, as the recheck in `execute`.
 
-ghost use Rattle.std.specs.Prelude.{◌≡◌, ◌==◌, ◌&&◌, nat_lt, IfOk, IfErr, IfSome};
+ghost use Rattle.std.specs.Prelude.{ℕ, ◌≡◌, ◌==◌, ◌&&◌, nat_lt, IfOk, IfErr, IfSome};
 ghost use Rattle.tp_record.specs.Effects.{reserves};
 ghost use Rattle.tp_record.specs.Fields.{is_queued_place};
 ghost use Rattle.tp_record.specs.State.{State};
 ghost use Rattle.tp_record.specs.Step.{slot_count, wants_worker};
+ghost use Rattle.tp_parts.specs.Payloads.{Keeps};
 ghost use Rattle.tp_parts.specs.Shows.{Shows};
-ghost use Rattle.tp_parts.specs.Steps.{Fits, Refuses};
+ghost use Rattle.tp_parts.specs.Steps.{Stands, Fits, Refuses, Leads};
 
 use tp_parts::parts::Parts;
 use tp_record::entries::{Ask, Did, Seconded};
-use tp_record::rows::TaskRow;
-use tp_types::ids::TaskId;
+use tp_record::rows::{Stage, TaskRow};
+use tp_types::ids::{SlotId, TaskId};
 use tp_types::refusals::PoolError;
 use tp_types::states::RunState;
 use tp_types::tasks::Place;
@@ -52,4 +53,56 @@ fn is_deserted<P>(parts: &Parts<P>) -> bool
 {
     // The last worker may have left after the look and before the offer: then nobody would ever take the task.
     parts.slots.len() == 0 && parts.wants_worker()
+}
+
+/// Makes an accepted answer: the task stays, or stays with the next slot to serve it, or is out of the queue and awaits a
+/// verdict.
+pub fn apply<P>(parts: &mut Parts<P>, t: TaskId, seconded: Seconded)
+    requires stands { Stands parts.old }
+    requires fits { Fits parts.old (Ask.Second t) (Did.Second t seconded) }
+    requires next { IfSome (reserves (Did.Second t seconded)) (λ w. w ≡ parts.old.slots.next) }
+    ensures leads { Leads parts.old (Did.Second t seconded) parts.new }
+    ensures payloads { Keeps parts.old.tasks parts.new.tasks }
+{
+    match seconded {
+        Seconded::Stay => stay(parts, t),
+        Seconded::StayReserve(w) => reserve(parts, t, w),
+        Seconded::Back => take_back(parts, t),
+    }
+}
+
+/// The task stays where it is.
+fn stay<P>(parts: &mut Parts<P>, t: TaskId)
+    requires stands { Stands parts.old }
+    requires fits { Fits parts.old (Ask.Second t) (Did.Second t Seconded.Stay) }
+    ensures leads { Leads parts.old (Did.Second t Seconded.Stay) parts.new }
+    ensures payloads { Keeps parts.old.tasks parts.new.tasks }
+{
+    parts.count_entry(4);
+    parts.settle_task(t);
+}
+
+/// The task stays where it is, and a bare slot is reserved.
+fn reserve<P>(parts: &mut Parts<P>, t: TaskId, w: SlotId)
+    requires stands { Stands parts.old }
+    requires fits { Fits parts.old (Ask.Second t) (Did.Second t (Seconded.StayReserve w)) }
+    requires next { w.0 ≡ parts.old.slots.next }
+    ensures leads { Leads parts.old (Did.Second t (Seconded.StayReserve w)) parts.new }
+    ensures payloads { Keeps parts.old.tasks parts.new.tasks }
+{
+    parts.count_entry(1);
+    parts.settle_task(t);
+    parts.reserve(Stage::ReservedBare, None);
+}
+
+/// The task is out of the queue, and awaits a verdict.
+fn take_back<P>(parts: &mut Parts<P>, t: TaskId)
+    requires stands { Stands parts.old }
+    requires fits { Fits parts.old (Ask.Second t) (Did.Second t Seconded.Back) }
+    ensures leads { Leads parts.old (Did.Second t Seconded.Back) parts.new }
+    ensures payloads { Keeps parts.old.tasks parts.new.tasks }
+{
+    parts.count_entry(8);
+    parts.unqueue(t);
+    parts.return_task(t);
 }

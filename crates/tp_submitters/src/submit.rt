@@ -1,10 +1,14 @@
 //! A new task, and its first look for a core slot, as `execute` and `submit` begin.
 
-ghost use Rattle.std.specs.Prelude.{ℕ, ◌≡◌, ◌≤◌, IfOk, IfErr, IfSome};
+ghost use Rattle.std.specs.Prelude.{ℕ, ◌≡◌, ◌≤◌, ◌↔◌, OnOk, IfOk, IfErr, IfSome, IsOkUnless};
+ghost use Rattle.tp_record.specs.declared.entries.Ask.{Ask};
+ghost use Rattle.tp_record.specs.declared.entries.Did.{Did};
 ghost use Rattle.tp_record.specs.Effects.{reserved_looked};
+ghost use Rattle.tp_record.specs.State.{State};
 ghost use Rattle.tp_tasks.specs.Tasks.{submissions};
 ghost use Rattle.tp_parts.specs.Memory.{HasMemory};
-ghost use Rattle.tp_parts.specs.Payloads.{PutsIn};
+ghost use Rattle.tp_parts.specs.Payloads.{Keeps, PutsIn};
+ghost use Rattle.tp_parts.specs.Shows.{Shows};
 ghost use Rattle.tp_parts.specs.Steps.{Stands, Fits, Accepts, Refuses, Leads};
 ghost use Rattle.tp_submitters.specs.Owed.{rise_of};
 
@@ -28,6 +32,48 @@ pub fn answer<P>(parts: &Parts<P>, kind: Kind) -> Result<Looked, PoolError>
         Ok(looked)
     } else {
         Err(PoolError::BookFull)
+    }
+}
+
+/// Makes memory for the task of an accepted answer, so that nothing that becomes of it takes any. NoMemory (4). Either way
+/// the same states are shown, and what was accepted is.
+pub fn prepare<P>(parts: &mut Parts<P>, kind: Kind) -> Result<(), PoolError>
+    requires stands { Stands parts.old }
+    ensures memory { OnOk result (HasMemory parts.new kind) }
+    ensures refused { IsOkUnless result PoolError.NoMemory }
+    ensures stands { Stands parts.new }
+    ensures same { (s : State) → Shows parts.old s ↔ Shows parts.new s }
+    ensures accepts { (a : Ask) (d : Did) → Accepts parts.old a d → Accepts parts.new a d }
+    ensures submitted { submissions parts.new.tasks ≡ submissions parts.old.tasks }
+    ensures rest { parts.new ≡ record parts.old { tasks = parts.new.tasks; queue = parts.new.queue } }
+    ensures payloads { Keeps parts.old.tasks parts.new.tasks }
+{
+    parts.make_room(kind)
+}
+
+/// Makes an accepted answer, for a job that promises this and has this payload, and gives the new task's number. Memory for
+/// it was made (`prepare`), after the answer.
+pub fn apply<P>(
+    parts: &mut Parts<P>,
+    kind: Kind,
+    promise: Promise,
+    payload: P,
+    looked: Looked,
+) -> TaskId
+where
+    P: Drop,
+    requires stands { Stands parts.old }
+    requires memory { HasMemory parts.old kind }
+    requires fits { Fits parts.old (Ask.Submit kind) (Did.Submit (record { 0 = submissions parts.old.tasks }) kind looked) }
+    requires next { IfSome (reserved_looked looked) (λ w. w ≡ parts.old.slots.next) }
+    ensures number { result.0 ≡ submissions parts.old.tasks }
+    ensures leads { Leads parts.old (Did.Submit result kind looked) parts.new }
+    ensures payloads { PutsIn parts.old.tasks parts.new.tasks result.0 promise payload }
+{
+    match looked {
+        Looked::Reserve(w) => reserve(parts, kind, promise, payload, w),
+        Looked::Queue => queue(parts, kind, promise, payload),
+        Looked::Refuse => refuse(parts, kind, promise, payload),
     }
 }
 
@@ -89,30 +135,4 @@ where
 {
     parts.count_rising_entry(2);
     parts.put_task(kind, Place::Refused, promise, payload)
-}
-
-/// Makes what was answered, for a job that promises this and has this payload, and gives the new task's number. Memory for it was
-/// made (`make_room`), after the answer.
-pub fn apply<P>(
-    parts: &mut Parts<P>,
-    kind: Kind,
-    promise: Promise,
-    payload: P,
-    looked: Looked,
-) -> TaskId
-where
-    P: Drop,
-    requires stands { Stands parts.old }
-    requires memory { HasMemory parts.old kind }
-    requires fits { Fits parts.old (Ask.Submit kind) (Did.Submit (record { 0 = submissions parts.old.tasks }) kind looked) }
-    requires next { IfSome (reserved_looked looked) (λ w. w ≡ parts.old.slots.next) }
-    ensures number { result.0 ≡ submissions parts.old.tasks }
-    ensures leads { Leads parts.old (Did.Submit result kind looked) parts.new }
-    ensures payloads { PutsIn parts.old.tasks parts.new.tasks result.0 promise payload }
-{
-    match looked {
-        Looked::Reserve(w) => reserve(parts, kind, promise, payload, w),
-        Looked::Queue => queue(parts, kind, promise, payload),
-        Looked::Refuse => refuse(parts, kind, promise, payload),
-    }
 }

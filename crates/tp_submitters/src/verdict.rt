@@ -22,8 +22,8 @@ use tp_types::refusals::PoolError;
 use tp_types::states::RunState;
 use tp_types::tasks::{Fate, Place};
 
-/// What the verdict makes of the refused task. There is room for it, also where it is a retry. UnknownTask (6), or NotThere (8), also where the policy does not
-/// allow the verdict.
+/// What the verdict makes of the refused task. There is room for it, also where it is a retry. UnknownTask (6) where there
+/// is no such task, NotThere (8) where it awaits no verdict or the policy does not allow this one.
 pub fn answer<P>(parts: &Parts<P>, t: TaskId, verdict: Verdict) -> Result<Ruled, PoolError>
     requires stands { Stands parts.now }
     ensures accepts { IfOk result (λ r. Accepts parts.now (Ask.Verdict t verdict) (Did.Verdict t verdict r)) }
@@ -42,6 +42,31 @@ pub fn answer<P>(parts: &Parts<P>, t: TaskId, verdict: Verdict) -> Result<Ruled,
     }
 }
 
+/// Makes an accepted answer, and gives the payload of the task that waits no more, if it still had one: the refused task's
+/// own, or the dropped head's where the refused task is to look again.
+pub fn apply<P>(parts: &mut Parts<P>, t: TaskId, verdict: Verdict, ruled: Ruled) -> Option<P>
+    requires stands { Stands parts.old }
+    requires fits { Fits parts.old (Ask.Verdict t verdict) (Did.Verdict t verdict ruled) }
+    ensures leads { Leads parts.old (Did.Verdict t verdict ruled) parts.new }
+    ensures payloads { Yields parts.old.tasks parts.new.tasks t ruled result }
+    ensures run { ruled ≡ Ruled.Caller → is_some result ≡ true }
+{
+    match ruled {
+        Ruled::Rejected => reject(parts, t, verdict),
+        Ruled::Discarded => discard(parts, t, verdict),
+        Ruled::Caller => Some(run(parts, t, verdict)),
+        Ruled::Skip => {
+            skip(parts, t, verdict);
+            None
+        }
+        Ruled::Retry => {
+            retry(parts, t, verdict);
+            None
+        }
+        Ruled::RetryDrop(head) => retry_drop(parts, t, verdict, head),
+    }
+}
+
 /// Whether a policy lets this verdict be said: the pool's own, or any where a handler answers.
 fn allows(policy: Policy, verdict: Verdict) -> bool
     ensures { result ≡ allows policy verdict }
@@ -55,7 +80,8 @@ fn allows(policy: Policy, verdict: Verdict) -> bool
     }
 }
 
-/// What an allowed verdict makes of a refused task with this row. Once the pool is shut down, only rejected and discarded are left.
+/// What an allowed verdict makes of a refused task with this row. Once the pool is shut down, only rejected and discarded
+/// are left.
 fn rule<P>(parts: &Parts<P>, t: TaskId, row: TaskRow, verdict: Verdict) -> Ruled
     requires stands { Stands parts.now }
     requires known { row_of parts.now.tasks t.0 ≡ Some row }
@@ -72,8 +98,8 @@ fn rule<P>(parts: &Parts<P>, t: TaskId, row: TaskRow, verdict: Verdict) -> Ruled
     }
 }
 
-/// A retry, where the pool runs and the task has retries left. Its room is tested here, since it owes anew all that may follow it; a refusal
-/// would leave its submitter with nothing to do, and so the task is discarded where there is none.
+/// A retry, where the pool runs and the task has retries left. It owes anew all that may follow a look, so its room is
+/// tested here. Where there is none the task is discarded: a refusal would leave its submitter with nothing to do.
 fn retried<P>(parts: &Parts<P>, t: TaskId, row: TaskRow) -> Ruled
     requires stands { Stands parts.now }
     requires known { row_of parts.now.tasks t.0 ≡ Some row }
@@ -182,29 +208,4 @@ fn retry_drop<P>(parts: &mut Parts<P>, t: TaskId, verdict: Verdict, head: TaskId
     let payload = parts.finish_task(head, Fate::Discarded);
     parts.retry_task(t);
     payload
-}
-
-/// Makes what was answered, and gives the payload of the task that waits no more, if it still had one: the refused task's own, or the dropped
-/// head's where the refused task is to look again.
-pub fn apply<P>(parts: &mut Parts<P>, t: TaskId, verdict: Verdict, ruled: Ruled) -> Option<P>
-    requires stands { Stands parts.old }
-    requires fits { Fits parts.old (Ask.Verdict t verdict) (Did.Verdict t verdict ruled) }
-    ensures leads { Leads parts.old (Did.Verdict t verdict ruled) parts.new }
-    ensures payloads { Yields parts.old.tasks parts.new.tasks t ruled result }
-    ensures run { ruled ≡ Ruled.Caller → is_some result ≡ true }
-{
-    match ruled {
-        Ruled::Rejected => reject(parts, t, verdict),
-        Ruled::Discarded => discard(parts, t, verdict),
-        Ruled::Caller => Some(run(parts, t, verdict)),
-        Ruled::Skip => {
-            skip(parts, t, verdict);
-            None
-        }
-        Ruled::Retry => {
-            retry(parts, t, verdict);
-            None
-        }
-        Ruled::RetryDrop(head) => retry_drop(parts, t, verdict, head),
-    }
 }

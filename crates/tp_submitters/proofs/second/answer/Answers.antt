@@ -4,7 +4,7 @@ use Rattle.tp_record.specs.declared.entries.Seconded.TheVariants as seconded
 use Rattle.tp_record.specs.State.{state, slot_at}
 use Rattle.tp_record.specs.Step.{second_answer}
 use Rattle.tp_parts.proofs.Reading.{task_answers, number_free}
-use Rattle.tp_submitters.proofs.Looks.{second_tested}
+use Rattle.tp_submitters.proofs.Seconds.{second_tested}
 use Rattle.tp_submitters.proofs.second.answer.Goals as goal
 
 pub returns-then-comes_back-clause-fits : goal.returns-then-comes_back-clause-fits

@@ -1,4 +1,4 @@
-use Rattle.std.proofs.Common.{suc, Some, arith, refl, sym, ap, subst, ◌∙◌}
+use Rattle.std.proofs.Common.{◌≡◌, suc, Some, arith, refl, sym, ap, subst, ◌∙◌}
 use Rattle.std.specs.Prelude.{count_by, is_some, length}
 use Rattle.tp_types.specs.declared.tasks.Place.TheVariants as at
 use Rattle.tp_record.specs.declared.entries.Ask.TheVariants as ask
@@ -29,7 +29,7 @@ reserve-requires g c =
     let core = stands.shows.seen.core_size in
     let sizes = stands.tied.sizes in
     let left = seats_left old stands old.core (omega (arith, sizes)) (omega (arith, below, core)) in
-    let same = ap (λ p. p.slots) c.put_task-t.ensures.rest ∙ ap (λ p. p.slots) c.count_rising_entry.ensures.rest in
+    let same : c.put_task-t.new.self.slots ≡ old.slots = ap (λ p. p.slots) c.put_task-t.ensures.rest ∙ ap (λ p. p.slots) c.count_rising_entry.ensures.rest in
     let taken = ap (λ s. count_by is_some s.slots) same in
     let places = ap (λ s. s.places) same in
     record { room = omega (arith, left, taken, places); reserved = refl }

@@ -1,5 +1,5 @@
 use Rattle.std.proofs.Common.{refl}
-use Rattle.tp_parts.proofs.Submissions.{tied_roomier}
+use Rattle.tp_parts.proofs.Ties.{tied_roomier}
 use Rattle.tp_parts.proofs.parts.Parts.make_room.Goals as goal
 
 pub returns-then-is_err-clause-tied : goal.returns-then-is_err-clause-tied

@@ -1,5 +1,4 @@
-use Rattle.std.proofs.Common.{◌≡◌, ℕ, ◌≤◌, Bool, cond, Option, Some, None, arith}
-use Rattle.std.specs.Prelude.{is_none, ◌&&◌, count_by}
+use Rattle.std.proofs.Common.{◌≤◌, cond, Option, Some, None, arith}
 use Rattle.std.proofs.lemmas.List.Sums.{sum_by-le-sum_by}
 use Rattle.tp_types.specs.declared.ids.TaskId.{TaskId}
 use Rattle.tp_record.specs.declared.rows.SlotRow.{SlotRow}

@@ -1,6 +1,6 @@
 use Rattle.std.proofs.Common.{refl, arith, ap}
 use Rattle.std.specs.Prelude.{is_some, true, ◌&&◌}
-use Rattle.tp_parts.proofs.Submissions.{unqueued, tied_new}
+use Rattle.tp_parts.proofs.Ties.{unqueued, tied_new}
 use Rattle.tp_parts.proofs.parts.Parts.put_task.Goals as goal
 
 pub returns-clause-tied : goal.returns-clause-tied

@@ -1,0 +1,40 @@
+use Rattle.std.proofs.Common.{◌≡◌, ◌+◌, Some, suc, arith, sym, subst, ap, ◌∙◌}
+use Rattle.std.specs.Prelude.{ℕ}
+use Rattle.tp_record.specs.declared.entries.Ask.TheVariants as ask
+use Rattle.tp_record.specs.declared.entries.Did.TheVariants as did
+use Rattle.tp_record.specs.State.{state, slot_at}
+use Rattle.tp_record.specs.Step.{slot_count}
+use Rattle.tp_shapes.specs.View.{view, put}
+use Rattle.tp_shapes.proofs.Rows.{bare}
+use Rattle.tp_shapes.proofs.Controllers.Prestart.{prestart as prestart_effect}
+use Rattle.tp_parts.specs.Shows.{Views}
+use Rattle.tp_parts.proofs.Ties.{tied_more}
+use Rattle.tp_parts.proofs.Standing.{few_steps}
+use Rattle.tp_parts.proofs.Leading.{leads_by}
+use Rattle.tp_controllers.proofs.prestart.reserve.Goals as goal
+
+pub count_rising_entry-requires-clause-few : goal.count_rising_entry-requires-clause-few
+count_rising_entry-requires-clause-few g c = let few = few_steps c.args.parts.now c.requires.stands in omega (arith, few)
+
+pub count_rising_entry-requires-clause-rise : goal.count_rising_entry-requires-clause-rise
+count_rising_entry-requires-clause-rise g c = let few = few_steps c.args.parts.now c.requires.stands in omega (arith, few)
+
+pub returns-clause-leads : goal.returns-clause-leads
+returns-clause-leads g c =
+    let old = c.args.parts.now in
+    let new = c.reserve.new.self in
+    let w = c.args.w in
+    let k = c.count_rising_entry.ensures.rest in
+    let r = c.reserve.ensures.rest in
+    let number : c.reserve.result.0 ≡ w.0 = c.reserve.ensures.number ∙ ap (λ p. p.slots.next) k ∙ sym c.requires.next in
+    let due : new.due ≡ old.due + 3 = cc in
+    leads_by old new ask.Prestart (did.Prestart (Some w)) 0 3 c.requires.fits
+    (λ h legal given sh.
+    let s = state old.config h in
+    let V : ℕ → Type 0 = λ n. Views new (record (view s) { slots = put n (Some bare) (slot_at s.slots); taken = suc (slot_count s) }) in (
+      _,
+      prestart_effect old.config h w legal given,
+      subst V number (c.reserve.ensures.views _ (c.count_rising_entry.ensures.views _ sh.seen)),
+    ))
+    (cc) (cc) (omega (arith, due))
+    (c.reserve.ensures.tied old.config (suc old.steps) (c.count_rising_entry.ensures.tied old.config (suc old.steps) (tied_more old.config old.steps old c.requires.stands.tied)))

@@ -1,0 +1,25 @@
+use Rattle.std.proofs.Common.{refl, arith}
+use Rattle.tp_record.specs.declared.entries.Ask.TheVariants as ask
+use Rattle.tp_record.specs.declared.entries.Did.TheVariants as did
+use Rattle.tp_parts.proofs.Answering.{accepts_room, refuses_fitting}
+use Rattle.tp_parts.proofs.Standing.{few_steps}
+use Rattle.tp_controllers.proofs.Purges.{purge_fits, purge_moves}
+use Rattle.tp_controllers.proofs.purge.answer.Goals as goal
+
+pub count_cancelled-cancelled-requires : goal.count_cancelled-cancelled-requires
+count_cancelled-cancelled-requires g c =
+    let few = few_steps c.args.parts.now c.requires.stands in
+    let offers = c.requires.stands.tied.offers in
+    record { few = omega (arith, few, offers) }
+
+pub returns-then-not-has_room-clause-refuses : goal.returns-then-not-has_room-clause-refuses
+returns-then-not-has_room-clause-refuses g c =
+    let p = c.args.parts.now in
+    let n = c.count_cancelled-cancelled.result in
+    refuses_fitting p ask.Purge (did.Purge n) _ 0 _ c.has_room.ensures c.if-not-has_room.true (purge_fits p n c.count_cancelled-cancelled.ensures) (λ s w. refl) (purge_moves p n c.from.result c.from.ensures)
+
+pub returns-clause-accepts : goal.returns-clause-accepts
+returns-clause-accepts g c =
+    let p = c.args.parts.now in
+    let n = c.count_cancelled-cancelled.result in
+    accepts_room p ask.Purge (did.Purge n) _ 0 _ c.has_room.ensures c.if-not-has_room.false (purge_fits p n c.count_cancelled-cancelled.ensures) (purge_moves p n c.from.result c.from.ensures)

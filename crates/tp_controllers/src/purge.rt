@@ -1,0 +1,35 @@
+//! The cancelled tasks leave the queue, as `ThreadPoolExecutor.purge`.
+
+ghost use Rattle.std.specs.Prelude.{IfOk, IfErr};
+ghost use Rattle.tp_parts.specs.Payloads.{Keeps};
+ghost use Rattle.tp_parts.specs.Steps.{Stands, Fits, Accepts, Refuses, Leads};
+
+use tp_parts::parts::Parts;
+use tp_record::entries::{Ask, Did};
+use tp_types::refusals::PoolError;
+
+/// How many cancelled tasks are in the queue. It walks along the queue. BookFull (5).
+pub fn answer<P>(parts: &Parts<P>) -> Result<u32, PoolError>
+    requires stands { Stands parts.now }
+    ensures accepts { IfOk result (λ n. Accepts parts.now Ask.Purge (Did.Purge n)) }
+    ensures refuses { IfErr result (λ e. Refuses parts.now Ask.Purge e) }
+{
+    let cancelled = parts.count_cancelled();
+    // A queued task owes 6 entries.
+    if !parts.has_room(6 * u64::from(cancelled), 0) {
+        return Err(PoolError::BookFull);
+    }
+    Ok(cancelled)
+}
+
+/// The cancelled tasks, as many as were answered, leave the queue and are gone. They keep the fate cancelled. Their payloads went
+/// out where they were cancelled.
+pub fn apply<P>(parts: &mut Parts<P>, cancelled: u32)
+    requires stands { Stands parts.old }
+    requires fits { Fits parts.old Ask.Purge (Did.Purge cancelled) }
+    ensures leads { Leads parts.old (Did.Purge cancelled) parts.new }
+    ensures payloads { Keeps parts.old.tasks parts.new.tasks }
+{
+    parts.purge();
+    parts.count_entry(6 * u64::from(cancelled));
+}

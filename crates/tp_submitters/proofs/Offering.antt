@@ -1,0 +1,74 @@
+-- A task that is to be offered is not in the queue, and an unbounded queue has a place for it.
+use Rattle.std.proofs.Common.{◌≡◌, ℕ, ◌<◌, ◌≤◌, true, false, ◌||◌, List, [], ◌∷◌, length, refl, arith, sym, ap, subst, ◌∙◌, inl, inr}
+use Rattle.std.specs.Prelude.{nat_eq}
+use Rattle.std.specs.List.{Contains, IsDistinct, list_any, AllByRecursion}
+use Rattle.std.proofs.lemmas.Bool.{eqb-true, or_cases, or_parts}
+use Rattle.std.proofs.lemmas.List.{length-map}
+use Rattle.std.proofs.lemmas.Map.Steps.{length-le_from_distinct_below}
+use Rattle.tp_types.specs.declared.ids.TaskId.{TaskId}
+use Rattle.tp_types.specs.declared.configs.QueueKind.{QueueKind}
+use Rattle.tp_types.specs.declared.configs.QueueKind.TheVariants.{Handoff, Unbounded, Bounded}
+use Rattle.tp_types.specs.declared.tasks.Place.TheVariants as at
+use Rattle.tp_record.specs.Fields.{queue, submitted, is_queued_place}
+use Rattle.tp_queue.specs.Queues.{waiting_of}
+use Rattle.tp_model.proofs.Given.{HasQueueRoom, IsAt}
+use Rattle.tp_model.proofs.Places.{queue_at}
+use Rattle.tp_model.proofs.Queues.{is_among, IsOnce, once-queue, among-queue, Contains-from_among}
+use Rattle.tp_model.proofs.Readings.{tasks_counted}
+use Rattle.tp_parts.specs.declared.parts.Parts.{Parts}
+use Rattle.tp_parts.specs.Offers.{RoomBy, HasRoom}
+use Rattle.tp_parts.specs.Shows.{numbers}
+use Rattle.tp_parts.specs.Steps.{Stands}
+
+-- numbers below n, each of them once, are at most n
+apart : (x : ℕ) (xs : List ℕ) → is_among x xs ≡ false → AllByRecursion (λ y. nat_eq x y ≡ false) xs
+apart x [] out = tt
+apart x (y ∷ ys) out = let parts = or_parts (nat_eq x y) (is_among x ys) out in (parts.0, apart x ys parts.1)
+
+IsDistinct-once : (xs : List ℕ) → IsOnce xs → IsDistinct nat_eq xs
+unfolding IsDistinct
+IsDistinct-once [] once = tt
+IsDistinct-once (x ∷ xs) once = (apart x xs once.0, IsDistinct-once xs once.1)
+
+among_any : (x : ℕ) (xs : List ℕ) → list_any (nat_eq x) xs ≡ is_among x xs
+among_any x [] = refl
+among_any x (y ∷ ys) = ap (λ b. nat_eq x y || b) (among_any x ys)
+
+once_few : (xs : List ℕ) (n : ℕ) → IsOnce xs → ((x : ℕ) → is_among x xs ≡ true → x < n) → length xs ≤ n
+once_few xs n once below = length-le_from_distinct_below xs n (IsDistinct-once xs once) (λ x is. below x (sym (among_any x xs) ∙ is))
+
+-- a queue takes a task more where its kind has room beside those that wait, and where an unbounded one has a place
+room_by : (q : QueueKind) (places n : ℕ) → HasQueueRoom q n → (q ≡ Unbounded → n < places) → RoomBy q places n
+room_by Handoff places n room left = absurd room
+room_by Unbounded places n room left = left refl
+room_by (Bounded m) places n room left = room
+
+module _ {P : Type 0} (p : Parts P) (stands : Stands p) (t : TaskId) (there : IsAt stands.history t.0 at.ToOffer) where
+  not_queued : is_among t.0 (queue stands.history) ≡ false
+  not_queued = among-queue stands.history t.0 ∙ ap is_queued_place there.1
+
+  -- fewer tasks are queued than were submitted, since this one is not
+  queued_fewer : length (queue stands.history) < submitted stands.history
+  queued_fewer = once_few (t.0 ∷ queue stands.history) (submitted stands.history) (not_queued, once-queue stands.history) (λ x is. elim (or_cases (nat_eq x t.0) (is_among x (queue stands.history)) is) [
+    | inl same ↦ let e = eqb-true x t.0 same in let known = there.0 in omega (arith, e, known)
+    | inr queued ↦ (queue_at p.config stands.history stands.legal x (Contains-from_among (queue stands.history) x queued)).0
+  ])
+
+  pub absent_here : Contains (numbers (waiting_of p.queue).items) t.0 → ⊥
+  absent_here has =
+      let queued = queue_at p.config stands.history stands.legal t.0 (subst (λ xs. Contains xs t.0) (sym stands.shows.seen.queued) has) in
+      let e : at.Queued ≡ at.ToOffer = sym queued.1 ∙ there.1 in
+      absurd (let n : ⊥ = cc in n)
+
+  pub room_here : HasQueueRoom p.config.queue (length (queue stands.history)) → HasRoom (waiting_of p.queue)
+  room_here room =
+      let w = waiting_of p.queue in
+      let tied = stands.tied in
+      let same = ap length stands.shows.seen.queued ∙ length-map w.items (λ (x : TaskId × ℕ). x.0.0) in
+      let by_kind = room_by p.config.queue w.capacity (length w.items) (subst (HasQueueRoom p.config.queue) same room) (λ unbounded.
+      let places = tied.queue_places unbounded in
+      let fewer = queued_fewer in
+      let counted = stands.shows.seen.submitted in
+      let known = tasks_counted stands.history in
+      omega (arith, places, fewer, counted, known, same)) in
+      subst (λ q. RoomBy q w.capacity (length w.items)) (sym tied.kind) by_kind

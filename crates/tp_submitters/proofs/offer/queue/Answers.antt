@@ -1,0 +1,54 @@
+use Rattle.std.proofs.Common.{suc, refl, arith, sym, ap, subst, ◌∙◌}
+use Rattle.std.specs.List.{Contains}
+use Rattle.tp_record.specs.declared.entries.Ask.TheVariants as ask
+use Rattle.tp_record.specs.declared.entries.Did.TheVariants as did
+use Rattle.tp_record.specs.declared.entries.Offered.TheVariants as offered
+use Rattle.tp_queue.specs.Queues.{waiting_of}
+use Rattle.tp_shapes.proofs.Submitters.Offer.{offer_queued}
+use Rattle.tp_parts.specs.Offers.{HasRoom}
+use Rattle.tp_parts.specs.Shows.{numbers}
+use Rattle.tp_parts.proofs.Standing.{entry_here, few_steps, given_here}
+use Rattle.tp_parts.proofs.Leading.{leads_from}
+use Rattle.tp_submitters.proofs.Offering.{absent_here, room_here}
+use Rattle.tp_submitters.proofs.offer.queue.Goals as goal
+
+pub count_entry-requires : goal.count_entry-requires
+count_entry-requires g c =
+    let old = c.args.parts.now in
+    let stands = c.requires.stands in
+    let e = entry_here old stands (ask.Offer c.args.t) (did.Offer c.args.t offered.Queued) _ 1 0 1 c.requires.fits (λ given. offer_queued old.config stands.history c.args.t stands.legal given) refl in
+    record { few = e.0; fall = e.1 }
+
+pub enqueue-requires-clause-absent : goal.enqueue-requires-clause-absent
+enqueue-requires-clause-absent g c =
+    let old = c.args.parts.now in
+    let stands = c.requires.stands in
+    let given = given_here old stands (ask.Offer c.args.t) (did.Offer c.args.t offered.Queued) c.requires.fits in
+    λ has. absent_here old stands c.args.t given.0 (subst (λ q. Contains (numbers (waiting_of q).items) c.args.t.0) (ap (λ p. p.queue) c.count_entry.ensures.rest) has)
+
+pub enqueue-requires-clause-room : goal.enqueue-requires-clause-room
+enqueue-requires-clause-room g c =
+    let old = c.args.parts.now in
+    let stands = c.requires.stands in
+    let given = given_here old stands (ask.Offer c.args.t) (did.Offer c.args.t offered.Queued) c.requires.fits in
+    subst (λ q. HasRoom (waiting_of q)) (sym (ap (λ p. p.queue) c.count_entry.ensures.rest)) (room_here old stands c.args.t given.0 given.1)
+
+pub enqueue-requires-clause-few : goal.enqueue-requires-clause-few
+enqueue-requires-clause-few g c =
+    let stands = c.requires.stands in
+    let few = few_steps c.args.parts.now stands in
+    let offers = stands.tied.offers in
+    let same = ap (λ p. (waiting_of p.queue).offers) c.count_entry.ensures.rest in
+    omega (arith, few, offers, same)
+
+pub returns-clause-leads : goal.returns-clause-leads
+returns-clause-leads g c =
+    let old = c.args.parts.now in
+    let k = c.count_entry.ensures in
+    let m = c.enqueue.ensures in
+    let offers = c.requires.stands.tied.offers in
+    let same = ap (λ p. (waiting_of p.queue).offers) k.rest in
+    leads_from old c.enqueue.new.self (ask.Offer c.args.t) (did.Offer c.args.t offered.Queued) 1 0 1 c.requires.stands c.requires.fits
+    (λ h legal given sh. (_, offer_queued old.config h c.args.t legal given, m.views _ (k.views _ sh.seen)))
+    refl (ap (λ p. p.config) m.rest ∙ ap (λ p. p.config) k.rest) (ap (λ p. p.steps) m.rest ∙ ap (λ p. p.steps) k.rest) (ap (λ p. p.due) m.rest ∙ ap (λ p. p.due) k.rest)
+    (λ tied. m.tied old.config (suc old.steps) (k.tied _ _ tied) (omega (arith, offers, same)))
