@@ -1,18 +1,22 @@
 -- An accepted answer that is made and noted is a step.
-use Rattle.std.proofs.Common.{◌≡◌, ℕ, suc, ◌+◌, ◌≤◌, ◌<◌, List, [], ◌∷◌, arith, sym, ap, subst, ◌∙◌}
+use Rattle.std.proofs.Common.{◌≡◌, ℕ, suc, ◌+◌, ◌≤◌, ◌<◌, List, [], ◌∷◌, true, arith, sym, ap, subst, ◌∙◌, inr}
 use Rattle.tp_types.specs.declared.configs.Config.{Config}
 use Rattle.tp_record.specs.declared.entries.Entry.{Entry}
 use Rattle.tp_record.specs.declared.entries.Ask.{Ask}
 use Rattle.tp_record.specs.declared.entries.Did.{Did}
 use Rattle.tp_record.specs.State.{State, state, next}
-use Rattle.tp_record.specs.Step.{Legal, Gives}
+use Rattle.tp_record.specs.Step.{Legal, Gives, takes_memory}
+use Rattle.tp_types.specs.declared.refusals.PoolError.{PoolError}
+use Rattle.tp_types.specs.declared.refusals.PoolError.TheVariants.{NoMemory}
+use Rattle.tp_parts.specs.Payloads.{Keeps}
+use Rattle.std.specs.Prelude.{◌↔◌}
 use Rattle.tp_model.proofs.NextState.{next_is_state}
 use Rattle.tp_parts.specs.declared.parts.Parts.{Parts}
 use Rattle.tp_parts.specs.Tied.{IsTied, IsNew}
 use Rattle.tp_parts.specs.Shows.{Shows}
 use Rattle.tp_parts.specs.Steps.{Stands, Accepts, Leads}
 use Rattle.tp_machine.specs.Seen.{Seen, At, IsSound, config_of}
-use Rattle.tp_machine.specs.Steps.{IsStep}
+use Rattle.tp_machine.specs.Steps.{IsStep, Stays, IsRefusedBy}
 
 -- from structures and a record that are seen as `old` to those of `new`
 module _ {P R : Type 0} (tells : R → List Entry → Type 0) (places : R → ℕ) (parts : Parts P) (noted : R) (new : Seen P R) (by : ℕ) (a : Ask) (d : Did)
@@ -72,3 +76,41 @@ new_sound tells places c parts noted new told room =
       told = told;
       room = omega (arith, room, limit);
     }
+
+-- other structures that show the same states, in place of those of a machine
+module _ {P R : Type 0} (tells : R → List Entry → Type 0) (old new : Parts P) (noted : R) (config : new.config ≡ old.config) (same : (s : State) → Shows old s ↔ Shows new s) where
+  still : (h : List Entry) → Shows old (state old.config h) → Shows new (state new.config h)
+  still h shows = subst (λ c. Shows new (state c h)) (sym config) ((same (state old.config h)).0 shows)
+
+  pub same_sound : (places : R → ℕ) → new.steps ≡ old.steps → IsTied new.config new.steps new → IsSound tells places (record { parts = old; noted = noted }) → IsSound tells places (record { parts = new; noted = noted })
+  same_sound places steps tied sound =
+      let s = sound.stands in
+      let c = ap (λ x. x.record_limit) config in
+      let r = sound.room in
+      record {
+        stands = record { history = s.history; legal = subst (λ k. Legal k s.history) (sym config) s.legal; shows = still s.history s.shows; tied = tied };
+        told = sound.told;
+        room = omega (arith, c, r, steps);
+      }
+
+  pub same_stays : Keeps old.tasks new.tasks → (m : Seen P R) → record { parts = old; noted = noted } ≡ m → Stays tells m (record { parts = new; noted = noted })
+  same_stays keeps m is = subst (λ x. Stays tells x (record { parts = new; noted = noted })) is (record {
+    stands = λ h at. record { told = at.told; legal = subst (λ k. Legal k h) (sym config) at.legal; shows = still h at.shows };
+    config = config;
+    payloads = keeps.payloads;
+    promises = keeps.promises;
+  })
+
+-- a step from a machine in which nothing had changed yet
+pub step_after : {P R : Type 0} (tells : R → List Entry → Type 0) (old mid new : Seen P R) (by : ℕ) (a : Ask) (d : Did) → Stays tells old mid → IsStep tells mid new by a d → IsStep tells old new by a d
+step_after tells old mid new by a d stays step = record {
+  gives = λ h at. subst (λ c. Gives c (state c h) a d) stays.config (step.gives h (stays.stands h at));
+  writes = λ h at. step.writes h (stays.stands h at);
+  config = step.config ∙ stays.config;
+}
+
+-- want of memory where the step gives an entry
+pub refused_memory : {P R : Type 0} (tells : R → List Entry → Type 0) (parts : Parts P) (noted : R) (m : Seen P R) (a : Ask) (d : Did) (e : PoolError) → record { parts = parts; noted = noted } ≡ m →
+    Accepts parts a d → takes_memory a ≡ true → e ≡ NoMemory → IsRefusedBy tells m a e
+refused_memory tells parts noted m a d e is accepts takes wants =
+    subst (λ x. IsRefusedBy tells x a e) is (λ h at. inr (wants, takes, (d, accepts h at.legal at.shows)))

@@ -81,6 +81,6 @@ fn note_owed<P, R: Recorder>(parts: &Parts<P>, noted: &mut R, by: u32, ask: Ask,
     note(parts, noted, by, ask, did);
 }
 
-pub mod controllers;
+// pub mod controllers;
 pub mod submitters;
 pub mod workers;

@@ -34,7 +34,7 @@ impl<P, R: Recorder> Machine<P, R> {
             Ok(looked) => looked,
             Err(error) => return Err((error, payload)),
         };
-        if let Err(error) = self.parts.make_room(kind) {
+        if let Err(error) = submit::prepare(&mut self.parts, kind) {
             return Err((error, payload));
         }
         let did = Did::Submit(TaskId(self.parts.tasks.submitted()), kind, looked);
