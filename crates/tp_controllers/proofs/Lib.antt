@@ -1,3 +1,4 @@
+pub mod Stopping
 pub mod Cancels
 pub mod Purges
 pub mod Removals

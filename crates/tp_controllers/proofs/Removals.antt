@@ -1,6 +1,6 @@
 -- What a removal makes of a state, and what is known of the task that is removed.
 use mir.Val.{bool_byte}
-use Rattle.std.proofs.Common.{◌≡◌, ℕ, ◌*◌, Bool, true, false, Some, None, sym, ap, ◌∙◌, subst, Contains}
+use Rattle.std.proofs.Common.{◌≡◌, ℕ, ◌*◌, Bool, true, false, Some, None, refl, sym, ap, ◌∙◌, subst, Contains}
 use Rattle.tp_types.specs.declared.ids.TaskId.{TaskId}
 use Rattle.tp_types.specs.declared.tasks.Place.TheVariants as at
 use Rattle.tp_record.specs.declared.entries.Ask.TheVariants as ask
@@ -11,14 +11,12 @@ use Rattle.tp_record.specs.State.{state, task_at}
 use Rattle.tp_model.proofs.Queues.{among-queue, Contains-from_among}
 use Rattle.tp_queue.specs.Queues.{waiting_of}
 use Rattle.tp_tasks.specs.Tasks.{row_of}
-use Rattle.tp_shapes.proofs.Facts.{open_row}
-use Rattle.tp_shapes.proofs.Invariants.{is_gone}
 use Rattle.tp_shapes.proofs.Controllers.Remove.{remove, remove_absent}
 use Rattle.tp_parts.specs.declared.parts.Parts.{Parts}
 use Rattle.tp_parts.specs.Shows.{numbers}
 use Rattle.tp_parts.specs.Steps.{Stands, Fits}
 use Rattle.tp_parts.proofs.Answering.{Moves}
-use Rattle.tp_parts.proofs.Standing.{given_here, task_here}
+use Rattle.tp_parts.proofs.Standing.{given_here, task_here, open_here}
 
 -- what is owed falls by a queued task's six
 pub remove_moves : {P : Type 0} (p : Parts P) (t : TaskId) (queued : Bool) (n : ℕ) → n ≡ bool_byte queued → Moves p (6 * n) 0 (did.Remove t queued)
@@ -42,4 +40,4 @@ module _ {P : Type 0} (p : Parts P) (stands : Stands p) (t : TaskId) (fits : Fit
   removed_row =
       let h = stands.history in
       let given = given_here p stands (ask.Remove t) (did.Remove t true) fits in
-      (task_at (state p.config h) t.0, (task_here p stands t.0 at.Queued given).0, open_row p.config h stands.legal t.0 (ap is_gone given.1))
+      (task_at (state p.config h) t.0, (task_here p stands t.0 at.Queued given).0, open_here p stands t.0 at.Queued given refl)

@@ -38,8 +38,8 @@ pub fn answer<P>(parts: &Parts<P>, t: TaskId, flag: bool) -> Result<bool, PoolEr
     Ok(effective)
 }
 
-/// The task has the fate cancelled from now on. It stays where it is: whoever comes to it skips it. If it waited, its payload is
-/// handed out.
+/// The task has the fate cancelled from now on, and its group has it as completed. It stays where it is: whoever comes to it skips
+/// it, and a body that runs already is only asked, by its flag, to end. If the task waited, its payload is handed out.
 fn in_time<P>(parts: &mut Parts<P>, t: TaskId, flag: bool) -> Option<P>
     requires stands { Stands parts.old }
     requires fits { Fits parts.old (Ask.Cancel t flag) (Did.Cancel t flag true) }
@@ -50,7 +50,7 @@ fn in_time<P>(parts: &mut Parts<P>, t: TaskId, flag: bool) -> Option<P>
     parts.cancel_task(t)
 }
 
-/// The task had its fate already, and keeps it.
+/// The task had its fate already, and keeps it: the cancel came after its end, or after another cancel.
 fn late<P>(parts: &mut Parts<P>, t: TaskId, flag: bool)
     requires stands { Stands parts.old }
     requires fits { Fits parts.old (Ask.Cancel t flag) (Did.Cancel t flag false) }

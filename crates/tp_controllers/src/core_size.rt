@@ -13,7 +13,7 @@ use tp_types::refusals::PoolError;
 /// queue. BadSizes (1) where the maximum is smaller, else BookFull (5).
 pub fn answer<P>(parts: &Parts<P>, core: u32) -> Result<u32, PoolError>
     requires stands { Stands parts.now }
-    ensures fits { IfOk result (λ added. Accepts parts.now (Ask.Core core) (Did.Core core added)) }
+    ensures accepts { IfOk result (λ added. Accepts parts.now (Ask.Core core) (Did.Core core added)) }
     ensures refuses { IfErr result (λ e. Refuses parts.now (Ask.Core core) e) }
 {
     if parts.maximum < core {

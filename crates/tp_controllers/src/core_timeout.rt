@@ -11,7 +11,7 @@ use tp_types::refusals::PoolError;
 /// Whether core workers may time out, where `on`. KeepZero (11) where the keep-alive is 0, else BookFull (5).
 pub fn answer<P>(parts: &Parts<P>, on: bool) -> Result<(), PoolError>
     requires stands { Stands parts.now }
-    ensures fits { OnOk result (Accepts parts.now (Ask.CoreTimeout on) (Did.CoreTimeout on)) }
+    ensures accepts { OnOk result (Accepts parts.now (Ask.CoreTimeout on) (Did.CoreTimeout on)) }
     ensures refuses { IfErr result (λ e. Refuses parts.now (Ask.CoreTimeout on) e) }
 {
     if on && parts.keep == 0 {

@@ -11,7 +11,7 @@ use tp_types::refusals::PoolError;
 /// Whether the keep-alive may be `keep` ticks. KeepZero (11) where it is 0 and core workers time out, else BookFull (5).
 pub fn answer<P>(parts: &Parts<P>, keep: u64) -> Result<(), PoolError>
     requires stands { Stands parts.now }
-    ensures fits { OnOk result (Accepts parts.now (Ask.Keep keep) (Did.Keep keep)) }
+    ensures accepts { OnOk result (Accepts parts.now (Ask.Keep keep) (Did.Keep keep)) }
     ensures refuses { IfErr result (λ e. Refuses parts.now (Ask.Keep keep) e) }
 {
     if keep == 0 && parts.core_timeout {

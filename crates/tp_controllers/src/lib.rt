@@ -2,16 +2,17 @@
 //! answers, and `apply`, which makes an accepted answer.
 #![tactic(auto)]
 
+pub mod cancel;
 pub mod core_size;
 pub mod core_timeout;
 pub mod ended;
 pub mod keep;
 pub mod maximum;
 pub mod prestart;
-pub mod shutdown;
-pub mod tick;
-pub mod cancel;
 pub mod purge;
 pub mod remove;
+pub mod shutdown;
+pub mod stop;
 pub mod take_done;
+pub mod tick;
 pub mod tidy;

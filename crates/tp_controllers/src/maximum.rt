@@ -1,7 +1,11 @@
 //! The maximum size is set, as `setMaximumPoolSize` does.
 
-ghost use Rattle.std.specs.Prelude.{◌≡◌, ◌≤◌, max, OnOk, OnErr, IfErr, IsOkUnless};
+ghost use Rattle.std.specs.Prelude.{◌≡◌, ◌≤◌, ℕ, ◌↔◌, max, OnOk, OnErr, IfErr, IsOkUnless};
+ghost use Rattle.tp_types.specs.declared.configs.Config.{Config};
+ghost use Rattle.tp_record.specs.State.{State};
 ghost use Rattle.tp_parts.specs.Payloads.{Keeps};
+ghost use Rattle.tp_parts.specs.Shows.{Shows};
+ghost use Rattle.tp_parts.specs.Tied.{IsTied};
 ghost use Rattle.tp_parts.specs.Steps.{Stands, Fits, Accepts, Refuses, Leads};
 
 use tp_parts::parts::Parts;
@@ -12,7 +16,7 @@ use tp_types::refusals::PoolError;
 /// BookFull (5).
 pub fn answer<P>(parts: &Parts<P>, maximum: u32) -> Result<(), PoolError>
     requires stands { Stands parts.now }
-    ensures fits { OnOk result (Accepts parts.now (Ask.Maximum maximum) (Did.Maximum maximum)) }
+    ensures accepts { OnOk result (Accepts parts.now (Ask.Maximum maximum) (Did.Maximum maximum)) }
     ensures refuses { IfErr result (λ e. Refuses parts.now (Ask.Maximum maximum) e) }
 {
     if maximum < 1 || 1024 < maximum || maximum < parts.core {
@@ -24,10 +28,13 @@ pub fn answer<P>(parts: &Parts<P>, maximum: u32) -> Result<(), PoolError>
     Ok(())
 }
 
-/// Makes the places for a maximum that was accepted. NoMemory (4), where nothing has changed.
+/// Makes the places for a maximum that was accepted. NoMemory (4), where nothing has changed. Either way the same states
+/// are shown.
 pub fn prepare<P>(parts: &mut Parts<P>, maximum: u32) -> Result<(), PoolError>
     ensures ok { OnOk result (parts.new ≡ record parts.old { slots = record parts.old.slots { places = max parts.old.slots.places maximum } }) }
     ensures err { OnErr result (parts.new ≡ parts.old) }
+    ensures same { (s : State) → Shows parts.old s ↔ Shows parts.new s }
+    ensures tied { (c : Config) (n : ℕ) → IsTied c n parts.old → IsTied c n parts.new }
     ensures refused { IsOkUnless result PoolError.NoMemory }
 {
     match parts.make_places(maximum) {

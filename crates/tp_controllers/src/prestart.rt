@@ -17,7 +17,7 @@ use tp_types::refusals::PoolError;
 /// worker. BookFull (5).
 pub fn answer<P>(parts: &Parts<P>) -> Result<Option<SlotId>, PoolError>
     requires stands { Stands parts.now }
-    ensures fits { IfOk result (λ o. Accepts parts.now Ask.Prestart (Did.Prestart o)) }
+    ensures accepts { IfOk result (λ o. Accepts parts.now Ask.Prestart (Did.Prestart o)) }
     ensures next { IfOk result (λ o. IfSome o (λ w. w.0 ≡ parts.now.slots.next)) }
     ensures refuses { IfErr result (λ e. Refuses parts.now Ask.Prestart e) }
 {

@@ -49,7 +49,7 @@ fn present<P>(parts: &mut Parts<P>, t: TaskId) -> Option<P>
     parts.finish_task(t, Fate::Removed)
 }
 
-/// The task is not in the queue, and stays where it is.
+/// The task is not in the queue, and stays where it is: a worker may have taken it before.
 fn absent<P>(parts: &mut Parts<P>, t: TaskId)
     requires stands { Stands parts.old }
     requires fits { Fits parts.old (Ask.Remove t) (Did.Remove t false) }

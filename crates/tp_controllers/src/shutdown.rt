@@ -12,7 +12,7 @@ use tp_types::states::RunState;
 /// A shutdown always fits, a second one too. BookFull (5), which only a pool that is shut down answers.
 pub fn answer<P>(parts: &Parts<P>) -> Result<(), PoolError>
     requires stands { Stands parts.now }
-    ensures fits { OnOk result (Accepts parts.now Ask.Shutdown Did.Shutdown) }
+    ensures accepts { OnOk result (Accepts parts.now Ask.Shutdown Did.Shutdown) }
     ensures refuses { IfErr result (λ e. Refuses parts.now Ask.Shutdown e) }
 {
     if !parts.has_room(parts.owed_until(RunState::Shutdown), 0) {

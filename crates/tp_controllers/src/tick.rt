@@ -11,7 +11,7 @@ use tp_types::refusals::PoolError;
 /// Whether the moment may be `now`, in ticks. ClockBack (10) where it was later already, else BookFull (5).
 pub fn answer<P>(parts: &Parts<P>, now: u64) -> Result<(), PoolError>
     requires stands { Stands parts.now }
-    ensures fits { OnOk result (Accepts parts.now (Ask.Tick now) (Did.Tick now)) }
+    ensures accepts { OnOk result (Accepts parts.now (Ask.Tick now) (Did.Tick now)) }
     ensures refuses { IfErr result (λ e. Refuses parts.now (Ask.Tick now) e) }
 {
     if now < parts.moment {

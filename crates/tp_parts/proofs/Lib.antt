@@ -12,4 +12,5 @@ pub mod Answering
 pub mod Places
 pub mod Purging
 pub mod Falls
+pub mod Drains
 pub mod Reading

@@ -198,6 +198,10 @@ module _ {P : Type 0} where
       ∙ filters_swap c (λ y. not (y.1 == x.1)) (waiting_of old.queue).items
       ∙ without_place-first 0 (cancelled_items old) rest next x (Ordered-filter c 0 (waiting_of old.queue).items next o) is
 
+  -- the tasks and the queue alone are changed, by this task too
+  pub rest_on : (fn old new : Parts P) → new ≡ record old { tasks = new.tasks; queue = new.queue } → old ≡ record fn { tasks = old.tasks; queue = old.queue } → new ≡ record fn { tasks = new.tasks; queue = new.queue }
+  rest_on fn old new later before = later ∙ ap {A = Parts P} {B = Parts P} (λ p. record p { tasks = new.tasks; queue = new.queue }) before
+
   -- and leads on to the same end
   pub ends_less : (old new : Parts P) (t : TaskId) (number : ℕ) → Contains (waiting_of old.queue).items (t, number) → was_cancelled (row_of old.tasks t.0) ≡ true →
       ((v : View) → Views old v → Views new (less t.0 v)) → (v : View) → Ends old v → Ends new v

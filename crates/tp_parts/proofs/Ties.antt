@@ -1,5 +1,5 @@
 -- What ties the structures together lasts through a change of one of them.
-use Rattle.std.proofs.Common.{◌≡◌, ℕ, suc, List, [], ◌∷◌, drop, Some, None, Option, arith, sym, ap, subst, ◌∙◌, false, inl, inr, ◌<◌, ◌≤◌, true, refl, Bool}
+use Rattle.std.proofs.Common.{◌≡◌, ℕ, suc, List, [], ◌∷◌, drop, Some, None, Option, arith, sym, ap, subst, ◌∙◌, false, inl, inr, ◌<◌, ◌≤◌, true, refl}
 use Rattle.std.specs.Prelude.{is_some, nat_eq, ◌&&◌, IfSome, filter}
 use Rattle.std.specs.List.{Contains}
 use Rattle.std.proofs.lemmas.List.Elements.{Contains-append_right}
@@ -7,7 +7,6 @@ use Rattle.std.proofs.lemmas.Bool.{ne_eqb, cases_eq, false≢true}
 use Rattle.tp_types.specs.Promise.{FitsPromise}
 use Rattle.tp_types.specs.declared.configs.Config.{Config}
 use Rattle.tp_types.specs.declared.configs.QueueKind.TheVariants.{Unbounded}
-use Rattle.tp_types.specs.declared.ids.TaskId.{TaskId}
 use Rattle.tp_types.specs.declared.tasks.Promise.{Promise}
 use Rattle.tp_record.specs.declared.rows.TaskRow.{TaskRow}
 use Rattle.tp_record.specs.Effects.{Outcome}

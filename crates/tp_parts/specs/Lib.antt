@@ -5,4 +5,5 @@ pub mod Payloads
 pub mod Offers
 pub mod Memory
 pub mod Room
+pub mod Drained
 pub mod Purges

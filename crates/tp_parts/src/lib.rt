@@ -1,6 +1,7 @@
 //! What a pool keeps beside its record, the state that it shows, and the changes of which each step is made.
 #![tactic(auto)]
 
+pub mod drain_changes;
 pub mod entries;
 pub mod looks;
 pub mod offer_changes;

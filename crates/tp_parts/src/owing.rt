@@ -1,6 +1,6 @@
 //! By how much what is owed falls at a shutdown.
 
-ghost use Rattle.std.specs.Prelude.{◌≡◌, ◌+◌, ◌-◌, ◌==◌, count_by, if◌then◌else◌};
+ghost use Rattle.std.specs.Prelude.{◌≡◌, ◌+◌, ◌-◌, ◌^◌, ◌<◌, ◌==◌, count_by, if◌then◌else◌};
 ghost use Rattle.tp_types.specs.RunState.{state_rank};
 ghost use Rattle.tp_slots.specs.Table.{is_at_take};
 ghost use Rattle.tp_parts.specs.Steps.{Stands};
@@ -13,7 +13,8 @@ impl<P> Parts<P> {
     /// that is about to take may not be idle any more.
     pub fn owed_until(&self, state: RunState) -> u64
         requires stands { Stands self.now }
-        ensures { result ≡ (if state_rank self.now.state == 0 then count_by is_at_take self.now.slots.slots else 0) + (state_rank state - state_rank self.now.state) }
+        ensures falls { result ≡ (if state_rank self.now.state == 0 then count_by is_at_take self.now.slots.slots else 0) + (state_rank state - state_rank self.now.state) }
+        ensures few { result < 2 ^ 32 }
     {
         let workers = if self.state == RunState::Running {
             self.slots.at_take()

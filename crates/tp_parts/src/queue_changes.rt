@@ -2,6 +2,7 @@
 
 ghost use Rattle.std.specs.Prelude.{ℕ, ◌≡◌, drop};
 ghost use Rattle.tp_types.specs.declared.configs.Config.{Config};
+ghost use Rattle.tp_queue.specs.Queues.{waiting_of};
 ghost use Rattle.tp_shapes.specs.View.{View};
 ghost use Rattle.tp_parts.specs.Shows.{Views};
 ghost use Rattle.tp_parts.specs.Tied.{IsTied};
@@ -15,6 +16,7 @@ impl<P> Parts<P> {
         ensures views { (v : View) → Views self.old v → Views self.new (record v { queue = drop 1 v.queue }) }
         ensures tied { (c : Config) (n : ℕ) → IsTied c n self.old → IsTied c n self.new }
         ensures rest { self.new ≡ record self.old { queue = self.new.queue } }
+        ensures left { (waiting_of self.new.queue).items ≡ drop 1 (waiting_of self.old.queue).items }
     {
         self.queue.take_head();
     }

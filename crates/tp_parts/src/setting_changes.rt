@@ -1,11 +1,12 @@
 //! Changes of the settings, of the moment and of the run state, by which idle workers wake.
 
-ghost use Rattle.std.specs.Prelude.{ℕ, ◌≡◌, ◌≤◌, [], max, OnOk, OnErr};
+ghost use Rattle.std.specs.Prelude.{ℕ, ◌≡◌, ◌≤◌, [], max, OnOk, OnErr, ◌↔◌};
 ghost use Rattle.tp_types.specs.declared.configs.Config.{Config};
 ghost use Rattle.tp_types.specs.RunState.{state_rank};
+ghost use Rattle.tp_record.specs.State.{State};
 ghost use Rattle.tp_slots.specs.Table.{woken_row};
 ghost use Rattle.tp_shapes.specs.View.{View};
-ghost use Rattle.tp_parts.specs.Shows.{Views};
+ghost use Rattle.tp_parts.specs.Shows.{Views, Shows};
 ghost use Rattle.tp_parts.specs.Tied.{IsTied};
 
 use crate::parts::Parts;
@@ -24,9 +25,12 @@ impl<P> Parts<P> {
     }
 
     /// Makes room for so many slots, before the maximum is raised. An error is want of memory, refusal 4, and changes nothing.
+    /// Either way the same states are shown.
     pub fn make_places(&mut self, maximum: u32) -> Result<(), AllocError>
         ensures ok { OnOk result (self.new ≡ record self.old { slots = record self.old.slots { places = max self.old.slots.places maximum } }) }
         ensures err { OnErr result (self.new ≡ self.old) }
+        ensures same { (s : State) → Shows self.old s ↔ Shows self.new s }
+        ensures tied { (c : Config) (n : ℕ) → IsTied c n self.old → IsTied c n self.new }
     {
         self.slots.grow_to(maximum as usize)
     }

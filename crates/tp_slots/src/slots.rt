@@ -167,7 +167,8 @@ impl Slots {
         moment.saturating_sub(waits_since(stage, moment)) >= keep
     }
 
-    /// Makes a slot, under the next number, for a worker that is still to be made: for a first task or, with none, bare.
+    /// Makes a slot, under the next number, for a worker that is still to be made: for a first task or, with none, bare. Which
+    /// number comes next then is left open.
     pub fn reserve(&mut self, stage: Stage, task: Option<TaskId>) -> SlotId
         requires room { count_by is_some self.old.slots < self.old.places }
         requires reserved { is_reserved stage ≡ true }

@@ -59,7 +59,8 @@ pub fn apply<P>(parts: &mut Parts<P>, w: SlotId, t: TaskId, outcome: Outcome)
 /// Whether the task is plain, so that nobody keeps its fault, and this is one. It ends the worker, as an exception that
 /// leaves `run` does.
 fn is_plain_fault<P>(parts: &Parts<P>, t: TaskId, outcome: Outcome) -> bool
-    ensures { (s : State) (w : SlotId) → Shows parts.now s → result ≡ is_plain_fault (Did.End w t outcome) (λ u. (task_at s u).kind) }
+    ensures { (s : State) (w : SlotId) → Shows parts.now s →
+        result ≡ is_plain_fault (Did.End w t outcome) (λ u. (task_at s u).kind) }
 {
     let kind = match parts.tasks.row(t) {
         Some(row) => row.kind,
@@ -73,7 +74,8 @@ fn works<P>(parts: &mut Parts<P>, w: SlotId, t: TaskId, outcome: Outcome)
     requires stands { Stands parts.old }
     requires fits { Fits parts.old (Ask.End w outcome) (Did.End w t outcome) }
     requires promised { IfSome (promise_of parts.old.tasks t.0) (λ p. FitsPromise p outcome) }
-    requires lives { (s : State) → Shows parts.old s → is_plain_fault (Did.End w t outcome) (λ u. (task_at s u).kind) ≡ false }
+    requires lives { (s : State) → Shows parts.old s →
+        is_plain_fault (Did.End w t outcome) (λ u. (task_at s u).kind) ≡ false }
     ensures leads { Leads parts.old (Did.End w t outcome) parts.new }
     ensures payloads { Keeps parts.old.tasks parts.new.tasks }
 {
@@ -94,7 +96,8 @@ fn dies<P>(parts: &mut Parts<P>, w: SlotId, t: TaskId, outcome: Outcome)
     requires stands { Stands parts.old }
     requires fits { Fits parts.old (Ask.End w outcome) (Did.End w t outcome) }
     requires promised { IfSome (promise_of parts.old.tasks t.0) (λ p. FitsPromise p outcome) }
-    requires dies { (s : State) → Shows parts.old s → is_plain_fault (Did.End w t outcome) (λ u. (task_at s u).kind) ≡ true }
+    requires dies { (s : State) → Shows parts.old s →
+        is_plain_fault (Did.End w t outcome) (λ u. (task_at s u).kind) ≡ true }
     ensures leads { Leads parts.old (Did.End w t outcome) parts.new }
     ensures payloads { Keeps parts.old.tasks parts.new.tasks }
 {

@@ -13,7 +13,7 @@ use crate::owed::owed_at_take;
 use tp_parts::parts::Parts;
 use tp_queue::work::WorkQueue;
 use tp_record::entries::{Ask, Did, Took};
-use tp_record::rows::{SlotRow, Stage, TaskRow};
+use tp_record::rows::{SlotRow, Stage};
 use tp_types::ids::{SlotId, TaskId};
 use tp_types::refusals::PoolError;
 use tp_types::states::RunState;
@@ -38,7 +38,8 @@ pub fn answer<P>(parts: &Parts<P>, w: SlotId) -> Result<Took, PoolError>
 
 /// What a worker takes whose slot holds this task.
 fn first_task<P>(parts: &Parts<P>, t: TaskId) -> Result<Took, PoolError>
-    ensures { (s : State) (w : SlotId) → Shows parts.now s → held_answer w t (task_at s t.0).place ≡ result_map_both (λ k. Did.Take w k) (λ e. e) result }
+    ensures { (s : State) (w : SlotId) → Shows parts.now s →
+        held_answer w t (task_at s t.0).place ≡ result_map_both (λ k. Did.Take w k) (λ e. e) result }
 {
     let Some(row) = parts.tasks.row(t) else {
         return Err(PoolError::NotThere);
@@ -51,7 +52,8 @@ fn first_task<P>(parts: &Parts<P>, t: TaskId) -> Result<Took, PoolError>
 
 /// What a worker takes whose slot holds no task.
 fn next_task<P>(parts: &Parts<P>, stage: Stage) -> Result<Took, PoolError>
-    ensures { (s : State) (w : SlotId) → Shows parts.now s → take_next s w stage ≡ result_map_both (λ k. Did.Take w k) (λ e. e) result }
+    ensures { (s : State) (w : SlotId) → Shows parts.now s →
+        take_next s w stage ≡ result_map_both (λ k. Did.Take w k) (λ e. e) result }
 {
     if retires(parts) {
         return Ok(Took::Leave);
@@ -78,7 +80,9 @@ fn next_task<P>(parts: &Parts<P>, stage: Stage) -> Result<Took, PoolError>
 /// Whether a worker without a task leaves whatever time it has waited: where its pool is stopped, or shut down with nothing
 /// queued, and where there are more slots than the maximum.
 fn retires<P>(parts: &Parts<P>) -> bool
-    ensures { (s : State) → Shows parts.now s → result ≡ ((nat_le 2 s.rank || (s.rank == 1 && length s.queue == 0)) || (nat_lt s.maximum (slot_count s) && (nat_lt 1 (slot_count s) || length s.queue == 0))) }
+    ensures { (s : State) → Shows parts.now s → result ≡
+        ((nat_le 2 s.rank || (s.rank == 1 && length s.queue == 0))
+        || (nat_lt s.maximum (slot_count s) && (nat_lt 1 (slot_count s) || length s.queue == 0))) }
 {
     let is_empty = parts.queue.len() == 0;
     let is_over = match parts.state {

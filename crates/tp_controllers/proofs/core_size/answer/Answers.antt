@@ -38,8 +38,8 @@ returns-then-not-has_room-clause-refuses g c =
     let n = c.args.core in
     refuses_fitting p (ask.Core n) (did.Core n _) 0 0 c.has_room.result c.has_room.ensures c.if-not-has_room.true (fits p n (omega arith)) (λ s w. refl) (moves p n _)
 
-pub returns-clause-fits : goal.returns-clause-fits
-returns-clause-fits g c =
+pub returns-clause-accepts : goal.returns-clause-accepts
+returns-clause-accepts g c =
     let p = c.args.parts.now in
     let n = c.args.core in
     let e : c.min.result ≡ asked p n = cc in

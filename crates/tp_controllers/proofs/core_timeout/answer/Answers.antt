@@ -33,8 +33,8 @@ returns-then-not-has_room-clause-refuses g c =
     ] in
     refuses_fitting p (ask.CoreTimeout on) (did.CoreTimeout on) 0 0 c.has_room.result c.has_room.ensures c.if-not-has_room.true (fits p on (good on p.keep is)) (λ s w. refl) (moves p on)
 
-pub returns-clause-fits : goal.returns-clause-fits
-returns-clause-fits g c =
+pub returns-clause-accepts : goal.returns-clause-accepts
+returns-clause-accepts g c =
     let p = c.args.parts.now in
     let on = c.args.on in
     let is : on ≡ true → p.keep ≡ 0 → ⊥ = elim c.else-on.branch [

@@ -32,8 +32,8 @@ returns-then-not-has_room-clause-refuses g c =
     ] in
     refuses_fitting p (ask.Keep n) (did.Keep n) 0 0 c.has_room.result c.has_room.ensures c.if-not-has_room.true (fits p n (good n p.core_timeout is)) (λ s w. refl) (moves p n)
 
-pub returns-clause-fits : goal.returns-clause-fits
-returns-clause-fits g c =
+pub returns-clause-accepts : goal.returns-clause-accepts
+returns-clause-accepts g c =
     let p = c.args.parts.now in
     let n = c.args.keep in
     let is : n ≡ 0 → p.core_timeout ≡ false = elim c.else-keep-eq0.branch [

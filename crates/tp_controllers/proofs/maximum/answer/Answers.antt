@@ -29,8 +29,8 @@ returns-then-not-has_room-clause-refuses g c =
     let n = c.args.maximum in
     refuses_fitting p (ask.Maximum n) (did.Maximum n) 0 0 c.has_room.result c.has_room.ensures c.if-not-has_room.true (fits p n (omega arith) (omega arith) (omega arith)) (λ s w. refl) (moves p n)
 
-pub returns-clause-fits : goal.returns-clause-fits
-returns-clause-fits g c =
+pub returns-clause-accepts : goal.returns-clause-accepts
+returns-clause-accepts g c =
     let p = c.args.parts.now in
     let n = c.args.maximum in
     accepts_room p (ask.Maximum n) (did.Maximum n) 0 0 c.has_room.result c.has_room.ensures c.if-not-has_room.false (fits p n (omega arith) (omega arith) (omega arith)) (moves p n)

@@ -38,8 +38,8 @@ returns-then-not-has_room-clause-refuses g c =
     refuses_room p ask.Prestart 0 0 c.has_room.result c.has_room.ensures c.if-not-has_room.true
     (λ h legal sh w free. (did.Prestart None, answered (state p.config h) w false (sym c.if-not-is_wanted.true ∙ c.is_wanted.ensures (state p.config h) sh) p.config, tt, moves_none p))
 
-pub returns-then-not-is_wanted-clause-fits : goal.returns-then-not-is_wanted-clause-fits
-returns-then-not-is_wanted-clause-fits g c =
+pub returns-then-not-is_wanted-clause-accepts : goal.returns-then-not-is_wanted-clause-accepts
+returns-then-not-is_wanted-clause-accepts g c =
     let p = c.args.parts.now in
     accepts_room p ask.Prestart (did.Prestart None) 0 0 c.has_room.result c.has_room.ensures c.if-not-has_room.false
     (fits_none p (λ s sh. sym c.if-not-is_wanted.true ∙ c.is_wanted.ensures s sh)) (moves_none p)
@@ -59,8 +59,8 @@ returns-then-not-has_room-2-clause-refuses g c =
     free_now s w (inl none) = ap (λ o. is_none o || false) none
     free_now s w (inr other) = absurd (let e : ⊥ = cc in e)
 
-pub returns-clause-fits : goal.returns-clause-fits
-returns-clause-fits g c =
+pub returns-clause-accepts : goal.returns-clause-accepts
+returns-clause-accepts g c =
     let p = c.args.parts.now in
     let w = c.next_number.result in
     accepts_room p ask.Prestart (did.Prestart (Some w)) 0 3 c.has_room-2.result c.has_room-2.ensures c.if-not-has_room-2.false

@@ -11,12 +11,12 @@ pub returns-then-not-has_room-clause-refuses : goal.returns-then-not-has_room-cl
 returns-then-not-has_room-clause-refuses g c =
     let p = c.args.parts.now in
     let n = c.owed_until.result in
-    let moves : Moves p n 0 did.Shutdown = λ h legal sh given. (_, effect_by (state p.config h) did.Shutdown _ _ n 0 (owed_read p (state p.config h) 1 sh ∙ sym c.owed_until.ensures) (shutdown_effect p.config h legal given)) in
+    let moves : Moves p n 0 did.Shutdown = λ h legal sh given. (_, effect_by (state p.config h) did.Shutdown _ _ n 0 (owed_read p (state p.config h) 1 sh ∙ sym c.owed_until.ensures.falls) (shutdown_effect p.config h legal given)) in
     refuses_fitting p ask.Shutdown did.Shutdown n 0 c.has_room.result c.has_room.ensures c.if-not-has_room.true (λ h legal sh. (refl, tt)) (λ s w. refl) moves
 
-pub returns-clause-fits : goal.returns-clause-fits
-returns-clause-fits g c =
+pub returns-clause-accepts : goal.returns-clause-accepts
+returns-clause-accepts g c =
     let p = c.args.parts.now in
     let n = c.owed_until.result in
-    let moves : Moves p n 0 did.Shutdown = λ h legal sh given. (_, effect_by (state p.config h) did.Shutdown _ _ n 0 (owed_read p (state p.config h) 1 sh ∙ sym c.owed_until.ensures) (shutdown_effect p.config h legal given)) in
+    let moves : Moves p n 0 did.Shutdown = λ h legal sh given. (_, effect_by (state p.config h) did.Shutdown _ _ n 0 (owed_read p (state p.config h) 1 sh ∙ sym c.owed_until.ensures.falls) (shutdown_effect p.config h legal given)) in
     accepts_room p ask.Shutdown did.Shutdown n 0 c.has_room.result c.has_room.ensures c.if-not-has_room.false (λ h legal sh. (refl, tt)) moves

@@ -13,7 +13,7 @@ count_entry-requires-clause-few g c =
     let old = c.args.parts.now in
     let h = c.requires.stands.history in
     let n = c.owed_until.result in
-    let falls = owed_read old (state old.config h) 1 c.requires.stands.shows ∙ sym c.owed_until.ensures in
+    let falls = owed_read old (state old.config h) 1 c.requires.stands.shows ∙ sym c.owed_until.ensures.falls in
     (entry_here old c.requires.stands ask.Shutdown did.Shutdown _ n 0 n c.requires.fits (λ given. effect_by (state old.config h) did.Shutdown _ _ n 0 falls (shutdown_effect old.config h c.requires.stands.legal given)) (omega arith)).0
 
 pub count_entry-requires-clause-fall : goal.count_entry-requires-clause-fall
@@ -21,7 +21,7 @@ count_entry-requires-clause-fall g c =
     let old = c.args.parts.now in
     let h = c.requires.stands.history in
     let n = c.owed_until.result in
-    let falls = owed_read old (state old.config h) 1 c.requires.stands.shows ∙ sym c.owed_until.ensures in
+    let falls = owed_read old (state old.config h) 1 c.requires.stands.shows ∙ sym c.owed_until.ensures.falls in
     (entry_here old c.requires.stands ask.Shutdown did.Shutdown _ n 0 n c.requires.fits (λ given. effect_by (state old.config h) did.Shutdown _ _ n 0 falls (shutdown_effect old.config h c.requires.stands.legal given)) (omega arith)).1
 
 pub returns-clause-leads : goal.returns-clause-leads
@@ -35,7 +35,7 @@ returns-clause-leads g c =
     leads_from old c.wake_all.new.self ask.Shutdown did.Shutdown n 0 n stands c.requires.fits
     (λ h legal given sh. (
       _,
-      effect_by (state old.config h) did.Shutdown _ _ n 0 (owed_read old (state old.config h) 1 sh ∙ sym c.owed_until.ensures) (shutdown_effect old.config h legal given),
+      effect_by (state old.config h) did.Shutdown _ _ n 0 (owed_read old (state old.config h) 1 sh ∙ sym c.owed_until.ensures.falls) (shutdown_effect old.config h legal given),
       c.wake_all.ensures.views _ (c.reach.ensures.views _ (c.count_entry.ensures.views _ sh.seen)),
     ))
     (omega arith) (cc) (cc) (cc)

@@ -23,8 +23,8 @@ returns-then-not-has_room-clause-refuses g c =
     let n = c.args.now in
     refuses_fitting p (ask.Tick n) (did.Tick n) 0 0 c.has_room.result c.has_room.ensures c.if-not-has_room.true (fits p n (omega arith)) (λ s w. refl) (moves p n)
 
-pub returns-clause-fits : goal.returns-clause-fits
-returns-clause-fits g c =
+pub returns-clause-accepts : goal.returns-clause-accepts
+returns-clause-accepts g c =
     let p = c.args.parts.now in
     let n = c.args.now in
     accepts_room p (ask.Tick n) (did.Tick n) 0 0 c.has_room.result c.has_room.ensures c.if-not-has_room.false (fits p n (omega arith)) (moves p n)

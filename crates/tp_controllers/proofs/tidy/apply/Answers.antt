@@ -31,7 +31,7 @@ count_entry-requires g c =
     let s = state old.config stands.history in
     let given = given_here old stands ask.Tidy did.Tidy c.requires.fits in
     let n = c.owed_until.result in
-    let falls = alone s.rank (count_by is_at_take s.slots) (between stands.history given.1).0 ∙ owed_read old s 3 stands.shows ∙ sym c.owed_until.ensures in
+    let falls = alone s.rank (count_by is_at_take s.slots) (between stands.history given.1).0 ∙ owed_read old s 3 stands.shows ∙ sym c.owed_until.ensures.falls in
     let e = entry_here old stands ask.Tidy did.Tidy _ n 0 n c.requires.fits (λ given. effect_by s did.Tidy _ _ n 0 falls (tidy_effect old.config stands.history stands.legal given)) (omega arith) in
     record { few = e.0; fall = e.1 }
 
@@ -48,7 +48,7 @@ returns-clause-leads g c =
     let V : ℕ → Type 0 = λ m. Views c.reach.new.self (record (view s) { rank = m }) in
     let three : max 3 s.rank ≡ 3 = omega (arith, low.1) in (
       _,
-      effect_by s did.Tidy _ _ n 0 (alone s.rank (count_by is_at_take s.slots) low.0 ∙ owed_read old s 3 sh ∙ sym c.owed_until.ensures) (tidy_effect old.config h legal given),
+      effect_by s did.Tidy _ _ n 0 (alone s.rank (count_by is_at_take s.slots) low.0 ∙ owed_read old s 3 sh ∙ sym c.owed_until.ensures.falls) (tidy_effect old.config h legal given),
       subst V three (c.reach.ensures.views _ (c.count_entry.ensures.views _ sh.seen)),
     ))
     (omega arith) (cc) (cc) (cc) (λ tied. c.reach.ensures.tied old.config (suc old.steps) (c.count_entry.ensures.tied old.config (suc old.steps) tied))

@@ -7,7 +7,7 @@ use Rattle.tp_tasks.specs.Tasks.{row_of}
 use Rattle.tp_parts.specs.declared.parts.Parts.{Parts}
 use Rattle.tp_parts.specs.Purges.{was_cancelled, cancelled_items}
 use Rattle.tp_parts.proofs.Places.{Ordered-filter, from_zero, place_below, place_next, place_none, behind_first, first_passes}
-use Rattle.tp_parts.proofs.Purging.{cancelled_left, ends_less, ends_done}
+use Rattle.tp_parts.proofs.Purging.{cancelled_left, rest_on, ends_less, ends_done}
 use Rattle.tp_parts.proofs.parts.Parts.purge.Goals as goal
 
 pub loop-t-init : goal.loop-t-init
@@ -68,7 +68,7 @@ loop-t-preserved g c =
       ends = λ v views holds. ends_less p c.purge_task.new.self c.in-Some.t c.in-Some.number passes.1 passes.0 m.views v (i.ends v views holds);
       behind = ap (from_place (c.in-Some.number + 1)) less ∙ behind_first (cancelled_items p) _ _ (c.in-Some.t, c.in-Some.number) o is ∙ sym less;
       tied = λ config n tied. m.tied config n (i.tied config n tied);
-      rest = m.rest ∙ ap {A = Parts g.row.P.Denot} {B = Parts g.row.P.Denot} (λ q. record q { tasks = c.purge_task.new.self.tasks; queue = c.purge_task.new.self.queue }) i.rest;
+      rest = rest_on c.args.self.now p c.purge_task.new.self m.rest i.rest;
       payloads = record { payloads = λ t. m.payloads.payloads t ∙ i.payloads.payloads t; promises = λ t. m.payloads.promises t ∙ i.payloads.promises t };
     }
 
