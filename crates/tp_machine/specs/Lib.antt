@@ -1,3 +1,5 @@
-pub mod Answers
+pub mod Handed
+pub mod Owed
+pub mod Parts
 pub mod Seen
-pub mod Steps
+pub mod Settings

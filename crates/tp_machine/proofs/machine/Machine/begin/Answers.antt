@@ -1,22 +1,28 @@
-use Rattle.std.proofs.Common.{sym, subst}
+use Rattle.std.proofs.Common.{◌≡◌, ◌∙◌, sym, ap, arith, length, map, set, false, None}
+use Rattle.std.specs.Prelude.{is_some}
+use Rattle.std.proofs.lemmas.List.{map-set, length-set}
 use Rattle.tp_record.specs.declared.entries.Ask.TheVariants as ask
 use Rattle.tp_record.specs.declared.entries.Did.TheVariants as did
-use Rattle.tp_workers.specs.Begun.{Begins}
-use Rattle.tp_machine.specs.Steps.{IsStep}
-use Rattle.tp_machine.proofs.Stepping.{step_made, step_sound}
-use Rattle.tp_machine.proofs.Begun.{begin_pays}
+use Rattle.tp_machine.proofs.Keeps.{refuses_there, sound_next}
 use Rattle.tp_machine.proofs.machine.Machine.begin.Goals as goal
 
-pub of-requires : goal.of-requires
-of-requires g c = begin_pays c.self.inside.parts.tasks c.in-Ok.started c.apply-payload.new.parts.tasks c.apply-payload.result c.apply-payload.ensures.payloads
+pub returns-in-Err-clause-refuses : goal.returns-in-Err-clause-refuses
+returns-in-Err-clause-refuses g c =
+    let n : c.len-steps.result ≡ length c.self.inside.entries.items = omega arith in
+    rw (← c.self.view_is) (refuses_there _ _ _ _ _ c.self.inside.parts c.self.invariant _ n (ask.Begin c.args.w) _ c.in-Err.ensures.refuses)
 
-pub invariant_of-self : goal.invariant_of-self
-invariant_of-self g c =
-    step_sound g.R.Recorder.tells g.R.Recorder.places c.self.inside.parts c.self.inside.noted _ c.args.by (ask.Begin c.args.w) (did.Begin c.args.w c.in-Ok.started)
-    c.note_owed.ensures.accepts c.apply-payload.ensures.leads c.note_owed.ensures.tells c.self.invariant c.note_owed.ensures.places
+pub invariant_of-self-in-Run : goal.invariant_of-self-in-Run
+invariant_of-self-in-Run g c =
+    let n : c.len-steps.result ≡ length c.self.inside.entries.items = omega arith in
+    let taken = ap (map is_some) c.take_payload.ensures.after ∙ map-set is_some _ c.in-Run.t.0 None in
+    sound_next _ _ _ _ _ c.self.inside.parts c.self.invariant _ n c.args.by (ask.Begin c.args.w) (did.Begin c.args.w c.in-Ok.started) _ _ _ _ _ c.in-Ok.ensures.goes c.note.ensures.entries
+    (omega (arith, c.note.ensures.room))
+    (taken ∙ ap (λ ws. set ws c.in-Run.t.0 false) c.self.invariant.payloads_kept ∙ sym (rw c.in-Run.is at c.in-Ok.ensures.waits))
+    (c.self.invariant.promises_kept ∙ sym (ap length taken ∙ length-set _ c.in-Run.t.0 false))
 
-pub returns-clause-step : goal.returns-clause-step
-returns-clause-step g c =
-    subst (λ s. IsStep g.R.Recorder.tells c.args.self.now (record { parts = c.apply-payload.new.parts; noted = c.note_owed.new.noted }) c.args.by (ask.Begin c.args.w) (did.Begin c.args.w s)) (sym c.of.ensures.started)
-    (step_made g.R.Recorder.tells g.R.Recorder.places c.self.inside.parts c.self.inside.noted _ c.args.by (ask.Begin c.args.w) (did.Begin c.args.w c.in-Ok.started)
-    c.note_owed.ensures.accepts c.apply-payload.ensures.leads c.note_owed.ensures.tells c.args.self.now c.self.view_is)
+pub invariant_of-self-in-Skip : goal.invariant_of-self-in-Skip
+invariant_of-self-in-Skip g c =
+    let n : c.len-steps.result ≡ length c.self.inside.entries.items = omega arith in
+    sound_next _ _ _ _ _ c.self.inside.parts c.self.invariant _ n c.args.by (ask.Begin c.args.w) (did.Begin c.args.w c.in-Ok.started) _ _ _ _ _ c.in-Ok.ensures.goes c.note.ensures.entries
+    (omega (arith, c.note.ensures.room))
+    (c.self.invariant.payloads_kept ∙ sym (rw c.in-Skip.is at c.in-Ok.ensures.waits)) c.self.invariant.promises_kept
