@@ -1,0 +1,4 @@
+pub mod Stepping
+pub mod Begun
+pub mod Promised
+pub mod Stopping
