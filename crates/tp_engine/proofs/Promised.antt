@@ -1,5 +1,5 @@
 -- An outcome that is as the task promised that ends.
-use Rattle.std.proofs.Common.{◌≡◌, Some, ap, ◌∙◌}
+use Rattle.std.proofs.Common.{Some, ap, ◌∙◌}
 use Rattle.std.specs.Prelude.{option_map, IfSome}
 use Rattle.tp_types.specs.Promise.{FitsPromise}
 use Rattle.tp_types.specs.declared.ids.TaskId.{TaskId}
@@ -13,7 +13,7 @@ use Rattle.tp_tasks.specs.Tasks.{promise_of}
 use Rattle.tp_parts.specs.declared.parts.Parts.{Parts}
 use Rattle.tp_parts.specs.Steps.{Stands, Fits}
 use Rattle.tp_parts.proofs.Standing.{given_here, seat_here, task_here}
-use Rattle.tp_engine.specs.Seen.{Seen, FitsThere, FitsAtCaller, task_of_row}
+use Rattle.tp_engine.specs.Seen.{FitsThere, FitsAtCaller, task_of_row}
 
 module _ {P R : Type 0} (p : Parts P) (noted : R) (stands : Stands p) where
   -- the task that a worker ends runs in its slot

@@ -1,5 +1,5 @@
 -- An accepted answer that is made and noted is a step.
-use Rattle.std.proofs.Common.{◌≡◌, ℕ, suc, ◌+◌, ◌≤◌, ◌<◌, List, [], ◌∷◌, true, arith, sym, ap, subst, ◌∙◌, inl, inr}
+use Rattle.std.proofs.Common.{◌≡◌, ℕ, ◌+◌, ◌≤◌, List, [], ◌∷◌, true, arith, sym, ap, subst, ◌∙◌, inl, inr}
 use Rattle.tp_types.specs.declared.configs.Config.{Config}
 use Rattle.tp_record.specs.declared.entries.Entry.{Entry}
 use Rattle.tp_record.specs.declared.entries.Ask.{Ask}
@@ -14,8 +14,8 @@ use Rattle.tp_model.proofs.NextState.{next_is_state}
 use Rattle.tp_parts.specs.declared.parts.Parts.{Parts}
 use Rattle.tp_parts.specs.Tied.{IsTied, IsNew}
 use Rattle.tp_parts.specs.Shows.{Shows}
-use Rattle.tp_parts.specs.Steps.{Stands, Accepts, Refuses, Leads}
-use Rattle.tp_engine.specs.Seen.{Seen, At, IsSound, config_of}
+use Rattle.tp_parts.specs.Steps.{Accepts, Refuses, Leads}
+use Rattle.tp_engine.specs.Seen.{Seen, IsSound}
 use Rattle.tp_engine.specs.Steps.{IsStep, Stays, IsRefusedBy}
 
 -- from structures and a record that are seen as `old` to those of `new`

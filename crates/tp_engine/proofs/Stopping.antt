@@ -8,7 +8,7 @@ use Rattle.tp_record.specs.declared.entries.Did.TheVariants as did
 use Rattle.tp_record.specs.Fields.{queue}
 use Rattle.tp_queue.specs.Queues.{waiting_of}
 use Rattle.tp_tasks.specs.declared.tasks.Tasks.{Tasks}
-use Rattle.tp_tasks.specs.Tasks.{payload_of, promise_of}
+use Rattle.tp_tasks.specs.Tasks.{payload_of}
 use Rattle.tp_parts.specs.declared.parts.Parts.{Parts}
 use Rattle.tp_parts.specs.Drained.{handed_back, HandsOutAll, is_among}
 use Rattle.tp_parts.specs.Shows.{numbers}

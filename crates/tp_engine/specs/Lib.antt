@@ -1,3 +1,5 @@
 pub mod Answers
+pub mod Readings
 pub mod Seen
+pub mod Stepped
 pub mod Steps

@@ -28,6 +28,16 @@ impl<P> Begun<P> {
             _ => unreachable!(),
         }
     }
+
+    /// What began, without the payload.
+    pub fn started(&self) -> Started
+        ensures { result ≡ started_of self.now }
+    {
+        match self {
+            Begun::Run(t, _) => Started::Run(*t),
+            Begun::Skip(t) => Started::Skip(*t),
+        }
+    }
 }
 
 /// What a verdict made of a refused task.

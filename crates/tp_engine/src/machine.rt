@@ -87,6 +87,9 @@ fn note_owed<P, R: Recorder>(parts: &Parts<P>, noted: &mut R, by: u32, ask: Ask,
 }
 
 pub mod controllers;
+mod dispatch;
 pub mod kept;
+pub mod laws;
+pub mod readings;
 pub mod submitters;
 pub mod workers;

@@ -1,6 +1,6 @@
 //! Controllers' steps.
 
-ghost use Rattle.std.specs.Prelude.{◌≡◌, List, length, map, IfOk, IfErr, OnOk, OnErr, is_some};
+ghost use Rattle.std.specs.Prelude.{◌≡◌, ◌<◌, ◌^◌, List, length, map, IfOk, IfErr, OnOk, OnErr, is_some};
 ghost use Rattle.tp_record.specs.declared.entries.Entry.{Entry};
 ghost use Rattle.tp_record.specs.Fields.{queue};
 ghost use Rattle.tp_parts.specs.Payloads.{Keeps, HandsOut};
@@ -225,6 +225,7 @@ impl<P, R: Recorder> Machine<P, R> {
     /// not cancelled. BookFull (5), or NoMemory (4) for the answer: nothing has changed.
     pub fn stop_now(&mut self, by: u32) -> Result<Vec<(TaskId, Option<P>)>, PoolError>
         ensures step { IfOk result (λ r. IsStep R.tells self.old self.new by Ask.Stop (Did.Stop (length r.items))) }
+        ensures counted { IfOk result (λ r. length r.items < 2 ^ 32) }
         ensures order { IfOk result (λ r. (h : List Entry) → At R.tells self.old h → map (λ x. x.0.0) r.items ≡ queue h) }
         ensures payloads { IfOk result (λ r. HandsBack self.old.parts.tasks self.new.parts.tasks r.items) }
         ensures refused { IfErr result (λ e. IsRefusedBy R.tells self.old Ask.Stop e) }

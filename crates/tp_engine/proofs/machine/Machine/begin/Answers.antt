@@ -1,7 +1,6 @@
 use Rattle.std.proofs.Common.{sym, subst}
 use Rattle.tp_record.specs.declared.entries.Ask.TheVariants as ask
 use Rattle.tp_record.specs.declared.entries.Did.TheVariants as did
-use Rattle.tp_workers.specs.Begun.{Begins}
 use Rattle.tp_engine.specs.Steps.{IsStep}
 use Rattle.tp_engine.proofs.Stepping.{step_made, step_sound}
 use Rattle.tp_engine.proofs.Begun.{begin_pays}

@@ -1,4 +1,4 @@
-use Rattle.std.proofs.Common.{subst, refl, ◌∙◌, ap}
+use Rattle.std.proofs.Common.{arith, subst, refl}
 use Rattle.tp_record.specs.declared.entries.Ask.TheVariants as ask
 use Rattle.tp_record.specs.declared.entries.Did.TheVariants as did
 use Rattle.tp_parts.proofs.Standing.{fits_accepted}
@@ -37,3 +37,9 @@ pub returns-clause-payloads : goal.returns-clause-payloads
 returns-clause-payloads g c =
     subst (λ m. HandsBack m.parts.tasks c.apply.new.parts.tasks c.apply.new.drained.items) c.self.view_is
     (hands_back c.self.inside.parts c.apply.new.parts.tasks c.in-Ok-prepare.drained.items c.apply.new.drained.items c.in-Ok-prepare.ensures.empty c.apply.ensures.handed c.apply.ensures.payloads)
+
+pub returns-clause-counted : goal.returns-clause-counted
+returns-clause-counted g c =
+    let fits = fits_accepted c.self.inside.parts ask.Stop (did.Stop c.in-Ok.count) c.in-Ok.ensures.accepts in
+    let counted = count_handed c.self.inside.parts c.self.invariant.stands c.in-Ok.count c.in-Ok-prepare.drained.items c.apply.new.drained.items fits c.in-Ok-prepare.ensures.empty c.apply.ensures.handed in
+    omega (arith, counted)

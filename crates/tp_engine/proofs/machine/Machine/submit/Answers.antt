@@ -5,7 +5,6 @@ use Rattle.tp_record.specs.declared.entries.Did.TheVariants as did
 use Rattle.tp_tasks.specs.Tasks.{submissions}
 use Rattle.tp_parts.specs.Steps.{Accepts, Leads}
 use Rattle.tp_parts.proofs.Standing.{fits_accepted}
-use Rattle.tp_engine.specs.Steps.{IsStep}
 use Rattle.tp_engine.proofs.Stepping.{step_made, step_sound, same_sound, same_stays, step_after, refused_memory}
 use Rattle.tp_engine.proofs.machine.Machine.submit.Goals as goal
 
