@@ -7,7 +7,7 @@ use Rattle.tp_types.specs.declared.configs.Config.{Config}
 use Rattle.tp_types.specs.declared.configs.QueueKind.TheVariants.{Handoff}
 use Rattle.tp_types.specs.declared.configs.Policy.TheVariants as policy
 use Rattle.tp_types.specs.declared.configs.Verdict.TheVariants as verdict
-use Rattle.tp_types.specs.declared.refusals.PoolError.TheVariants.{NotThere, NotFuture}
+use Rattle.tp_types.specs.declared.refusals.PoolError.TheVariants.{NotThere, NotFuture, CancelledTask}
 use Rattle.tp_record.specs.declared.entries.Entry.{Entry}
 use Rattle.tp_record.specs.declared.entries.Ask.TheVariants as ask
 use Rattle.tp_record.specs.declared.entries.Did.TheVariants as did
@@ -16,7 +16,7 @@ use Rattle.tp_record.specs.declared.entries.Offered.TheVariants as offered
 use Rattle.tp_record.specs.declared.entries.Grown.TheVariants as grown
 use Rattle.tp_record.specs.declared.entries.Ruled.TheVariants as ruled
 use Rattle.tp_record.specs.Fields.{queue}
-use Rattle.tp_record.specs.State.{state, fate_of, counts}
+use Rattle.tp_record.specs.State.{state, fate_of, result_of, counts}
 use Rattle.tp_record.specs.Step.{step, Legal}
 use Rattle.tp_record.specs.Words.{waiting_line, has_fate, counters}
 use Rattle.tp_rows.proofs.Entries.{entry}
@@ -105,6 +105,9 @@ rank_last = refl
 
 pub fates_last : map fate_of (state config h21).tasks ≡ None ∷ Some fate.Cancelled ∷ Some fate.RunByCaller ∷ None ∷ []
 fates_last = refl
+
+pub results_last : map result_of (state config h21).tasks ≡ None ∷ Some (Err CancelledTask) ∷ Some (Ok (pos 8)) ∷ None ∷ []
+results_last = refl
 
 pub counts_last : counts (state config h21) ≡ record { submitted = 4; run = 0; caller = 1; rejected = 0; discarded = 0; handedback = 0; removed = 0; cancelled = 1; completed = 0; queued = 0; live = 0; largest = 0 }
 counts_last = refl

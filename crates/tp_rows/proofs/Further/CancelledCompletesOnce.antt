@@ -6,7 +6,7 @@ use Rattle.tp_types.specs.declared.tasks.Fate.TheVariants as fate
 use Rattle.tp_types.specs.declared.configs.Config.{Config}
 use Rattle.tp_types.specs.declared.configs.QueueKind.TheVariants.{Unbounded}
 use Rattle.tp_types.specs.declared.configs.Policy.TheVariants as policy
-use Rattle.tp_types.specs.declared.refusals.PoolError.TheVariants.{NotThere}
+use Rattle.tp_types.specs.declared.refusals.PoolError.TheVariants.{NotThere, CancelledTask}
 use Rattle.tp_record.specs.declared.entries.Entry.{Entry}
 use Rattle.tp_record.specs.declared.entries.Ask.TheVariants as ask
 use Rattle.tp_record.specs.declared.entries.Did.TheVariants as did
@@ -17,7 +17,7 @@ use Rattle.tp_record.specs.declared.entries.Opened.TheVariants as opened
 use Rattle.tp_record.specs.declared.entries.Took.TheVariants as took
 use Rattle.tp_record.specs.declared.entries.Started.TheVariants as started
 use Rattle.tp_record.specs.Fields.{queue}
-use Rattle.tp_record.specs.State.{state, fate_of, counts}
+use Rattle.tp_record.specs.State.{state, fate_of, result_of, counts}
 use Rattle.tp_record.specs.Step.{step, Legal}
 use Rattle.tp_record.specs.Words.{waiting_line, has_fate, counters}
 use Rattle.tp_rows.proofs.Entries.{entry}
@@ -127,6 +127,9 @@ rank_last = refl
 
 pub fates_last : map fate_of (state config h28).tasks ≡ Some fate.Cancelled ∷ Some fate.Run ∷ Some fate.Cancelled ∷ Some fate.Run ∷ []
 fates_last = refl
+
+pub results_last : map result_of (state config h28).tasks ≡ Some (Err CancelledTask) ∷ Some (Ok (pos 6)) ∷ Some (Err CancelledTask) ∷ Some (Ok (pos 8)) ∷ []
+results_last = refl
 
 pub counts_last : counts (state config h28) ≡ record { submitted = 4; run = 2; caller = 0; rejected = 0; discarded = 0; handedback = 0; removed = 0; cancelled = 2; completed = 4; queued = 0; live = 2; largest = 2 }
 counts_last = refl

@@ -6,7 +6,7 @@ use Rattle.tp_types.specs.declared.configs.Config.{Config}
 use Rattle.tp_types.specs.declared.configs.QueueKind.TheVariants.{Bounded}
 use Rattle.tp_types.specs.declared.configs.Policy.TheVariants as policy
 use Rattle.tp_types.specs.declared.configs.Verdict.TheVariants as verdict
-use Rattle.tp_types.specs.declared.refusals.PoolError.TheVariants.{NotThere}
+use Rattle.tp_types.specs.declared.refusals.PoolError.TheVariants.{NotThere, CancelledTask}
 use Rattle.tp_record.specs.declared.entries.Entry.{Entry}
 use Rattle.tp_record.specs.declared.entries.Ask.TheVariants as ask
 use Rattle.tp_record.specs.declared.entries.Did.TheVariants as did
@@ -18,7 +18,7 @@ use Rattle.tp_record.specs.declared.entries.Ruled.TheVariants as ruled
 use Rattle.tp_record.specs.declared.entries.Opened.TheVariants as opened
 use Rattle.tp_record.specs.declared.entries.Failed.TheVariants as failed
 use Rattle.tp_record.specs.Fields.{queue}
-use Rattle.tp_record.specs.State.{state, fate_of, counts}
+use Rattle.tp_record.specs.State.{state, fate_of, result_of, counts}
 use Rattle.tp_record.specs.Step.{step, Legal}
 use Rattle.tp_record.specs.Words.{waiting_line, has_fate, counters}
 use Rattle.tp_rows.proofs.Entries.{entry}
@@ -95,6 +95,9 @@ rank_last = refl
 
 pub fates_last : map fate_of (state config h18).tasks ≡ None ∷ Some fate.Cancelled ∷ None ∷ None ∷ []
 fates_last = refl
+
+pub results_last : map result_of (state config h18).tasks ≡ None ∷ Some (Err CancelledTask) ∷ None ∷ None ∷ []
+results_last = refl
 
 pub counts_last : counts (state config h18) ≡ record { submitted = 4; run = 0; caller = 0; rejected = 0; discarded = 0; handedback = 0; removed = 0; cancelled = 1; completed = 0; queued = 1; live = 1; largest = 1 }
 counts_last = refl

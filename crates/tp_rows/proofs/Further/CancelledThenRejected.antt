@@ -1,11 +1,12 @@
 -- Worked row cancelled then rejected: each entry is the one that the step gives at its front, and each refusal is the step's.
-use Rattle.std.proofs.Common.{◌≡◌, List, [], ◌∷◌, Some, None, true, false, map, refl}
+use Rattle.std.proofs.Common.{◌≡◌, List, [], ◌∷◌, Some, None, Err, true, false, map, refl}
 use Rattle.tp_types.specs.declared.tasks.Kind.TheVariants as kinds
 use Rattle.tp_types.specs.declared.tasks.Fate.TheVariants as fate
 use Rattle.tp_types.specs.declared.configs.Config.{Config}
 use Rattle.tp_types.specs.declared.configs.QueueKind.TheVariants.{Handoff}
 use Rattle.tp_types.specs.declared.configs.Policy.TheVariants as policy
 use Rattle.tp_types.specs.declared.configs.Verdict.TheVariants as verdict
+use Rattle.tp_types.specs.declared.refusals.PoolError.TheVariants.{CancelledTask, Lost}
 use Rattle.tp_record.specs.declared.entries.Entry.{Entry}
 use Rattle.tp_record.specs.declared.entries.Ask.TheVariants as ask
 use Rattle.tp_record.specs.declared.entries.Did.TheVariants as did
@@ -14,7 +15,7 @@ use Rattle.tp_record.specs.declared.entries.Offered.TheVariants as offered
 use Rattle.tp_record.specs.declared.entries.Grown.TheVariants as grown
 use Rattle.tp_record.specs.declared.entries.Ruled.TheVariants as ruled
 use Rattle.tp_record.specs.Fields.{queue}
-use Rattle.tp_record.specs.State.{state, fate_of, counts}
+use Rattle.tp_record.specs.State.{state, fate_of, result_of, counts}
 use Rattle.tp_record.specs.Step.{Legal}
 use Rattle.tp_record.specs.Words.{waiting_line, has_fate, counters}
 use Rattle.tp_rows.proofs.Entries.{entry}
@@ -103,6 +104,9 @@ rank_last = refl
 
 pub fates_last : map fate_of (state config h23).tasks ≡ None ∷ Some fate.Cancelled ∷ Some fate.Cancelled ∷ Some fate.Cancelled ∷ Some fate.Discarded ∷ []
 fates_last = refl
+
+pub results_last : map result_of (state config h23).tasks ≡ None ∷ Some (Err CancelledTask) ∷ Some (Err CancelledTask) ∷ Some (Err CancelledTask) ∷ Some (Err (Lost fate.Discarded)) ∷ []
+results_last = refl
 
 pub counts_last : counts (state config h23) ≡ record { submitted = 5; run = 0; caller = 0; rejected = 0; discarded = 1; handedback = 0; removed = 0; cancelled = 3; completed = 0; queued = 0; live = 0; largest = 0 }
 counts_last = refl

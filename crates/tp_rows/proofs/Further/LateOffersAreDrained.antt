@@ -1,11 +1,12 @@
 -- Worked row late offers are drained: each entry is the one that the step gives at its front, and each refusal is the step's.
-use Rattle.std.proofs.Common.{◌≡◌, List, [], ◌∷◌, Some, true, false, map, refl}
+use Rattle.std.proofs.Common.{◌≡◌, List, [], ◌∷◌, Some, Err, true, false, map, refl}
 use Rattle.tp_types.specs.declared.tasks.Kind.TheVariants as kinds
 use Rattle.tp_types.specs.declared.tasks.Fate.TheVariants as fate
 use Rattle.tp_types.specs.declared.configs.Config.{Config}
 use Rattle.tp_types.specs.declared.configs.QueueKind.TheVariants.{Unbounded}
 use Rattle.tp_types.specs.declared.configs.Policy.TheVariants as policy
 use Rattle.tp_types.specs.declared.configs.Verdict.TheVariants as verdict
+use Rattle.tp_types.specs.declared.refusals.PoolError.TheVariants.{Lost}
 use Rattle.tp_record.specs.declared.entries.Entry.{Entry}
 use Rattle.tp_record.specs.declared.entries.Ask.TheVariants as ask
 use Rattle.tp_record.specs.declared.entries.Did.TheVariants as did
@@ -15,7 +16,7 @@ use Rattle.tp_record.specs.declared.entries.Seconded.TheVariants as seconded
 use Rattle.tp_record.specs.declared.entries.Ruled.TheVariants as ruled
 use Rattle.tp_record.specs.declared.entries.Opened.TheVariants as opened
 use Rattle.tp_record.specs.Fields.{queue}
-use Rattle.tp_record.specs.State.{state, fate_of, counts}
+use Rattle.tp_record.specs.State.{state, fate_of, result_of, counts}
 use Rattle.tp_record.specs.Step.{Legal}
 use Rattle.tp_record.specs.Words.{waiting_line, has_fate, counters}
 use Rattle.tp_rows.proofs.Entries.{entry}
@@ -83,6 +84,9 @@ rank_last = refl
 
 pub fates_last : map fate_of (state config h14).tasks ≡ Some fate.Rejected ∷ Some fate.HandedBack ∷ Some fate.Rejected ∷ []
 fates_last = refl
+
+pub results_last : map result_of (state config h14).tasks ≡ Some (Err (Lost fate.Rejected)) ∷ Some (Err (Lost fate.HandedBack)) ∷ Some (Err (Lost fate.Rejected)) ∷ []
+results_last = refl
 
 pub counts_last : counts (state config h14) ≡ record { submitted = 3; run = 0; caller = 0; rejected = 2; discarded = 0; handedback = 1; removed = 0; cancelled = 0; completed = 0; queued = 0; live = 0; largest = 0 }
 counts_last = refl

@@ -5,7 +5,7 @@ use Rattle.tp_types.specs.declared.tasks.Fate.TheVariants as fate
 use Rattle.tp_types.specs.declared.configs.Config.{Config}
 use Rattle.tp_types.specs.declared.configs.QueueKind.TheVariants.{Unbounded}
 use Rattle.tp_types.specs.declared.configs.Policy.TheVariants as policy
-use Rattle.tp_types.specs.declared.refusals.PoolError.TheVariants.{BookFull}
+use Rattle.tp_types.specs.declared.refusals.PoolError.TheVariants.{BookFull, CancelledTask}
 use Rattle.tp_record.specs.declared.entries.Entry.{Entry}
 use Rattle.tp_record.specs.declared.entries.Ask.TheVariants as ask
 use Rattle.tp_record.specs.declared.entries.Did.TheVariants as did
@@ -13,7 +13,7 @@ use Rattle.tp_record.specs.declared.entries.Looked.TheVariants as looked
 use Rattle.tp_record.specs.declared.entries.Offered.TheVariants as offered
 use Rattle.tp_record.specs.declared.entries.Seconded.TheVariants as seconded
 use Rattle.tp_record.specs.Fields.{queue}
-use Rattle.tp_record.specs.State.{state, fate_of, counts}
+use Rattle.tp_record.specs.State.{state, fate_of, result_of, counts}
 use Rattle.tp_record.specs.Step.{step, Legal}
 use Rattle.tp_record.specs.Words.{waiting_line, has_fate, counters}
 use Rattle.tp_rows.proofs.Entries.{entry}
@@ -117,6 +117,9 @@ rank_last = refl
 
 pub fates_last : map fate_of (state config h21).tasks ≡ None ∷ Some fate.Cancelled ∷ Some fate.Cancelled ∷ None ∷ None ∷ []
 fates_last = refl
+
+pub results_last : map result_of (state config h21).tasks ≡ None ∷ Some (Err CancelledTask) ∷ Some (Err CancelledTask) ∷ None ∷ None ∷ []
+results_last = refl
 
 pub counts_last : counts (state config h21) ≡ record { submitted = 5; run = 0; caller = 0; rejected = 0; discarded = 0; handedback = 0; removed = 0; cancelled = 2; completed = 0; queued = 0; live = 0; largest = 0 }
 counts_last = refl

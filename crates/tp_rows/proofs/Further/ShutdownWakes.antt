@@ -17,7 +17,7 @@ use Rattle.tp_record.specs.declared.entries.Opened.TheVariants as opened
 use Rattle.tp_record.specs.declared.entries.Took.TheVariants as took
 use Rattle.tp_record.specs.declared.entries.Started.TheVariants as started
 use Rattle.tp_record.specs.Fields.{queue}
-use Rattle.tp_record.specs.State.{state, fate_of, counts}
+use Rattle.tp_record.specs.State.{state, fate_of, result_of, counts}
 use Rattle.tp_record.specs.Step.{step, Legal}
 use Rattle.tp_record.specs.Words.{waiting_line, has_fate, counters}
 use Rattle.tp_rows.proofs.Entries.{entry}
@@ -100,6 +100,9 @@ rank_last = refl
 
 pub fates_last : map fate_of (state config h19).tasks ≡ Some fate.Run ∷ Some fate.Run ∷ []
 fates_last = refl
+
+pub results_last : map result_of (state config h19).tasks ≡ Some (Ok (pos 1)) ∷ Some (Ok (pos 2)) ∷ []
+results_last = refl
 
 pub counts_last : counts (state config h19) ≡ record { submitted = 2; run = 2; caller = 0; rejected = 0; discarded = 0; handedback = 0; removed = 0; cancelled = 0; completed = 2; queued = 0; live = 0; largest = 1 }
 counts_last = refl

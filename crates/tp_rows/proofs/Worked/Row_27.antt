@@ -5,7 +5,7 @@ use Rattle.tp_types.specs.declared.tasks.Fate.TheVariants as fate
 use Rattle.tp_types.specs.declared.configs.Config.{Config}
 use Rattle.tp_types.specs.declared.configs.QueueKind.TheVariants.{Unbounded}
 use Rattle.tp_types.specs.declared.configs.Policy.TheVariants as policy
-use Rattle.tp_types.specs.declared.refusals.PoolError.TheVariants.{BadSizes, UnknownTask, KeepZero}
+use Rattle.tp_types.specs.declared.refusals.PoolError.TheVariants.{BadSizes, UnknownTask, KeepZero, Lost}
 use Rattle.tp_record.specs.declared.entries.Entry.{Entry}
 use Rattle.tp_record.specs.declared.entries.Ask.TheVariants as ask
 use Rattle.tp_record.specs.declared.entries.Did.TheVariants as did
@@ -13,7 +13,7 @@ use Rattle.tp_record.specs.declared.entries.Looked.TheVariants as looked
 use Rattle.tp_record.specs.declared.entries.Offered.TheVariants as offered
 use Rattle.tp_record.specs.declared.entries.Seconded.TheVariants as seconded
 use Rattle.tp_record.specs.Fields.{queue}
-use Rattle.tp_record.specs.State.{state, fate_of, counts}
+use Rattle.tp_record.specs.State.{state, fate_of, result_of, counts}
 use Rattle.tp_record.specs.Step.{step, Legal}
 use Rattle.tp_record.specs.Words.{waiting_line, has_fate, counters}
 use Rattle.tp_rows.proofs.Entries.{entry}
@@ -90,6 +90,9 @@ rank_last = refl
 
 pub fates_last : map fate_of (state config h14).tasks ≡ None ∷ Some fate.Removed ∷ []
 fates_last = refl
+
+pub results_last : map result_of (state config h14).tasks ≡ None ∷ Some (Err (Lost fate.Removed)) ∷ []
+results_last = refl
 
 pub counts_last : counts (state config h14) ≡ record { submitted = 2; run = 0; caller = 0; rejected = 0; discarded = 0; handedback = 0; removed = 1; cancelled = 0; completed = 0; queued = 1; live = 0; largest = 0 }
 counts_last = refl

@@ -7,7 +7,7 @@ use Rattle.tp_types.specs.declared.configs.Config.{Config}
 use Rattle.tp_types.specs.declared.configs.QueueKind.TheVariants.{Bounded}
 use Rattle.tp_types.specs.declared.configs.Policy.TheVariants as policy
 use Rattle.tp_types.specs.declared.configs.Verdict.TheVariants as verdict
-use Rattle.tp_types.specs.declared.refusals.PoolError.TheVariants.{NotFuture}
+use Rattle.tp_types.specs.declared.refusals.PoolError.TheVariants.{NotFuture, CancelledTask, Lost}
 use Rattle.tp_record.specs.declared.entries.Entry.{Entry}
 use Rattle.tp_record.specs.declared.entries.Ask.TheVariants as ask
 use Rattle.tp_record.specs.declared.entries.Did.TheVariants as did
@@ -20,7 +20,7 @@ use Rattle.tp_record.specs.declared.entries.Opened.TheVariants as opened
 use Rattle.tp_record.specs.declared.entries.Took.TheVariants as took
 use Rattle.tp_record.specs.declared.entries.Started.TheVariants as started
 use Rattle.tp_record.specs.Fields.{queue}
-use Rattle.tp_record.specs.State.{state, fate_of, counts}
+use Rattle.tp_record.specs.State.{state, fate_of, result_of, counts}
 use Rattle.tp_record.specs.Step.{step, Legal}
 use Rattle.tp_record.specs.Words.{waiting_line, has_fate, counters}
 use Rattle.tp_rows.proofs.Entries.{entry}
@@ -109,6 +109,9 @@ rank_last = refl
 
 pub fates_last : map fate_of (state config h22).tasks ≡ Some fate.Run ∷ Some fate.Cancelled ∷ Some fate.Cancelled ∷ Some fate.Rejected ∷ []
 fates_last = refl
+
+pub results_last : map result_of (state config h22).tasks ≡ Some (Ok (pos 0)) ∷ Some (Err CancelledTask) ∷ Some (Err CancelledTask) ∷ Some (Err (Lost fate.Rejected)) ∷ []
+results_last = refl
 
 pub counts_last : counts (state config h22) ≡ record { submitted = 4; run = 1; caller = 0; rejected = 1; discarded = 0; handedback = 0; removed = 0; cancelled = 2; completed = 2; queued = 0; live = 1; largest = 1 }
 counts_last = refl
