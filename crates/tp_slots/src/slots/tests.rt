@@ -271,3 +271,22 @@ fn grows_and_never_shrinks(rt: HostRuntime) {
     }
     assert_eq!(rt; slots.longest_idle(), Some(SlotId(0)));
 }
+
+/// Any one allocation may fail: `new` then answers so, and a failed `grow_to` changes nothing and works when it is called
+/// again.
+#[test]
+fn want_of_memory_changes_nothing(rt: HostRuntime) {
+    let Ok(mut slots) = Slots::new(rt.alloc(), 1) else {
+        return;
+    };
+    let first = open(&rt, &mut slots);
+    if slots.grow_to(64).is_err() {
+        assert_eq!(rt; (slots.places(), slots.len(), slots.live()), (1, 1, 1));
+        assert_eq!(rt; slots.get(first), Some(AT_WORK));
+        assert!(rt; slots.grow_to(64).is_ok());
+    }
+    assert_eq!(rt; slots.places(), 64);
+    for i in 1..64 {
+        assert_eq!(rt; open(&rt, &mut slots), SlotId(i));
+    }
+}
