@@ -107,3 +107,25 @@ fn handoff_queue_keeps_nothing(rt: HostRuntime) -> Result<(), Fail> {
     assert!(rt; tasks.is_empty());
     Ok(())
 }
+
+/// Any one allocation may fail: a maker then answers so, and a failed `reserve` changes nothing and works when it is called
+/// again.
+#[test]
+fn want_of_memory_changes_nothing(rt: HostRuntime) {
+    if let Ok(queue) = Queue::new(rt.alloc(), QueueKind::Bounded(3)) {
+        assert!(rt; !queue.is_full());
+    }
+    let Ok(mut queue) = Queue::new(rt.alloc(), QueueKind::Unbounded) else {
+        return;
+    };
+    if queue.reserve(20).is_err() {
+        assert_eq!(rt; (queue.len(), queue.head()), (0, None));
+        assert!(rt; queue.reserve(20).is_ok());
+    }
+    fill(&rt, &mut queue, 0, 20);
+    if queue.reserve(60).is_err() {
+        assert_eq!(rt; (queue.len(), queue.head()), (20, Some(TaskId(0))));
+        assert!(rt; queue.reserve(60).is_ok());
+    }
+    fill(&rt, &mut queue, 20, 60);
+}
