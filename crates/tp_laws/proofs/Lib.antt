@@ -14,3 +14,4 @@ pub mod Sums
 pub mod Counting
 pub mod Sizes
 pub mod Serves
+pub mod AllLaws

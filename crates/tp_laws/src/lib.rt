@@ -8,6 +8,7 @@
 //! Whether a record is legal is told by the auditor of `tp_audit`, which stands here under a second name.
 #![tactic(auto)]
 
+pub mod lawful;
 pub mod limits;
 pub mod outcomes;
 pub mod shutdown;
