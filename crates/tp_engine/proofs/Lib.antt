@@ -1,3 +1,4 @@
+pub mod Refusals
 pub mod Owed
 pub mod Reading
 pub mod Stepping

@@ -1,10 +1,11 @@
 //! Controllers' steps.
 
-ghost use Rattle.std.specs.Prelude.{◌≡◌, ◌<◌, ◌^◌, List, length, map, IfOk, IfErr, OnOk, OnErr, is_some};
+ghost use Rattle.std.specs.Prelude.{◌≡◌, ◌<◌, ◌^◌, List, length, map, IfOk, IfErr, OnOk, OnErr, IsOk, IsOkUnless, is_some};
 ghost use Rattle.tp_record.specs.declared.entries.Entry.{Entry};
 ghost use Rattle.tp_record.specs.Fields.{queue};
 ghost use Rattle.tp_parts.specs.Payloads.{Keeps, HandsOut};
 ghost use Rattle.tp_engine.specs.Answers.{IsRemoval, HandsBack};
+ghost use Rattle.tp_engine.specs.Readings.{EachState};
 ghost use Rattle.tp_engine.specs.Seen.{At};
 ghost use Rattle.tp_engine.specs.Steps.{IsStep, IsRefusedBy};
 
@@ -19,8 +20,9 @@ use tp_types::ids::{SlotId, TaskId};
 use tp_types::refusals::PoolError;
 
 impl<P, R: Recorder> Machine<P, R> {
-    /// The pool takes no more tasks, as `shutdown`: idle workers wake. BookFull (5).
+    /// The pool takes no more tasks, as `shutdown`: idle workers wake. A pool that runs is never refused; BookFull (5) later on.
     pub fn shutdown(&mut self, by: u32) -> Result<(), PoolError>
+        ensures always { EachState R.tells self.old (λ s. s.rank ≡ 0 → IsOk result) }
         ensures step { OnOk result (IsStep R.tells self.old self.new by Ask.Shutdown Did.Shutdown) }
         ensures refused { IfErr result (λ e. IsRefusedBy R.tells self.old Ask.Shutdown e) }
         ensures unchanged { OnErr result (self.new ≡ self.old) }
@@ -44,6 +46,7 @@ impl<P, R: Recorder> Machine<P, R> {
     pub fn tidy(&mut self, by: u32) -> Result<(), PoolError>
         ensures step { OnOk result (IsStep R.tells self.old self.new by Ask.Tidy Did.Tidy) }
         ensures refused { IfErr result (λ e. IsRefusedBy R.tells self.old Ask.Tidy e) }
+        ensures alone { IsOkUnless result PoolError.NotThere }
         ensures unchanged { OnErr result (self.new ≡ self.old) }
         ensures payloads { Keeps self.old.parts.tasks self.new.parts.tasks }
     {
@@ -59,6 +62,7 @@ impl<P, R: Recorder> Machine<P, R> {
     pub fn terminated(&mut self, by: u32) -> Result<(), PoolError>
         ensures step { OnOk result (IsStep R.tells self.old self.new by Ask.Ended Did.Ended) }
         ensures refused { IfErr result (λ e. IsRefusedBy R.tells self.old Ask.Ended e) }
+        ensures alone { IsOkUnless result PoolError.NotThere }
         ensures unchanged { OnErr result (self.new ≡ self.old) }
         ensures payloads { Keeps self.old.parts.tasks self.new.parts.tasks }
     {
@@ -222,13 +226,14 @@ impl<P, R: Recorder> Machine<P, R> {
     }
 
     /// Stops the pool, as `shutdownNow`: the queued tasks are handed back in the queue's order, each with its payload where it was
-    /// not cancelled. BookFull (5), or NoMemory (4) for the answer: nothing has changed.
+    /// not cancelled. NoMemory (4) for the answer, and once the pool is stopped BookFull (5) too: nothing has changed.
     pub fn stop_now(&mut self, by: u32) -> Result<Vec<(TaskId, Option<P>)>, PoolError>
         ensures step { IfOk result (λ r. IsStep R.tells self.old self.new by Ask.Stop (Did.Stop (length r.items))) }
         ensures counted { IfOk result (λ r. length r.items < 2 ^ 32) }
         ensures order { IfOk result (λ r. (h : List Entry) → At R.tells self.old h → map (λ x. x.0.0) r.items ≡ queue h) }
         ensures payloads { IfOk result (λ r. HandsBack self.old.parts.tasks self.new.parts.tasks r.items) }
         ensures refused { IfErr result (λ e. IsRefusedBy R.tells self.old Ask.Stop e) }
+        ensures room { IfErr result (λ e. EachState R.tells self.old (λ s. s.rank < 2 → e ≡ PoolError.NoMemory)) }
         ensures unchanged { OnErr result (self.new ≡ self.old) }
     {
         let count = match stop::answer(&self.parts) {

@@ -1,10 +1,10 @@
 //! Laws of every machine, whatever was asked of it so far.
 
-ghost use Rattle.std.specs.Prelude.{ℕ, ◌≡◌, ◌≢◌, true, List, length, reverse, nat_lt, is_some, IfSome};
+ghost use Rattle.std.specs.Prelude.{ℕ, ◌≡◌, ◌≢◌, ◌<◌, true, false, List, length, reverse, nat_lt, is_some, IfSome};
 ghost use Rattle.tp_types.specs.RunState.{state_rank};
 ghost use Rattle.tp_record.specs.declared.entries.Entry.{Entry};
 ghost use Rattle.tp_record.specs.State.{task_at};
-ghost use Rattle.tp_record.specs.Step.{Legal, IsRefused};
+ghost use Rattle.tp_record.specs.Step.{Legal, IsRefused, takes_memory};
 ghost use Rattle.tp_room.specs.Room.{is_owed};
 ghost use Rattle.tp_parts.specs.Tied.{is_waiting};
 ghost use Rattle.tp_engine.specs.Seen.{At, config_of, payload, promise};
@@ -38,6 +38,26 @@ impl<P, R: Recorder> Machine<P, R> {
     pub fn never_full(&self)
         ensures step { EachState R.tells self.now (λ s. (a : Ask) (e : PoolError) → is_owed s.rank a ≡ true → IsRefused (config_of self.now) s a e → e ≢ PoolError.BookFull) }
         ensures call { (a : Ask) (e : PoolError) → is_owed (state_rank self.now.parts.state) a ≡ true → IsRefusedBy R.tells self.now a e → e ≢ PoolError.BookFull }
+    {
+        let _ = &self.noted;
+    }
+
+    /// The law that a call that takes no memory is never refused with NoMemory (4): that is each but `submit`, `stop_now` and
+    /// `set_max`.
+    pub fn never_wants_memory(&self)
+        ensures step { EachState R.tells self.now (λ s. (a : Ask) (e : PoolError) → takes_memory a ≡ false → IsRefused (config_of self.now) s a e → e ≢ PoolError.NoMemory) }
+        ensures call { (a : Ask) (e : PoolError) → takes_memory a ≡ false → IsRefusedBy R.tells self.now a e → e ≢ PoolError.NoMemory }
+    {
+        let _ = &self.noted;
+    }
+
+    /// The law of the way to the end: a shutdown is not refused where the pool runs, a stop is refused with NoMemory (4) alone
+    /// until the pool is stopped, and a tidy and a `terminated` with NotThere (8) alone.
+    pub fn reaches_its_end(&self)
+        ensures shutdown { EachState R.tells self.now (λ s. (e : PoolError) → s.rank ≡ 0 → ¬ IsRefused (config_of self.now) s Ask.Shutdown e) }
+        ensures stop { EachState R.tells self.now (λ s. (e : PoolError) → s.rank < 2 → IsRefused (config_of self.now) s Ask.Stop e → e ≡ PoolError.NoMemory) }
+        ensures tidy { EachState R.tells self.now (λ s. (e : PoolError) → IsRefused (config_of self.now) s Ask.Tidy e → e ≡ PoolError.NotThere) }
+        ensures terminated { EachState R.tells self.now (λ s. (e : PoolError) → IsRefused (config_of self.now) s Ask.Ended e → e ≡ PoolError.NotThere) }
     {
         let _ = &self.noted;
     }

@@ -1,5 +1,6 @@
 use Rattle.tp_record.specs.declared.entries.Ask.TheVariants as ask
 use Rattle.tp_record.specs.declared.entries.Did.TheVariants as did
+use Rattle.tp_engine.proofs.Owed.{shutdown_at}
 use Rattle.tp_engine.proofs.Stepping.{step_made, step_sound, refused_step}
 use Rattle.tp_engine.proofs.machine.Machine.shutdown.Goals as goal
 
@@ -15,3 +16,8 @@ returns-clause-step g c =
 
 pub returns-in-Err-clause-refused : goal.returns-in-Err-clause-refused
 returns-in-Err-clause-refused g c = refused_step g.R.Recorder.tells c.self.inside.parts c.self.inside.noted c.args.self.now ask.Shutdown c.in-Err.error c.self.view_is c.in-Err.ensures.refuses
+
+pub returns-in-Err-clause-always : goal.returns-in-Err-clause-always
+returns-in-Err-clause-always g c =
+    λ h at runs. absurd (shutdown_at g.R.Recorder.tells g.R.Recorder.places c.self.inside.parts c.self.inside.noted c.args.self.now c.self.view_is c.self.invariant h at c.in-Err.error runs
+    (refused_step g.R.Recorder.tells c.self.inside.parts c.self.inside.noted c.args.self.now ask.Shutdown c.in-Err.error c.self.view_is c.in-Err.ensures.refuses h at))

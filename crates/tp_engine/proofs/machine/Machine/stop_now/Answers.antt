@@ -4,6 +4,7 @@ use Rattle.tp_record.specs.declared.entries.Did.TheVariants as did
 use Rattle.tp_parts.proofs.Standing.{fits_accepted}
 use Rattle.tp_engine.specs.Answers.{HandsBack}
 use Rattle.tp_engine.specs.Steps.{IsStep}
+use Rattle.tp_engine.proofs.Owed.{stop_at}
 use Rattle.tp_engine.proofs.Stepping.{step_made, step_sound, refused_step, refused_memory}
 use Rattle.tp_engine.proofs.Stopping.{count_handed, order_handed, hands_back}
 use Rattle.tp_engine.proofs.machine.Machine.stop_now.Goals as goal
@@ -15,6 +16,11 @@ pub returns-in-Err-prepare-clause-refused : goal.returns-in-Err-prepare-clause-r
 returns-in-Err-prepare-clause-refused g c =
     refused_memory g.R.Recorder.tells c.self.inside.parts c.self.inside.noted c.args.self.now ask.Stop (did.Stop c.in-Ok.count) c.in-Err-prepare.error
     c.self.view_is c.in-Ok.ensures.accepts refl c.in-Err-prepare.ensures.refused
+
+pub returns-in-Err-clause-room : goal.returns-in-Err-clause-room
+returns-in-Err-clause-room g c =
+    λ h at early. stop_at g.R.Recorder.tells g.R.Recorder.places c.self.inside.parts c.self.inside.noted c.args.self.now c.self.view_is c.self.invariant h at c.in-Err.error early
+    (refused_step g.R.Recorder.tells c.self.inside.parts c.self.inside.noted c.args.self.now ask.Stop c.in-Err.error c.self.view_is c.in-Err.ensures.refuses h at)
 
 pub invariant_of-self : goal.invariant_of-self
 invariant_of-self g c =
