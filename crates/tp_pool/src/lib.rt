@@ -6,10 +6,13 @@
 #![tactic(auto)]
 
 pub mod answers;
+pub mod edges;
 pub mod factories;
 pub mod gates;
 pub mod handlers;
 pub mod hooks;
 pub mod jobs;
+pub mod lock;
 #[cfg(test)]
 mod tests;
+pub mod wakes;

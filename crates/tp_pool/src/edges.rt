@@ -1,0 +1,85 @@
+//! The caller's objects, as a pool calls them.
+
+use crate::factories::ThreadFactory;
+use crate::gates::{Gate, Point};
+use crate::handlers::RejectionHandler;
+use crate::hooks::Hooks;
+use std::sync::{Mutex, Wait};
+use tp_types::configs::Verdict;
+use tp_types::ids::{SlotId, TaskId};
+use tp_types::states::RunState;
+use tp_types::tasks::Outcome;
+
+/// A pool's factory, handler, hooks and gate behind one bound, so that the pool's own types hold no
+/// trait object. It is called with no lock of the pool held.
+pub trait Edge: Drop {
+    /// Asks the thread factory.
+    fn allow<R: Wait>(&self, rt: &R, w: SlotId) -> bool;
+
+    /// Asks the rejection handler.
+    fn verdict<R: Wait>(&self, rt: &R, t: TaskId, state: RunState) -> Verdict;
+
+    /// Calls the hook before a task.
+    fn before<R: Wait>(&self, rt: &R, w: SlotId, t: TaskId);
+
+    /// Calls the hook after a task.
+    fn after<R: Wait>(&self, rt: &R, w: SlotId, t: TaskId, outcome: Option<&Outcome>);
+
+    /// Calls the hook of the pool's end.
+    fn terminated<R: Wait>(&self, rt: &R);
+
+    /// Passes the gate.
+    fn pass(&self, p: Point, w: SlotId);
+}
+
+/// The caller's boxes. Those that change are each behind a lock of its own.
+#[derive(Drop)]
+pub struct Boxes {
+    factory: Mutex<Box<dyn ThreadFactory>>,
+    handler: Mutex<Box<dyn RejectionHandler>>,
+    hooks: Mutex<Box<dyn Hooks>>,
+    gate: Box<dyn Gate>,
+}
+
+impl Boxes {
+    /// These boxes.
+    pub fn new(
+        factory: Box<dyn ThreadFactory>,
+        handler: Box<dyn RejectionHandler>,
+        hooks: Box<dyn Hooks>,
+        gate: Box<dyn Gate>,
+    ) -> Boxes {
+        Boxes {
+            factory: Mutex::new(factory),
+            handler: Mutex::new(handler),
+            hooks: Mutex::new(hooks),
+            gate,
+        }
+    }
+}
+
+impl Edge for Boxes {
+    fn allow<R: Wait>(&self, rt: &R, w: SlotId) -> bool {
+        self.factory.lock(rt).allow(w)
+    }
+
+    fn verdict<R: Wait>(&self, rt: &R, t: TaskId, state: RunState) -> Verdict {
+        self.handler.lock(rt).verdict(t, state)
+    }
+
+    fn before<R: Wait>(&self, rt: &R, w: SlotId, t: TaskId) {
+        self.hooks.lock(rt).before(w, t);
+    }
+
+    fn after<R: Wait>(&self, rt: &R, w: SlotId, t: TaskId, outcome: Option<&Outcome>) {
+        self.hooks.lock(rt).after(w, t, outcome);
+    }
+
+    fn terminated<R: Wait>(&self, rt: &R) {
+        self.hooks.lock(rt).terminated();
+    }
+
+    fn pass(&self, p: Point, w: SlotId) {
+        self.gate.before(p, w);
+    }
+}
