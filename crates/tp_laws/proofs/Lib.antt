@@ -15,3 +15,4 @@ pub mod Counting
 pub mod Sizes
 pub mod Serves
 pub mod AllLaws
+pub mod Running

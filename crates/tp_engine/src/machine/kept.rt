@@ -33,4 +33,13 @@ impl<P> Machine<P, Full> {
     {
         self.noted.entries()
     }
+
+    /// Gives the record up, the oldest entry first.
+    pub fn into_entries(self) -> Vec<Entry>
+    where
+        P: Drop,
+        ensures { result.items ≡ self.noted.entries }
+    {
+        self.noted.into_entries()
+    }
 }

@@ -1,0 +1,18 @@
+use Rattle.std.proofs.Common.{sym, subst}
+use Rattle.tp_engine.specs.Steps.{IsStep}
+use Rattle.tp_engine.proofs.Moved.{promises_stay}
+use Rattle.tp_laws.specs.declared.runs.TheConstants.{WIDEST}
+use Rattle.tp_laws.proofs.Running.{told_by, all_kept}
+use Rattle.tp_laws.proofs.runs.answer.Goals as goal
+
+pub returns-in-Ok-step : goal.returns-in-Ok-step
+returns-in-Ok-step c =
+    let old = c.args.machine.now in
+    let new = c.step.new.self in
+    let made = c.in-Ok-step.ensures in
+    record {
+      step = subst (λ d. IsStep told_by old new c.args.by c.args.ask d) (sym c.did.ensures) made.step;
+      refused = tt;
+      unchanged = tt;
+      promises = all_kept WIDEST old.parts.tasks new.parts.tasks (promises_stay old.parts.tasks new.parts.tasks c.args.ask c.in-Ok-step.stepped made.answer made.payloads) c.requires;
+    }
