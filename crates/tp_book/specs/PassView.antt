@@ -16,7 +16,8 @@ pub record PassView : Type 0 where
   pub receipts : List Entry
   pub room : ℕ
 
--- the book's side: the units of all shares, and how many passes were made
+-- the book's side: the units of all shares, how many passes were made, and how many of them callers got
 pub record AccountsView : Type 0 where
   pub total : ℕ
   pub made : ℕ
+  pub callers : ℕ

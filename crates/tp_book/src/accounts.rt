@@ -1,5 +1,5 @@
 //! The book's side of the ledger, from which passes are made and to which they come back.
-ghost use Rattle.std.specs.Prelude.{◌≡◌, ◌≤◌, ◌<◌, ◌+◌, ◌++◌, [], ◌∷◌, ◌↔◌, IsTrue, IsOk, IfOk, OnOk, IfErr, OnErr, All, sum_by, vec_len};
+ghost use Rattle.std.specs.Prelude.{◌≡◌, ◌<◌, ◌+◌, [], ◌↔◌, IsTrue, IsOk, IfOk, OnOk, IfErr, OnErr, All, sum_by, vec_len};
 ghost use Rattle.tp_record.specs.Paths.{own};
 
 use crate::account::Account;
@@ -20,18 +20,19 @@ pub struct Accounts<G: Naming> {
     pub(crate) ledger: ledger::Book<G>,
     pub(crate) rest: Share<G>,
     pub(crate) made: u32,
+    pub(crate) callers: u32,
 }
 
 impl<G: Naming> Model for Accounts<G> {
-    ghost use Rattle.std.specs.Prelude.{◌≡◌, ◌+◌};
+    ghost use Rattle.std.specs.Prelude.{◌≡◌, ◌+◌, ◌≤◌};
     ghost use Rattle.tp_book.specs.Names.{all_parts};
     ghost use Rattle.tp_book.specs.PassView.{AccountsView};
 
     ghost Value = { AccountsView };
 
-    ghost view = { λ a. record { total = a.ledger.total; made = a.made } };
+    ghost view = { λ a. record { total = a.ledger.total; made = a.made; callers = a.callers } };
 
-    ghost invariant = { λ a. (a.rest.parts + a.made ≡ all_parts) × (a.rest.amount ≡ 0) × (G.parts ≡ all_parts) };
+    ghost invariant = { λ a. (a.callers ≤ a.made) × (a.rest.parts + a.made ≡ all_parts) × (a.rest.amount ≡ 0) × (G.parts ≡ all_parts) };
 }
 
 impl<G: Naming> Accounts<G> {
@@ -55,54 +56,59 @@ impl<G: Naming> Accounts<G> {
         })
     }
 
-    /// A pass for a caller, which has seen what the book's seat knows. Passes are numbered from 0,
-    /// in the order in which they are made; at number 4,294,967,295 it is refused 5, `BookFull`.
-    pub fn new_pass(
+    // A pass for a caller, which has seen what the book's seat knows.
+    pub(crate) fn new_pass(
         &mut self,
         alloc: Global,
         glance: &Glance<G>,
         book: &mut BookSeat<G>,
     ) -> Result<Pass<G>, PoolError>
         ensures pass { IfOk result (λ p. p ≡ record { number = self.old.made; amount = 0; seen = book.old; receipts = []; room = p.room }) }
-        ensures made { OnOk result (self.new ≡ record self.old { made = self.old.made + 1 }) }
+        ensures made { OnOk result (self.new ≡ record self.old { made = self.old.made + 1; callers = self.old.callers + 1 }) }
         ensures room { self.old.made < 4294967295 → IsOk result }
         ensures refused { IfErr result (λ e. e ≡ PoolError.BookFull) }
         ensures unchanged { OnErr result (self.new ≡ self.old) }
         ensures same { book.new ≡ book.old }
     {
-        let account = self.account(glance.split_book(book))?;
-        Ok(Pass {
-            account,
-            receipts: Vec::new(alloc),
-        })
+        self.callers_pass(alloc, glance.split_book(book))
     }
 
-    /// A pass for one more caller, which has seen what this caller's pass has seen. It is numbered
-    /// and refused as `new_pass`.
-    pub fn split_pass(
+    // A pass for one more caller, which has seen what this caller's pass has seen.
+    pub(crate) fn split_pass(
         &mut self,
         alloc: Global,
         glance: &Glance<G>,
         pass: &mut Pass<G>,
     ) -> Result<Pass<G>, PoolError>
         ensures pass { IfOk result (λ p. p ≡ record { number = self.old.made; amount = 0; seen = pass.old.seen; receipts = []; room = p.room }) }
-        ensures made { OnOk result (self.new ≡ record self.old { made = self.old.made + 1 }) }
+        ensures made { OnOk result (self.new ≡ record self.old { made = self.old.made + 1; callers = self.old.callers + 1 }) }
         ensures room { self.old.made < 4294967295 → IsOk result }
         ensures refused { IfErr result (λ e. e ≡ PoolError.BookFull) }
         ensures unchanged { OnErr result (self.new ≡ self.old) }
         ensures same { pass.new ≡ pass.old }
     {
         let seat = pass.split_seat(glance);
+        self.callers_pass(alloc, seat)
+    }
+
+    // The next pass, for a caller, with this seat.
+    fn callers_pass(&mut self, alloc: Global, seat: PassSeat<G>) -> Result<Pass<G>, PoolError>
+        ensures pass { IfOk result (λ p. p ≡ record { number = self.old.made; amount = 0; seen = seat; receipts = []; room = p.room }) }
+        ensures made { OnOk result (self.new ≡ record self.old { made = self.old.made + 1; callers = self.old.callers + 1 }) }
+        ensures room { self.old.made < 4294967295 → IsOk result }
+        ensures refused { IfErr result (λ e. e ≡ PoolError.BookFull) }
+        ensures unchanged { OnErr result (self.new ≡ self.old) }
+    {
         let account = self.account(seat)?;
+        self.callers += 1;
         Ok(Pass {
             account,
             receipts: Vec::new(alloc),
         })
     }
 
-    /// A pass for a worker, which has seen what the book's seat knows. It is numbered and refused as
-    /// `new_pass`, and takes no memory.
-    pub fn new_worker_pass(
+    // A pass for a worker, which has seen what the book's seat knows.
+    pub(crate) fn new_worker_pass(
         &mut self,
         glance: &Glance<G>,
         book: &mut BookSeat<G>,
@@ -118,35 +124,30 @@ impl<G: Naming> Accounts<G> {
         Ok(WorkerPass { account })
     }
 
-    /// Accounts for one step of a caller: one unit more, in all and in its share, and the entry as
-    /// its last receipt.
-    pub fn credit(&mut self, pass: &mut Pass<G>, entry: Entry)
-        requires room { 0 < pass.old.room }
+    // Accounts for one step: one unit more, in all and in the account's share.
+    pub(crate) fn credit(&mut self, account: &mut Account<G>)
         ensures total { self.new ≡ record self.old { total = self.old.total + 1 } }
-        ensures pass { pass.new ≡ record pass.old { amount = pass.old.amount + 1; receipts = pass.old.receipts ++ entry ∷ []; room = pass.new.room } }
-        ensures left { pass.old.room ≤ pass.new.room + 1 }
+        ensures account { account.new ≡ record account.old { amount = account.old.amount + 1 } }
     {
-        pass.account.credit(&mut self.ledger);
-        pass.receipts.push_reserved(entry);
+        account.credit(&mut self.ledger);
     }
 
-    /// Accounts for one step of a worker: one unit more, in all and in its share.
-    pub fn credit_worker(&mut self, pass: &mut WorkerPass<G>)
-        ensures total { self.new ≡ record self.old { total = self.old.total + 1 } }
-        ensures pass { pass.new ≡ record pass.old { amount = pass.old.amount + 1 } }
+    // How many passes callers got.
+    pub(crate) fn callers(&self) -> u32
+        ensures { result ≡ self.now.callers }
     {
-        pass.account.credit(&mut self.ledger);
+        self.callers
     }
 
-    /// How many passes were made so far.
-    pub fn made(&self) -> u32
-        ensures { result ≡ self.now.made }
+    // Whether so many passes of callers and of workers are all that were made.
+    pub(crate) fn are_all(&self, callers: usize, workers: usize) -> bool
+        ensures { IsTrue result ↔ ((callers ≡ self.now.callers) × (callers + workers ≡ self.now.made)) }
     {
-        self.made
+        callers == self.callers as usize && workers == (self.made - self.callers) as usize
     }
 
-    /// Takes all passes back: their shares add up to the steps that were accounted for.
-    pub fn settle(self, passes: Vec<Pass<G>>, workers: Vec<WorkerPass<G>>)
+    // Takes all passes back: their shares add up to the steps that were accounted for.
+    pub(crate) fn settle(self, passes: Vec<Pass<G>>, workers: Vec<WorkerPass<G>>)
         requires { vec_len passes + vec_len workers ≡ self.made }
         ensures { sum_by (λ p. p.amount) passes.items + sum_by (λ p. p.amount) workers.items ≡ self.total }
     {
@@ -154,6 +155,7 @@ impl<G: Naming> Accounts<G> {
             mut ledger,
             rest: mut all,
             made: _,
+            callers: _,
         } = self;
         merge_passes(&mut all, passes);
         merge_workers(&mut all, workers);
@@ -186,8 +188,8 @@ fn merge_workers<G: Naming>(all: &mut Share<G>, workers: Vec<WorkerPass<G>>)
     }
 }
 
-/// Whether the receipts of each of these passes are its own steps of the record.
-pub fn receipts_agree<G: Naming>(entries: &[Entry], passes: &[Pass<G>]) -> bool
+// Whether the receipts of each of these passes are its own steps of the record.
+pub(crate) fn receipts_agree<G: Naming>(entries: &[Entry], passes: &[Pass<G>]) -> bool
     ensures { IsTrue result ↔ All (λ p. own p.number entries.now ≡ p.receipts) passes.now }
 {
     for pass in passes {
@@ -196,92 +198,4 @@ pub fn receipts_agree<G: Naming>(entries: &[Entry], passes: &[Pass<G>]) -> bool
         }
     }
     true
-}
-
-#[cfg(test)]
-mod tests {
-    use super::*;
-    use crate::opening::Unopened;
-    use std::marker::Brand;
-    use std::process::Abort;
-    use std::test::Fail;
-    use tp_record::entries::{Ask, Did};
-    use tp_types::states::RunState;
-
-    const SHUTDOWN: Entry = Entry {
-        by: 0,
-        ask: Ask::Shutdown,
-        did: Did::Shutdown,
-    };
-
-    // What two callers' passes see of a raise that neither made.
-    fn look_at_a_raise<G: Naming, R: Abort>(
-        rt: &R,
-        alloc: Global,
-        unopened: Unopened,
-    ) -> Result<(), PoolError>
-        requires { unopened ≡ record { ledger = G.name; parts = G.parts; table = G.table } }
-    {
-        let (mut accounts, glance, mut seat) = unopened.open::<G>();
-        let mut first = accounts.new_pass(alloc, &glance, &mut seat)?;
-        let mut second = accounts.split_pass(alloc, &glance, &mut first)?;
-        let mut worker = accounts.new_worker_pass(&glance, &mut seat)?;
-        assert_eq!(rt;
-            (first.number(), second.number(), worker.number()),
-            (0, 1, 2)
-        );
-        assert_eq!(rt; first.glance(&glance), RunState::Running);
-        glance.raise(&mut seat, RunState::Shutdown);
-        first.learn(&glance, &mut seat);
-        worker.learn(&glance, &mut seat);
-        assert_eq!(rt; first.glance(&glance), RunState::Shutdown);
-        assert_eq!(rt; second.glance(&glance), RunState::Shutdown);
-        assert_eq!(rt; worker.glance(&glance), RunState::Shutdown);
-        Ok(())
-    }
-
-    #[test]
-    fn glance_loads_afresh(rt: HostRuntime) -> Result<(), Fail> {
-        let unopened = Unopened::new(rt.alloc())?;
-        look_at_a_raise::<Brand, _>(&rt, rt.alloc(), unopened)?;
-        Ok(())
-    }
-
-    // Two steps of a caller and one of a worker, to the end.
-    fn account_for_steps<G: Naming, R: Abort>(
-        rt: &R,
-        alloc: Global,
-        unopened: Unopened,
-    ) -> Result<(), PoolError>
-        requires { unopened ≡ record { ledger = G.name; parts = G.parts; table = G.table } }
-    {
-        let (mut accounts, glance, mut seat) = unopened.open::<G>();
-        let mut pass = accounts.new_pass(alloc, &glance, &mut seat)?;
-        let mut worker = accounts.new_worker_pass(&glance, &mut seat)?;
-        pass.reserve(2)?;
-        accounts.credit(&mut pass, SHUTDOWN);
-        accounts.credit_worker(&mut worker);
-        accounts.credit(&mut pass, SHUTDOWN);
-        pass.is_balanced();
-        assert_eq!(rt; pass.receipts(), [SHUTDOWN, SHUTDOWN].as_slice());
-        let mut passes = Vec::new(alloc);
-        let mut workers = Vec::new(alloc);
-        if passes.push(pass).is_err() || workers.push(worker).is_err() {
-            return Err(PoolError::NoMemory);
-        }
-        assert!(rt; receipts_agree(&[SHUTDOWN, SHUTDOWN], passes.as_slice()));
-        assert!(rt; !receipts_agree(&[SHUTDOWN], passes.as_slice()));
-        assert_eq!(rt; accounts.made(), 2);
-        if passes.len() + workers.len() == accounts.made() as usize {
-            accounts.settle(passes, workers);
-        }
-        Ok(())
-    }
-
-    #[test]
-    fn accounts_for_steps(rt: HostRuntime) -> Result<(), Fail> {
-        let unopened = Unopened::new(rt.alloc())?;
-        account_for_steps::<Brand, _>(&rt, rt.alloc(), unopened)?;
-        Ok(())
-    }
 }

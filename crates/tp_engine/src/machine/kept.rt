@@ -33,4 +33,18 @@ impl<P> Machine<P, Full> {
     {
         self.noted.entries()
     }
+
+    /// Gives the record up, the oldest entry first. It takes no memory.
+    pub fn into_entries(self) -> Vec<Entry>
+    where
+        P: Drop,
+        ensures { result.items ≡ self.noted.entries }
+    {
+        let Machine {
+            alloc: _,
+            parts: _,
+            noted,
+        } = self;
+        noted.into_entries()
+    }
 }
