@@ -14,6 +14,7 @@ use crate::passes::{Pass, WorkerPass};
 use std::alloc::Global;
 use std::marker::Model;
 use tp_engine::machine::Machine;
+pub use tp_engine::steps::Stepped;
 use tp_glance::glance::{BookSeat, Glance, Naming};
 use tp_record::entries::{Ask, Entry};
 use tp_record::recorders::Full;
@@ -21,8 +22,6 @@ use tp_types::configs::Config;
 use tp_types::refusals::PoolError;
 use tp_types::states::RunState;
 use tp_types::tasks::Promise;
-
-pub use tp_engine::steps::Stepped;
 
 /// One pool, as its lock keeps it. Each step is one step of its machine, made with a pass: it is
 /// accounted for in the ledger, and the word publishes the rank of the record whenever no step is
@@ -175,11 +174,11 @@ impl<G: Naming, P: Drop> Book<G, P> {
         requires room { 0 < pass.old.room }
         ensures step { IfOk result (IsAdvanced self.old self.new pass.old.number ask submitted) }
         ensures pass { IfOk result (λ s. pass.new ≡ record {
-            number = pass.old.number;
-            amount = pass.old.amount + 1;
-            seen = seen_after self.old self.new pass.old.seen;
-            receipts = pass.old.receipts ++ entry_of pass.old.number ask s ∷ [];
-            room = pass.new.room;
+          number = pass.old.number;
+          amount = pass.old.amount + 1;
+          seen = seen_after self.old self.new pass.old.seen;
+          receipts = pass.old.receipts ++ entry_of pass.old.number ask s ∷ [];
+          room = pass.new.room;
         }) }
         ensures left { pass.old.room ≤ pass.new.room + 1 }
         ensures refused { IfErr result (λ r. IsDenied self.old ask r.0) }
@@ -207,9 +206,9 @@ impl<G: Naming, P: Drop> Book<G, P> {
         requires payload { IsPaid ask submitted }
         ensures step { IfOk result (IsAdvanced self.old self.new pass.old.number ask submitted) }
         ensures pass { OnOk result (pass.new ≡ record {
-            number = pass.old.number;
-            amount = pass.old.amount + 1;
-            seen = seen_after self.old self.new pass.old.seen;
+          number = pass.old.number;
+          amount = pass.old.amount + 1;
+          seen = seen_after self.old self.new pass.old.seen;
         }) }
         ensures refused { IfErr result (λ r. IsDenied self.old ask r.0) }
         ensures returned { IfErr result (λ r. r.1 ≡ option_map (λ x. x.1) submitted) }
@@ -235,9 +234,9 @@ impl<G: Naming, P: Drop> Book<G, P> {
         ensures step { IfOk result (λ r. IsAdvanced self.old self.new account.old.number ask submitted r.0) }
         ensures entry { IfOk result (λ r. r.1 ≡ entry_of account.old.number ask r.0) }
         ensures account { OnOk result (account.new ≡ record {
-            number = account.old.number;
-            amount = account.old.amount + 1;
-            seen = seen_after self.old self.new account.old.seen;
+          number = account.old.number;
+          amount = account.old.amount + 1;
+          seen = seen_after self.old self.new account.old.seen;
         }) }
         ensures refused { IfErr result (λ r. IsDenied self.old ask r.0) }
         ensures returned { IfErr result (λ r. r.1 ≡ option_map (λ x. x.1) submitted) }
@@ -245,10 +244,7 @@ impl<G: Naming, P: Drop> Book<G, P> {
         ensures same { OnErr result (account.new ≡ account.old) }
     {
         if !self.is_promised(&ask) {
-            return Err((
-                PoolError::TornRecord,
-                submitted.map(|(_, payload)| payload),
-            ));
+            return Err((PoolError::TornRecord, submitted.map(|(_, payload)| payload)));
         }
         let Book {
             machine,
@@ -279,5 +275,7 @@ impl<G: Naming, P: Drop> Book<G, P> {
 
 mod closing;
 mod readings;
+#[cfg(test)]
+mod tests;
 
 pub use closing::{Report, Unclosed};
