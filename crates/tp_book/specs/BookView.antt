@@ -1,11 +1,12 @@
 -- What a contract sees of a book, and what a step does to it.
-use Rattle.std.specs.Prelude.{ℕ, ◌≡◌, ◌==◌, ◌⊎◌, ◌+◌, ◌++◌, [], ◌∷◌, List, All, length, reverse, max, Option, if◌then◌else◌}
+use Rattle.std.specs.Prelude.{ℕ, ◌≡◌, ◌⊎◌, ◌+◌, ◌++◌, [], ◌∷◌, List, All, length, reverse, max, Option}
 use Rattle.tp_types.specs.declared.configs.Config.{Config}
 use Rattle.tp_types.specs.declared.refusals.PoolError.{PoolError}
 use Rattle.tp_types.specs.declared.refusals.PoolError.TheVariants.{NotTerminated, MissingPass, TornRecord}
 use Rattle.tp_types.specs.declared.tasks.Promise.{Promise}
 use Rattle.tp_record.specs.declared.entries.Entry.{Entry}
 use Rattle.tp_record.specs.declared.entries.Ask.{Ask}
+use Rattle.tp_record.specs.Effects.{reaches}
 use Rattle.tp_record.specs.Kept.{Kept}
 use Rattle.tp_record.specs.Paths.{own}
 use Rattle.tp_record.specs.State.{State, state}
@@ -41,10 +42,6 @@ module _ {P : Type 0} where
   abbrev pub entry_of : ℕ → Ask → Stepped P → Entry
   entry_of by a s = record { by = by; ask = a; did = did_of a s }
 
-  -- what a seat has seen after a step that it makes: what is published, where the step raised that
-  abbrev pub seen_after : BookView P → BookView P → ℕ → ℕ
-  seen_after old new seen = if new.published == old.published then seen else max seen new.published
-
   -- the book after an accepted step: it is the machine's, with its answer, and is accounted for
   pub record IsAdvanced (old new : BookView P) (by : ℕ) (a : Ask) (came : Option (Promise × P)) (s : Stepped P) : Type 0 where
     pub promised : FitsOutcome old.machine a
@@ -54,6 +51,7 @@ module _ {P : Type 0} where
     pub order : IsInOrder tells old.machine s
     pub writes : entries new ≡ entries old ++ entry_of by a s ∷ []
     pub accounts : new.accounts ≡ record old.accounts { total = old.accounts.total + 1 }
+    pub raises : new.published ≡ max (reaches (did_of a s)) old.published
 
   -- the book after a refused step: nothing is different
   pub record IsUnmoved (old new : BookView P) : Type 0 where

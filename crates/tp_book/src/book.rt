@@ -4,8 +4,10 @@ ghost use Rattle.std.specs.Prelude.{◌≡◌, ◌⊎◌, ◌↔◌, ◌<◌, �
 ghost use Rattle.tp_types.specs.Config.{IsConfig, checked};
 ghost use Rattle.tp_types.specs.RunState.{state_rank};
 ghost use Rattle.tp_record.specs.Step.{Legal};
+ghost use Rattle.tp_engine.specs.Seen.{At};
 ghost use Rattle.tp_engine.specs.Stepped.{IsPaid, FitsOutcome};
-ghost use Rattle.tp_book.specs.BookView.{entries, config, state_of, entry_of, seen_after, IsAdvanced, IsUnmoved, IsDenied};
+ghost use Rattle.tp_book.specs.BookView.{tells, entries, config, state_of, entry_of, IsAdvanced, IsUnmoved, IsDenied};
+ghost use Rattle.tp_book.specs.PassView.{seen_after};
 
 use crate::account::Account;
 use crate::accounts::Accounts;
@@ -133,14 +135,16 @@ impl<G: Naming, P> Book<G, P> {
         self.state()
     }
 
-    /// The law that the record is legal, that each of its entries was accounted for, and that the
-    /// word publishes its rank.
+    /// The law that the machine stands at its record, which is legal, that each of its entries was
+    /// accounted for, and that the word publishes its rank.
     pub fn is_balanced(&self)
+        ensures stands { At tells self.now.machine (reverse (entries self.now)) }
         ensures legal { Legal (config self.now) (reverse (entries self.now)) }
         ensures accounted { self.now.accounts.total ≡ length (entries self.now) }
         ensures published { self.now.published ≡ (state_of self.now).rank }
     {
         self.machine.is_legal();
+        self.machine.stands();
     }
 
     // Whether an outcome that comes with the ask is as the task promised that ends.
@@ -176,7 +180,7 @@ impl<G: Naming, P: Drop> Book<G, P> {
         ensures pass { IfOk result (λ s. pass.new ≡ record {
           number = pass.old.number;
           amount = pass.old.amount + 1;
-          seen = seen_after self.old self.new pass.old.seen;
+          seen = seen_after self.old.published self.new.published pass.old.seen;
           receipts = pass.old.receipts ++ entry_of pass.old.number ask s ∷ [];
           room = pass.new.room;
         }) }
@@ -208,7 +212,7 @@ impl<G: Naming, P: Drop> Book<G, P> {
         ensures pass { OnOk result (pass.new ≡ record {
           number = pass.old.number;
           amount = pass.old.amount + 1;
-          seen = seen_after self.old self.new pass.old.seen;
+          seen = seen_after self.old.published self.new.published pass.old.seen;
         }) }
         ensures refused { IfErr result (λ r. IsDenied self.old ask r.0) }
         ensures returned { IfErr result (λ r. r.1 ≡ option_map (λ x. x.1) submitted) }
@@ -236,7 +240,7 @@ impl<G: Naming, P: Drop> Book<G, P> {
         ensures account { OnOk result (account.new ≡ record {
           number = account.old.number;
           amount = account.old.amount + 1;
-          seen = seen_after self.old self.new account.old.seen;
+          seen = seen_after self.old.published self.new.published account.old.seen;
         }) }
         ensures refused { IfErr result (λ r. IsDenied self.old ask r.0) }
         ensures returned { IfErr result (λ r. r.1 ≡ option_map (λ x. x.1) submitted) }
@@ -259,11 +263,7 @@ impl<G: Naming, P: Drop> Book<G, P> {
         };
         machine.stands();
         accounts.credit(account);
-        let after = machine.state();
-        if after != before {
-            glance.raise(seat, after);
-            account.learn(glance, seat);
-        }
+        account.publish(glance, seat, before, machine.state());
         let entry = Entry {
             by: account.number,
             ask,
