@@ -275,7 +275,5 @@ impl<G: Naming, P: Drop> Book<G, P> {
 
 mod closing;
 mod readings;
-#[cfg(test)]
-mod tests;
 
 pub use closing::{Report, Unclosed};
