@@ -1,6 +1,7 @@
 // What a caller's and a worker's pass have in common.
 ghost use Rattle.std.specs.Prelude.{◌≡◌, ◌≤◌, ◌+◌, max};
 ghost use Rattle.tp_types.specs.RunState.{state_rank};
+ghost use Rattle.tp_book.specs.PassView.{seen_after};
 
 use std::marker::Model;
 use std::sync::ledger;
@@ -50,6 +51,25 @@ impl<G: Naming> Account<G> {
         ensures same { book.new ≡ book.old }
     {
         glance.show(book, &mut self.seat);
+    }
+
+    // Publishes the state after a step, and lets the seat see it, where the step changed it.
+    pub fn publish(
+        &mut self,
+        glance: &Glance<G>,
+        book: &mut BookSeat<G>,
+        before: RunState,
+        after: RunState,
+    )
+        requires known { book.old ≡ state_rank before }
+        requires rises { state_rank before ≤ state_rank after }
+        ensures published { book.new ≡ state_rank after }
+        ensures seen { self.new ≡ record self.old { seen = seen_after (state_rank before) (state_rank after) self.old.seen } }
+    {
+        if after.rank() != before.rank() {
+            glance.raise(book, after);
+            self.learn(glance, book);
+        }
     }
 
     // A seat that has seen what this one has seen.

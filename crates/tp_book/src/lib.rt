@@ -1,9 +1,11 @@
-//! What the threads of a pool account for their steps with: passes, and the book's side of the
-//! ledger; and the flag by which a running job hears of its cancelling.
+//! What lies under a pool's lock: the machine, and what accounts for each of its steps. Who steps
+//! does so with a pass, one for each caller and each worker. Beside that the flag by which a running
+//! job hears of its cancelling.
 #![tactic(auto)]
 
 mod account;
-pub mod accounts;
+mod accounts;
+pub mod book;
 pub mod flags;
 pub mod laws;
 pub mod opening;

@@ -34,7 +34,7 @@ impl<P> Machine<P, Full> {
         self.noted.entries()
     }
 
-    /// Gives the record up, the oldest entry first.
+    /// Gives the record up, the oldest entry first. It takes no memory.
     pub fn into_entries(self) -> Vec<Entry>
     where
         P: Drop,

@@ -1,0 +1,279 @@
+//! What lies under a pool's lock: the machine with its record, the book's side of the ledger, and
+//! the seat that raises the word.
+ghost use Rattle.std.specs.Prelude.{◌≡◌, ◌⊎◌, ◌↔◌, ◌<◌, ◌≤◌, ◌+◌, ◌++◌, [], ◌∷◌, length, max, reverse, IsTrue, IsOk, IfOk, OnOk, IfErr, OnErr, Err, option_map};
+ghost use Rattle.tp_types.specs.Config.{IsConfig, checked};
+ghost use Rattle.tp_types.specs.RunState.{state_rank};
+ghost use Rattle.tp_record.specs.Step.{Legal};
+ghost use Rattle.tp_engine.specs.Seen.{At};
+ghost use Rattle.tp_engine.specs.Stepped.{IsPaid, FitsOutcome};
+ghost use Rattle.tp_book.specs.BookView.{tells, entries, config, state_of, entry_of, IsAdvanced, IsUnmoved, IsDenied};
+ghost use Rattle.tp_book.specs.PassView.{seen_after};
+
+use crate::account::Account;
+use crate::accounts::Accounts;
+use crate::opening::Unopened;
+use crate::passes::{Pass, WorkerPass};
+use std::alloc::Global;
+use std::marker::Model;
+use tp_engine::machine::Machine;
+pub use tp_engine::steps::Stepped;
+use tp_glance::glance::{BookSeat, Glance, Naming};
+use tp_record::entries::{Ask, Entry};
+use tp_record::recorders::Full;
+use tp_types::configs::Config;
+use tp_types::refusals::PoolError;
+use tp_types::states::RunState;
+use tp_types::tasks::Promise;
+
+/// One pool, as its lock keeps it. Each step is one step of its machine, made with a pass: it is
+/// accounted for in the ledger, and the word publishes the rank of the record whenever no step is
+/// under way.
+#[derive(Drop)]
+pub struct Book<G: Naming, P> {
+    machine: Machine<P, Full>,
+    accounts: Accounts<G>,
+    seat: BookSeat<G>,
+}
+
+impl<G: Naming, P> Model for Book<G, P> {
+    ghost use Rattle.std.specs.Prelude.{◌≡◌, length};
+    ghost use Rattle.std.specs.Coded.{codes};
+    ghost use Rattle.tp_tasks.specs.Codes.{tasks_code};
+    ghost use Rattle.tp_book.specs.BookView.{BookView, state_of};
+
+    ghost Value = { BookView P };
+
+    ghost coded = { Prim.hlevel (codes, tasks_code P.code) };
+
+    ghost view = { λ b. record { machine = b.machine; accounts = b.accounts; published = b.seat } };
+
+    ghost invariant = { λ b. (b.accounts.total ≡ length b.machine.noted.entries)
+        × (b.seat ≡ (state_of (record { machine = b.machine; accounts = b.accounts; published = b.seat })).rank) };
+}
+
+impl<G: Naming, P> Book<G, P> {
+    /// A pool with these settings and no tasks, which runs, at tick 0: the book, the word of its run
+    /// state, and the pass of number 0. Room for the whole record is taken here. BadSizes (1),
+    /// BadCapacity (2), BadLimit (3), KeepZero (11) or NoMemory (4), as a `ThreadPoolExecutor`'s
+    /// constructor throws `IllegalArgumentException`.
+    pub fn open(
+        alloc: Global,
+        unopened: Unopened,
+        settings: Config,
+    ) -> Result<(Book<G, P>, Glance<G>, Pass<G>), PoolError>
+        requires { unopened ≡ record { ledger = G.name; parts = G.parts; table = G.table } }
+        ensures empty { IfOk result (λ r. entries r.0 ≡ []) }
+        ensures config { IfOk result (λ r. config r.0 ≡ settings) }
+        ensures accounts { IfOk result (λ r. r.0.accounts ≡ record { total = 0; made = 1; callers = 1 }) }
+        ensures pass { IfOk result (λ r. r.2 ≡ record { number = 0; amount = 0; seen = 0; receipts = []; room = r.2.room }) }
+        ensures good { OnOk result (IsConfig settings) }
+        ensures refused { IfErr result (λ e. (checked settings ≡ Err e) ⊎ ((e ≡ PoolError.NoMemory) × IsConfig settings)) }
+    {
+        let machine = Machine::new(alloc, settings)?;
+        let (mut accounts, glance, mut seat) = unopened.open::<G>();
+        let Ok(pass) = accounts.new_pass(alloc, &glance, &mut seat) else {
+            unreachable!()
+        };
+        let book = Book {
+            machine,
+            accounts,
+            seat,
+        };
+        Ok((book, glance, pass))
+    }
+
+    /// A pass for one more caller, which has seen what this caller's pass has seen. Passes are
+    /// numbered from 0, in the order in which they are made; at number 4,294,967,295 it is refused
+    /// 5, `BookFull`.
+    pub fn split_pass(
+        &mut self,
+        alloc: Global,
+        glance: &Glance<G>,
+        pass: &mut Pass<G>,
+    ) -> Result<Pass<G>, PoolError>
+        ensures new { IfOk result (λ p. p ≡ record { number = self.old.accounts.made; amount = 0; seen = pass.old.seen; receipts = []; room = p.room }) }
+        ensures made { OnOk result (self.new ≡ record self.old { accounts = record self.old.accounts { made = self.old.accounts.made + 1; callers = self.old.accounts.callers + 1 } }) }
+        ensures room { self.old.accounts.made < 4294967295 → IsOk result }
+        ensures refused { IfErr result (λ e. e ≡ PoolError.BookFull) }
+        ensures unchanged { OnErr result (self.new ≡ self.old) }
+        ensures same { pass.new ≡ pass.old }
+    {
+        self.accounts.split_pass(alloc, glance, pass)
+    }
+
+    /// A pass for one more caller, which has seen what is published. It is numbered and refused as
+    /// `split_pass`.
+    pub fn new_pass(&mut self, alloc: Global, glance: &Glance<G>) -> Result<Pass<G>, PoolError>
+        ensures new { IfOk result (λ p. p ≡ record { number = self.old.accounts.made; amount = 0; seen = self.old.published; receipts = []; room = p.room }) }
+        ensures made { OnOk result (self.new ≡ record self.old { accounts = record self.old.accounts { made = self.old.accounts.made + 1; callers = self.old.accounts.callers + 1 } }) }
+        ensures room { self.old.accounts.made < 4294967295 → IsOk result }
+        ensures refused { IfErr result (λ e. e ≡ PoolError.BookFull) }
+        ensures unchanged { OnErr result (self.new ≡ self.old) }
+    {
+        self.accounts.new_pass(alloc, glance, &mut self.seat)
+    }
+
+    /// A pass for a worker, which has seen what is published. It is numbered and refused as
+    /// `split_pass`, and takes no memory.
+    pub fn new_worker_pass(&mut self, glance: &Glance<G>) -> Result<WorkerPass<G>, PoolError>
+        ensures new { IfOk result (λ p. p ≡ record { number = self.old.accounts.made; amount = 0; seen = self.old.published }) }
+        ensures made { OnOk result (self.new ≡ record self.old { accounts = record self.old.accounts { made = self.old.accounts.made + 1 } }) }
+        ensures room { self.old.accounts.made < 4294967295 → IsOk result }
+        ensures refused { IfErr result (λ e. e ≡ PoolError.BookFull) }
+        ensures unchanged { OnErr result (self.new ≡ self.old) }
+    {
+        self.accounts.new_worker_pass(glance, &mut self.seat)
+    }
+
+    /// The run state, which the pass has then seen.
+    pub fn show(&mut self, glance: &Glance<G>, pass: &mut Pass<G>) -> RunState
+        ensures state { state_rank result ≡ self.old.published }
+        ensures seen { pass.new ≡ record pass.old { seen = max pass.old.seen self.old.published } }
+        ensures same { self.new ≡ self.old }
+    {
+        pass.account.learn(glance, &mut self.seat);
+        self.state()
+    }
+
+    /// The law that the machine stands at its record, which is legal, that each of its entries was
+    /// accounted for, and that the word publishes its rank.
+    pub fn is_balanced(&self)
+        ensures stands { At tells self.now.machine (reverse (entries self.now)) }
+        ensures legal { Legal (config self.now) (reverse (entries self.now)) }
+        ensures accounted { self.now.accounts.total ≡ length (entries self.now) }
+        ensures published { self.now.published ≡ (state_of self.now).rank }
+    {
+        self.machine.is_legal();
+        self.machine.stands();
+    }
+
+    // Whether an outcome that comes with the ask is as the task promised that ends.
+    fn is_promised(&self, ask: &Ask) -> bool
+        ensures { IsTrue result ↔ FitsOutcome self.now.machine ask.now }
+    {
+        match ask {
+            Ask::End(w, outcome) => self.machine.may_end(*w, outcome),
+            Ask::CallerEnd(t, outcome) => self.machine.may_end_at_caller(*t, outcome),
+            _ => true,
+        }
+    }
+}
+
+impl<G: Naming, P: Drop> Book<G, P> {
+    /// Makes the step of this ask with a caller's pass, for whose receipt the caller has reserved a
+    /// place. A promise and a payload come with a submission alone, and where that is refused the
+    /// payload comes back. Where the step is accepted it writes one entry with the pass's number,
+    /// which is one unit of the pass's share and its last receipt; where it raises the run state,
+    /// the word publishes that and the pass has seen it. Refused with TornRecord (22) where an
+    /// outcome is not as the task promised that ends, else as the machine's call is, and then
+    /// nothing has changed.
+    pub fn step(
+        &mut self,
+        ask: Ask,
+        submitted: Option<(Promise, P)>,
+        glance: &Glance<G>,
+        pass: &mut Pass<G>,
+    ) -> Result<Stepped<P>, (PoolError, Option<P>)>
+        requires payload { IsPaid ask submitted }
+        requires room { 0 < pass.old.room }
+        ensures step { IfOk result (IsAdvanced self.old self.new pass.old.number ask submitted) }
+        ensures pass { IfOk result (λ s. pass.new ≡ record {
+          number = pass.old.number;
+          amount = pass.old.amount + 1;
+          seen = seen_after self.old.published self.new.published pass.old.seen;
+          receipts = pass.old.receipts ++ entry_of pass.old.number ask s ∷ [];
+          room = pass.new.room;
+        }) }
+        ensures left { pass.old.room ≤ pass.new.room + 1 }
+        ensures refused { IfErr result (λ r. IsDenied self.old ask r.0) }
+        ensures returned { IfErr result (λ r. r.1 ≡ option_map (λ x. x.1) submitted) }
+        ensures unchanged { OnErr result (IsUnmoved self.old self.new) }
+        ensures same { OnErr result (pass.new ≡ pass.old) }
+    {
+        match self.advance(ask, submitted, glance, &mut pass.account) {
+            Ok((stepped, entry)) => {
+                pass.receipts.push_reserved(entry);
+                Ok(stepped)
+            }
+            Err(refused) => Err(refused),
+        }
+    }
+
+    /// Makes the step of this ask with a worker's pass, as `step`, without a receipt.
+    pub fn step_worker(
+        &mut self,
+        ask: Ask,
+        submitted: Option<(Promise, P)>,
+        glance: &Glance<G>,
+        pass: &mut WorkerPass<G>,
+    ) -> Result<Stepped<P>, (PoolError, Option<P>)>
+        requires payload { IsPaid ask submitted }
+        ensures step { IfOk result (IsAdvanced self.old self.new pass.old.number ask submitted) }
+        ensures pass { OnOk result (pass.new ≡ record {
+          number = pass.old.number;
+          amount = pass.old.amount + 1;
+          seen = seen_after self.old.published self.new.published pass.old.seen;
+        }) }
+        ensures refused { IfErr result (λ r. IsDenied self.old ask r.0) }
+        ensures returned { IfErr result (λ r. r.1 ≡ option_map (λ x. x.1) submitted) }
+        ensures unchanged { OnErr result (IsUnmoved self.old self.new) }
+        ensures same { OnErr result (pass.new ≡ pass.old) }
+    {
+        match self.advance(ask, submitted, glance, &mut pass.account) {
+            Ok((stepped, _)) => Ok(stepped),
+            Err(refused) => Err(refused),
+        }
+    }
+
+    // One step, with the entry that it made: the account has one unit more, and what the step raised
+    // is published and seen.
+    fn advance(
+        &mut self,
+        ask: Ask,
+        submitted: Option<(Promise, P)>,
+        glance: &Glance<G>,
+        account: &mut Account<G>,
+    ) -> Result<(Stepped<P>, Entry), (PoolError, Option<P>)>
+        requires payload { IsPaid ask submitted }
+        ensures step { IfOk result (λ r. IsAdvanced self.old self.new account.old.number ask submitted r.0) }
+        ensures entry { IfOk result (λ r. r.1 ≡ entry_of account.old.number ask r.0) }
+        ensures account { OnOk result (account.new ≡ record {
+          number = account.old.number;
+          amount = account.old.amount + 1;
+          seen = seen_after self.old.published self.new.published account.old.seen;
+        }) }
+        ensures refused { IfErr result (λ r. IsDenied self.old ask r.0) }
+        ensures returned { IfErr result (λ r. r.1 ≡ option_map (λ x. x.1) submitted) }
+        ensures unchanged { OnErr result (IsUnmoved self.old self.new) }
+        ensures same { OnErr result (account.new ≡ account.old) }
+    {
+        if !self.is_promised(&ask) {
+            return Err((PoolError::TornRecord, submitted.map(|(_, payload)| payload)));
+        }
+        let Book {
+            machine,
+            accounts,
+            seat,
+        } = self;
+        machine.stands();
+        let before = machine.state();
+        let stepped = match machine.step(account.number, ask, submitted) {
+            Ok(stepped) => stepped,
+            Err(refused) => return Err(refused),
+        };
+        machine.stands();
+        accounts.credit(account);
+        account.publish(glance, seat, before, machine.state());
+        let entry = Entry {
+            by: account.number,
+            ask,
+            did: stepped.did(&ask),
+        };
+        Ok((stepped, entry))
+    }
+}
+
+mod closing;
+mod readings;
+
+pub use closing::{Report, Unclosed};
