@@ -12,9 +12,10 @@ use Rattle.tp_record.specs.declared.entries.Ruled.{Ruled}
 use Rattle.tp_record.specs.declared.entries.Ruled.TheVariants as ruled
 use Rattle.tp_record.specs.declared.entries.Seconded.{Seconded}
 use Rattle.tp_record.specs.declared.entries.Seconded.TheVariants as seconded
+use Rattle.tp_text.specs.EntryLine.{seconded_words, reserved_words, ruled_words, dropped_words, opened_words, refused_words, kind_words, looked_words}
 use Rattle.tp_text.specs.Fits.{Fits32, FitsKind}
 use Rattle.tp_text.proofs.WordSplits.{differ}
-use Rattle.tp_record_text.specs.EntryWords.{FitsSeconded, FitsReserved, FitsRuled, FitsOpened, FitsTold, FitsLooked, seconded_words, reserved_words, ruled_words, dropped_words, opened_words, refused_words, kind_words, looked_words}
+use Rattle.tp_record_text.specs.EntryFits.{FitsSeconded, FitsReserved, FitsRuled, FitsOpened, FitsTold, FitsLooked}
 
 pub no_seconded : (ws rest : List (List ℕ)) (w : List ℕ) → ws ≡ w ∷ rest → w ≡ codes "stay" → ((o : Option SlotId) → FitsReserved o → rest ≢ reserved_words o) → (s : Seconded) → FitsSeconded s → ws ≢ seconded_words s
 no_seconded ws rest w is stay none seconded.Stay fits same = none None tt cc

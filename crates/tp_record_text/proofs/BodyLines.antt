@@ -11,14 +11,14 @@ use Rattle.std.proofs.lemmas.Option.{none-some}
 use Rattle.std.proofs.lemmas.Str.{IsUtf8-from_ascii}
 use Rattle.std.proofs.lemmas.Str.Parse.{not_in_digits}
 use Rattle.tp_record.specs.declared.entries.Entry.{Entry}
-use Rattle.tp_text.specs.EntryLine.{entry_line}
+use Rattle.tp_text.specs.EntryLine.{entry_line, did_words, entry_words, pass_words}
 use Rattle.tp_text.specs.Fits.{Fits32}
 use Rattle.tp_text.specs.Lines.{ended}
 use Rattle.tp_text.specs.Reads.{ReadsAs}
 use Rattle.tp_text.proofs.NumberTexts.{own}
 use Rattle.tp_record_text.specs.declared.records.BodyLine.{BodyLine}
 use Rattle.tp_record_text.specs.declared.records.BodyLine.TheVariants as body
-use Rattle.tp_record_text.specs.EntryWords.{IsStep, did_words, entry_words, pass_words}
+use Rattle.tp_record_text.specs.EntryFits.{IsStep}
 use Rattle.tp_record_text.specs.ReadRecord.{FitsBody, body_text}
 use Rattle.tp_record_text.specs.RecordText.{end_line, entry_text}
 use Rattle.tp_record_text.specs.Rests.{split_words}
@@ -32,7 +32,7 @@ not_utf8 bs (Ok s) other text fits ascii reads none v fit same = none-some s (sy
 not_utf8 bs (Err e) other text fits ascii reads none v fit same = reads.0 (subst IsUtf8 (sym same) (IsUtf8-from_ascii (text v) (ascii v fit)))
 
 -- the words of an entry's text
-split_entry : (n : ℕ) (e : Entry) → Fits32 n → IsStep e → split_words (entry_text n e) ≡ entry_words n e
+pub split_entry : (n : ℕ) (e : Entry) → Fits32 n → IsStep e → split_words (entry_text n e) ≡ entry_words n e
 split_entry n e fits step = split-words (decimal n) (pass_words e.by ++ did_words e.did) (entry_pieces n e fits step.0 step.1)
 
 -- entries of one text have one number

@@ -26,11 +26,11 @@ use Rattle.tp_text.specs.declared.commands.PoolVerb.TheVariants as pool
 use Rattle.tp_text.specs.declared.commands.SizeVerb.TheVariants as size
 use Rattle.tp_text.specs.declared.commands.TickVerb.TheVariants as ticks
 use Rattle.tp_text.specs.Commands.{command_word}
-use Rattle.tp_text.specs.EntryLine.{task_name, slot_name, effect_word, switch_word}
+use Rattle.tp_text.specs.EntryLine.{task_name, slot_name, effect_word, switch_word, kind_words, outcome_words, looked_words, offered_words, seconded_words, grown_words, ruled_words, opened_words, failed_words, took_words, started_words, reserved_words, prestart_words, flag_words, command_of, argument_words, did_words}
 use Rattle.tp_text.specs.Fits.{Fits32, Fits64, FitsKind, FitsOutcome}
 use Rattle.tp_text.specs.Reads.{ReadsAs}
 use Rattle.tp_text.proofs.CommandWords.{command_word-injective}
-use Rattle.tp_record_text.specs.EntryWords.{FitsTask, FitsSlot, FitsLooked, FitsOffered, FitsSeconded, FitsGrown, FitsRuled, FitsOpened, FitsFailed, FitsTook, FitsStarted, FitsReserved, FitsDid, ReadsDid, kind_words, outcome_words, looked_words, offered_words, seconded_words, grown_words, ruled_words, opened_words, failed_words, took_words, started_words, reserved_words, prestart_words, flag_words, command_of, argument_words, did_words}
+use Rattle.tp_record_text.specs.EntryFits.{FitsTask, FitsSlot, FitsLooked, FitsOffered, FitsSeconded, FitsGrown, FitsRuled, FitsOpened, FitsFailed, FitsTook, FitsStarted, FitsReserved, FitsDid, ReadsDid}
 use Rattle.tp_record_text.specs.Rests.{Alone}
 
 -- the words are those of no arguments of the command

@@ -11,11 +11,11 @@ use Rattle.std.proofs.lemmas.Option.{none-some, same_Some}
 use Rattle.std.proofs.lemmas.Str.{IsUtf8-from_ascii}
 use Rattle.tp_record.specs.declared.entries.Did.{Did}
 use Rattle.tp_record.specs.declared.entries.Entry.{Entry}
-use Rattle.tp_text.specs.EntryLine.{words, pass_name, entry_line}
+use Rattle.tp_text.specs.EntryLine.{words, pass_name, entry_line, did_words, entry_words, pass_words}
 use Rattle.tp_text.specs.Fits.{Fits32}
 use Rattle.tp_text.specs.Lines.{ended}
 use Rattle.tp_text.specs.Reads.{ReadsAs}
-use Rattle.tp_record_text.specs.EntryWords.{FitsDid, FitsPass, IsStep, asked, did_words, entry_words, pass_words}
+use Rattle.tp_record_text.specs.EntryFits.{FitsDid, FitsPass, IsStep, asked}
 use Rattle.tp_record_text.specs.Rests.{split_words}
 use Rattle.tp_record_text.proofs.EntryTexts.{entry_line-words}
 use Rattle.tp_record_text.proofs.Pieces.{entry_pieces, split-words, words_are_ascii}

@@ -16,7 +16,7 @@ use Rattle.tp_text.specs.RunText.{IsFront}
 use Rattle.tp_text.proofs.LineSplits.{front_line, no_cut, same_cut, same_lines}
 use Rattle.tp_record_text.specs.declared.records.BodyLine.{BodyLine}
 use Rattle.tp_record_text.specs.declared.records.BodyLine.TheVariants as body
-use Rattle.tp_record_text.specs.EntryWords.{IsStep}
+use Rattle.tp_record_text.specs.EntryFits.{IsStep}
 use Rattle.tp_record_text.specs.ReadRecord.{Begins, FitsBody, HasRefusedPool, IsBody, IsFirstWrong, IsNoBody, IsWrongAt, body_text, head}
 use Rattle.tp_record_text.specs.RecordText.{FitsConfig, HasText, end_line, entry_text, entry_texts, header, pool_line, record_lines, record_text}
 use Rattle.tp_record_text.proofs.BodyLines.{no_end}

@@ -9,3 +9,5 @@ pub mod RecordLines
 pub mod BodyLines
 pub mod FirstWrong
 pub mod WrittenText
+mod TellDid
+mod OneText

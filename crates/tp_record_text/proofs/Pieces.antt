@@ -48,14 +48,14 @@ use Rattle.tp_text.specs.declared.commands.PoolVerb.TheVariants as pool
 use Rattle.tp_text.specs.declared.commands.SizeVerb.TheVariants as size
 use Rattle.tp_text.specs.declared.commands.TickVerb.TheVariants as ticks
 use Rattle.tp_text.specs.Commands.{command_word}
-use Rattle.tp_text.specs.EntryLine.{words, task_name, slot_name, pass_name, effect_word, switch_word}
+use Rattle.tp_text.specs.EntryLine.{words, task_name, slot_name, pass_name, effect_word, switch_word, kind_words, outcome_words, looked_words, offered_words, seconded_words, grown_words, ruled_words, opened_words, failed_words, took_words, started_words, reserved_words, prestart_words, flag_words, command_of, argument_words, did_words, pass_words, entry_words}
 use Rattle.tp_text.specs.Fits.{Fits32, FitsKind, FitsOutcome, FitsValue}
 use Rattle.tp_text.specs.Lines.{HasNoLineFeed}
 use Rattle.tp_text.specs.Reads.{IsWord}
 use Rattle.tp_text.proofs.LineSplits.{single-append, single_from_test}
 use Rattle.tp_text.proofs.NumberTexts.{single_decimal, word_decimal}
 use Rattle.tp_text.proofs.WordSplits.{word_from_test}
-use Rattle.tp_record_text.specs.EntryWords.{FitsTask, FitsSlot, FitsLooked, FitsOffered, FitsSeconded, FitsGrown, FitsRuled, FitsOpened, FitsFailed, FitsTook, FitsStarted, FitsReserved, FitsDid, kind_words, outcome_words, looked_words, offered_words, seconded_words, grown_words, ruled_words, opened_words, failed_words, took_words, started_words, reserved_words, prestart_words, flag_words, command_of, argument_words, did_words, pass_words, entry_words}
+use Rattle.tp_record_text.specs.EntryFits.{FitsTask, FitsSlot, FitsLooked, FitsOffered, FitsSeconded, FitsGrown, FitsRuled, FitsOpened, FitsFailed, FitsTook, FitsStarted, FitsReserved, FitsDid}
 use Rattle.tp_record_text.specs.Rests.{split_words}
 
 -- a word in ASCII without a space and without a line feed

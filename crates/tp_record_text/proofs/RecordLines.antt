@@ -13,13 +13,13 @@ use Rattle.tp_types.specs.declared.configs.QueueKind.TheVariants.{Handoff, Unbou
 use Rattle.tp_types.specs.Policy.{policy_name}
 use Rattle.tp_record.specs.declared.entries.Entry.{Entry}
 use Rattle.tp_text.specs.declared.pools.PoolLine.{PoolLine}
-use Rattle.tp_text.specs.EntryLine.{words}
+use Rattle.tp_text.specs.EntryLine.{words, did_words, pass_words}
 use Rattle.tp_text.specs.Fits.{Fits32}
 use Rattle.tp_text.specs.Lines.{HasNoLineFeed}
 use Rattle.tp_text.specs.Pools.{FitsOptions, FitsPool, FitsQueue, Options, keep_text, options_text, policy_text, pool_text, queue_text, said, sizes_text, waiting_text}
 use Rattle.tp_text.specs.Reads.{followed, spaced}
 use Rattle.tp_text.proofs.LineSplits.{single-append, single_from_test}
-use Rattle.tp_record_text.specs.EntryWords.{IsStep, did_words, pass_words}
+use Rattle.tp_record_text.specs.EntryFits.{IsStep}
 use Rattle.tp_record_text.specs.RecordText.{FitsConfig, HasText, end_line, entry_text, entry_texts, header, pool_line, record_lines, written}
 use Rattle.tp_record_text.proofs.Pieces.{IsPiece, Pieces, code, entry_pieces, number_piece, space_ascii, words_are_ascii}
 

@@ -1,4 +1,4 @@
 pub mod Rests
-pub mod EntryWords
+pub mod EntryFits
 pub mod RecordText
 pub mod ReadRecord

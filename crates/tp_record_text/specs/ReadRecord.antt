@@ -11,7 +11,7 @@ use Rattle.tp_text.specs.RunText.{IsFront}
 use Rattle.tp_record_text.specs.declared.records.BodyLine.{BodyLine}
 use Rattle.tp_record_text.specs.declared.records.BodyLine.TheVariants as body
 use Rattle.tp_record_text.specs.declared.records.Record.{Record}
-use Rattle.tp_record_text.specs.EntryWords.{IsStep}
+use Rattle.tp_record_text.specs.EntryFits.{IsStep}
 use Rattle.tp_record_text.specs.RecordText.{FitsConfig, HasText, end_line, entry_text, header, pool_line, record_lines, record_text}
 
 -- the line that stands behind so many entries and says this

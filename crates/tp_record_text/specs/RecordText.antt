@@ -5,12 +5,12 @@ use Rattle.std.specs.List.{AllByRecursion, flat_map}
 use Rattle.tp_types.specs.declared.configs.Config.{Config}
 use Rattle.tp_record.specs.declared.entries.Entry.{Entry}
 use Rattle.tp_text.specs.declared.pools.PoolLine.{PoolLine}
-use Rattle.tp_text.specs.EntryLine.{words}
+use Rattle.tp_text.specs.EntryLine.{words, entry_words}
 use Rattle.tp_text.specs.Fits.{Fits32}
 use Rattle.tp_text.specs.Lines.{ended}
 use Rattle.tp_text.specs.Pools.{FitsPool, options_text, pool_text}
 use Rattle.tp_text.specs.Reads.{spaced}
-use Rattle.tp_record_text.specs.EntryWords.{IsStep, entry_words}
+use Rattle.tp_record_text.specs.EntryFits.{IsStep}
 
 -- a record limit is written where it is not the usual one
 abbrev pub written_limit : ℕ → Option ℕ

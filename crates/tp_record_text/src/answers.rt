@@ -2,8 +2,8 @@
 ghost use Rattle.std.specs.Prelude.{◌≡◌, ◌≢◌, ◌++◌, List, ℕ, [], ◌∷◌, Some, None, codes};
 ghost use Rattle.tp_text.specs.Fits.{Fits32, FitsKind, FitsOutcome};
 ghost use Rattle.tp_text.specs.Reads.{Any, ReadsAs};
-ghost use Rattle.tp_text.specs.EntryLine.{task_name, slot_name};
-ghost use Rattle.tp_record_text.specs.EntryWords.{FitsTask, FitsSlot, FitsLooked, FitsOffered, FitsSeconded, FitsGrown, FitsRuled, FitsOpened, FitsFailed, HasTask, FitsTook, FitsStarted, FitsReserved, FitsTold, kind_words, outcome_words, looked_words, offered_words, seconded_words, grown_words, ruled_words, opened_words, failed_words, took_words, started_words, reserved_words, prestart_words, dropped_words, refused_words, flag_words};
+ghost use Rattle.tp_text.specs.EntryLine.{task_name, slot_name, kind_words, outcome_words, looked_words, offered_words, seconded_words, grown_words, ruled_words, opened_words, failed_words, took_words, started_words, reserved_words, prestart_words, dropped_words, refused_words, flag_words};
+ghost use Rattle.tp_record_text.specs.EntryFits.{FitsTask, FitsSlot, FitsLooked, FitsOffered, FitsSeconded, FitsGrown, FitsRuled, FitsOpened, FitsFailed, HasTask, FitsTook, FitsStarted, FitsReserved, FitsTold};
 ghost use Rattle.tp_record_text.specs.Rests.{left};
 
 use crate::words::{

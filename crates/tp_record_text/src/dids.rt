@@ -1,7 +1,8 @@
 //! What was done, read from the words of an entry's line.
+ghost use Rattle.tp_text.specs.EntryLine.{did_words};
 ghost use Rattle.tp_text.specs.declared.commands.Command.{Command};
 ghost use Rattle.tp_text.specs.Reads.{ReadsAs};
-ghost use Rattle.tp_record_text.specs.EntryWords.{FitsDid, ReadsDid, did_words};
+ghost use Rattle.tp_record_text.specs.EntryFits.{FitsDid, ReadsDid};
 ghost use Rattle.tp_record_text.specs.Rests.{left};
 
 use crate::answers::prestarted;

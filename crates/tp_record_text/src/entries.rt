@@ -1,10 +1,10 @@
 //! The line of an entry, read.
 ghost use Rattle.std.specs.Prelude.{◌≡◌, ◌≢◌, ◌++◌, List, ℕ, [], ◌∷◌, Some, None};
-ghost use Rattle.tp_text.specs.EntryLine.{entry_line, pass_name};
+ghost use Rattle.tp_text.specs.EntryLine.{entry_line, pass_name, did_words, entry_words, pass_words};
 ghost use Rattle.tp_text.specs.Fits.{Fits32};
 ghost use Rattle.tp_text.specs.Lines.{ended};
 ghost use Rattle.tp_text.specs.Reads.{ReadsAs};
-ghost use Rattle.tp_record_text.specs.EntryWords.{FitsPass, IsStep, asked as ask_of, did_words, entry_words, pass_words};
+ghost use Rattle.tp_record_text.specs.EntryFits.{FitsPass, IsStep, asked as ask_of};
 ghost use Rattle.tp_record_text.specs.Rests.{ReadsOn, left, split_words};
 
 use crate::dids::did_of;

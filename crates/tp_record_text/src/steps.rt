@@ -4,8 +4,8 @@ ghost use Rattle.std.specs.Fmt.{decimal};
 ghost use Rattle.tp_types.specs.Verdict.{verdict_name};
 ghost use Rattle.tp_text.specs.Fits.{Fits32, FitsKind, FitsOutcome};
 ghost use Rattle.tp_text.specs.Reads.{Any, ReadsAs};
-ghost use Rattle.tp_text.specs.EntryLine.{task_name, slot_name, effect_word};
-ghost use Rattle.tp_record_text.specs.EntryWords.{FitsTask, FitsSlot, FitsLooked, FitsOffered, FitsSeconded, FitsGrown, FitsRuled, FitsOpened, FitsFailed, FitsTook, FitsStarted, FitsReserved, kind_words, outcome_words, looked_words, offered_words, seconded_words, grown_words, ruled_words, opened_words, failed_words, took_words, started_words, reserved_words, flag_words};
+ghost use Rattle.tp_text.specs.EntryLine.{task_name, slot_name, effect_word, kind_words, outcome_words, looked_words, offered_words, seconded_words, grown_words, ruled_words, opened_words, failed_words, took_words, started_words, reserved_words, flag_words};
+ghost use Rattle.tp_record_text.specs.EntryFits.{FitsTask, FitsSlot, FitsLooked, FitsOffered, FitsSeconded, FitsGrown, FitsRuled, FitsOpened, FitsFailed, FitsTook, FitsStarted, FitsReserved};
 ghost use Rattle.tp_record_text.specs.Rests.{left};
 
 use crate::answers::{

@@ -5,7 +5,7 @@ ghost use Rattle.tp_types.specs.Verdict.{verdict_name};
 ghost use Rattle.tp_text.specs.Fits.{Fits32, Fits64, FitsValue};
 ghost use Rattle.tp_text.specs.Reads.{Any, ReadsAs};
 ghost use Rattle.tp_text.specs.EntryLine.{task_name, slot_name, effect_word, switch_word};
-ghost use Rattle.tp_record_text.specs.EntryWords.{FitsTask, FitsSlot};
+ghost use Rattle.tp_record_text.specs.EntryFits.{FitsTask, FitsSlot};
 ghost use Rattle.tp_record_text.specs.Rests.{Alone, ReadsOn, TakesWord, left};
 
 use tp_text::numbers::{index, long_number, number, value};

@@ -9,7 +9,7 @@ ghost use Rattle.tp_record_text.specs.RecordText.{end_line, record_text, written
 use std::alloc::{AllocError, Global};
 use std::io::Write;
 use tp_record::entries::Entry;
-use tp_text::entries::entry_line;
+use tp_text::entries::write_entry;
 use tp_types::configs::{Config, QueueKind};
 use tp_types::limits::DEFAULT_RECORD_LIMIT;
 use tp_types::refusals::PoolError;
@@ -79,11 +79,13 @@ pub fn write_record<W: Write>(
     if writer.write_all(head.as_bytes()).is_err() {
         return Err(PoolError::WriteFailed);
     }
+    let mut line = String::new(alloc);
     for (i, entry) in entries.iter().enumerate() {
-        let Ok(line) = entry_line(alloc, i + 1, entry) else {
+        line.clear();
+        if write_entry(&mut line, i + 1, entry).is_err() {
             return Err(PoolError::NoMemory);
-        };
-        if writer.write_all(line.as_slice()).is_err() {
+        }
+        if writer.write_all(line.as_bytes()).is_err() {
             return Err(PoolError::WriteFailed);
         }
     }

@@ -1,42 +1,59 @@
 -- Laws of lines.
-use Rattle.std.proofs.Common.{◌≡◌, ℕ, List, [], ◌∷◌, ◌++◌, map, refl, ap, codes, append_assoc, ◌∙◌, sym}
+use Rattle.std.proofs.Common.{◌≡◌, ℕ, List, [], ◌∷◌, ◌++◌, Result, Ok, Err, OnOk, is_ok, map, refl, ap, append_assoc, codes, ◌∙◌, sym, if◌then◌else◌}
+use Rattle.std.specs.Fmt.{decimal}
 use Rattle.std.specs.List.{flat_map}
+use Rattle.std.proofs.lemmas.List.Concat.{flat_map-append}
 use Rattle.tp_types.specs.declared.ids.TaskId.{TaskId}
 use Rattle.tp_types.specs.declared.states.Counts.{Counts}
-use Rattle.tp_text.specs.EntryLine.{words, line}
-use Rattle.tp_text.specs.EndLines.{task_text, counter, ran_counters, lost_counters, worker_counters, counts_line}
+use Rattle.tp_record.specs.declared.entries.Entry.{Entry}
+use Rattle.tp_text.specs.EntryLine.{behind, did_words, entry_line, line, pass_words}
+use Rattle.tp_text.specs.EndLines.{back_line, counts_line, lost_counters, ran_counters, task_text, worker_counters}
+
+-- a line is its first word, the others, each behind a space, and its end
+pub line-behind : (w : List ℕ) (ws : List (List ℕ)) → line (w ∷ ws) ≡ w ++ (behind ws ++ 10 ∷ [])
+line-behind w [] = refl
+line-behind w (v ∷ ws) = ap (λ x. w ++ (32 ∷ x)) (line-behind v ws ∙ sym (append_assoc v (behind ws) (10 ∷ [])))
 
 -- a line of a word and of tasks, task by task
 pub line-tasks : (w : List ℕ) (ts : List TaskId) → line (w ∷ map task_text (map (λ t. t.0) ts)) ≡ w ++ (flat_map (λ (t : TaskId). 32 ∷ task_text t.0) ts ++ 10 ∷ [])
 line-tasks w [] = refl
 line-tasks w (t ∷ ts) = ap (λ v. w ++ (32 ∷ v)) (line-tasks (task_text t.0) ts ∙ sym (append_assoc (task_text t.0) (flat_map (λ (u : TaskId). 32 ∷ task_text u.0) ts) (10 ∷ [])))
 
--- a word that begins with a word and a space
-line-spaced : (v x : List ℕ) (ws : List (List ℕ)) → line ((v ++ (32 ∷ x)) ∷ ws) ≡ v ++ (32 ∷ line (x ∷ ws))
-line-spaced v x [] = append_assoc v (32 ∷ x) (10 ∷ [])
-line-spaced v x (w ∷ ws) = append_assoc v (32 ∷ x) (32 ∷ line (w ∷ ws))
+-- the end of a line, where there was room for it
+pub end_on_ok : {A E : Type 0} (r : Result A E) (line new whole : List ℕ) → new ≡ (if is_ok r then line ++ 10 ∷ [] else line) → line ++ 10 ∷ [] ≡ whole → OnOk r (new ≡ whole)
+end_on_ok (Ok x) line new whole is goes = is ∙ goes
+end_on_ok (Err x) line new whole is goes = tt
 
--- words as one piece of a line
-pub line-words : (v : List ℕ) (vs ws : List (List ℕ)) → line (words (v ∷ vs) ∷ ws) ≡ line (v ∷ (vs ++ ws))
-line-words v [] ws = refl
-line-words v (u ∷ us) ws = line-spaced v (words (u ∷ us)) ws ∙ ap (λ x. v ++ (32 ∷ x)) (line-words u us ws)
+-- a text, where there was room for it
+pub text_on_ok : {A E : Type 0} (r : Result A E) (line text new whole : List ℕ) → new ≡ (if is_ok r then line ++ text else line) → text ≡ whole → OnOk r (new ≡ line ++ whole)
+text_on_ok (Ok x) line text new whole is goes = is ∙ ap (λ x. line ++ x) goes
+text_on_ok (Err x) line text new whole is goes = tt
 
--- the counters in four pieces
-pub counts_line-pieces : (c : Counts) → line (codes "counts" ∷ ran_counters c ∷ lost_counters c ∷ counter (codes "cancelled") c.cancelled ∷ worker_counters c ∷ []) ≡ counts_line c
-counts_line-pieces c =
-    ap (λ x. codes "counts" ++ (32 ∷ x))
-    (line-words (counter (codes "submitted") c.submitted) (counter (codes "run") c.run ∷ counter (codes "caller") c.caller ∷ []) (lost_counters c ∷ later)
-    ∙ ap (λ x. counter (codes "submitted") c.submitted ++ (32 ∷ (counter (codes "run") c.run ++ (32 ∷ (counter (codes "caller") c.caller ++ (32 ∷ x))))))
-    (line-words (counter (codes "rejected") c.rejected) (counter (codes "discarded") c.discarded ∷ counter (codes "handedback") c.handedback ∷ counter (codes "removed") c.removed ∷ []) later
-    ∙ ap (λ x. counter (codes "rejected") c.rejected ++ (32 ∷ (counter (codes "discarded") c.discarded ++ (32 ∷ (counter (codes "handedback") c.handedback ++ (32 ∷ (counter (codes "removed") c.removed ++ (32 ∷ (counter (codes "cancelled") c.cancelled ++ (32 ∷ x))))))))))
-    (line-words (counter (codes "completed") c.completed) (counter (codes "queued") c.queued ∷ counter (codes "live") c.live ∷ counter (codes "largest") c.largest ∷ []) [])))
-  where
-    later : List (List ℕ)
-    later = counter (codes "cancelled") c.cancelled ∷ worker_counters c ∷ []
+-- a word, words and words make one line
+in_steps : (old w : List ℕ) (vs ws : List (List ℕ)) → ((old ++ (w ++ behind vs)) ++ behind ws) ++ 10 ∷ [] ≡ old ++ line (w ∷ (vs ++ ws))
+in_steps old w vs ws =
+    ap (λ x. x ++ 10 ∷ []) (append_assoc old (w ++ behind vs) (behind ws))
+    ∙ append_assoc old ((w ++ behind vs) ++ behind ws) (10 ∷ [])
+    ∙ ap (λ x. old ++ (x ++ 10 ∷ [])) (append_assoc w (behind vs) (behind ws) ∙ ap (λ x. w ++ x) (sym (flat_map-append (λ v. 32 ∷ v) vs ws)))
+    ∙ ap (λ x. old ++ x) (append_assoc w (behind (vs ++ ws)) (10 ∷ []) ∙ sym (line-behind w (vs ++ ws)))
 
-pub counts_line-from_pieces : (c : Counts) (ran lost workers : List ℕ) → ran ≡ ran_counters c → lost ≡ lost_counters c → workers ≡ worker_counters c → line (codes "counts" ∷ ran ∷ lost ∷ counter (codes "cancelled") c.cancelled ∷ workers ∷ []) ≡ counts_line c
-counts_line-from_pieces c ran lost workers r l w =
-    ap (λ x. line (codes "counts" ∷ x ∷ lost ∷ counter (codes "cancelled") c.cancelled ∷ workers ∷ [])) r
-    ∙ ap (λ x. line (codes "counts" ∷ ran_counters c ∷ x ∷ counter (codes "cancelled") c.cancelled ∷ workers ∷ [])) l
-    ∙ ap (λ x. line (codes "counts" ∷ ran_counters c ∷ lost_counters c ∷ counter (codes "cancelled") c.cancelled ∷ x ∷ [])) w
-    ∙ counts_line-pieces c
+-- the line of an entry: its number and pass, what was done, and the end
+pub entry_in_steps : (n : ℕ) (e : Entry) (old place did : List ℕ) → place ≡ old ++ (decimal n ++ behind (pass_words e.by)) → did ≡ place ++ behind (did_words e.did) → did ++ 10 ∷ [] ≡ old ++ entry_line n e
+entry_in_steps n e old place did p d =
+    ap (λ x. x ++ 10 ∷ []) (d ∙ ap (λ x. x ++ behind (did_words e.did)) p) ∙ in_steps old (decimal n) (pass_words e.by) (did_words e.did)
+
+-- the counters in three steps, and the end
+pub counts_in_steps : (c : Counts) (old ran lost all : List ℕ) → ran ≡ old ++ (codes "counts" ++ behind (ran_counters c)) → lost ≡ ran ++ behind (lost_counters c) → all ≡ lost ++ behind (worker_counters c) → all ++ 10 ∷ [] ≡ old ++ counts_line c
+counts_in_steps c old ran lost all r l a =
+    ap (λ x. x ++ 10 ∷ [])
+    (a ∙ ap (λ x. x ++ behind (worker_counters c)) (l ∙ ap (λ x. x ++ behind (lost_counters c)) r)
+    ∙ append_assoc (old ++ (codes "counts" ++ behind (ran_counters c))) (behind (lost_counters c)) (behind (worker_counters c))
+    ∙ ap (λ x. (old ++ (codes "counts" ++ behind (ran_counters c))) ++ x) (sym (flat_map-append (λ v. 32 ∷ v) (lost_counters c) (worker_counters c))))
+    ∙ in_steps old (codes "counts") (ran_counters c) (lost_counters c ++ worker_counters c)
+
+-- the tasks that were handed back, and the end
+pub back_in_steps : (old back : List ℕ) (ts : List TaskId) → back ≡ old ++ (codes "back" ++ flat_map (λ (t : TaskId). 32 ∷ task_text t.0) ts) → back ++ 10 ∷ [] ≡ old ++ back_line (map (λ t. t.0) ts)
+back_in_steps old back ts b =
+    ap (λ x. x ++ 10 ∷ []) b
+    ∙ append_assoc old (codes "back" ++ flat_map (λ (t : TaskId). 32 ∷ task_text t.0) ts) (10 ∷ [])
+    ∙ ap (λ x. old ++ x) (append_assoc (codes "back") (flat_map (λ (t : TaskId). 32 ∷ task_text t.0) ts) (10 ∷ []) ∙ sym (line-tasks (codes "back") ts))

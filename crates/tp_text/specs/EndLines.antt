@@ -10,7 +10,7 @@ use Rattle.tp_types.specs.declared.tasks.Fate.{Fate}
 use Rattle.tp_types.specs.Fate.{fate_name}
 use Rattle.tp_types.specs.PoolError.{refusal_number, refusal_name}
 use Rattle.tp_types.specs.RunState.{state_name}
-use Rattle.tp_text.specs.EntryLine.{words, line}
+use Rattle.tp_text.specs.EntryLine.{line}
 
 -- the line that a refusal of a text speaks of
 abbrev pub refused_place : PoolError → Option ℕ
@@ -52,33 +52,23 @@ abbrev pub counter : List ℕ → ℕ → List ℕ
 counter name n = name ++ (codes "=" ++ decimal n)
 
 -- the submissions, and the tasks that ran
-abbrev pub ran_counters : Counts → List ℕ
-ran_counters c = words (counter (codes "submitted") c.submitted ∷ counter (codes "run") c.run ∷ counter (codes "caller") c.caller ∷ [])
+abbrev pub ran_counters : Counts → List (List ℕ)
+ran_counters c = counter (codes "submitted") c.submitted ∷ counter (codes "run") c.run ∷ counter (codes "caller") c.caller ∷ []
 
--- the tasks that left without running
-abbrev pub lost_counters : Counts → List ℕ
-lost_counters c = words (counter (codes "rejected") c.rejected ∷ counter (codes "discarded") c.discarded ∷ counter (codes "handedback") c.handedback ∷ counter (codes "removed") c.removed ∷ [])
-
--- what the workers do and did
-abbrev pub worker_counters : Counts → List ℕ
-worker_counters c = words (counter (codes "completed") c.completed ∷ counter (codes "queued") c.queued ∷ counter (codes "live") c.live ∷ counter (codes "largest") c.largest ∷ [])
-
--- all twelve counters
-abbrev pub counters : Counts → List (List ℕ)
-counters c =
-    counter (codes "submitted") c.submitted
-    ∷ counter (codes "run") c.run
-    ∷ counter (codes "caller") c.caller
-    ∷ counter (codes "rejected") c.rejected
+-- the tasks that were taken away or cancelled
+abbrev pub lost_counters : Counts → List (List ℕ)
+lost_counters c =
+    counter (codes "rejected") c.rejected
     ∷ counter (codes "discarded") c.discarded
     ∷ counter (codes "handedback") c.handedback
     ∷ counter (codes "removed") c.removed
     ∷ counter (codes "cancelled") c.cancelled
-    ∷ counter (codes "completed") c.completed
-    ∷ counter (codes "queued") c.queued
-    ∷ counter (codes "live") c.live
-    ∷ counter (codes "largest") c.largest
     ∷ []
 
+-- what the workers do and did
+abbrev pub worker_counters : Counts → List (List ℕ)
+worker_counters c = counter (codes "completed") c.completed ∷ counter (codes "queued") c.queued ∷ counter (codes "live") c.live ∷ counter (codes "largest") c.largest ∷ []
+
+-- all twelve counters
 abbrev pub counts_line : Counts → List ℕ
-counts_line c = line (codes "counts" ∷ counters c)
+counts_line c = line (codes "counts" ∷ (ran_counters c ++ (lost_counters c ++ worker_counters c)))

@@ -1,6 +1,6 @@
--- The line of each entry of a record.
+-- The words of each entry of a record, and its line.
 use Rattle.std.specs.Prelude.{ℕ, ◌==◌, Bool, true, false, List, [], ◌∷◌, ◌++◌, Option, Some, None, Ok, Err, codes, if◌then◌else◌}
-use Rattle.std.specs.List.{join_with_byte}
+use Rattle.std.specs.List.{flat_map, join_with_byte}
 use Rattle.std.specs.Fmt.{decimal, signed_decimal}
 use Rattle.tp_types.specs.declared.ids.SlotId.{SlotId}
 use Rattle.tp_types.specs.declared.ids.TaskId.{TaskId}
@@ -29,6 +29,14 @@ use Rattle.tp_record.specs.declared.entries.Started.TheVariants as started
 use Rattle.tp_record.specs.declared.entries.Took.{Took}
 use Rattle.tp_record.specs.declared.entries.Took.TheVariants as took
 use Rattle.tp_record.specs.Effects.{Outcome}
+use Rattle.tp_text.specs.declared.commands.Command.{Command}
+use Rattle.tp_text.specs.declared.commands.Command.TheVariants as command
+use Rattle.tp_text.specs.declared.commands.TaskVerb.TheVariants as task
+use Rattle.tp_text.specs.declared.commands.SlotVerb.TheVariants as slot
+use Rattle.tp_text.specs.declared.commands.PoolVerb.TheVariants as pool
+use Rattle.tp_text.specs.declared.commands.SizeVerb.TheVariants as size
+use Rattle.tp_text.specs.declared.commands.TickVerb.TheVariants as ticks
+use Rattle.tp_text.specs.Commands.{command_word}
 
 -- the words, with a space between each two
 abbrev pub words : List (List ℕ) → List ℕ
@@ -40,6 +48,10 @@ line [] = 10 ∷ []
 line (w ∷ []) = w ++ 10 ∷ []
 line (w ∷ v ∷ ws) = w ++ (32 ∷ line (v ∷ ws))
 
+-- the words, each behind a space
+abbrev pub behind : List (List ℕ) → List ℕ
+behind ws = flat_map (λ w. 32 ∷ w) ws
+
 abbrev pub task_name : TaskId → List ℕ
 task_name t = codes "t" ++ decimal t.0
 
@@ -49,74 +61,6 @@ slot_name w = codes "w" ++ decimal w.0
 abbrev pub pass_name : ℕ → List ℕ
 pass_name by = codes "p" ++ decimal by
 
-abbrev pub kind_text : Kind → List ℕ
-kind_text kinds.Plain = codes "plain"
-kind_text kinds.Future = codes "future"
-kind_text (kinds.Group g) = words (codes "group" ∷ decimal g ∷ [])
-
-abbrev pub outcome_text : Outcome → List ℕ
-outcome_text (Ok v) = words (codes "value" ∷ signed_decimal v ∷ [])
-outcome_text (Err code) = words (codes "fault" ∷ decimal code ∷ [])
-
--- a slot that an answer reserves
-abbrev pub reserve_text : SlotId → List ℕ
-reserve_text w = words (codes "reserve" ∷ slot_name w ∷ [])
-
-abbrev pub looked_text : Looked → List ℕ
-looked_text (looked.Reserve w) = reserve_text w
-looked_text looked.Queue = codes "queue"
-looked_text looked.Refuse = codes "refuse"
-
-abbrev pub offered_text : Offered → List ℕ
-offered_text offered.Queued = codes "queued"
-offered_text (offered.Hand w) = words (codes "hand" ∷ slot_name w ∷ [])
-offered_text offered.Full = codes "full"
-
-abbrev pub seconded_text : Seconded → List ℕ
-seconded_text seconded.Stay = codes "stay"
-seconded_text (seconded.StayReserve w) = words (codes "stay" ∷ reserve_text w ∷ [])
-seconded_text seconded.Back = codes "back"
-
-abbrev pub grown_text : Grown → List ℕ
-grown_text (grown.Reserve w) = reserve_text w
-grown_text grown.Refuse = codes "refuse"
-
-abbrev pub ruled_text : Ruled → List ℕ
-ruled_text ruled.Rejected = codes "rejected"
-ruled_text ruled.Caller = codes "caller"
-ruled_text ruled.Skip = codes "skip"
-ruled_text ruled.Discarded = codes "discarded"
-ruled_text ruled.Retry = codes "retry"
-ruled_text (ruled.RetryDrop t) = words (codes "retry" ∷ codes "drop" ∷ task_name t ∷ [])
-
-abbrev pub opened_text : Opened → List ℕ
-opened_text opened.Live = codes "live"
-opened_text opened.GivenUp = codes "givenup"
-opened_text (opened.GivenUpRefuse t) = words (codes "givenup" ∷ task_name t ∷ codes "refuse" ∷ [])
-
-abbrev pub failed_text : Failed → List ℕ
-failed_text failed.Nothing = codes "none"
-failed_text (failed.Offer t) = words (task_name t ∷ codes "offer" ∷ [])
-failed_text (failed.Refuse t) = words (task_name t ∷ codes "refuse" ∷ [])
-
-abbrev pub took_text : Took → List ℕ
-took_text (took.Held t) = words (codes "held" ∷ task_name t ∷ [])
-took_text (took.Head t) = words (codes "head" ∷ task_name t ∷ [])
-took_text took.Leave = codes "leave"
-took_text took.Idle = codes "idle"
-
-abbrev pub started_text : Started → List ℕ
-started_text (started.Run t) = task_name t
-started_text (started.Skip t) = words (codes "skip" ∷ task_name t ∷ [])
-
-abbrev pub left_text : SlotId → Option SlotId → List ℕ
-left_text w None = words (codes "leave" ∷ slot_name w ∷ [])
-left_text w (Some v) = words (codes "leave" ∷ slot_name w ∷ reserve_text v ∷ [])
-
-abbrev pub prestart_text : Option SlotId → List ℕ
-prestart_text None = codes "none"
-prestart_text (Some w) = reserve_text w
-
 abbrev pub effect_word : Bool → List ℕ
 effect_word true = codes "yes"
 effect_word false = codes "no"
@@ -125,43 +69,161 @@ abbrev pub switch_word : Bool → List ℕ
 switch_word true = codes "on"
 switch_word false = codes "off"
 
--- `flag` stands where the task's flag was asked for
-abbrev pub cancel_text : TaskId → Bool → Bool → List ℕ
-cancel_text t true effect = words (codes "cancel" ∷ task_name t ∷ codes "flag" ∷ effect_word effect ∷ [])
-cancel_text t false effect = words (codes "cancel" ∷ task_name t ∷ effect_word effect ∷ [])
+abbrev pub kind_words : Kind → List (List ℕ)
+kind_words kinds.Plain = codes "plain" ∷ []
+kind_words kinds.Future = codes "future" ∷ []
+kind_words (kinds.Group g) = codes "group" ∷ decimal g ∷ []
+
+-- the text of a kind
+abbrev pub kind_text : Kind → List ℕ
+kind_text k = words (kind_words k)
+
+abbrev pub outcome_words : Outcome → List (List ℕ)
+outcome_words (Ok v) = codes "value" ∷ signed_decimal v ∷ []
+outcome_words (Err code) = codes "fault" ∷ decimal code ∷ []
+
+abbrev pub looked_words : Looked → List (List ℕ)
+looked_words (looked.Reserve w) = codes "reserve" ∷ slot_name w ∷ []
+looked_words looked.Queue = codes "queue" ∷ []
+looked_words looked.Refuse = codes "refuse" ∷ []
+
+abbrev pub offered_words : Offered → List (List ℕ)
+offered_words offered.Queued = codes "queued" ∷ []
+offered_words (offered.Hand w) = codes "hand" ∷ slot_name w ∷ []
+offered_words offered.Full = codes "full" ∷ []
+
+-- the slot that is reserved besides, if one is
+abbrev pub reserved_words : Option SlotId → List (List ℕ)
+reserved_words None = []
+reserved_words (Some w) = codes "reserve" ∷ slot_name w ∷ []
+
+abbrev pub seconded_words : Seconded → List (List ℕ)
+seconded_words seconded.Stay = codes "stay" ∷ []
+seconded_words (seconded.StayReserve w) = codes "stay" ∷ codes "reserve" ∷ slot_name w ∷ []
+seconded_words seconded.Back = codes "back" ∷ []
+
+abbrev pub grown_words : Grown → List (List ℕ)
+grown_words (grown.Reserve w) = codes "reserve" ∷ slot_name w ∷ []
+grown_words grown.Refuse = codes "refuse" ∷ []
+
+-- the queue's head that a retry drops
+abbrev pub dropped_words : Option TaskId → List (List ℕ)
+dropped_words None = []
+dropped_words (Some t) = codes "drop" ∷ task_name t ∷ []
+
+abbrev pub ruled_words : Ruled → List (List ℕ)
+ruled_words ruled.Rejected = codes "rejected" ∷ []
+ruled_words ruled.Caller = codes "caller" ∷ []
+ruled_words ruled.Skip = codes "skip" ∷ []
+ruled_words ruled.Discarded = codes "discarded" ∷ []
+ruled_words ruled.Retry = codes "retry" ∷ []
+ruled_words (ruled.RetryDrop t) = codes "retry" ∷ codes "drop" ∷ task_name t ∷ []
+
+-- the first task of a slot that is given up
+abbrev pub refused_words : Option TaskId → List (List ℕ)
+refused_words None = []
+refused_words (Some t) = task_name t ∷ codes "refuse" ∷ []
+
+abbrev pub opened_words : Opened → List (List ℕ)
+opened_words opened.Live = codes "live" ∷ []
+opened_words opened.GivenUp = codes "givenup" ∷ []
+opened_words (opened.GivenUpRefuse t) = codes "givenup" ∷ task_name t ∷ codes "refuse" ∷ []
+
+abbrev pub failed_words : Failed → List (List ℕ)
+failed_words failed.Nothing = codes "none" ∷ []
+failed_words (failed.Offer t) = task_name t ∷ codes "offer" ∷ []
+failed_words (failed.Refuse t) = task_name t ∷ codes "refuse" ∷ []
+
+abbrev pub took_words : Took → List (List ℕ)
+took_words (took.Held t) = codes "held" ∷ task_name t ∷ []
+took_words (took.Head t) = codes "head" ∷ task_name t ∷ []
+took_words took.Leave = codes "leave" ∷ []
+took_words took.Idle = codes "idle" ∷ []
+
+abbrev pub started_words : Started → List (List ℕ)
+started_words (started.Run t) = task_name t ∷ []
+started_words (started.Skip t) = codes "skip" ∷ task_name t ∷ []
+
+abbrev pub prestart_words : Option SlotId → List (List ℕ)
+prestart_words None = codes "none" ∷ []
+prestart_words (Some w) = codes "reserve" ∷ slot_name w ∷ []
+
+abbrev pub flag_words : Bool → Bool → List (List ℕ)
+flag_words true effect = codes "flag" ∷ effect_word effect ∷ []
+flag_words false effect = effect_word effect ∷ []
+
+-- the word that an answer begins with
+abbrev pub command_of : Did → Command
+command_of (did.Submit t k l) = command.Submit
+command_of (did.Look t l) = command.OfTask task.Look
+command_of (did.Offer t o) = command.OfTask task.Offer
+command_of (did.Second t s) = command.OfTask task.Second
+command_of (did.Grow t g) = command.OfTask task.Grow
+command_of (did.Verdict t v r) = command.Verdict
+command_of (did.CallerEnd t o) = command.OfTask task.CallerEnd
+command_of (did.Open w o) = command.OfSlot slot.Open
+command_of (did.Fail w f) = command.OfSlot slot.Fail
+command_of (did.Take w k) = command.OfSlot slot.Take
+command_of (did.Begin w s) = command.OfSlot slot.Begin
+command_of (did.End w t o) = command.OfSlot slot.End
+command_of (did.Leave w o) = command.OfSlot slot.Leave
+command_of did.Shutdown = command.OfPool pool.Shutdown
+command_of (did.Stop n) = command.OfPool pool.Stop
+command_of did.Tidy = command.OfPool pool.Tidy
+command_of did.Ended = command.OfPool pool.Ended
+command_of (did.Remove t effect) = command.OfTask task.Remove
+command_of (did.Purge n) = command.OfPool pool.Purge
+command_of (did.Cancel t flag effect) = command.Cancel
+command_of (did.TakeDone g t) = command.OfSize size.TakeDone
+command_of (did.Core n k) = command.OfSize size.Core
+command_of (did.Maximum n) = command.OfSize size.Maximum
+command_of (did.Keep n) = command.OfTicks ticks.Keep
+command_of (did.CoreTimeout on) = command.CoreTimeout
+command_of (did.Tick n) = command.OfTicks ticks.Tick
+command_of (did.Prestart o) = command.OfPool pool.Prestart
+
+-- the words behind that word
+abbrev pub argument_words : Did → List (List ℕ)
+argument_words (did.Submit t k l) = task_name t ∷ (kind_words k ++ looked_words l)
+argument_words (did.Look t l) = task_name t ∷ looked_words l
+argument_words (did.Offer t o) = task_name t ∷ offered_words o
+argument_words (did.Second t s) = task_name t ∷ seconded_words s
+argument_words (did.Grow t g) = task_name t ∷ grown_words g
+argument_words (did.Verdict t v r) = task_name t ∷ verdict_name v ∷ ruled_words r
+argument_words (did.CallerEnd t o) = task_name t ∷ outcome_words o
+argument_words (did.Open w o) = slot_name w ∷ opened_words o
+argument_words (did.Fail w f) = slot_name w ∷ failed_words f
+argument_words (did.Take w k) = slot_name w ∷ took_words k
+argument_words (did.Begin w s) = slot_name w ∷ started_words s
+argument_words (did.End w t o) = slot_name w ∷ task_name t ∷ outcome_words o
+argument_words (did.Leave w o) = slot_name w ∷ reserved_words o
+argument_words did.Shutdown = []
+argument_words (did.Stop n) = codes "drained" ∷ decimal n ∷ []
+argument_words did.Tidy = []
+argument_words did.Ended = []
+argument_words (did.Remove t effect) = task_name t ∷ effect_word effect ∷ []
+argument_words (did.Purge n) = decimal n ∷ []
+argument_words (did.Cancel t flag effect) = task_name t ∷ flag_words flag effect
+argument_words (did.TakeDone g t) = decimal g ∷ task_name t ∷ []
+argument_words (did.Core n k) = decimal n ∷ codes "add" ∷ decimal k ∷ []
+argument_words (did.Maximum n) = decimal n ∷ []
+argument_words (did.Keep n) = decimal n ∷ []
+argument_words (did.CoreTimeout on) = switch_word on ∷ []
+argument_words (did.Tick n) = decimal n ∷ []
+argument_words (did.Prestart o) = prestart_words o
 
 -- what was done
-abbrev pub did_text : Did → List ℕ
-did_text (did.Submit t k l) = words (codes "submit" ∷ task_name t ∷ kind_text k ∷ looked_text l ∷ [])
-did_text (did.Look t l) = words (codes "look" ∷ task_name t ∷ looked_text l ∷ [])
-did_text (did.Offer t o) = words (codes "offer" ∷ task_name t ∷ offered_text o ∷ [])
-did_text (did.Second t s) = words (codes "second" ∷ task_name t ∷ seconded_text s ∷ [])
-did_text (did.Grow t g) = words (codes "grow" ∷ task_name t ∷ grown_text g ∷ [])
-did_text (did.Verdict t v r) = words (codes "verdict" ∷ task_name t ∷ verdict_name v ∷ ruled_text r ∷ [])
-did_text (did.CallerEnd t o) = words (codes "callerend" ∷ task_name t ∷ outcome_text o ∷ [])
-did_text (did.Open w o) = words (codes "open" ∷ slot_name w ∷ opened_text o ∷ [])
-did_text (did.Fail w f) = words (codes "fail" ∷ slot_name w ∷ failed_text f ∷ [])
-did_text (did.Take w k) = words (codes "take" ∷ slot_name w ∷ took_text k ∷ [])
-did_text (did.Begin w s) = words (codes "begin" ∷ slot_name w ∷ started_text s ∷ [])
-did_text (did.End w t o) = words (codes "end" ∷ slot_name w ∷ task_name t ∷ outcome_text o ∷ [])
-did_text (did.Leave w o) = left_text w o
-did_text did.Shutdown = codes "shutdown"
-did_text (did.Stop n) = words (codes "stop" ∷ codes "drained" ∷ decimal n ∷ [])
-did_text did.Tidy = codes "tidy"
-did_text did.Ended = codes "ended"
-did_text (did.Remove t effect) = words (codes "remove" ∷ task_name t ∷ effect_word effect ∷ [])
-did_text (did.Purge n) = words (codes "purge" ∷ decimal n ∷ [])
-did_text (did.Cancel t flag effect) = cancel_text t flag effect
-did_text (did.TakeDone g t) = words (codes "takedone" ∷ decimal g ∷ task_name t ∷ [])
-did_text (did.Core n k) = words (codes "core" ∷ decimal n ∷ codes "add" ∷ decimal k ∷ [])
-did_text (did.Maximum n) = words (codes "max" ∷ decimal n ∷ [])
-did_text (did.Keep n) = words (codes "keep" ∷ decimal n ∷ [])
-did_text (did.CoreTimeout on) = words (codes "coretimeout" ∷ switch_word on ∷ [])
-did_text (did.Tick n) = words (codes "tick" ∷ decimal n ∷ [])
-did_text (did.Prestart o) = words (codes "prestart" ∷ prestart_text o ∷ [])
+abbrev pub did_words : Did → List (List ℕ)
+did_words d = command_word (command_of d) ∷ argument_words d
+
+-- the pass, where it isn't 0
+abbrev pub pass_words : ℕ → List (List ℕ)
+pass_words by = if by == 0 then [] else pass_name by ∷ []
+
+-- the line of entry n
+abbrev pub entry_words : ℕ → Entry → List (List ℕ)
+entry_words n e = decimal n ∷ (pass_words e.by ++ did_words e.did)
 
 -- the line of entry n: its number, the pass where it isn't 0, and what was done
 abbrev pub entry_line : ℕ → Entry → List ℕ
-entry_line n e =
-    if e.by == 0 then line (decimal n ∷ did_text e.did ∷ [])
-    else line (decimal n ∷ pass_name e.by ∷ did_text e.did ∷ [])
+entry_line n e = line (entry_words n e)

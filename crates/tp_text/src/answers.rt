@@ -1,53 +1,13 @@
-//! The text of what was done, for each kind of answer.
-ghost use Rattle.std.specs.Prelude.{◌≡◌, ◌∷◌, [], IfOk, string_bytes, codes};
-ghost use Rattle.std.specs.Fmt.{decimal};
-ghost use Rattle.tp_types.specs.Verdict.{verdict_name};
-ghost use Rattle.tp_text.specs.EntryLine.{words, task_name, slot_name, kind_text, outcome_text, looked_text, offered_text, seconded_text, grown_text, ruled_text, opened_text, failed_text, took_text, started_text, left_text, prestart_text, effect_word, switch_word, cancel_text};
+//! The words of what was done, for each kind of answer: each behind a space, behind what is written of the line.
+ghost use Rattle.std.specs.Prelude.{◌≡◌, ◌++◌, OnOk, string_bytes};
+ghost use Rattle.tp_record.specs.declared.entries.Did.{Did};
+ghost use Rattle.tp_text.specs.EntryLine.{behind, did_words, effect_word, kind_words, looked_words, outcome_words};
 
-use std::alloc::{AllocError, Global};
+use std::alloc::AllocError;
 use tp_record::entries::{Failed, Grown, Looked, Offered, Opened, Ruled, Seconded, Started, Took};
 use tp_types::configs::Verdict;
 use tp_types::ids::{SlotId, TaskId};
 use tp_types::tasks::{Kind, Outcome};
-
-fn kind_text(alloc: Global, kind: Kind) -> Result<String, AllocError>
-    ensures { IfOk result (λ text. string_bytes text ≡ kind_text kind) }
-{
-    match kind {
-        Kind::Plain => String::from_str(alloc, "plain"),
-        Kind::Future => String::from_str(alloc, "future"),
-        Kind::Group(group) => format!(in alloc; "group {group}"),
-    }
-}
-
-fn outcome_text(alloc: Global, outcome: Outcome) -> Result<String, AllocError>
-    ensures { IfOk result (λ text. string_bytes text ≡ outcome_text outcome) }
-{
-    match outcome {
-        Ok(value) => format!(in alloc; "value {value}"),
-        Err(code) => format!(in alloc; "fault {code}"),
-    }
-}
-
-fn looked_text(alloc: Global, looked: Looked) -> Result<String, AllocError>
-    ensures { IfOk result (λ text. string_bytes text ≡ looked_text looked) }
-{
-    match looked {
-        Looked::Reserve(SlotId(slot)) => format!(in alloc; "reserve w{slot}"),
-        Looked::Queue => String::from_str(alloc, "queue"),
-        Looked::Refuse => String::from_str(alloc, "refuse"),
-    }
-}
-
-fn seconded_text(alloc: Global, seconded: Seconded) -> Result<String, AllocError>
-    ensures { IfOk result (λ text. string_bytes text ≡ seconded_text seconded) }
-{
-    match seconded {
-        Seconded::Stay => String::from_str(alloc, "stay"),
-        Seconded::StayReserve(SlotId(slot)) => format!(in alloc; "stay reserve w{slot}"),
-        Seconded::Back => String::from_str(alloc, "back"),
-    }
-}
 
 fn effect_word(effect: bool) -> &'static str
     ensures { result.now ≡ effect_word effect }
@@ -55,221 +15,252 @@ fn effect_word(effect: bool) -> &'static str
     if effect { "yes" } else { "no" }
 }
 
-fn switch_word(on: bool) -> &'static str
-    ensures { result.now ≡ switch_word on }
+fn write_kind(line: &mut String, kind: Kind) -> Result<(), AllocError>
+    ensures { OnOk result (string_bytes line.new ≡ string_bytes line.old ++ behind (kind_words kind)) }
 {
-    if on { "on" } else { "off" }
+    match kind {
+        Kind::Plain => line.push_str(" plain"),
+        Kind::Future => line.push_str(" future"),
+        Kind::Group(group) => write!(line, " group {group}"),
+    }
 }
 
-/// `submit t0 group 3 reserve w0`.
-pub fn submit_text(
-    alloc: Global,
+fn write_looked(line: &mut String, looked: Looked) -> Result<(), AllocError>
+    ensures { OnOk result (string_bytes line.new ≡ string_bytes line.old ++ behind (looked_words looked)) }
+{
+    match looked {
+        Looked::Reserve(SlotId(slot)) => write!(line, " reserve w{slot}"),
+        Looked::Queue => line.push_str(" queue"),
+        Looked::Refuse => line.push_str(" refuse"),
+    }
+}
+
+fn write_outcome(line: &mut String, outcome: Outcome) -> Result<(), AllocError>
+    ensures { OnOk result (string_bytes line.new ≡ string_bytes line.old ++ behind (outcome_words outcome)) }
+{
+    match outcome {
+        Ok(value) => write!(line, " value {value}"),
+        Err(code) => write!(line, " fault {code}"),
+    }
+}
+
+/// ` submit t0 group 3 reserve w0`.
+pub fn write_submit(
+    line: &mut String,
     task: TaskId,
     kind: Kind,
     looked: Looked,
-) -> Result<String, AllocError>
-    ensures { IfOk result (λ text. string_bytes text ≡ words (codes "submit" ∷ task_name task ∷ kind_text kind ∷ looked_text looked ∷ [])) }
+) -> Result<(), AllocError>
+    ensures { OnOk result (string_bytes line.new ≡ string_bytes line.old ++ behind (did_words (Did.Submit task kind looked))) }
 {
     let TaskId(task) = task;
-    let kind = kind_text(alloc, kind)?;
-    let looked = looked_text(alloc, looked)?;
-    format!(in alloc; "submit t{task} {kind} {looked}")
+    write!(line, " submit t{task}")?;
+    write_kind(line, kind)?;
+    write_looked(line, looked)
 }
 
-/// `look t0 queue`.
-pub fn look_text(alloc: Global, task: TaskId, looked: Looked) -> Result<String, AllocError>
-    ensures { IfOk result (λ text. string_bytes text ≡ words (codes "look" ∷ task_name task ∷ looked_text looked ∷ [])) }
+/// ` look t0 queue`.
+pub fn write_look(line: &mut String, task: TaskId, looked: Looked) -> Result<(), AllocError>
+    ensures { OnOk result (string_bytes line.new ≡ string_bytes line.old ++ behind (did_words (Did.Look task looked))) }
 {
     let TaskId(task) = task;
-    let looked = looked_text(alloc, looked)?;
-    format!(in alloc; "look t{task} {looked}")
+    write!(line, " look t{task}")?;
+    write_looked(line, looked)
 }
 
-/// `offer t0 hand w0`.
-pub fn offer_text(alloc: Global, task: TaskId, offered: Offered) -> Result<String, AllocError>
-    ensures { IfOk result (λ text. string_bytes text ≡ words (codes "offer" ∷ task_name task ∷ offered_text offered ∷ [])) }
+/// ` offer t0 hand w0`.
+pub fn write_offer(line: &mut String, task: TaskId, offered: Offered) -> Result<(), AllocError>
+    ensures { OnOk result (string_bytes line.new ≡ string_bytes line.old ++ behind (did_words (Did.Offer task offered))) }
 {
     let TaskId(task) = task;
     match offered {
-        Offered::Queued => format!(in alloc; "offer t{task} queued"),
-        Offered::Hand(SlotId(slot)) => format!(in alloc; "offer t{task} hand w{slot}"),
-        Offered::Full => format!(in alloc; "offer t{task} full"),
+        Offered::Queued => write!(line, " offer t{task} queued"),
+        Offered::Hand(SlotId(slot)) => write!(line, " offer t{task} hand w{slot}"),
+        Offered::Full => write!(line, " offer t{task} full"),
     }
 }
 
-/// `second t0 stay reserve w0`.
-pub fn second_text(alloc: Global, task: TaskId, seconded: Seconded) -> Result<String, AllocError>
-    ensures { IfOk result (λ text. string_bytes text ≡ words (codes "second" ∷ task_name task ∷ seconded_text seconded ∷ [])) }
+/// ` second t0 stay reserve w0`.
+pub fn write_second(line: &mut String, task: TaskId, seconded: Seconded) -> Result<(), AllocError>
+    ensures { OnOk result (string_bytes line.new ≡ string_bytes line.old ++ behind (did_words (Did.Second task seconded))) }
 {
     let TaskId(task) = task;
-    let seconded = seconded_text(alloc, seconded)?;
-    format!(in alloc; "second t{task} {seconded}")
+    match seconded {
+        Seconded::Stay => write!(line, " second t{task} stay"),
+        Seconded::StayReserve(SlotId(slot)) => {
+            write!(line, " second t{task} stay reserve w{slot}")
+        }
+        Seconded::Back => write!(line, " second t{task} back"),
+    }
 }
 
-/// `grow t0 reserve w0`.
-pub fn grow_text(alloc: Global, task: TaskId, grown: Grown) -> Result<String, AllocError>
-    ensures { IfOk result (λ text. string_bytes text ≡ words (codes "grow" ∷ task_name task ∷ grown_text grown ∷ [])) }
+/// ` grow t0 reserve w0`.
+pub fn write_grow(line: &mut String, task: TaskId, grown: Grown) -> Result<(), AllocError>
+    ensures { OnOk result (string_bytes line.new ≡ string_bytes line.old ++ behind (did_words (Did.Grow task grown))) }
 {
     let TaskId(task) = task;
     match grown {
-        Grown::Reserve(SlotId(slot)) => format!(in alloc; "grow t{task} reserve w{slot}"),
-        Grown::Refuse => format!(in alloc; "grow t{task} refuse"),
+        Grown::Reserve(SlotId(slot)) => write!(line, " grow t{task} reserve w{slot}"),
+        Grown::Refuse => write!(line, " grow t{task} refuse"),
     }
 }
 
-/// `verdict t1 discardoldest retry drop t0`.
-pub fn verdict_text(
-    alloc: Global,
+/// ` verdict t1 discardoldest retry drop t0`.
+pub fn write_verdict(
+    line: &mut String,
     task: TaskId,
     verdict: Verdict,
     ruled: Ruled,
-) -> Result<String, AllocError>
-    ensures { IfOk result (λ text. string_bytes text ≡ words (codes "verdict" ∷ task_name task ∷ verdict_name verdict ∷ ruled_text ruled ∷ [])) }
+) -> Result<(), AllocError>
+    ensures { OnOk result (string_bytes line.new ≡ string_bytes line.old ++ behind (did_words (Did.Verdict task verdict ruled))) }
 {
     let TaskId(task) = task;
     let verdict = verdict.name();
     match ruled {
-        Ruled::Rejected => format!(in alloc; "verdict t{task} {verdict} rejected"),
-        Ruled::Caller => format!(in alloc; "verdict t{task} {verdict} caller"),
-        Ruled::Skip => format!(in alloc; "verdict t{task} {verdict} skip"),
-        Ruled::Discarded => format!(in alloc; "verdict t{task} {verdict} discarded"),
-        Ruled::Retry => format!(in alloc; "verdict t{task} {verdict} retry"),
-        Ruled::RetryDrop(TaskId(head)) => format!(in alloc;
-            "verdict t{task} {verdict} retry drop t{head}"
-        ),
+        Ruled::Rejected => write!(line, " verdict t{task} {verdict} rejected"),
+        Ruled::Caller => write!(line, " verdict t{task} {verdict} caller"),
+        Ruled::Skip => write!(line, " verdict t{task} {verdict} skip"),
+        Ruled::Discarded => write!(line, " verdict t{task} {verdict} discarded"),
+        Ruled::Retry => write!(line, " verdict t{task} {verdict} retry"),
+        Ruled::RetryDrop(TaskId(head)) => {
+            write!(line, " verdict t{task} {verdict} retry drop t{head}")
+        }
     }
 }
 
-/// `callerend t0 value 5`.
-pub fn caller_end_text(alloc: Global, task: TaskId, outcome: Outcome) -> Result<String, AllocError>
-    ensures { IfOk result (λ text. string_bytes text ≡ words (codes "callerend" ∷ task_name task ∷ outcome_text outcome ∷ [])) }
+/// ` callerend t0 value 5`.
+pub fn write_caller_end(line: &mut String, task: TaskId, outcome: Outcome) -> Result<(), AllocError>
+    ensures { OnOk result (string_bytes line.new ≡ string_bytes line.old ++ behind (did_words (Did.CallerEnd task outcome))) }
 {
     let TaskId(task) = task;
-    let outcome = outcome_text(alloc, outcome)?;
-    format!(in alloc; "callerend t{task} {outcome}")
+    write!(line, " callerend t{task}")?;
+    write_outcome(line, outcome)
 }
 
-/// `open w0 givenup t0 refuse`.
-pub fn open_text(alloc: Global, slot: SlotId, opened: Opened) -> Result<String, AllocError>
-    ensures { IfOk result (λ text. string_bytes text ≡ words (codes "open" ∷ slot_name slot ∷ opened_text opened ∷ [])) }
+/// ` open w0 givenup t0 refuse`.
+pub fn write_open(line: &mut String, slot: SlotId, opened: Opened) -> Result<(), AllocError>
+    ensures { OnOk result (string_bytes line.new ≡ string_bytes line.old ++ behind (did_words (Did.Open slot opened))) }
 {
     let SlotId(slot) = slot;
     match opened {
-        Opened::Live => format!(in alloc; "open w{slot} live"),
-        Opened::GivenUp => format!(in alloc; "open w{slot} givenup"),
-        Opened::GivenUpRefuse(TaskId(task)) => format!(in alloc;
-            "open w{slot} givenup t{task} refuse"
-        ),
+        Opened::Live => write!(line, " open w{slot} live"),
+        Opened::GivenUp => write!(line, " open w{slot} givenup"),
+        Opened::GivenUpRefuse(TaskId(task)) => {
+            write!(line, " open w{slot} givenup t{task} refuse")
+        }
     }
 }
 
-/// `fail w0 t0 offer`.
-pub fn fail_text(alloc: Global, slot: SlotId, failed: Failed) -> Result<String, AllocError>
-    ensures { IfOk result (λ text. string_bytes text ≡ words (codes "fail" ∷ slot_name slot ∷ failed_text failed ∷ [])) }
+/// ` fail w0 t0 offer`.
+pub fn write_fail(line: &mut String, slot: SlotId, failed: Failed) -> Result<(), AllocError>
+    ensures { OnOk result (string_bytes line.new ≡ string_bytes line.old ++ behind (did_words (Did.Fail slot failed))) }
 {
     let SlotId(slot) = slot;
     match failed {
-        Failed::Nothing => format!(in alloc; "fail w{slot} none"),
-        Failed::Offer(TaskId(task)) => format!(in alloc; "fail w{slot} t{task} offer"),
-        Failed::Refuse(TaskId(task)) => format!(in alloc; "fail w{slot} t{task} refuse"),
+        Failed::Nothing => write!(line, " fail w{slot} none"),
+        Failed::Offer(TaskId(task)) => write!(line, " fail w{slot} t{task} offer"),
+        Failed::Refuse(TaskId(task)) => write!(line, " fail w{slot} t{task} refuse"),
     }
 }
 
-/// `take w0 held t0`.
-pub fn take_text(alloc: Global, slot: SlotId, took: Took) -> Result<String, AllocError>
-    ensures { IfOk result (λ text. string_bytes text ≡ words (codes "take" ∷ slot_name slot ∷ took_text took ∷ [])) }
+/// ` take w0 held t0`.
+pub fn write_take(line: &mut String, slot: SlotId, took: Took) -> Result<(), AllocError>
+    ensures { OnOk result (string_bytes line.new ≡ string_bytes line.old ++ behind (did_words (Did.Take slot took))) }
 {
     let SlotId(slot) = slot;
     match took {
-        Took::Held(TaskId(task)) => format!(in alloc; "take w{slot} held t{task}"),
-        Took::Head(TaskId(task)) => format!(in alloc; "take w{slot} head t{task}"),
-        Took::Leave => format!(in alloc; "take w{slot} leave"),
-        Took::Idle => format!(in alloc; "take w{slot} idle"),
+        Took::Held(TaskId(task)) => write!(line, " take w{slot} held t{task}"),
+        Took::Head(TaskId(task)) => write!(line, " take w{slot} head t{task}"),
+        Took::Leave => write!(line, " take w{slot} leave"),
+        Took::Idle => write!(line, " take w{slot} idle"),
     }
 }
 
-/// `begin w0 skip t0`.
-pub fn begin_text(alloc: Global, slot: SlotId, started: Started) -> Result<String, AllocError>
-    ensures { IfOk result (λ text. string_bytes text ≡ words (codes "begin" ∷ slot_name slot ∷ started_text started ∷ [])) }
+/// ` begin w0 skip t0`.
+pub fn write_begin(line: &mut String, slot: SlotId, started: Started) -> Result<(), AllocError>
+    ensures { OnOk result (string_bytes line.new ≡ string_bytes line.old ++ behind (did_words (Did.Begin slot started))) }
 {
     let SlotId(slot) = slot;
     match started {
-        Started::Run(TaskId(task)) => format!(in alloc; "begin w{slot} t{task}"),
-        Started::Skip(TaskId(task)) => format!(in alloc; "begin w{slot} skip t{task}"),
+        Started::Run(TaskId(task)) => write!(line, " begin w{slot} t{task}"),
+        Started::Skip(TaskId(task)) => write!(line, " begin w{slot} skip t{task}"),
     }
 }
 
-/// `end w0 t0 value 5`.
-pub fn end_text(
-    alloc: Global,
+/// ` end w0 t0 value 5`.
+pub fn write_end(
+    line: &mut String,
     slot: SlotId,
     task: TaskId,
     outcome: Outcome,
-) -> Result<String, AllocError>
-    ensures { IfOk result (λ text. string_bytes text ≡ words (codes "end" ∷ slot_name slot ∷ task_name task ∷ outcome_text outcome ∷ [])) }
+) -> Result<(), AllocError>
+    ensures { OnOk result (string_bytes line.new ≡ string_bytes line.old ++ behind (did_words (Did.End slot task outcome))) }
 {
     let SlotId(slot) = slot;
     let TaskId(task) = task;
-    let outcome = outcome_text(alloc, outcome)?;
-    format!(in alloc; "end w{slot} t{task} {outcome}")
+    write!(line, " end w{slot} t{task}")?;
+    write_outcome(line, outcome)
 }
 
-/// `leave w0 reserve w0`.
-pub fn leave_text(
-    alloc: Global,
+/// ` leave w0 reserve w0`.
+pub fn write_leave(
+    line: &mut String,
     slot: SlotId,
     reserved: Option<SlotId>,
-) -> Result<String, AllocError>
-    ensures { IfOk result (λ text. string_bytes text ≡ left_text slot reserved) }
+) -> Result<(), AllocError>
+    ensures { OnOk result (string_bytes line.new ≡ string_bytes line.old ++ behind (did_words (Did.Leave slot reserved))) }
 {
     let SlotId(slot) = slot;
     match reserved {
-        None => format!(in alloc; "leave w{slot}"),
-        Some(SlotId(reserved)) => format!(in alloc; "leave w{slot} reserve w{reserved}"),
+        None => write!(line, " leave w{slot}"),
+        Some(SlotId(reserved)) => write!(line, " leave w{slot} reserve w{reserved}"),
     }
 }
 
-/// `remove t0 yes`.
-pub fn remove_text(alloc: Global, task: TaskId, effect: bool) -> Result<String, AllocError>
-    ensures { IfOk result (λ text. string_bytes text ≡ words (codes "remove" ∷ task_name task ∷ effect_word effect ∷ [])) }
+/// ` remove t0 yes`.
+pub fn write_remove(line: &mut String, task: TaskId, effect: bool) -> Result<(), AllocError>
+    ensures { OnOk result (string_bytes line.new ≡ string_bytes line.old ++ behind (did_words (Did.Remove task effect))) }
 {
     let TaskId(task) = task;
     let effect = effect_word(effect);
-    format!(in alloc; "remove t{task} {effect}")
+    write!(line, " remove t{task} {effect}")
 }
 
-/// `cancel t0 flag yes`.
-pub fn cancel_text(
-    alloc: Global,
+/// ` cancel t0 flag yes`.
+pub fn write_cancel(
+    line: &mut String,
     task: TaskId,
     flag: bool,
     effect: bool,
-) -> Result<String, AllocError>
-    ensures { IfOk result (λ text. string_bytes text ≡ cancel_text task flag effect) }
+) -> Result<(), AllocError>
+    ensures { OnOk result (string_bytes line.new ≡ string_bytes line.old ++ behind (did_words (Did.Cancel task flag effect))) }
 {
     let TaskId(task) = task;
     let effect = effect_word(effect);
     if flag {
-        format!(in alloc; "cancel t{task} flag {effect}")
+        write!(line, " cancel t{task} flag {effect}")
     } else {
-        format!(in alloc; "cancel t{task} {effect}")
+        write!(line, " cancel t{task} {effect}")
     }
 }
 
-/// `coretimeout on`.
-pub fn core_timeout_text(alloc: Global, on: bool) -> Result<String, AllocError>
-    ensures { IfOk result (λ text. string_bytes text ≡ words (codes "coretimeout" ∷ switch_word on ∷ [])) }
+/// ` coretimeout on`.
+pub fn write_core_timeout(line: &mut String, on: bool) -> Result<(), AllocError>
+    ensures { OnOk result (string_bytes line.new ≡ string_bytes line.old ++ behind (did_words (Did.CoreTimeout on))) }
 {
-    let switch = switch_word(on);
-    format!(in alloc; "coretimeout {switch}")
+    if on {
+        line.push_str(" coretimeout on")
+    } else {
+        line.push_str(" coretimeout off")
+    }
 }
 
-/// `prestart reserve w0`.
-pub fn prestart_text(alloc: Global, reserved: Option<SlotId>) -> Result<String, AllocError>
-    ensures { IfOk result (λ text. string_bytes text ≡ words (codes "prestart" ∷ prestart_text reserved ∷ [])) }
+/// ` prestart reserve w0`.
+pub fn write_prestart(line: &mut String, reserved: Option<SlotId>) -> Result<(), AllocError>
+    ensures { OnOk result (string_bytes line.new ≡ string_bytes line.old ++ behind (did_words (Did.Prestart reserved))) }
 {
     match reserved {
-        None => String::from_str(alloc, "prestart none"),
-        Some(SlotId(slot)) => format!(in alloc; "prestart reserve w{slot}"),
+        None => line.push_str(" prestart none"),
+        Some(SlotId(slot)) => write!(line, " prestart reserve w{slot}"),
     }
 }

@@ -1,7 +1,8 @@
 //! The lines other than entries.
-ghost use Rattle.std.specs.Prelude.{◌≡◌, IfOk, IsOkUnless, map, string_bytes, codes};
+ghost use Rattle.std.specs.Prelude.{◌≡◌, ◌++◌, IfOk, IsOkUnless, OnOk, codes, map, string_bytes};
 ghost use Rattle.tp_types.specs.RunState.{state_rank};
-ghost use Rattle.tp_text.specs.EndLines.{refused_place, refusal_line, task_text, back_line, fate_word, fate_line, state_line, state_at, ran_counters, lost_counters, worker_counters, counts_line};
+ghost use Rattle.tp_text.specs.EntryLine.{behind};
+ghost use Rattle.tp_text.specs.EndLines.{refused_place, refusal_line, back_line, fate_word, fate_line, state_line, state_at, ran_counters, lost_counters, worker_counters, counts_line};
 
 use std::alloc::{AllocError, Global};
 use tp_types::ids::TaskId;
@@ -18,46 +19,29 @@ fn refused_place(refusal: PoolError) -> Option<u32>
     }
 }
 
-fn refusal_text(alloc: Global, refusal: PoolError) -> Result<String, AllocError>
-    ensures { IfOk result (λ text. string_bytes text ≡ refusal_line refusal) }
+/// Writes the line of a refusal, as `refused 8 NotThere`, with the line of a text that it speaks of,
+/// as `refused 23 BadLine 10`.
+pub fn write_refusal(line: &mut String, refusal: PoolError) -> Result<(), AllocError>
+    ensures { OnOk result (string_bytes line.new ≡ string_bytes line.old ++ refusal_line refusal) }
 {
     let number = refusal.number();
     let name = refusal.name();
     match refused_place(refusal) {
-        None => format!(in alloc; "refused {number} {name}\n"),
-        Some(place) => format!(in alloc; "refused {number} {name} {place}\n"),
+        None => write!(line, "refused {number} {name}\n"),
+        Some(place) => write!(line, "refused {number} {name} {place}\n"),
     }
 }
 
-/// The line of a refusal, as `refused 8 NotThere`, with the line of a text that it speaks of, as
-/// `refused 23 BadLine 10`.
-pub fn refusal_line(alloc: Global, refusal: PoolError) -> Result<Vec<u8>, PoolError>
-    ensures text { IfOk result (λ line. line.items ≡ refusal_line refusal) }
-    ensures only_memory { IsOkUnless result PoolError.NoMemory }
+/// Writes the line of tasks that a stop handed back, in the queue's order, as `back t1 t2`.
+pub fn write_back(line: &mut String, tasks: &[TaskId]) -> Result<(), AllocError>
+    ensures { OnOk result (string_bytes line.new ≡ string_bytes line.old ++ back_line (map (λ task. task.0) tasks.now)) }
 {
-    let line = refusal_text(alloc, refusal).map_err(|_| PoolError::NoMemory)?;
-    Ok(line.into_bytes())
-}
-
-fn back_text(alloc: Global, tasks: &[TaskId]) -> Result<String, AllocError>
-    ensures { IfOk result (λ text. string_bytes text ≡ back_line (map (λ task. task.0) tasks.now)) }
-{
-    let mut line = String::from_str(alloc, "back")?;
+    line.push_str("back")?;
     for task in tasks {
         let TaskId(task) = *task;
         write!(line, " t{task}")?;
     }
-    line.push_str("\n")?;
-    Ok(line)
-}
-
-/// The line of tasks that a stop handed back, in the queue's order, as `back t1 t2`.
-pub fn back_line(alloc: Global, tasks: &[TaskId]) -> Result<Vec<u8>, PoolError>
-    ensures text { IfOk result (λ line. line.items ≡ back_line (map (λ task. task.0) tasks.now)) }
-    ensures only_memory { IsOkUnless result PoolError.NoMemory }
-{
-    let line = back_text(alloc, tasks).map_err(|_| PoolError::NoMemory)?;
-    Ok(line.into_bytes())
+    line.push_str("\n")
 }
 
 fn fate_word(fate: Option<Fate>) -> &'static str
@@ -69,42 +53,26 @@ fn fate_word(fate: Option<Fate>) -> &'static str
     }
 }
 
-fn fate_text(alloc: Global, task: TaskId, fate: Option<Fate>) -> Result<String, AllocError>
-    ensures { IfOk result (λ text. string_bytes text ≡ fate_line task.0 fate) }
+/// Writes the line of a task's fate, as `t0 run`, or `t0 open` where it has none.
+pub fn write_fate(line: &mut String, task: TaskId, fate: Option<Fate>) -> Result<(), AllocError>
+    ensures { OnOk result (string_bytes line.new ≡ string_bytes line.old ++ fate_line task.0 fate) }
 {
     let TaskId(task) = task;
     let fate = fate_word(fate);
-    format!(in alloc; "t{task} {fate}\n")
+    write!(line, "t{task} {fate}\n")
 }
 
-/// The line of a task's fate, as `t0 run`, or `t0 open` where it has none.
-pub fn fate_line(alloc: Global, task: TaskId, fate: Option<Fate>) -> Result<Vec<u8>, PoolError>
-    ensures text { IfOk result (λ line. line.items ≡ fate_line task.0 fate) }
-    ensures only_memory { IsOkUnless result PoolError.NoMemory }
-{
-    let line = fate_text(alloc, task, fate).map_err(|_| PoolError::NoMemory)?;
-    Ok(line.into_bytes())
-}
-
-fn state_text(alloc: Global, state: RunState) -> Result<String, AllocError>
-    ensures { IfOk result (λ text. string_bytes text ≡ state_line state) }
+/// Writes the line of the run state, as `state running`.
+pub fn write_state(line: &mut String, state: RunState) -> Result<(), AllocError>
+    ensures text { OnOk result (string_bytes line.new ≡ string_bytes line.old ++ state_line state) }
+    ensures ranked { OnOk result (string_bytes line.new ≡ string_bytes line.old ++ state_line (state_at (state_rank state))) }
 {
     let name = state.name();
-    format!(in alloc; "state {name}\n")
+    write!(line, "state {name}\n")
 }
 
-/// The line of the run state, as `state running`.
-pub fn state_line(alloc: Global, state: RunState) -> Result<Vec<u8>, PoolError>
-    ensures text { IfOk result (λ line. line.items ≡ state_line state) }
-    ensures ranked { IfOk result (λ line. line.items ≡ state_line (state_at (state_rank state))) }
-    ensures only_memory { IsOkUnless result PoolError.NoMemory }
-{
-    let line = state_text(alloc, state).map_err(|_| PoolError::NoMemory)?;
-    Ok(line.into_bytes())
-}
-
-fn ran_counts(alloc: Global, counts: &Counts) -> Result<String, AllocError>
-    ensures { IfOk result (λ text. string_bytes text ≡ ran_counters counts.now) }
+fn write_ran(line: &mut String, counts: &Counts) -> Result<(), AllocError>
+    ensures { OnOk result (string_bytes line.new ≡ string_bytes line.old ++ (codes "counts" ++ behind (ran_counters counts.now))) }
 {
     let Counts {
         submitted,
@@ -112,26 +80,31 @@ fn ran_counts(alloc: Global, counts: &Counts) -> Result<String, AllocError>
         caller,
         ..
     } = *counts;
-    format!(in alloc; "submitted={submitted} run={run} caller={caller}")
+    write!(
+        line,
+        "counts submitted={submitted} run={run} caller={caller}"
+    )
 }
 
-fn lost_counts(alloc: Global, counts: &Counts) -> Result<String, AllocError>
-    ensures { IfOk result (λ text. string_bytes text ≡ lost_counters counts.now) }
+fn write_lost(line: &mut String, counts: &Counts) -> Result<(), AllocError>
+    ensures { OnOk result (string_bytes line.new ≡ string_bytes line.old ++ behind (lost_counters counts.now)) }
 {
     let Counts {
         rejected,
         discarded,
         handedback,
         removed,
+        cancelled,
         ..
     } = *counts;
-    format!(in alloc;
-        "rejected={rejected} discarded={discarded} handedback={handedback} removed={removed}"
+    write!(
+        line,
+        " rejected={rejected} discarded={discarded} handedback={handedback} removed={removed} cancelled={cancelled}"
     )
 }
 
-fn worker_counts(alloc: Global, counts: &Counts) -> Result<String, AllocError>
-    ensures { IfOk result (λ text. string_bytes text ≡ worker_counters counts.now) }
+fn write_workers(line: &mut String, counts: &Counts) -> Result<(), AllocError>
+    ensures { OnOk result (string_bytes line.new ≡ string_bytes line.old ++ behind (worker_counters counts.now)) }
 {
     let Counts {
         completed,
@@ -140,24 +113,59 @@ fn worker_counts(alloc: Global, counts: &Counts) -> Result<String, AllocError>
         largest,
         ..
     } = *counts;
-    format!(in alloc; "completed={completed} queued={queued} live={live} largest={largest}")
+    write!(
+        line,
+        " completed={completed} queued={queued} live={live} largest={largest}"
+    )
 }
 
-fn counts_text(alloc: Global, counts: &Counts) -> Result<String, AllocError>
-    ensures { IfOk result (λ text. string_bytes text ≡ counts_line counts.now) }
+/// Writes the line of the counters, as `counts submitted=1 run=1 caller=0 ..`.
+pub fn write_counts(line: &mut String, counts: &Counts) -> Result<(), AllocError>
+    ensures { OnOk result (string_bytes line.new ≡ string_bytes line.old ++ counts_line counts.now) }
 {
-    let ran = ran_counts(alloc, counts)?;
-    let lost = lost_counts(alloc, counts)?;
-    let cancelled = counts.cancelled;
-    let workers = worker_counts(alloc, counts)?;
-    format!(in alloc; "counts {ran} {lost} cancelled={cancelled} {workers}\n")
+    write_ran(line, counts)?;
+    write_lost(line, counts)?;
+    write_workers(line, counts)?;
+    line.push_str("\n")
 }
 
-/// The line of the counters, as `counts submitted=1 run=1 caller=0 ..`.
+/// The line of a refusal, as `write_refusal` has it.
+pub fn refusal_line(alloc: Global, refusal: PoolError) -> Result<Vec<u8>, PoolError>
+    ensures text { IfOk result (λ line. line.items ≡ refusal_line refusal) }
+    ensures only_memory { IsOkUnless result PoolError.NoMemory }
+{
+    let mut line = String::new(alloc);
+    write_refusal(&mut line, refusal).map_err(|_| PoolError::NoMemory)?;
+    Ok(line.into_bytes())
+}
+
+/// The line of a task's fate, as `write_fate` has it.
+pub fn fate_line(alloc: Global, task: TaskId, fate: Option<Fate>) -> Result<Vec<u8>, PoolError>
+    ensures text { IfOk result (λ line. line.items ≡ fate_line task.0 fate) }
+    ensures only_memory { IsOkUnless result PoolError.NoMemory }
+{
+    let mut line = String::new(alloc);
+    write_fate(&mut line, task, fate).map_err(|_| PoolError::NoMemory)?;
+    Ok(line.into_bytes())
+}
+
+/// The line of the run state, as `write_state` has it.
+pub fn state_line(alloc: Global, state: RunState) -> Result<Vec<u8>, PoolError>
+    ensures text { IfOk result (λ line. line.items ≡ state_line state) }
+    ensures ranked { IfOk result (λ line. line.items ≡ state_line (state_at (state_rank state))) }
+    ensures only_memory { IsOkUnless result PoolError.NoMemory }
+{
+    let mut line = String::new(alloc);
+    write_state(&mut line, state).map_err(|_| PoolError::NoMemory)?;
+    Ok(line.into_bytes())
+}
+
+/// The line of the counters, as `write_counts` has it.
 pub fn counts_line(alloc: Global, counts: &Counts) -> Result<Vec<u8>, PoolError>
     ensures text { IfOk result (λ line. line.items ≡ counts_line counts.now) }
     ensures only_memory { IsOkUnless result PoolError.NoMemory }
 {
-    let line = counts_text(alloc, counts).map_err(|_| PoolError::NoMemory)?;
+    let mut line = String::new(alloc);
+    write_counts(&mut line, counts).map_err(|_| PoolError::NoMemory)?;
     Ok(line.into_bytes())
 }

@@ -1,65 +1,70 @@
 //! The line of an entry.
-ghost use Rattle.std.specs.Prelude.{◌≡◌, IfOk, IsOkUnless, string_bytes};
-ghost use Rattle.tp_text.specs.EntryLine.{did_text, entry_line};
+ghost use Rattle.std.specs.Prelude.{◌≡◌, ◌++◌, OnOk, string_bytes};
+ghost use Rattle.std.specs.Fmt.{decimal};
+ghost use Rattle.tp_text.specs.EntryLine.{behind, did_words, entry_line, pass_words};
 
-use crate::answers;
-use std::alloc::{AllocError, Global};
+use crate::answers::{
+    write_begin, write_caller_end, write_cancel, write_core_timeout, write_end, write_fail,
+    write_grow, write_leave, write_look, write_offer, write_open, write_prestart, write_remove,
+    write_second, write_submit, write_take, write_verdict,
+};
+use std::alloc::AllocError;
 use tp_record::entries::{Did, Entry};
 use tp_types::ids::TaskId;
-use tp_types::refusals::PoolError;
 
-fn did_text(alloc: Global, did: Did) -> Result<String, AllocError>
-    ensures { IfOk result (λ text. string_bytes text ≡ did_text did) }
+/// What was done, each word behind a space.
+fn write_did(line: &mut String, did: Did) -> Result<(), AllocError>
+    ensures { OnOk result (string_bytes line.new ≡ string_bytes line.old ++ behind (did_words did)) }
 {
     match did {
-        Did::Submit(task, kind, looked) => answers::submit_text(alloc, task, kind, looked),
-        Did::Look(task, looked) => answers::look_text(alloc, task, looked),
-        Did::Offer(task, offered) => answers::offer_text(alloc, task, offered),
-        Did::Second(task, seconded) => answers::second_text(alloc, task, seconded),
-        Did::Grow(task, grown) => answers::grow_text(alloc, task, grown),
-        Did::Verdict(task, verdict, ruled) => answers::verdict_text(alloc, task, verdict, ruled),
-        Did::CallerEnd(task, outcome) => answers::caller_end_text(alloc, task, outcome),
-        Did::Open(slot, opened) => answers::open_text(alloc, slot, opened),
-        Did::Fail(slot, failed) => answers::fail_text(alloc, slot, failed),
-        Did::Take(slot, took) => answers::take_text(alloc, slot, took),
-        Did::Begin(slot, started) => answers::begin_text(alloc, slot, started),
-        Did::End(slot, task, outcome) => answers::end_text(alloc, slot, task, outcome),
-        Did::Leave(slot, reserved) => answers::leave_text(alloc, slot, reserved),
-        Did::Shutdown => String::from_str(alloc, "shutdown"),
-        Did::Stop(drained) => format!(in alloc; "stop drained {drained}"),
-        Did::Tidy => String::from_str(alloc, "tidy"),
-        Did::Ended => String::from_str(alloc, "ended"),
-        Did::Remove(task, effect) => answers::remove_text(alloc, task, effect),
-        Did::Purge(gone) => format!(in alloc; "purge {gone}"),
-        Did::Cancel(task, flag, effect) => answers::cancel_text(alloc, task, flag, effect),
-        Did::TakeDone(group, TaskId(task)) => format!(in alloc; "takedone {group} t{task}"),
-        Did::Core(core, more) => format!(in alloc; "core {core} add {more}"),
-        Did::Maximum(maximum) => format!(in alloc; "max {maximum}"),
-        Did::Keep(keep) => format!(in alloc; "keep {keep}"),
-        Did::CoreTimeout(on) => answers::core_timeout_text(alloc, on),
-        Did::Tick(now) => format!(in alloc; "tick {now}"),
-        Did::Prestart(reserved) => answers::prestart_text(alloc, reserved),
+        Did::Submit(task, kind, looked) => write_submit(line, task, kind, looked),
+        Did::Look(task, looked) => write_look(line, task, looked),
+        Did::Offer(task, offered) => write_offer(line, task, offered),
+        Did::Second(task, seconded) => write_second(line, task, seconded),
+        Did::Grow(task, grown) => write_grow(line, task, grown),
+        Did::Verdict(task, verdict, ruled) => write_verdict(line, task, verdict, ruled),
+        Did::CallerEnd(task, outcome) => write_caller_end(line, task, outcome),
+        Did::Open(slot, opened) => write_open(line, slot, opened),
+        Did::Fail(slot, failed) => write_fail(line, slot, failed),
+        Did::Take(slot, took) => write_take(line, slot, took),
+        Did::Begin(slot, started) => write_begin(line, slot, started),
+        Did::End(slot, task, outcome) => write_end(line, slot, task, outcome),
+        Did::Leave(slot, reserved) => write_leave(line, slot, reserved),
+        Did::Shutdown => line.push_str(" shutdown"),
+        Did::Stop(drained) => write!(line, " stop drained {drained}"),
+        Did::Tidy => line.push_str(" tidy"),
+        Did::Ended => line.push_str(" ended"),
+        Did::Remove(task, effect) => write_remove(line, task, effect),
+        Did::Purge(gone) => write!(line, " purge {gone}"),
+        Did::Cancel(task, flag, effect) => write_cancel(line, task, flag, effect),
+        Did::TakeDone(group, TaskId(task)) => write!(line, " takedone {group} t{task}"),
+        Did::Core(core, more) => write!(line, " core {core} add {more}"),
+        Did::Maximum(maximum) => write!(line, " max {maximum}"),
+        Did::Keep(keep) => write!(line, " keep {keep}"),
+        Did::CoreTimeout(on) => write_core_timeout(line, on),
+        Did::Tick(now) => write!(line, " tick {now}"),
+        Did::Prestart(reserved) => write_prestart(line, reserved),
     }
 }
 
-fn numbered(alloc: Global, number: usize, entry: &Entry) -> Result<String, AllocError>
-    ensures { IfOk result (λ text. string_bytes text ≡ entry_line number entry.now) }
+/// The number of an entry, and its pass where that is not 0.
+fn write_place(line: &mut String, number: usize, by: u32) -> Result<(), AllocError>
+    ensures { OnOk result (string_bytes line.new ≡ string_bytes line.old ++ (decimal number ++ behind (pass_words by))) }
 {
-    let by = entry.by;
-    let did = did_text(alloc, entry.did)?;
     if by == 0 {
-        format!(in alloc; "{number} {did}\n")
+        write!(line, "{number}")
     } else {
-        format!(in alloc; "{number} p{by} {did}\n")
+        write!(line, "{number} p{by}")
     }
 }
 
-/// The line of an entry that has this number in its record, as `3 p1 take w0 held t0`. The pass is
-/// left out where it is 0.
-pub fn entry_line(alloc: Global, number: usize, entry: &Entry) -> Result<Vec<u8>, PoolError>
-    ensures text { IfOk result (λ line. line.items ≡ entry_line number entry.now) }
-    ensures only_memory { IsOkUnless result PoolError.NoMemory }
+/// Writes the line of an entry that has this number in its record, as `3 p1 take w0 held t0`, behind
+/// what is written. The pass is left out where it is 0. Where room is missing, some of the line may
+/// be written.
+pub fn write_entry(line: &mut String, number: usize, entry: &Entry) -> Result<(), AllocError>
+    ensures { OnOk result (string_bytes line.new ≡ string_bytes line.old ++ entry_line number entry.now) }
 {
-    let line = numbered(alloc, number, entry).map_err(|_| PoolError::NoMemory)?;
-    Ok(line.into_bytes())
+    write_place(line, number, entry.by)?;
+    write_did(line, entry.did)?;
+    line.push_str("\n")
 }

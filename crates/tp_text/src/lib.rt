@@ -10,6 +10,7 @@ pub mod inputs;
 pub mod lines;
 pub mod numbers;
 pub mod pools;
+pub mod printing;
 pub mod runs;
 #[cfg(test)]
 mod tests;

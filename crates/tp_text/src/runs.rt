@@ -1,5 +1,5 @@
 //! What a run writes, step by step.
-ghost use Rattle.std.specs.Prelude.{◌≡◌, ℕ, suc, ◌+◌, ◌<◌, List, [], ◌∷◌, ◌++◌, length, map, take, Ok, IfOk, IsOkUnless};
+ghost use Rattle.std.specs.Prelude.{◌≡◌, ℕ, suc, ◌+◌, ◌<◌, List, [], ◌∷◌, ◌++◌, length, map, take, Ok, IfOk, IsOkUnless, OnOk, string_bytes};
 ghost use Rattle.tp_types.specs.declared.configs.Config.{Config};
 ghost use Rattle.tp_types.specs.declared.states.RunState.{RunState};
 ghost use Rattle.tp_types.specs.RunState.{state_rank};
@@ -9,15 +9,33 @@ ghost use Rattle.tp_record.specs.State.{state, fate_of, row_at};
 ghost use Rattle.tp_text.specs.EndLines.{fate_line, state_line, state_at};
 ghost use Rattle.tp_text.specs.RunText.{Answer, drained, answer_lines, after, after_all, run_lines, fate_lines, output, IsFront};
 
-use crate::ends::back_line;
-use crate::entries::entry_line;
-use std::alloc::Global;
+use crate::ends::write_back;
+use crate::entries::write_entry;
+use std::alloc::{AllocError, Global};
 use tp_record::entries::Entry;
 use tp_types::ids::TaskId;
 use tp_types::refusals::PoolError;
 
-/// What an accepted step writes: its entry's line, and after it the line of the tasks that it handed
-/// back, where there are any.
+/// Writes what an accepted step writes: its entry's line, and after it the line of the tasks that it
+/// handed back, where there are any. Where room is missing, some of it may be written.
+pub fn write_lines(
+    line: &mut String,
+    number: usize,
+    entry: &Entry,
+    back: &[TaskId],
+) -> Result<(), AllocError>
+    ensures { OnOk result ((h : List Entry) → number ≡ suc (length h)
+        → map (λ task. task.0) back.now ≡ drained h entry.now.did
+        → string_bytes line.new ≡ string_bytes line.old ++ answer_lines h (Ok entry.now)) }
+{
+    write_entry(line, number, entry)?;
+    if back.is_empty() {
+        return Ok(());
+    }
+    write_back(line, back)
+}
+
+/// What an accepted step writes, as `write_lines` has it.
 pub fn entry_lines(
     alloc: Global,
     number: usize,
@@ -28,14 +46,9 @@ pub fn entry_lines(
         → map (λ task. task.0) back.now ≡ drained h entry.now.did → lines.items ≡ answer_lines h (Ok entry.now)) }
     ensures only_memory { IsOkUnless result PoolError.NoMemory }
 {
-    let mut lines = entry_line(alloc, number, entry)?;
-    if !back.is_empty() {
-        let back = back_line(alloc, back)?;
-        lines
-            .extend_from_slice(back.as_slice())
-            .map_err(|_| PoolError::NoMemory)?;
-    }
-    Ok(lines)
+    let mut lines = String::new(alloc);
+    write_lines(&mut lines, number, entry, back).map_err(|_| PoolError::NoMemory)?;
+    Ok(lines.into_bytes())
 }
 
 /// The law that what a run writes grows by what each answer writes.

@@ -1,10 +1,10 @@
 //! Each form of line once. The texts are those of the worked examples, and the table of texts has the forms that no
 //! example shows.
 
-use crate::ends::{back_line, counts_line, fate_line, refusal_line, state_line};
-use crate::entries::entry_line;
-use crate::runs::entry_lines;
-use std::alloc::Global;
+use crate::ends::{counts_line, fate_line, refusal_line, state_line, write_back};
+use crate::entries::write_entry;
+use crate::printing::Output;
+use std::alloc::{AllocError, Global};
 use std::test::Fail;
 use tp_record::entries::{
     Ask, Did, Entry, Failed, Grown, Looked, Offered, Opened, Ruled, Seconded, Started, Took,
@@ -34,8 +34,10 @@ fn entry(by: u32, did: Did) -> Entry {
     }
 }
 
-fn line(alloc: Global, number: usize, did: Did) -> Result<Vec<u8>, PoolError> {
-    entry_line(alloc, number, &entry(0, did))
+fn line(alloc: Global, number: usize, did: Did) -> Result<String, AllocError> {
+    let mut line = String::new(alloc);
+    write_entry(&mut line, number, &entry(0, did))?;
+    Ok(line)
 }
 
 #[test]
@@ -71,7 +73,7 @@ fn submissions_and_looks(rt: HostRuntime) -> Result<(), Fail> {
     ];
     for (number, did, text) in table {
         let line = line(rt.alloc(), number, did)?;
-        assert_eq!(rt; line.as_slice(), text.as_bytes(), "{text}");
+        assert_eq!(rt; line.as_str(), text);
     }
     Ok(())
 }
@@ -106,7 +108,7 @@ fn offers_and_growth(rt: HostRuntime) -> Result<(), Fail> {
     ];
     for (number, did, text) in table {
         let line = line(rt.alloc(), number, did)?;
-        assert_eq!(rt; line.as_slice(), text.as_bytes(), "{text}");
+        assert_eq!(rt; line.as_str(), text);
     }
     Ok(())
 }
@@ -153,7 +155,7 @@ fn verdicts(rt: HostRuntime) -> Result<(), Fail> {
     ];
     for (number, did, text) in table {
         let line = line(rt.alloc(), number, did)?;
-        assert_eq!(rt; line.as_slice(), text.as_bytes(), "{text}");
+        assert_eq!(rt; line.as_str(), text);
     }
     Ok(())
 }
@@ -217,7 +219,7 @@ fn slots(rt: HostRuntime) -> Result<(), Fail> {
     ];
     for (number, did, text) in table {
         let line = line(rt.alloc(), number, did)?;
-        assert_eq!(rt; line.as_slice(), text.as_bytes(), "{text}");
+        assert_eq!(rt; line.as_str(), text);
     }
     Ok(())
 }
@@ -256,7 +258,7 @@ fn pools(rt: HostRuntime) -> Result<(), Fail> {
     ];
     for (number, did, text) in table {
         let line = line(rt.alloc(), number, did)?;
-        assert_eq!(rt; line.as_slice(), text.as_bytes(), "{text}");
+        assert_eq!(rt; line.as_str(), text);
     }
     Ok(())
 }
@@ -264,21 +266,38 @@ fn pools(rt: HostRuntime) -> Result<(), Fail> {
 #[test]
 fn a_pass_stands_before_the_words(rt: HostRuntime) -> Result<(), Fail> {
     let held = entry(1, Did::Take(SLOT_0, Took::Held(TASK_0)));
-    let line = entry_line(rt.alloc(), 3, &held)?;
-    assert_eq!(rt; line.as_slice(), "3 p1 take w0 held t0\n".as_bytes());
+    let mut line = String::from_str(rt.alloc(), "2 open w0 live\n")?;
+    write_entry(&mut line, 3, &held)?;
+    assert_eq!(rt; line.as_str(), "2 open w0 live\n3 p1 take w0 held t0\n");
     Ok(())
 }
 
 #[test]
 fn a_stop_names_the_tasks_it_hands_back(rt: HostRuntime) -> Result<(), Fail> {
-    let stop = entry(0, Did::Stop(1));
-    let lines = entry_lines(rt.alloc(), 11, &stop, &[TASK_2])?;
-    assert_eq!(rt; lines.as_slice(), "11 stop drained 1\nback t2\n".as_bytes());
-    let stop = entry(0, Did::Stop(0));
-    let lines = entry_lines(rt.alloc(), 7, &stop, &[])?;
-    assert_eq!(rt; lines.as_slice(), "7 stop drained 0\n".as_bytes());
-    let line = back_line(rt.alloc(), &[TASK_2, TASK_0])?;
-    assert_eq!(rt; line.as_slice(), "back t2 t0\n".as_bytes());
+    let mut output = Output::new(rt.alloc());
+    output.entry(7, &entry(0, Did::Stop(0)), &[])?;
+    output.entry(11, &entry(0, Did::Stop(1)), &[TASK_2])?;
+    assert_eq!(rt;
+        output.written.as_slice(),
+        "7 stop drained 0\n11 stop drained 1\nback t2\n".as_bytes()
+    );
+    let mut line = String::new(rt.alloc());
+    write_back(&mut line, &[TASK_2, TASK_0])?;
+    assert_eq!(rt; line.as_str(), "back t2 t0\n");
+    Ok(())
+}
+
+#[test]
+fn an_output_grows_line_by_line(rt: HostRuntime) -> Result<(), Fail> {
+    let mut output = Output::new(rt.alloc());
+    output.refusal(PoolError::NotThere)?;
+    output.fate(TASK_1, Some(Fate::Run))?;
+    output.state(RunState::Running)?;
+    output.counts(&Counts::default())?;
+    assert_eq!(rt;
+        output.written.as_slice(),
+        "refused 8 NotThere\nt1 run\nstate running\ncounts submitted=0 run=0 caller=0 rejected=0 discarded=0 handedback=0 removed=0 cancelled=0 completed=0 queued=0 live=0 largest=0\n".as_bytes()
+    );
     Ok(())
 }
 

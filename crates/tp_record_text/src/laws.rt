@@ -1,0 +1,18 @@
+//! Laws of entries' lines and of record texts.
+ghost use Rattle.std.specs.Prelude.{◌≡◌, ℕ, List};
+ghost use Rattle.tp_types.specs.declared.configs.Config.{Config};
+ghost use Rattle.tp_record.specs.declared.entries.Entry.{Entry};
+ghost use Rattle.tp_text.specs.EntryLine.{entry_line};
+ghost use Rattle.tp_text.specs.Fits.{Fits32};
+ghost use Rattle.tp_record_text.specs.EntryFits.{IsStep};
+ghost use Rattle.tp_record_text.specs.RecordText.{HasText, record_text};
+
+/// The law that no two entries share a line, and no two records a text: entries of one line, in the
+/// range of their types, are one entry with one number; and records of one text are one configuration
+/// with one list of entries.
+pub fn texts_are_distinct()
+    ensures entries { (n m : ℕ) (e f : Entry) → Fits32 n → Fits32 m → IsStep e → IsStep f
+        → entry_line n e ≡ entry_line m f → (n ≡ m) × (e ≡ f) }
+    ensures records { (c d : Config) (es fs : List Entry) → HasText c es → HasText d fs
+        → record_text c es ≡ record_text d fs → (c ≡ d) × (es ≡ fs) }
+{}
