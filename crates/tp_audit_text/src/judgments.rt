@@ -8,7 +8,7 @@ use std::alloc::{AllocError, Global};
 use tp_audit::plain::audit_plain;
 use tp_audit::summary::{Flaw, Summary};
 use tp_record_text::records::{Record, read_record};
-use tp_text::ends::{counts_line, state_line};
+use tp_text::ends::{write_counts, write_state};
 use tp_types::refusals::PoolError;
 
 /// What is said of a record.
@@ -20,10 +20,14 @@ pub struct Judgment {
     pub lines: Vec<u8>,
 }
 
-fn legal_text(alloc: Global, entries: usize) -> Result<String, AllocError>
-    ensures { IfOk result (λ text. string_bytes text ≡ legal_line entries) }
+fn legal_text(alloc: Global, entries: usize, summary: &Summary) -> Result<String, AllocError>
+    ensures { IfOk result (λ text. string_bytes text
+        ≡ legal_line entries ++ (state_line summary.now.state ++ counts_line summary.now.counts)) }
 {
-    format!(in alloc; "legal {entries}\n")
+    let mut lines = format!(in alloc; "legal {entries}\n")?;
+    write_state(&mut lines, summary.state)?;
+    write_counts(&mut lines, &summary.counts)?;
+    Ok(lines)
 }
 
 fn flaw_text(alloc: Global, entry: usize) -> Result<String, AllocError>
@@ -48,17 +52,8 @@ fn legal(alloc: Global, entries: usize, summary: &Summary) -> Result<Vec<u8>, Po
         ≡ legal_line entries ++ (state_line summary.now.state ++ counts_line summary.now.counts)) }
     ensures only_memory { IsOkUnless result PoolError.NoMemory }
 {
-    let text = legal_text(alloc, entries).map_err(|_| PoolError::NoMemory)?;
-    let mut lines = text.into_bytes();
-    let state = state_line(alloc, summary.state)?;
-    let counts = counts_line(alloc, &summary.counts)?;
-    lines
-        .extend_from_slice(state.as_slice())
-        .map_err(|_| PoolError::NoMemory)?;
-    lines
-        .extend_from_slice(counts.as_slice())
-        .map_err(|_| PoolError::NoMemory)?;
-    Ok(lines)
+    let lines = legal_text(alloc, entries, summary).map_err(|_| PoolError::NoMemory)?;
+    Ok(lines.into_bytes())
 }
 
 /// The judgment of a record whose configuration passes its check; only want of memory is refused.
