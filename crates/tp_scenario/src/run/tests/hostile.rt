@@ -90,10 +90,7 @@ fn reads_numbers_to_the_ends_of_their_types(rt: HostRuntime) -> Result<(), Fail>
             b"submit plain -9223372036854775809",
         ),
         (b"submit plain !4294967295", b"submit plain !4294967296"),
-        (
-            b"submit group 4294967295 0",
-            b"submit group 4294967296 0",
-        ),
+        (b"submit group 4294967295 0", b"submit group 4294967296 0"),
         (b"offer 4294967295", b"offer 4294967296"),
         (b"take 18446744073709551615", b"take 18446744073709551616"),
         (b"core 4294967295", b"core 4294967296"),
@@ -114,8 +111,14 @@ fn reads_pool_lines_to_the_ends_of_their_numbers(rt: HostRuntime) {
     let lines: [(&[u8], Result<(), PoolError>); 12] = [
         (b"pool 0 1 handoff keep 18446744073709551615 own\n", Ok(())),
         (b"pool 1024 1024 bounded 65536 keep 0 discard\n", Ok(())),
-        (b"pool 1 1 unbounded keep 1 abort coretimeout limit 1048576\n", Ok(())),
-        (b"pool 1 1025 handoff keep 0 own\n", Err(PoolError::BadSizes)),
+        (
+            b"pool 1 1 unbounded keep 1 abort coretimeout limit 1048576\n",
+            Ok(()),
+        ),
+        (
+            b"pool 1 1025 handoff keep 0 own\n",
+            Err(PoolError::BadSizes),
+        ),
         (b"pool 0 0 handoff keep 0 own\n", Err(PoolError::BadSizes)),
         (
             b"pool 1 1 bounded 65537 keep 0 own\n",
@@ -125,8 +128,14 @@ fn reads_pool_lines_to_the_ends_of_their_numbers(rt: HostRuntime) {
             b"pool 1 1 handoff keep 0 own limit 1048577\n",
             Err(PoolError::BadLimit),
         ),
-        (b"pool 1 4294967295 handoff keep 0 own\n", Err(PoolError::BadSizes)),
-        (b"pool 1 4294967296 handoff keep 0 own\n", Err(PoolError::BadLine(1))),
+        (
+            b"pool 1 4294967295 handoff keep 0 own\n",
+            Err(PoolError::BadSizes),
+        ),
+        (
+            b"pool 1 4294967296 handoff keep 0 own\n",
+            Err(PoolError::BadLine(1)),
+        ),
         (
             b"pool 1 1 handoff keep 18446744073709551616 own\n",
             Err(PoolError::BadLine(1)),

@@ -13,7 +13,10 @@ fn add(text: &mut Vec<u8>, more: &[u8]) -> Result<(), Fail> {
 /// A pool of one worker, to which so many tasks are submitted, offered and looked at again, and then it is stopped.
 fn many_tasks(alloc: Global, tasks: u32) -> Result<Vec<u8>, Fail> {
     let mut text = Vec::new(alloc);
-    add(&mut text, b"pool 0 1 unbounded keep 0 abort limit 1048576\n")?;
+    add(
+        &mut text,
+        b"pool 0 1 unbounded keep 0 abort limit 1048576\n",
+    )?;
     for task in 0..tasks {
         let lines = format!(in alloc; "submit plain 1\noffer {task}\nsecond {task}\n")?;
         add(&mut text, lines.as_bytes())?;
@@ -80,8 +83,14 @@ fn plays_many_tasks(rt: HostRuntime) -> Result<(), Fail> {
 fn retries_64_times(rt: HostRuntime) -> Result<(), Fail> {
     let mut text = Vec::new(rt.alloc());
     let mut output = Vec::new(rt.alloc());
-    add(&mut text, b"pool 0 1 handoff keep 0 discardoldest\nsubmit plain 1\noffer 0\ngrow 0\nsubmit plain 2\n")?;
-    add(&mut output, b"1 submit t0 plain queue\n2 offer t0 full\n3 grow t0 reserve w0\n4 submit t1 plain queue\n")?;
+    add(
+        &mut text,
+        b"pool 0 1 handoff keep 0 discardoldest\nsubmit plain 1\noffer 0\ngrow 0\nsubmit plain 2\n",
+    )?;
+    add(
+        &mut output,
+        b"1 submit t0 plain queue\n2 offer t0 full\n3 grow t0 reserve w0\n4 submit t1 plain queue\n",
+    )?;
     for round in 0..65u64 {
         let did = if round < 64 { "retry" } else { "discarded" };
         let offer = round.wrapping_mul(4).wrapping_add(5);
@@ -101,7 +110,10 @@ fn retries_64_times(rt: HostRuntime) -> Result<(), Fail> {
             add(&mut output, line.as_bytes())?;
         }
     }
-    add(&mut output, b"t0 open\nt1 discarded\nstate running\ncounts submitted=2 run=0 caller=0 rejected=0 discarded=1 handedback=0 removed=0 cancelled=0 completed=0 queued=0 live=0 largest=0\n")?;
+    add(
+        &mut output,
+        b"t0 open\nt1 discarded\nstate running\ncounts submitted=2 run=0 caller=0 rejected=0 discarded=1 handedback=0 removed=0 cancelled=0 completed=0 queued=0 live=0 largest=0\n",
+    )?;
     let (written, ending) = outcome_of(rt.alloc(), text.as_slice());
     assert_eq!(rt; ending, Ok(()));
     assert!(rt; written.as_slice() == output.as_slice());
