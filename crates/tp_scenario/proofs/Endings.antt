@@ -6,7 +6,7 @@ use Rattle.std.proofs.Math.Seq.{take-length}
 use Rattle.tp_types.specs.declared.configs.Config.{Config}
 use Rattle.tp_types.specs.declared.refusals.PoolError.{PoolError}
 use Rattle.tp_types.specs.declared.refusals.PoolError.TheVariants.{NoMemory, BadLine, ReadFailed, WriteFailed, BadSizes, BadCapacity, BadLimit, KeepZero}
-use Rattle.tp_types.specs.Config.{checked, are_good_sizes, is_good_capacity, is_good_limit, is_good_keep}
+use Rattle.tp_types.specs.Config.{IsConfig, checked, are_good_sizes, is_good_capacity, is_good_limit, is_good_keep}
 use Rattle.tp_record.specs.State.{State, state}
 use Rattle.tp_text.specs.RunText.{Answer, after_all, run_lines, end_lines, IsFront}
 use Rattle.tp_text.specs.declared.pools.PoolLine.{PoolLine}
@@ -40,35 +40,38 @@ comes_whole p asked mid out c answers r one good none stands ends =
     (ap ending_of (sym none))
 
 -- a pool that could not be made
-pub comes_of_new : (p : PoolLine) (asked : Asked) (out : List ℕ) (c : Config) (e : PoolError) → c ≡ config_of p → out ≡ [] → (checked c ≡ Err e) ⊎ (e ≡ NoMemory)
+pub comes_of_new : (p : PoolLine) (asked : Asked) (out : List ℕ) (c : Config) (e : PoolError) → c ≡ config_of p → Ok tt ≡ checked c → out ≡ [] → (checked c ≡ Err e) ⊎ ((e ≡ NoMemory) × IsConfig c)
     → ComesOf (Ok (p, asked)) out (Err e) ⊎ ((◌≡◌ {A = Ending} (Err e) (Err NoMemory)) × BreaksOff (Ok (p, asked)) out)
-comes_of_new p asked out c e one empty (inl is) =
+comes_of_new p asked out c e one good empty (inl is) =
     inl (subst (λ r. ComesOfPool r (config_of p) asked out (Err e)) (sym is ∙ ap checked one) (empty, refl))
-comes_of_new p asked out c e one empty (inr is) = inr (ap Err is, ([], 0, (play (config_of p) [] [] tt, inl empty)))
+comes_of_new p asked out c e one good empty (inr is) = inr (ap Err is.0, (sym (good ∙ ap checked one), ([], 0, (play (config_of p) [] [] tt, inl empty))))
 
 -- memory gave out between two answers
-pub breaks_off : (p : PoolLine) (asked : Asked) (out : List ℕ) (c : Config) → c ≡ config_of p → Breaks c asked.0 out → BreaksOff (Ok (p, asked)) out
-breaks_off p asked out c one b =
-    (b.1, b.0, (play (config_of p) (take b.0 asked.0) b.1 (subst (λ x. PlaysFrom x [] [] (take b.0 asked.0) b.1) one b.2), inl b.3))
+pub breaks_off : (p : PoolLine) (asked : Asked) (out : List ℕ) (c : Config) → c ≡ config_of p → Ok tt ≡ checked c → Breaks c asked.0 out → BreaksOff (Ok (p, asked)) out
+breaks_off p asked out c one good b =
+    (sym (good ∙ ap checked one), (b.1, b.0, (play (config_of p) (take b.0 asked.0) b.1 (subst (λ x. PlaysFrom x [] [] (take b.0 asked.0) b.1) one b.2), inl b.3)))
 
 front_of : (front out mid run : List ℕ) (s : State) → mid ≡ run → out ≡ mid ++ front → IsFront front (end_lines s) → IsFront out (run ++ end_lines s)
 front_of front out mid run s written grows more =
     (more.0, ap (λ x. run ++ x) more.1 ∙ sym (append_assoc run front more.0) ∙ ap (λ x. x ++ more.0) (sym (grows ∙ ap (λ x. x ++ front) written)))
 
 -- memory gave out at the end
-pub breaks_end : (p : PoolLine) (asked : Asked) (mid out front : List ℕ) (c : Config) (answers : List Answer) (r : Playing) → c ≡ config_of p → asked.1 ≡ None → Stands c asked.0 answers r mid
+pub breaks_end : (p : PoolLine) (asked : Asked) (mid out front : List ℕ) (c : Config) (answers : List Answer) (r : Playing) → c ≡ config_of p → Ok tt ≡ checked c → asked.1 ≡ None → Stands c asked.0 answers r mid
     → out ≡ mid ++ front → IsFront front (end_lines (state r.config r.history)) → BreaksOff (Ok (p, asked)) out
-breaks_end p asked mid out front c answers r one none stands grows more =
+breaks_end p asked mid out front c answers r one good none stands grows more =
     let d : Config = config_of p in
     let there : PlaysFrom d [] [] asked.0 answers = subst (λ x. PlaysFrom x [] [] asked.0 answers) one stands.plays in
     let seen : r ≡ record { config = d; history = r.history; outcomes = r.outcomes } = ap (λ (q : Playing). record { config = q.config; history = r.history; outcomes = r.outcomes }) stands.runner ∙ ap (λ x. record { config = x; history = r.history; outcomes = r.outcomes }) one in
     let at : state r.config r.history ≡ state d (after_all [] answers) = ap (λ (q : Playing). state q.config q.history) stands.runner ∙ ap (λ x. state x (after_all [] answers)) one in
     let more_there : IsFront front (end_lines (state d (after_all [] answers))) = subst (λ s. IsFront front (end_lines s)) at more in (
-      answers,
-      length asked.0,
+      sym (good ∙ ap checked one),
       (
-        subst (λ x. IsPlay d x answers) (sym (take-length asked.0)) (play d asked.0 answers there),
-        inr (refl, none, front_of front out mid (run_lines [] answers) (state d (after_all [] answers)) stands.output grows more_there),
+        answers,
+        length asked.0,
+        (
+          subst (λ x. IsPlay d x answers) (sym (take-length asked.0)) (play d asked.0 answers there),
+          inr (refl, none, front_of front out mid (run_lines [] answers) (state d (after_all [] answers)) stands.output grows more_there),
+        ),
       ),
     )
 

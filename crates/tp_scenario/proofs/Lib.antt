@@ -2,12 +2,10 @@ pub mod OutcomeTexts
 pub mod SubmissionLaws
 pub mod LineLaws
 pub mod OneReading
-pub mod Supports
 pub mod StepLaws
 pub mod TaskCounts
 pub mod ReadLaws
 pub mod PlayLaws
-pub mod QuietSteps
 pub mod EndLaws
 pub mod Endings
 pub mod OneText

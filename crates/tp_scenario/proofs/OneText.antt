@@ -76,24 +76,24 @@ pool_not_skipped bytes p is skipped =
 -- a line is one thing
 same_read : (bytes : List ℕ) (r q : LineRead) → ReadsLine bytes r → ReadsLine bytes q → r ≡ q
 same_read bytes read.Skipped read.Skipped a b = refl
-same_read bytes read.Skipped (read.Step l) a b = absurd (line_not_skipped bytes l b.3 a)
+same_read bytes read.Skipped (read.Step l) a b = absurd (line_not_skipped bytes l b.2 a)
 same_read bytes read.Skipped read.Bad a b = absurd (b.0 a)
-same_read bytes (read.Step l) read.Skipped a b = absurd (line_not_skipped bytes l a.3 b)
-same_read bytes (read.Step l) (read.Step m) a b = ap read.Step (line_text-injective l m a.1 b.1 (sym a.3 ∙ b.3))
-same_read bytes (read.Step l) read.Bad a b = absurd (b.1 a.0 l a.1 a.2 a.3)
+same_read bytes (read.Step l) read.Skipped a b = absurd (line_not_skipped bytes l a.2 b)
+same_read bytes (read.Step l) (read.Step m) a b = ap read.Step (line_text-injective l m a.1 b.1 (sym a.2 ∙ b.2))
+same_read bytes (read.Step l) read.Bad a b = absurd (b.1 a.0 l a.1 a.2)
 same_read bytes read.Bad read.Skipped a b = absurd (a.0 b)
-same_read bytes read.Bad (read.Step m) a b = absurd (a.1 b.0 m b.1 b.2 b.3)
+same_read bytes read.Bad (read.Step m) a b = absurd (a.1 b.0 m b.1 b.2)
 same_read bytes read.Bad read.Bad a b = refl
 
 same_pool_read : (bytes : List ℕ) (r q : PoolRead) → ReadsPoolLine bytes r → ReadsPoolLine bytes q → r ≡ q
 same_pool_read bytes head.Skipped head.Skipped a b = refl
-same_pool_read bytes head.Skipped (head.Pool p) a b = absurd (pool_not_skipped bytes p b.3 a)
+same_pool_read bytes head.Skipped (head.Pool p) a b = absurd (pool_not_skipped bytes p b.2 a)
 same_pool_read bytes head.Skipped head.Bad a b = absurd (b.0 a)
-same_pool_read bytes (head.Pool p) head.Skipped a b = absurd (pool_not_skipped bytes p a.3 b)
-same_pool_read bytes (head.Pool p) (head.Pool q) a b = ap head.Pool (pool_text-injective p q a.1 b.1 (sym a.3 ∙ b.3))
-same_pool_read bytes (head.Pool p) head.Bad a b = absurd (b.1 a.0 p a.1 a.2 a.3)
+same_pool_read bytes (head.Pool p) head.Skipped a b = absurd (pool_not_skipped bytes p a.2 b)
+same_pool_read bytes (head.Pool p) (head.Pool q) a b = ap head.Pool (pool_text-injective p q a.1 b.1 (sym a.2 ∙ b.2))
+same_pool_read bytes (head.Pool p) head.Bad a b = absurd (b.1 a.0 p a.1 a.2)
 same_pool_read bytes head.Bad head.Skipped a b = absurd (a.0 b)
-same_pool_read bytes head.Bad (head.Pool q) a b = absurd (a.1 b.0 q b.1 b.2 b.3)
+same_pool_read bytes head.Bad (head.Pool q) a b = absurd (a.1 b.0 q b.1 b.2)
 same_pool_read bytes head.Bad head.Bad a b = refl
 
 same_before : (r : LineRead) (k : ℕ) (on : Asked → Type 0) → ((a b : Asked) → on a → on b → a ≡ b) → (a b : Asked) → Before r k on a → Before r k on b → a ≡ b

@@ -1,15 +1,22 @@
 -- Lines that are answered one after another make a run.
-use Rattle.std.proofs.Common.{◌≡◌, ℕ, suc, ◌+◌, ◌<◌, List, [], ◌∷◌, ◌++◌, length, map, take, Ok, Err, refl, sym, ◌∙◌, ap, subst, inl, inr, ◌⊎◌, ◌≤◌, Bool, true, false, is_ok, get_or, arith, append-nil, append_assoc}
+use Rattle.std.proofs.Common.{◌≡◌, ℕ, suc, ◌+◌, ◌<◌, List, [], ◌∷◌, ◌++◌, length, map, take, Result, Ok, Err, refl, sym, ◌∙◌, ap, subst, inl, inr, ◌⊎◌, ◌≤◌, Bool, true, false, is_ok, get_or, arith, append-nil, append_assoc}
 use Rattle.std.proofs.lemmas.List.{take_more}
 use Rattle.tp_types.specs.declared.configs.Config.{Config}
 use Rattle.tp_record.specs.declared.entries.Entry.{Entry}
 use Rattle.tp_record.specs.declared.entries.Ask.{Ask}
 use Rattle.tp_record.specs.State.{state, counts}
 use Rattle.tp_record.specs.Step as steps
+use Rattle.tp_types.specs.declared.refusals.PoolError.{PoolError}
+use Rattle.tp_engine.specs.declared.steps.Stepped.{Stepped}
 use Rattle.tp_text.specs.RunText.{Answer, after, after_all, run_lines, answer_lines}
 use Rattle.tp_scenario.specs.declared.lines.ScenarioLine.{ScenarioLine}
 use Rattle.tp_scenario.specs.Played.{Outcomes, ask_of, asks_of, outcomes_after, told, IsPlay}
-use Rattle.tp_scenario.specs.Answered.{Answers, PlaysFrom, outcomes_all, Playing, Stands, Breaks}
+use Rattle.tp_scenario.specs.Answered.{Answers, answer_of, PlaysFrom, outcomes_all, Playing, Stands, Breaks}
+
+-- an answer is an entry where the machine's is
+pub ok_told : {P : Type 0} (x : Result (Entry × Stepped P) PoolError) → is_ok x ≡ is_ok (answer_of x)
+ok_told (Ok x) = refl
+ok_told (Err e) = refl
 
 -- as many answers as lines
 pub one_each : (c : Config) (h : List Entry) (os : Outcomes) (lines : List ScenarioLine) (answers : List Answer) → PlaysFrom c h os lines answers → length answers ≡ length lines
@@ -99,14 +106,14 @@ at_most n m k b few (inr same) = omega (arith, same.1)
 pub going_on : (c : Config) (lines : List ScenarioLine) (n accepted m : ℕ) (r p : Playing) (out out' : List ℕ) (d : ScenarioLine) (a : Answer) (b : Bool) → Going c lines n accepted r out → n < length lines
     → Answers r.config r.history (ask_of (state r.config r.history) r.outcomes (get_or lines n d)) a
     → p ≡ record { config = r.config; history = after r.history a; outcomes = outcomes_after r.outcomes (get_or lines n d) a }
-    → ((h : List Entry) → accepted + 1 ≡ suc (length h) → out' ≡ out ++ answer_lines h a)
+    → (accepted + 1 ≡ suc (length r.history) → out' ≡ out ++ answer_lines r.history a)
     → b ≡ is_ok a → ((b ≡ true) × (m ≡ accepted + 1)) ⊎ ((b ≡ false) × (m ≡ accepted)) → Going c lines (n + 1) m p out'
 going_on c lines n accepted m r p out out' d a b so_far below answers leads writes test counts =
     let l : ScenarioLine = get_or lines n d in
     record {
       answers = so_far.answers ++ a ∷ [];
       stands = subst (λ x. Stands c x (so_far.answers ++ a ∷ []) p out') (sym (take_more lines n d below))
-          (stands_on c (take n lines) so_far.answers r p out out' l a so_far.stands answers leads (writes r.history (omega (arith, so_far.counted))));
+          (stands_on c (take n lines) so_far.answers r p out out' l a so_far.stands answers leads (writes (omega (arith, so_far.counted))));
       counted = counted_on a r.history accepted m b so_far.counted test counts ∙ sym (ap (λ (q : Playing). length q.history) leads);
       few = at_most accepted m n b so_far.few counts;
     }

@@ -1,14 +1,13 @@
 -- A scenario is read line by line.
-use Rattle.std.proofs.Common.{◌≡◌, ◌≢◌, ℕ, zero, suc, ◌+◌, ◌<◌, ◌≤◌, inl, inr, true, List, [], ◌∷◌, ◌++◌, length, Option, Some, None, Ok, Err, refl, sym, ◌∙◌, ap, subst, arith, append_assoc, append-nil}
-use Rattle.std.specs.List.{flat_map, All}
+use Rattle.std.proofs.Common.{◌≡◌, ◌≢◌, ℕ, zero, suc, ◌+◌, ◌<◌, ◌≤◌, inl, inr, List, [], ◌∷◌, ◌++◌, length, Option, Some, None, Ok, Err, refl, sym, ◌∙◌, ap, subst, arith, append_assoc, append-nil}
+use Rattle.std.specs.List.{flat_map}
 use Rattle.std.proofs.lemmas.Bool.{cases_eq}
-use Rattle.std.proofs.lemmas.List.Elements.{All-push}
 use Rattle.tp_scenario.specs.declared.lines.ScenarioLine.{ScenarioLine}
 use Rattle.tp_text.specs.declared.pools.PoolLine.{PoolLine}
 use Rattle.tp_scenario.specs.declared.lines.LineRead.TheVariants as read
 use Rattle.tp_scenario.specs.declared.lines.PoolRead.TheVariants as head
 use Rattle.tp_text.specs.Lines.{HasNoLineFeed, IsLines, ended}
-use Rattle.tp_scenario.specs.Scenario.{ReadsLine, ReadsPoolLine, Asked, Said, is_supported}
+use Rattle.tp_scenario.specs.Scenario.{ReadsLine, ReadsPoolLine, Asked, Said}
 use Rattle.tp_scenario.specs.Answered.{AsksFrom, SaysFrom}
 
 -- a byte before a text without a line feed
@@ -98,7 +97,6 @@ asks_rest k (b ∷ bs) some none = ([], b ∷ bs, record { whole = refl; each = 
 pub record Asking (first : ℕ) (text : List ℕ) (k : ℕ) (rest : List ℕ) (steps : List ScenarioLine) : Type 0 where
   pub counted : k + length rest ≤ first + length text
   pub on : (asked : Asked) → AsksFrom k rest asked → AsksFrom first text (steps ++ asked.0, asked.1)
-  pub supported : All (λ l. is_supported l ≡ true) steps
 
 shorter : (k j : ℕ) (text line behind : List ℕ) → Cut text line behind → j ≡ k + 1 → j + length behind ≤ k + length text
 shorter k j text line behind cut next = omega (arith, ap length cut.whole, length-line line behind)
@@ -111,7 +109,6 @@ pub asking_skip : (first : ℕ) (text : List ℕ) (k j : ℕ) (rest line behind 
 asking_skip first text k j rest line behind steps so_far cut reads next = record {
   counted = omega (arith, so_far.counted, shorter k j rest line behind cut next);
   on = λ asked asks. so_far.on asked (asks_skip k rest line behind asked cut reads (subst (λ n. AsksFrom n behind asked) (omega arith) asks));
-  supported = so_far.supported;
 }
 
 pub asking_step : (first : ℕ) (text : List ℕ) (k j : ℕ) (rest line behind : List ℕ) (steps : List ScenarioLine) (l : ScenarioLine) → Asking first text k rest steps → Cut rest line behind → ReadsLine line (read.Step l) → j ≡ k + 1 → Asking first text j behind (steps ++ l ∷ [])
@@ -119,7 +116,6 @@ asking_step first text k j rest line behind steps l so_far cut reads next = reco
   counted = omega (arith, so_far.counted, shorter k j rest line behind cut next);
   on = λ asked asks. subst (λ x. AsksFrom first text (x, asked.1)) (sym (append_assoc steps (l ∷ []) asked.0))
       (so_far.on (l ∷ asked.0, asked.1) (asks_step k rest line behind l asked.0 asked.1 cut reads (subst (λ n. AsksFrom n behind asked) (omega arith) asks)));
-  supported = All-push (λ l. is_supported l ≡ true) steps l so_far.supported reads.2;
 }
 
 -- the steps so far are all where no more come

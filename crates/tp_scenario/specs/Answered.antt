@@ -1,13 +1,17 @@
 -- How a runner answers lines, one after another.
-use Rattle.std.specs.Prelude.{◌≡◌, ℕ, true, false, List, [], ◌∷◌, take, Result, Ok, Err, pos}
+use Rattle.std.specs.Prelude.{◌≡◌, ℕ, true, false, List, [], ◌∷◌, map, take, slice_get, option_map, Option, Result, Ok, Err, pos}
 use Rattle.tp_types.specs.declared.configs.Config.{Config}
+use Rattle.tp_types.specs.declared.refusals.PoolError.{PoolError}
 use Rattle.tp_types.specs.declared.tasks.Promise.{Promise}
 use Rattle.tp_record.specs.declared.entries.Entry.{Entry}
 use Rattle.tp_record.specs.declared.entries.Ask.{Ask}
 use Rattle.tp_record.specs.Effects.{Outcome}
 use Rattle.tp_record.specs.State.{state}
 use Rattle.tp_record.specs.Step.{Gives, IsRefused}
-use Rattle.tp_text.specs.RunText.{Answer, after, after_all, run_lines, drained}
+use Rattle.tp_engine.specs.declared.steps.Stepped.{Stepped}
+use Rattle.tp_engine.specs.declared.steps.Stepped.TheVariants as stepped
+use Rattle.tp_engine.specs.Seen.{Seen, promise}
+use Rattle.tp_text.specs.RunText.{Answer, after, after_all, run_lines}
 use Rattle.tp_scenario.specs.declared.lines.ScenarioLine.{ScenarioLine}
 use Rattle.tp_scenario.specs.declared.scenarios.Scenario.{Scenario}
 use Rattle.tp_scenario.specs.Scenario.{Asked, Said, AskFor, Says}
@@ -46,10 +50,24 @@ abbrev pub Answers : Config → List Entry → Ask → Answer → Type 0
 Answers c h a (Ok e) = (e ≡ record { by = 0; ask = a; did = e.did }) × Gives c (state c h) a e.did
 Answers c h a (Err r) = IsRefused c (state c h) a r
 
--- an answer that hands no task back
-abbrev pub IsQuiet : Answer → Type 0
-IsQuiet (Ok e) = (h : List Entry) → drained h e.did ≡ []
-IsQuiet (Err r) = Unit {0}
+-- what a submission comes with, whose task ends so: what its job promises, and no payload to speak of
+abbrev pub submission : Option Outcome → Option (Promise × Unit {0})
+submission o = option_map (λ x. (promise_of x, tt)) o
+
+module _ {P : Type 0} where
+  -- each task of a machine promised to end so, and there is no other
+  abbrev pub ArePromised : {R : Type 0} → Seen P R → Outcomes → Type 0
+  ArePromised m os = (t : ℕ) → promise m t ≡ option_map promise_of (slice_get os t)
+
+  -- an answer without what the machine says beside its entry
+  abbrev pub answer_of : Result (Entry × Stepped P) PoolError → Answer
+  answer_of (Ok x) = Ok x.0
+  answer_of (Err e) = Err e
+
+  -- the tasks that the machine handed back, in its order
+  abbrev pub handed_back : Stepped P → List ℕ
+  handed_back (stepped.Stop handed) = map (λ x. x.0.0) handed.items
+  handed_back _ = []
 
 -- lines that are answered so from the history h
 abbrev pub PlaysFrom : Config → List Entry → Outcomes → List ScenarioLine → List Answer → Type 0

@@ -1,5 +1,6 @@
 -- What comes of a scenario: what its lines ask of the pool, how the pool answers, what is written and how the run ends.
 use Rattle.std.specs.Prelude.{◌≡◌, ◌⊎◌, ℕ, pos, List, [], ◌∷◌, ◌++◌, length, map, take, Option, Some, None, Result, Ok, Err, IfSome, slice_index_or}
+use Rattle.std.specs.Option.{option_to_list}
 use Rattle.std.specs.Io.KnownBytes.{Appends, Keeps}
 use Rattle.tp_types.specs.declared.configs.Config.{Config}
 use Rattle.tp_types.specs.declared.ids.TaskId.{TaskId}
@@ -10,10 +11,10 @@ use Rattle.tp_types.specs.Config.{checked}
 use Rattle.tp_record.specs.declared.entries.Entry.{Entry}
 use Rattle.tp_record.specs.declared.entries.Ask.{Ask}
 use Rattle.tp_record.specs.declared.entries.Ask.TheVariants as ask
-use Rattle.tp_record.specs.declared.rows.SlotRow.{SlotRow}
 use Rattle.tp_record.specs.Effects.{Outcome}
 use Rattle.tp_record.specs.State.{State, state, slot_at}
 use Rattle.tp_record.specs.Step as steps
+use Rattle.tp_engine.specs.Seen.{task_of_row}
 use Rattle.tp_text.specs.RunText.{Answer, after, after_all, run_lines, output, IsFront}
 use Rattle.tp_text.specs.declared.commands.TaskVerb.{TaskVerb}
 use Rattle.tp_text.specs.declared.commands.TaskVerb.TheVariants as task
@@ -41,13 +42,9 @@ abbrev pub outcome_of : Outcomes → ℕ → Outcome
 outcome_of os t = slice_index_or os t (Ok (pos 0))
 
 -- how the task in a slot ends; where there is none the pool refuses its end, whatever it is
-abbrev pub outcome_there : Outcomes → Option SlotRow → Outcome
+abbrev pub outcome_there : Outcomes → Option TaskId → Outcome
 outcome_there os None = Ok (pos 0)
-outcome_there os (Some r) = outcome_in r.task
-  where
-    outcome_in : Option TaskId → Outcome
-    outcome_in None = Ok (pos 0)
-    outcome_in (Some t) = outcome_of os t.0
+outcome_there os (Some t) = outcome_of os t.0
 
 abbrev pub task_ask : TaskVerb → TaskId → Outcome → Ask
 task_ask task.Look t o = ask.Look t
@@ -87,17 +84,22 @@ abbrev pub ask_of : State → Outcomes → ScenarioLine → Ask
 ask_of s os (line.Submit k o) = ask.Submit k
 ask_of s os (line.OfTask v t) = task_ask v t (outcome_of os t.0)
 ask_of s os (line.Verdict t v) = ask.Verdict t v
-ask_of s os (line.OfSlot v w) = slot_ask v w (outcome_there os (slot_at s.slots w.0))
+ask_of s os (line.OfSlot v w) = slot_ask v w (outcome_there os (task_of_row (slot_at s.slots w.0)))
 ask_of s os (line.OfPool v) = pool_ask v
 ask_of s os (line.Cancel t flag) = ask.Cancel t flag
 ask_of s os (line.OfSize v n) = size_ask v n
 ask_of s os (line.OfTicks v n) = tick_ask v n
 ask_of s os (line.CoreTimeout on) = ask.CoreTimeout on
 
+-- how the task ends that a line submits
+abbrev pub outcome_said : ScenarioLine → Option Outcome
+outcome_said (line.Submit k o) = Some o
+outcome_said _ = None
+
 -- an accepted submission says how one more task ends
 abbrev pub outcomes_after : Outcomes → ScenarioLine → Answer → Outcomes
-outcomes_after os (line.Submit k o) (Ok e) = os ++ o ∷ []
-outcomes_after os _ _ = os
+outcomes_after os l (Ok e) = os ++ option_to_list (outcome_said l)
+outcomes_after os l (Err r) = os
 
 -- what lines ask one after another, where they are answered so after the history h; pass 0 asks everything
 abbrev pub asks_of : Config → List Entry → Outcomes → List ScenarioLine → List Answer → List (ℕ × Ask)
@@ -141,7 +143,7 @@ ComesOf (Err k) out ending = (out ≡ []) × (ending ≡ Err (BadLine k))
 ComesOf (Ok q) out ending = ComesOfPool (checked (config_of q.0)) (config_of q.0) q.1 out ending
 
 -- what may have been written where the runner's own memory gave out: the lines of some first answers, or, behind those of
--- all lines, a front of the whole output
+-- all lines, a front of the whole output. A refused configuration comes before that
 abbrev pub BreaksOffAt : Config → Asked → List ℕ → List Answer → ℕ → Type 0
 BreaksOffAt c asked out answers n =
     IsPlay c (take n asked.0) answers
@@ -149,7 +151,7 @@ BreaksOffAt c asked out answers n =
 
 abbrev pub BreaksOff : Said → List ℕ → Type 0
 BreaksOff (Err k) out = out ≡ []
-BreaksOff (Ok q) out = (answers : List Answer) × (n : ℕ) × BreaksOffAt (config_of q.0) q.1 out answers n
+BreaksOff (Ok q) out = (checked (config_of q.0) ≡ Ok tt) × ((answers : List Answer) × (n : ℕ) × BreaksOffAt (config_of q.0) q.1 out answers n)
 
 -- what comes of a text: what its scenario says; or memory gave out, while it was read or while it was played
 abbrev pub IsPlayed : List ℕ → List ℕ → Ending → Type 0

@@ -1,16 +1,6 @@
 -- What the text of a scenario says: a pool, steps, and the first bad line, if there is one.
-use Rattle.std.specs.Prelude.{◌≡◌, ◌≢◌, ◌==◌, ◌&&◌, ◌||◌, not, is_ok, ◌⊎◌, ℕ, suc, Bool, true, false, List, [], ◌∷◌, slice_index, Option, Some, None, Result, Ok, Err}
-use Rattle.tp_types.specs.declared.configs.Config.{Config}
-use Rattle.tp_types.specs.declared.configs.QueueKind.{QueueKind}
-use Rattle.tp_types.specs.declared.configs.QueueKind.TheVariants.{Unbounded}
-use Rattle.tp_types.specs.declared.configs.Policy.{Policy}
-use Rattle.tp_types.specs.declared.configs.Policy.TheVariants.{Abort}
-use Rattle.tp_types.specs.declared.tasks.Kind.TheVariants as kinds
-use Rattle.tp_types.specs.Config.{checked}
-use Rattle.tp_text.specs.declared.commands.TaskVerb.TheVariants as task
-use Rattle.tp_text.specs.declared.commands.SlotVerb.TheVariants as slot
+use Rattle.std.specs.Prelude.{◌≡◌, ◌≢◌, ◌⊎◌, ℕ, suc, List, [], ◌∷◌, slice_index, Option, Some, None, Result, Ok, Err}
 use Rattle.tp_scenario.specs.declared.lines.ScenarioLine.{ScenarioLine}
-use Rattle.tp_scenario.specs.declared.lines.ScenarioLine.TheVariants as line
 use Rattle.tp_text.specs.declared.pools.PoolLine.{PoolLine}
 use Rattle.tp_scenario.specs.declared.lines.LineRead.{LineRead}
 use Rattle.tp_scenario.specs.declared.lines.LineRead.TheVariants as read
@@ -18,50 +8,23 @@ use Rattle.tp_scenario.specs.declared.lines.PoolRead.{PoolRead}
 use Rattle.tp_scenario.specs.declared.lines.PoolRead.TheVariants as head
 use Rattle.tp_text.specs.Lines.{IsClean, IsLines}
 use Rattle.tp_scenario.specs.Lines.{FitsLine, line_text}
-use Rattle.tp_text.specs.Pools.{FitsPool, config_of, pool_text}
+use Rattle.tp_text.specs.Pools.{FitsPool, pool_text}
 
 -- an empty line, or a comment
 abbrev pub IsSkipped : List ℕ → Type 0
 IsSkipped bytes = (bytes ≡ []) ⊎ (IsClean bytes × (slice_index bytes 0 ≡ 35))
 
--- the steps that the runner makes so far
-abbrev pub is_supported : ScenarioLine → Bool
-is_supported (line.Submit kinds.Plain (Ok v)) = true
-is_supported (line.OfTask task.Offer t) = true
-is_supported (line.OfTask task.Second t) = true
-is_supported (line.OfSlot slot.Open w) = true
-is_supported (line.OfSlot slot.Take w) = true
-is_supported (line.OfSlot slot.Begin w) = true
-is_supported (line.OfSlot slot.End w) = true
-is_supported _ = false
-
-abbrev pub is_unbounded : QueueKind → Bool
-is_unbounded Unbounded = true
-is_unbounded _ = false
-
-abbrev pub is_abort : Policy → Bool
-is_abort Abort = true
-is_abort _ = false
-
--- the pools that the runner has so far: one worker, which never times out, a queue without bound, and aborts
-abbrev pub is_supported_config : Config → Bool
-is_supported_config c = c.core == 1 && c.maximum == 1 && is_unbounded c.queue && is_abort c.policy && not c.core_timeout
-
--- a pool line counts where the runner has its pool, and where no pool can have its configuration, which is then refused
-abbrev pub is_supported_pool : PoolLine → Bool
-is_supported_pool p = not (is_ok (checked (config_of p))) || is_supported_config (config_of p)
-
 -- what a line is, behind the pool line
 abbrev pub ReadsLine : List ℕ → LineRead → Type 0
 ReadsLine bytes read.Skipped = IsSkipped bytes
-ReadsLine bytes (read.Step l) = IsClean bytes × FitsLine l × (is_supported l ≡ true) × (bytes ≡ line_text l)
-ReadsLine bytes read.Bad = (IsSkipped bytes → ⊥) × (IsClean bytes → (l : ScenarioLine) → FitsLine l → is_supported l ≡ true → bytes ≢ line_text l)
+ReadsLine bytes (read.Step l) = IsClean bytes × FitsLine l × (bytes ≡ line_text l)
+ReadsLine bytes read.Bad = (IsSkipped bytes → ⊥) × (IsClean bytes → (l : ScenarioLine) → FitsLine l → bytes ≢ line_text l)
 
 -- what a line is, up to the pool line
 abbrev pub ReadsPoolLine : List ℕ → PoolRead → Type 0
 ReadsPoolLine bytes head.Skipped = IsSkipped bytes
-ReadsPoolLine bytes (head.Pool p) = IsClean bytes × FitsPool p × (is_supported_pool p ≡ true) × (bytes ≡ pool_text p)
-ReadsPoolLine bytes head.Bad = (IsSkipped bytes → ⊥) × (IsClean bytes → (p : PoolLine) → FitsPool p → is_supported_pool p ≡ true → bytes ≢ pool_text p)
+ReadsPoolLine bytes (head.Pool p) = IsClean bytes × FitsPool p × (bytes ≡ pool_text p)
+ReadsPoolLine bytes head.Bad = (IsSkipped bytes → ⊥) × (IsClean bytes → (p : PoolLine) → FitsPool p → bytes ≢ pool_text p)
 
 -- the steps that lines ask for in order, up to the first bad line, and the number of that line, if there is one
 abbrev pub Asked : Type 0

@@ -2,6 +2,7 @@
 //! what comes of each line. Beside them the audit of a record's text.
 #![tactic(auto)]
 
+pub mod asks;
 pub mod lines;
 pub mod play;
 pub mod reading;

@@ -1,18 +1,18 @@
 //! A scenario is played: from its text to what is written of it, in memory.
 
-ghost use Rattle.std.specs.Prelude.{◌≡◌, ◌⊎◌, ◌≤◌, ◌++◌, ℕ, suc, [], List, true, length, take, All, Ok, Err, IfOk, OnOk, OnErr, IsOkUnless};
+ghost use Rattle.std.specs.Prelude.{◌≡◌, ◌⊎◌, ◌≤◌, ◌++◌, ℕ, suc, [], List, length, map, take, Ok, Err, IfOk, OnOk, OnErr, IsOkUnless};
 ghost use Rattle.tp_record.specs.declared.entries.Entry.{Entry};
 ghost use Rattle.tp_record.specs.State.{state};
-ghost use Rattle.tp_text.specs.RunText.{Answer, answer_lines, fate_lines, end_lines, IsFront};
-ghost use Rattle.tp_scenario.specs.Answered.{Stands, Breaks, IsQuiet, asked_of};
+ghost use Rattle.tp_text.specs.RunText.{Answer, answer_lines, drained, fate_lines, end_lines, IsFront};
+ghost use Rattle.tp_scenario.specs.Answered.{Stands, Breaks, answer_of, asked_of, handed_back};
 ghost use Rattle.tp_text.specs.Pools.{config_of};
 ghost use Rattle.tp_scenario.specs.Played.{IsPlayed, ComesOf, BreaksOff};
-ghost use Rattle.tp_scenario.specs.Scenario.{is_supported, is_supported_pool};
 
 use crate::lines::ScenarioLine;
 use crate::scenarios::{Scenario, read_scenario};
-use crate::step::{Answer, Runner};
-use std::alloc::Global;
+use crate::step::{Runner, Told};
+use std::alloc::{AllocError, Global};
+use tp_engine::steps::Stepped;
 use tp_text::ends::{counts_line, fate_line, refusal_line, state_line};
 use tp_text::runs::entry_lines;
 use tp_types::ids::TaskId;
@@ -38,25 +38,64 @@ fn append(output: &mut Vec<u8>, text: &[u8]) -> Result<(), PoolError>
         .map_err(|_| PoolError::NoMemory)
 }
 
-/// Writes what an answer is written as. An entry has this number in its record, and hands back no
-/// task.
-fn write_answer(
+/// The tasks without their payloads.
+fn without_payloads(
+    alloc: Global,
+    handed: &[(TaskId, Option<()>)],
+) -> Result<Vec<TaskId>, AllocError>
+    ensures { IfOk result (λ tasks. map (λ t. t.0) tasks.items ≡ map (λ x. x.0.0) handed.now) }
+{
+    let mut tasks = Vec::new(alloc);
+    for (task, _) in handed {
+        tasks.push(*task)?;
+    }
+    Ok(tasks)
+}
+
+/// The tasks that a step handed back, in the queue's order.
+fn tasks_back(alloc: Global, stepped: &Stepped<()>) -> Result<Vec<TaskId>, AllocError>
+    ensures { IfOk result (λ tasks. map (λ t. t.0) tasks.items ≡ handed_back stepped.now) }
+{
+    match stepped {
+        Stepped::Stop(handed) => without_payloads(alloc, handed.as_slice()),
+        _ => Ok(Vec::new(alloc)),
+    }
+}
+
+/// What comes of a line, as it is written. An entry has this number in its record.
+fn told_lines(alloc: Global, number: usize, told: &Told) -> Result<Vec<u8>, PoolError>
+    ensures text { IfOk result (λ lines. (h : List Entry) → number ≡ suc (length h)
+        → IfOk told.now (λ x. handed_back x.1 ≡ drained h x.0.did) → lines.items ≡ answer_lines h (answer_of told.now)) }
+    ensures only_memory { IsOkUnless result PoolError.NoMemory }
+{
+    match told {
+        Ok((entry, stepped)) => {
+            let Ok(back) = tasks_back(alloc, stepped) else {
+                return Err(PoolError::NoMemory);
+            };
+            entry_lines(alloc, number, entry, back.as_slice())
+        }
+        Err(refusal) => refusal_line(alloc, *refusal),
+    }
+}
+
+/// Writes what comes of a line. An entry has this number in its record.
+fn write_told(
     alloc: Global,
     number: usize,
-    answer: &Answer,
+    told: &Told,
     output: &mut Vec<u8>,
 ) -> Result<(), PoolError>
-    requires { IsQuiet answer.now }
     ensures ok { OnOk result ((h : List Entry) → number ≡ suc (length h)
-        → output.new.items ≡ output.old.items ++ answer_lines h answer.now) }
+        → IfOk told.now (λ x. handed_back x.1 ≡ drained h x.0.did)
+        → output.new.items ≡ output.old.items ++ answer_lines h (answer_of told.now)) }
     ensures err { OnErr result (output.new.items ≡ output.old.items) }
     ensures only_memory { IsOkUnless result PoolError.NoMemory }
 {
-    let lines = match answer {
-        Ok(entry) => entry_lines(alloc, number, entry, &[])?,
-        Err(refusal) => refusal_line(alloc, *refusal)?,
-    };
-    append(output, lines.as_slice())
+    match told_lines(alloc, number, told) {
+        Ok(lines) => append(output, lines.as_slice()),
+        Err(error) => Err(error),
+    }
 }
 
 /// Plays the steps, and writes a line for each answer.
@@ -66,7 +105,6 @@ fn play_steps(
     steps: &[ScenarioLine],
     output: &mut Vec<u8>,
 ) -> Result<(), PoolError>
-    requires supported { All (λ l. is_supported l ≡ true) steps.now }
     requires starts { Stands runner.old.config [] [] runner.old output.old.items }
     ensures ok { OnOk result ((answers : List Answer) × Stands runner.old.config steps.now answers runner.new output.new.items) }
     ensures err { OnErr result (Breaks runner.old.config steps.now output.new.items) }
@@ -74,13 +112,13 @@ fn play_steps(
 {
     let mut accepted = 0;
     for step in steps {
-        let Ok(answer) = runner.step(step) else {
+        let Ok(told) = runner.step(step) else {
             return Err(PoolError::NoMemory);
         };
-        if let Err(error) = write_answer(alloc, accepted + 1, &answer, output) {
+        if let Err(error) = write_told(alloc, accepted + 1, &told, output) {
             return Err(error);
         }
-        if answer.is_ok() {
+        if told.is_ok() {
             accepted += 1;
         }
     }
@@ -136,8 +174,6 @@ fn write_ends(alloc: Global, runner: &Runner, output: &mut Vec<u8>) -> Result<()
 /// Plays a scenario that was read.
 fn play_scenario(alloc: Global, scenario: &Scenario, output: &mut Vec<u8>) -> Result<(), PoolError>
     requires empty { output.old.items ≡ [] }
-    requires pool { is_supported_pool scenario.now.pool ≡ true }
-    requires steps { All (λ l. is_supported l ≡ true) scenario.now.steps.items }
     ensures { (ComesOf (Ok (scenario.now.pool, asked_of scenario.now)) output.new.items result)
         ⊎ ((result ≡ Err PoolError.NoMemory) × BreaksOff (Ok (scenario.now.pool, asked_of scenario.now)) output.new.items) }
 {

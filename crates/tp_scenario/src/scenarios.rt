@@ -1,10 +1,10 @@
 //! A whole scenario, read from its text.
 
-ghost use Rattle.std.specs.Prelude.{◌≡◌, ◌+◌, ◌≤◌, ◌<◌, ◌^◌, ℕ, List, true, length, All, IfOk};
+ghost use Rattle.std.specs.Prelude.{◌≡◌, ◌+◌, ◌≤◌, ◌<◌, ◌^◌, ℕ, List, length, IfOk};
 ghost use Rattle.tp_scenario.specs.Answered.{AsksFrom, said_by};
 ghost use Rattle.tp_text.specs.declared.pools.PoolLine.{PoolLine};
 ghost use Rattle.tp_text.specs.Pools.{FitsPool, pool_text};
-ghost use Rattle.tp_scenario.specs.Scenario.{IsScenario, Said, is_supported, is_supported_pool};
+ghost use Rattle.tp_scenario.specs.Scenario.{IsScenario, Said};
 
 use crate::lines::{LineRead, PoolRead, ScenarioLine};
 use crate::texts::{read_line, read_pool_line};
@@ -31,8 +31,7 @@ fn asked(
     text: &[u8],
 ) -> Result<(Vec<ScenarioLine>, Option<u32>), AllocError>
     requires { first + length text.now < 2 ^ 32 }
-    ensures asks { IfOk result (λ r. AsksFrom first text.now (r.0.items, r.1)) }
-    ensures supported { IfOk result (λ r. All (λ l. is_supported l ≡ true) r.0.items) }
+    ensures { IfOk result (λ r. AsksFrom first text.now (r.0.items, r.1)) }
 {
     let mut steps = Vec::new(alloc);
     let mut rest = text;
@@ -57,9 +56,7 @@ fn asked(
 /// any pool line. Where no line is left for the pool, the line after the last is bad.
 pub fn read_scenario(alloc: Global, text: &[u8]) -> Result<Result<Scenario, u32>, AllocError>
     requires { length text.now ≤ 1048576 }
-    ensures says { IfOk result (λ r. IsScenario text.now (said_by r)) }
-    ensures pool { IfOk result (λ r. IfOk r (λ s. is_supported_pool s.pool ≡ true)) }
-    ensures steps { IfOk result (λ r. IfOk r (λ s. All (λ l. is_supported l ≡ true) s.steps.items)) }
+    ensures { IfOk result (λ r. IsScenario text.now (said_by r)) }
 {
     let mut rest = text;
     let mut number = 1;

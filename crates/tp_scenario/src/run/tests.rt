@@ -1,5 +1,13 @@
 //! Worked rows from bytes to bytes, and readers and writers that fail.
 
+mod cancelling;
+mod ending;
+mod growing;
+mod hostile;
+mod long;
+mod refusing;
+mod working;
+
 use super::*;
 use std::io;
 use tp_types::limits::MAX_TEXT_BYTES;
@@ -50,69 +58,18 @@ const ROW_22D: &[u8] = b"pool 1 1 unbounded keep 0 abort coretimeout\n";
 
 const ROW_22E: &[u8] = b"";
 
-const ROW_16: &[u8] = b"pool 1 1 unbounded keep 0 abort limit 64\n\
-submit plain 0\n\
-submit plain 1\n\
-submit plain 2\n\
-submit plain 3\n\
-submit plain 4\n\
-open 0\n\
-take 0\n\
-begin 0\n\
-end 0\n\
-offer 1\n\
-second 1\n\
-offer 2\n\
-second 2\n\
-offer 3\n\
-second 3\n\
-take 0\n\
-begin 0\n\
-end 0\n\
-take 0\n\
-begin 0\n\
-end 0\n\
-take 0\n\
-begin 0\n\
-end 0\n";
-
-const ROW_16_OUTPUT: &[u8] = b"1 submit t0 plain reserve w0\n\
-2 submit t1 plain queue\n\
-3 submit t2 plain queue\n\
-4 submit t3 plain queue\n\
-refused 5 BookFull\n\
-5 open w0 live\n\
-6 take w0 held t0\n\
-7 begin w0 t0\n\
-8 end w0 t0 value 0\n\
-9 offer t1 queued\n\
-10 second t1 stay\n\
-11 offer t2 queued\n\
-12 second t2 stay\n\
-13 offer t3 queued\n\
-14 second t3 stay\n\
-15 take w0 head t1\n\
-16 begin w0 t1\n\
-17 end w0 t1 value 1\n\
-18 take w0 head t2\n\
-19 begin w0 t2\n\
-20 end w0 t2 value 2\n\
-21 take w0 head t3\n\
-22 begin w0 t3\n\
-23 end w0 t3 value 3\n\
-t0 run\n\
-t1 run\n\
-t2 run\n\
-t3 run\n\
-state running\n\
-counts submitted=4 run=4 caller=0 rejected=0 discarded=0 handedback=0 removed=0 cancelled=0 completed=4 queued=0 live=1 largest=1\n";
-
 /// What is written of a text, and how the run ends.
 fn outcome_of(alloc: Global, text: &[u8]) -> (Vec<u8>, Result<(), PoolError>) {
     let mut reader = text;
     let mut written = Vec::new(alloc);
     let answer = run(alloc, &mut reader, &mut written);
     (written, answer)
+}
+
+/// Whether this is written of a text, and the run goes to its end.
+fn plays(alloc: Global, text: &[u8], output: &[u8]) -> bool {
+    let (written, ending) = outcome_of(alloc, text);
+    written.as_slice() == output && ending.is_ok()
 }
 
 #[test]
@@ -126,47 +83,12 @@ fn plays_worked_rows(rt: HostRuntime) {
         (ROW_22C, none, Err(PoolError::BadLimit)),
         (ROW_22D, none, Err(PoolError::KeepZero)),
         (ROW_22E, none, Err(PoolError::BadLine(1))),
-        (ROW_16, ROW_16_OUTPUT, Ok(())),
     ];
     for (text, output, answer) in rows {
         let (written, given) = outcome_of(rt.alloc(), text);
         assert_eq!(rt; written.as_slice(), output);
         assert_eq!(rt; given, answer);
     }
-}
-
-#[test]
-fn refuses_what_is_not_there_yet(rt: HostRuntime) {
-    let pool: &[u8] = b"pool 1 1 unbounded keep 0 abort\n";
-    let lines: [&[u8]; 7] = [
-        b"shutdown\n",
-        b"submit future 1\n",
-        b"submit plain !1\n",
-        b"grow 0\n",
-        b"verdict 0 abort\n",
-        b"offer 4294967296\n",
-        b"take 0",
-    ];
-    for line in lines {
-        let (written, given) = outcome_of(rt.alloc(), line);
-        assert!(rt; written.is_empty());
-        assert_eq!(rt; given, Err(PoolError::BadLine(1)));
-    }
-    let pools: [&[u8]; 5] = [
-        b"# two workers\n\npool 1 2 unbounded keep 0 abort\n",
-        b"#\n#\npool 0 1 unbounded keep 0 abort\n",
-        b"\n\npool 1 1 bounded 4 keep 0 abort\n",
-        b"\n\npool 1 1 unbounded keep 0 discard\n",
-        b"\n\npool 1 1 unbounded keep 1 abort coretimeout\n",
-    ];
-    for text in pools {
-        let (written, given) = outcome_of(rt.alloc(), text);
-        assert!(rt; written.is_empty());
-        assert_eq!(rt; given, Err(PoolError::BadLine(3)));
-    }
-    let (written, given) = outcome_of(rt.alloc(), pool);
-    assert_eq!(rt; written.as_slice(), EMPTY_OUTPUT);
-    assert_eq!(rt; given, Ok(()));
 }
 
 #[test]
@@ -207,7 +129,7 @@ impl Read for FailsOnce {
 #[test]
 fn refuses_a_reader_that_fails(rt: HostRuntime) {
     for error in [io::ErrorKind::Other, io::ErrorKind::Interrupted] {
-        for before in [0, 1, 40, ROW_01.len()] {
+        for before in 0..ROW_01.len() + 1 {
             let mut reader = FailsOnce {
                 rest: ROW_01,
                 before,
@@ -299,17 +221,18 @@ impl Write for Full {
 
 #[test]
 fn refuses_a_writer_that_fails(rt: HostRuntime) {
-    for (room, flushes, answer) in [
-        (0, true, Err(PoolError::WriteFailed)),
-        (1, true, Err(PoolError::WriteFailed)),
-        (ROW_01_OUTPUT.len() - 1, true, Err(PoolError::WriteFailed)),
-        (ROW_01_OUTPUT.len(), true, Ok(())),
-        (ROW_01_OUTPUT.len(), false, Err(PoolError::WriteFailed)),
-    ] {
-        let mut reader = ROW_01;
-        let mut writer = Full { room, flushes };
-        let given = run(rt.alloc(), &mut reader, &mut writer);
-        assert_eq!(rt; given, answer, "room for {room} bytes");
+    for room in 0..ROW_01_OUTPUT.len() + 1 {
+        for flushes in [true, false] {
+            let mut reader = ROW_01;
+            let mut writer = Full { room, flushes };
+            let given = run(rt.alloc(), &mut reader, &mut writer);
+            let answer = if flushes && room == ROW_01_OUTPUT.len() {
+                Ok(())
+            } else {
+                Err(PoolError::WriteFailed)
+            };
+            assert_eq!(rt; given, answer, "room for {room} bytes");
+        }
     }
 }
 

@@ -7,15 +7,17 @@ use Rattle.tp_scenario.proofs.play.play_scenario.Goals as goal
 
 pub returns-in-Err-new : goal.returns-in-Err-new
 returns-in-Err-new c =
-    let s = c.args.scenario.now in comes_of_new s.pool (asked_of s) c.args.output.now.items c.config-config.result c.in-Err-new.error c.config-config.ensures c.requires.empty c.in-Err-new.ensures.refuses
+    let s = c.args.scenario.now in comes_of_new s.pool (asked_of s) c.args.output.now.items c.config-config.result c.in-Err-new.error c.config-config.ensures c.in_default.ensures.computed c.requires.empty c.in-Err-new.ensures.refuses
 
 pub returns-in-Err-play_steps : goal.returns-in-Err-play_steps
 returns-in-Err-play_steps c =
     let s = c.args.scenario.now in
     let d = c.in-Ok.runner.config in
     let out = c.play_steps.new.output.items in
-    let one : d ≡ config_of s.pool = ap (λ (q : Playing). q.config) c.in-Ok.ensures.starts ∙ c.config-config.ensures in
-    inr (ap Err c.in-Err-play_steps.ensures.only_memory, breaks_off s.pool (asked_of s) out d one (subst (λ x. Breaks d x out) c.as_slice.ensures.value c.in-Err-play_steps.ensures.err))
+    let made : d ≡ c.config-config.result = ap (λ (q : Playing). q.config) c.in-Ok.ensures.starts in
+    let good = c.in_default.ensures.computed ∙ ap checked (sym made) in
+    let one : d ≡ config_of s.pool = made ∙ c.config-config.ensures in
+    inr (ap Err c.in-Err-play_steps.ensures.only_memory, breaks_off s.pool (asked_of s) out d one good (subst (λ x. Breaks d x out) c.as_slice.ensures.value c.in-Err-play_steps.ensures.err))
 
 pub returns-in-Some : goal.returns-in-Some
 returns-in-Some c =
@@ -45,11 +47,13 @@ returns c =
     let d = c.in-Ok.runner.config in
     let r = c.play_steps.new.runner in
     let mid = c.play_steps.new.output.items in
-    let one : d ≡ config_of s.pool = ap (λ (q : Playing). q.config) c.in-Ok.ensures.starts ∙ c.config-config.ensures in
+    let made : d ≡ c.config-config.result = ap (λ (q : Playing). q.config) c.in-Ok.ensures.starts in
+    let good = c.in_default.ensures.computed ∙ ap checked (sym made) in
+    let one : d ≡ config_of s.pool = made ∙ c.config-config.ensures in
     let played = c.in_default-play_steps.ensures.ok in
     let more = c.in-Err-write_ends.ensures.err in
     inr (
       ap Err c.in-Err-write_ends.ensures.only_memory,
-      breaks_end s.pool (asked_of s) mid c.write_ends.new.output.items more.0 d played.0 r one c.in_default-bad.is
+      breaks_end s.pool (asked_of s) mid c.write_ends.new.output.items more.0 d played.0 r one good c.in_default-bad.is
           (subst (λ x. Stands d x played.0 r mid) c.as_slice.ensures.value played.1) more.1 more.2,
     )
