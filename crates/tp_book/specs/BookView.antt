@@ -10,10 +10,10 @@ use Rattle.tp_record.specs.Effects.{reaches}
 use Rattle.tp_record.specs.Kept.{Kept}
 use Rattle.tp_record.specs.Paths.{own}
 use Rattle.tp_record.specs.State.{State, state}
-use Rattle.tp_engine.specs.declared.steps.Stepped.{Stepped}
-use Rattle.tp_engine.specs.Seen.{Seen, config_of}
-use Rattle.tp_engine.specs.Steps.{IsStep, Stays, IsRefusedBy}
-use Rattle.tp_engine.specs.Stepped.{FitsOutcome, IsAnswer, did_of, Moves, IsInOrder}
+use Rattle.tp_machine.specs.declared.steps.Stepped.{Stepped}
+use Rattle.tp_machine.specs.Seen.{Seen, config_of}
+use Rattle.tp_machine.specs.Steps.{IsStep, Stays, IsRefusedBy}
+use Rattle.tp_machine.specs.Stepped.{FitsOutcome, IsAnswer, did_of, Moves, IsInOrder}
 use Rattle.tp_book.specs.PassView.{AccountsView, PassView}
 
 -- the pool with its record, the book's side of the ledger, and the rank that the word publishes

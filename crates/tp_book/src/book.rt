@@ -4,8 +4,8 @@ ghost use Rattle.std.specs.Prelude.{◌≡◌, ◌⊎◌, ◌↔◌, ◌<◌, �
 ghost use Rattle.tp_types.specs.Config.{IsConfig, checked};
 ghost use Rattle.tp_types.specs.RunState.{state_rank};
 ghost use Rattle.tp_record.specs.Step.{Legal};
-ghost use Rattle.tp_engine.specs.Seen.{At};
-ghost use Rattle.tp_engine.specs.Stepped.{IsPaid, FitsOutcome};
+ghost use Rattle.tp_machine.specs.Seen.{At};
+ghost use Rattle.tp_machine.specs.Stepped.{IsPaid, FitsOutcome};
 ghost use Rattle.tp_book.specs.BookView.{tells, entries, config, state_of, entry_of, IsAdvanced, IsUnmoved, IsDenied};
 ghost use Rattle.tp_book.specs.PassView.{seen_after};
 
@@ -15,9 +15,9 @@ use crate::opening::Unopened;
 use crate::passes::{Pass, WorkerPass};
 use std::alloc::Global;
 use std::marker::Model;
-use tp_engine::machine::Machine;
-pub use tp_engine::steps::Stepped;
 use tp_glance::glance::{BookSeat, Glance, Naming};
+use tp_machine::machine::Machine;
+pub use tp_machine::steps::Stepped;
 use tp_record::entries::{Ask, Entry};
 use tp_record::recorders::Full;
 use tp_types::configs::Config;

@@ -21,9 +21,9 @@ use Rattle.tp_record.specs.Kept.{Kept}
 use Rattle.tp_tasks.specs.declared.tasks.Tasks.{Tasks}
 use Rattle.tp_tasks.specs.Tasks.{promise_of}
 use Rattle.tp_parts.specs.Payloads.{PutsIn}
-use Rattle.tp_engine.specs.Seen.{Seen, At, config_of, promise}
-use Rattle.tp_engine.specs.Steps.{IsStep, Stays, IsRefusedBy}
-use Rattle.tp_engine.specs.Stepped.{FitsOutcome}
+use Rattle.tp_machine.specs.Seen.{Seen, At, config_of, promise}
+use Rattle.tp_machine.specs.Steps.{IsStep, Stays, IsRefusedBy}
+use Rattle.tp_machine.specs.Stepped.{FitsOutcome}
 use Rattle.tp_laws.specs.Runs.{AllPromise, IfOutcome}
 
 -- what a recorder that keeps every entry tells

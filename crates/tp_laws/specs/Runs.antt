@@ -4,7 +4,7 @@ use Rattle.tp_types.specs.declared.tasks.Promise.{Promise}
 use Rattle.tp_record.specs.declared.entries.Ask.{Ask}
 use Rattle.tp_record.specs.declared.entries.Ask.TheVariants as ask
 use Rattle.tp_record.specs.Effects.{Outcome}
-use Rattle.tp_engine.specs.Seen.{Seen, promise}
+use Rattle.tp_machine.specs.Seen.{Seen, promise}
 
 -- each task of the machine came with this promise
 abbrev pub AllPromise : {P R : Type 0} → Promise → Seen P R → Type 0

@@ -4,12 +4,12 @@ ghost use Rattle.std.specs.Prelude.{◌≡◌, ◌⊎◌, reverse, IfOk, IfErr, 
 ghost use Rattle.tp_types.specs.Config.{IsConfig, checked};
 ghost use Rattle.tp_types.specs.Promise.{FitsPromise};
 ghost use Rattle.tp_record.specs.Step as steps;
-ghost use Rattle.tp_engine.specs.Steps.{IsStep, Stays, IsRefusedBy};
+ghost use Rattle.tp_machine.specs.Steps.{IsStep, Stays, IsRefusedBy};
 ghost use Rattle.tp_laws.specs.Lawful.{IsLawful};
 ghost use Rattle.tp_laws.specs.Runs.{AllPromise, IfOutcome};
 
 use std::alloc::Global;
-use tp_engine::machine::Machine;
+use tp_machine::machine::Machine;
 use tp_record::entries::{Ask, Did, Entry};
 use tp_record::recorders::{Full, Recorder};
 use tp_types::configs::Config;

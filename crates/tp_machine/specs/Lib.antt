@@ -1,5 +1,5 @@
-pub mod Handed
-pub mod Owed
-pub mod Parts
+pub mod Answers
+pub mod Readings
 pub mod Seen
-pub mod Settings
+pub mod Stepped
+pub mod Steps

@@ -7,7 +7,7 @@ use Rattle.tp_record.specs.declared.entries.Ask.{Ask}
 use Rattle.tp_record.specs.State.{state, counts}
 use Rattle.tp_record.specs.Step as steps
 use Rattle.tp_types.specs.declared.refusals.PoolError.{PoolError}
-use Rattle.tp_engine.specs.declared.steps.Stepped.{Stepped}
+use Rattle.tp_machine.specs.declared.steps.Stepped.{Stepped}
 use Rattle.tp_text.specs.RunText.{Answer, after, after_all, run_lines, answer_lines}
 use Rattle.tp_scenario.specs.declared.lines.ScenarioLine.{ScenarioLine}
 use Rattle.tp_scenario.specs.Played.{Outcomes, ask_of, asks_of, outcomes_after, told, IsPlay}

@@ -18,13 +18,13 @@ use Rattle.tp_record.specs.State.{State, state}
 use Rattle.tp_record.specs.Step.{Gives, IsRefused, fitting}
 use Rattle.tp_model.proofs.Weak.{within, submits_next}
 use Rattle.tp_parts.specs.Payloads.{PutsIn}
-use Rattle.tp_engine.specs.declared.steps.Stepped.{Stepped}
-use Rattle.tp_engine.specs.declared.steps.Stepped.TheVariants as stepped
-use Rattle.tp_engine.specs.Seen.{Seen, At, config_of, promise}
-use Rattle.tp_engine.specs.Steps.{IsStep, IsRefusedBy}
-use Rattle.tp_engine.specs.Readings.{EachState}
-use Rattle.tp_engine.specs.Stepped.{IsAnswer, IsInOrder, IsPaid, Moves, did_of}
-use Rattle.tp_engine.proofs.Moved.{promises_stay}
+use Rattle.tp_machine.specs.declared.steps.Stepped.{Stepped}
+use Rattle.tp_machine.specs.declared.steps.Stepped.TheVariants as stepped
+use Rattle.tp_machine.specs.Seen.{Seen, At, config_of, promise}
+use Rattle.tp_machine.specs.Steps.{IsStep, IsRefusedBy}
+use Rattle.tp_machine.specs.Readings.{EachState}
+use Rattle.tp_machine.specs.Stepped.{IsAnswer, IsInOrder, IsPaid, Moves, did_of}
+use Rattle.tp_machine.proofs.Moved.{promises_stay}
 use Rattle.tp_text.specs.RunText.{drained}
 use Rattle.tp_scenario.specs.declared.lines.ScenarioLine.{ScenarioLine}
 use Rattle.tp_scenario.specs.Played.{Outcomes, ask_of}

@@ -8,9 +8,9 @@ use Rattle.tp_record.specs.declared.entries.Ask.{Ask}
 use Rattle.tp_record.specs.Effects.{Outcome}
 use Rattle.tp_record.specs.State.{state}
 use Rattle.tp_record.specs.Step.{Gives, IsRefused}
-use Rattle.tp_engine.specs.declared.steps.Stepped.{Stepped}
-use Rattle.tp_engine.specs.declared.steps.Stepped.TheVariants as stepped
-use Rattle.tp_engine.specs.Seen.{Seen, promise}
+use Rattle.tp_machine.specs.declared.steps.Stepped.{Stepped}
+use Rattle.tp_machine.specs.declared.steps.Stepped.TheVariants as stepped
+use Rattle.tp_machine.specs.Seen.{Seen, promise}
 use Rattle.tp_text.specs.RunText.{Answer, after, after_all, run_lines}
 use Rattle.tp_scenario.specs.declared.lines.ScenarioLine.{ScenarioLine}
 use Rattle.tp_scenario.specs.declared.scenarios.Scenario.{Scenario}

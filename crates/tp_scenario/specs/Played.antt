@@ -14,7 +14,7 @@ use Rattle.tp_record.specs.declared.entries.Ask.TheVariants as ask
 use Rattle.tp_record.specs.Effects.{Outcome}
 use Rattle.tp_record.specs.State.{State, state, slot_at}
 use Rattle.tp_record.specs.Step as steps
-use Rattle.tp_engine.specs.Seen.{task_of_row}
+use Rattle.tp_machine.specs.Seen.{task_of_row}
 use Rattle.tp_text.specs.RunText.{Answer, after, after_all, run_lines, output, IsFront}
 use Rattle.tp_text.specs.declared.commands.TaskVerb.{TaskVerb}
 use Rattle.tp_text.specs.declared.commands.TaskVerb.TheVariants as task

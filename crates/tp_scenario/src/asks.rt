@@ -2,14 +2,14 @@
 
 ghost use Rattle.std.specs.Prelude.{◌≡◌};
 ghost use Rattle.tp_record.specs.State.{slot_at};
-ghost use Rattle.tp_engine.specs.Seen.{task_of_row};
-ghost use Rattle.tp_engine.specs.Stepped.{FitsOutcome, IsPaid};
-ghost use Rattle.tp_engine.specs.Readings.{EachState};
+ghost use Rattle.tp_machine.specs.Seen.{task_of_row};
+ghost use Rattle.tp_machine.specs.Stepped.{FitsOutcome, IsPaid};
+ghost use Rattle.tp_machine.specs.Readings.{EachState};
 ghost use Rattle.tp_scenario.specs.Answered.{ArePromised, submission};
 ghost use Rattle.tp_scenario.specs.Played.{outcome_of, outcome_there, task_ask, slot_ask, pool_ask, size_ask, tick_ask, ask_of, outcome_said};
 
 use crate::lines::ScenarioLine;
-use tp_engine::machine::Machine;
+use tp_machine::machine::Machine;
 use tp_record::entries::Ask;
 use tp_record::recorders::{Full, Recorder};
 use tp_text::commands::{PoolVerb, SizeVerb, SlotVerb, TaskVerb, TickVerb};

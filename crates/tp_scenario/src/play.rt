@@ -12,7 +12,7 @@ use crate::lines::ScenarioLine;
 use crate::scenarios::{Scenario, read_scenario};
 use crate::step::{Runner, Told};
 use std::alloc::{AllocError, Global};
-use tp_engine::steps::Stepped;
+use tp_machine::steps::Stepped;
 use tp_text::ends::{counts_line, fate_line, refusal_line, state_line};
 use tp_text::runs::entry_lines;
 use tp_types::ids::TaskId;

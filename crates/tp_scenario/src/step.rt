@@ -13,8 +13,8 @@ use crate::asks::ask_of;
 use crate::lines::ScenarioLine;
 use std::alloc::{AllocError, Global};
 use std::marker::Model;
-use tp_engine::machine::Machine;
-use tp_engine::steps::Stepped;
+use tp_machine::machine::Machine;
+use tp_machine::steps::Stepped;
 use tp_record::entries::Entry;
 use tp_record::recorders::{Full, Recorder};
 use tp_types::configs::Config;
@@ -36,7 +36,7 @@ pub struct Runner {
 
 impl Model for Runner {
     ghost use Rattle.std.specs.Prelude.{reverse};
-    ghost use Rattle.tp_engine.specs.Seen.{At, config_of};
+    ghost use Rattle.tp_machine.specs.Seen.{At, config_of};
     ghost use Rattle.tp_scenario.specs.Answered.{Playing, ArePromised};
 
     ghost Value = { Playing };

@@ -2,8 +2,8 @@
 ghost use Rattle.std.specs.Prelude.{◌≡◌, ◌↔◌, ◌<◌, ◌≤◌, length, Some, IsTrue, IfOk, IfErr, IfSome, OnOk};
 ghost use Rattle.tp_types.specs.RunState.{state_rank};
 ghost use Rattle.tp_record.specs.State.{counts as counts_of, task_at, slot_at, fate_of};
-ghost use Rattle.tp_engine.specs.Seen.{task_of_row, promise};
-ghost use Rattle.tp_engine.specs.Readings.{IsPromised, HasOpen, value_in, outcome_given};
+ghost use Rattle.tp_machine.specs.Seen.{task_of_row, promise};
+ghost use Rattle.tp_machine.specs.Readings.{IsPromised, HasOpen, value_in, outcome_given};
 ghost use Rattle.tp_book.specs.BookView.{entries, state_of};
 
 use super::Book;

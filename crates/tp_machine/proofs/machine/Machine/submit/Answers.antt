@@ -1,50 +1,56 @@
-use Rattle.std.proofs.Common.{◌≡◌, ◌∙◌, ◌++◌, ◌∷◌, [], sym, ap, refl, arith, inr, true, length, map}
-use Rattle.std.specs.Prelude.{is_some}
-use Rattle.std.proofs.lemmas.List.{length-append}
+use Rattle.std.proofs.Common.{ℕ, sym, ap, subst, refl, ◌∙◌}
+use Rattle.tp_record.specs.declared.entries.Did.{Did}
 use Rattle.tp_record.specs.declared.entries.Ask.TheVariants as ask
 use Rattle.tp_record.specs.declared.entries.Did.TheVariants as did
-use Rattle.tp_machine.proofs.Keeps.{stands, stands_as, sound_as, gives_there, sound_next, tasks_submitted, kept_push}
+use Rattle.tp_tasks.specs.Tasks.{submissions}
+use Rattle.tp_parts.specs.Steps.{Accepts, Leads}
+use Rattle.tp_parts.proofs.Standing.{fits_accepted}
+use Rattle.tp_machine.proofs.Stepping.{step_made, step_sound, same_sound, same_stays, step_after, refused_memory}
 use Rattle.tp_machine.proofs.machine.Machine.submit.Goals as goal
 
 pub invariant_of-self : goal.invariant_of-self
 invariant_of-self g c =
-    let n : c.len-steps.result ≡ length c.self.inside.entries.items = omega arith in
-    rw (c.in_default.ensures.payloads, c.in_default.ensures.promises)
-    (sound_as c.self.inside.config c.len-steps.result c.self.inside.parts c.reserve_places.new.parts c.in_default.ensures.same _ _ _ _ c.self.invariant n)
+    let p = c.prepare.ensures in
+    same_sound g.R.Recorder.tells c.self.inside.parts c.prepare.new.parts c.self.inside.noted (ap (λ x. x.config) p.rest) p.same g.R.Recorder.places (ap (λ x. x.steps) p.rest) p.stands.tied c.self.invariant
 
-pub returns-in_default-clause-refuses : goal.returns-in_default-clause-refuses
-returns-in_default-clause-refuses g c =
-    let n : c.len-steps.result ≡ length c.self.inside.entries.items = omega arith in
-    rw (← c.self.view_is) (inr (
-      refl,
-      refl,
-      (
-        did.Submit (record { 0 = length c.self.inside.parts.tasks.items }) c.args.kind c.in-Ok.looked,
-        gives_there _ _ _ _ _ c.self.inside.parts c.self.invariant _ n (ask.Submit c.args.kind) _ c.in-Ok.ensures.fits.gives,
-      ),
-    ))
+pub returns-in-Err-prepare-clause-refused : goal.returns-in-Err-prepare-clause-refused
+returns-in-Err-prepare-clause-refused g c =
+    refused_memory g.R.Recorder.tells c.self.inside.parts c.self.inside.noted c.args.self.now (ask.Submit c.args.kind) (did.Submit (record { 0 = submissions c.self.inside.parts.tasks }) c.args.kind c.in-Ok.looked) c.in-Err-prepare.error
+    c.self.view_is c.in-Ok.ensures.accepts refl c.in-Err-prepare.ensures.refused
 
-pub submit-t-requires-clause-stands : goal.submit-t-requires-clause-stands
-submit-t-requires-clause-stands g c =
-    let n : c.len-steps.result ≡ length c.self.inside.entries.items = omega arith in
-    stands_as _ _ c.self.inside.parts _ c.in-Ok-reserve_places.ensures.same (stands _ _ _ _ _ _ c.self.invariant _ n)
+pub returns-in-Err-prepare-clause-unchanged : goal.returns-in-Err-prepare-clause-unchanged
+returns-in-Err-prepare-clause-unchanged g c =
+    let p = c.prepare.ensures in
+    same_stays g.R.Recorder.tells c.self.inside.parts c.prepare.new.parts c.self.inside.noted (ap (λ x. x.config) p.rest) p.same p.payloads c.args.self.now c.self.view_is
 
-pub returns-clause-number : goal.returns-clause-number
-returns-clause-number g c =
-    let m = tasks_submitted _ _ _ _ _ _ c.self.invariant _ refl in
-    let same = ap length c.in-Ok-reserve_places.ensures.same.tasks in
-    rw (← c.self.view_is) (refl, c.submit-t.ensures.number ∙ same ∙ m)
+pub note-requires-clause-accepts : goal.note-requires-clause-accepts
+note-requires-clause-accepts g c =
+    let p = c.prepare.ensures in
+    let D : ℕ → Did = λ n. did.Submit (record { 0 = n }) c.args.kind c.in-Ok.looked in
+    subst (λ n. Accepts c.prepare.new.parts (ask.Submit c.args.kind) (D n)) (sym p.submitted ∙ sym c.submitted.ensures) (p.accepts (ask.Submit c.args.kind) (D (submissions c.self.inside.parts.tasks)) c.in-Ok.ensures.accepts)
+
+pub apply-t-requires-clause-fits : goal.apply-t-requires-clause-fits
+apply-t-requires-clause-fits g c =
+    let p = c.prepare.ensures in
+    let D : ℕ → Did = λ n. did.Submit (record { 0 = n }) c.args.kind c.in-Ok.looked in
+    fits_accepted c.prepare.new.parts (ask.Submit c.args.kind) (D (submissions c.prepare.new.parts.tasks))
+    (subst (λ n. Accepts c.prepare.new.parts (ask.Submit c.args.kind) (D n)) (sym p.submitted) (p.accepts (ask.Submit c.args.kind) (D (submissions c.self.inside.parts.tasks)) c.in-Ok.ensures.accepts))
 
 pub invariant_of-self-2 : goal.invariant_of-self-2
 invariant_of-self-2 g c =
-    let n : c.len-steps.result ≡ length c.self.inside.entries.items = omega arith in
-    let sound = sound_as c.self.inside.config c.len-steps.result c.self.inside.parts c.reserve_places.new.parts c.in-Ok-reserve_places.ensures.same _ _ _ _ c.self.invariant n in
-    let kept : map is_some c.push_reserved.new.self.items ≡ map is_some c.self.inside.payloads.items ++ true ∷ [] =
-    kept_push c.self.inside.payloads.items c.reserve_places.new.payloads.items c.push_reserved.new.self.items c.args.payload c.in-Ok-reserve_places.ensures.payloads c.push_reserved.ensures.items in
-    let promised = c.push_reserved-2.ensures.items ∙ ap (λ xs. xs ++ c.args.promise ∷ []) c.in-Ok-reserve_places.ensures.promises in
-    let longer = length-append c.self.inside.promises.items (c.args.promise ∷ []) in
-    let long = length-append (map is_some c.self.inside.payloads.items) (true ∷ []) in
-    let m = sound.promises_kept in
-    sound_next _ _ _ _ _ c.reserve_places.new.parts sound _ n c.args.by (ask.Submit c.args.kind) (did.Submit c.submit-t.result c.args.kind c.in-Ok.looked) _ _ _ _ _ c.submit-t.ensures.goes c.note.ensures.entries
-    (omega (arith, c.note.ensures.room)) (kept ∙ ap (λ ws. ws ++ true ∷ []) sound.payloads_kept ∙ sym c.submit-t.ensures.waits)
-    (ap length promised ∙ (let e : length (c.self.inside.promises.items ++ c.args.promise ∷ []) ≡ length (map is_some c.self.inside.payloads.items ++ true ∷ []) = omega arith in e) ∙ sym (ap length kept))
+    let p = c.prepare.ensures in
+    let D : ℕ → Did = λ n. did.Submit (record { 0 = n }) c.args.kind c.in-Ok.looked in
+    let accepts = subst (λ n. Accepts c.prepare.new.parts (ask.Submit c.args.kind) (D n)) (sym p.submitted ∙ sym c.submitted.ensures) (p.accepts (ask.Submit c.args.kind) (D (submissions c.self.inside.parts.tasks)) c.in-Ok.ensures.accepts) in
+    let sound = same_sound g.R.Recorder.tells c.self.inside.parts c.prepare.new.parts c.self.inside.noted (ap (λ x. x.config) p.rest) p.same g.R.Recorder.places (ap (λ x. x.steps) p.rest) p.stands.tied c.self.invariant in
+    step_sound g.R.Recorder.tells g.R.Recorder.places c.prepare.new.parts c.self.inside.noted _ c.args.by (ask.Submit c.args.kind) (D c.submitted.result)
+    accepts (subst (λ n. Leads c.prepare.new.parts (D n) c.apply-t.new.parts) (c.apply-t.ensures.number ∙ sym c.submitted.ensures) c.apply-t.ensures.leads) c.note.ensures.tells sound c.note.ensures.places
+
+pub returns-clause-step : goal.returns-clause-step
+returns-clause-step g c =
+    let p = c.prepare.ensures in
+    let D : ℕ → Did = λ n. did.Submit (record { 0 = n }) c.args.kind c.in-Ok.looked in
+    let accepts = subst (λ n. Accepts c.prepare.new.parts (ask.Submit c.args.kind) (D n)) (sym p.submitted ∙ sym c.submitted.ensures) (p.accepts (ask.Submit c.args.kind) (D (submissions c.self.inside.parts.tasks)) c.in-Ok.ensures.accepts) in
+    step_after g.R.Recorder.tells c.args.self.now (record { parts = c.prepare.new.parts; noted = c.self.inside.noted }) _ c.args.by (ask.Submit c.args.kind) (D c.submitted.result)
+    (same_stays g.R.Recorder.tells c.self.inside.parts c.prepare.new.parts c.self.inside.noted (ap (λ x. x.config) p.rest) p.same p.payloads c.args.self.now c.self.view_is)
+    (step_made g.R.Recorder.tells g.R.Recorder.places c.prepare.new.parts c.self.inside.noted _ c.args.by (ask.Submit c.args.kind) (D c.submitted.result)
+    accepts (subst (λ n. Leads c.prepare.new.parts (D n) c.apply-t.new.parts) (c.apply-t.ensures.number ∙ sym c.submitted.ensures) c.apply-t.ensures.leads) c.note.ensures.tells _ refl)

@@ -1,7 +1,7 @@
 use Rattle.std.proofs.Common.{◌≡◌, ◌++◌, List, reverse, ap, sym, subst, ◌∙◌}
 use Rattle.std.specs.Option.{option_to_list}
-use Rattle.tp_engine.specs.Steps.{IsStep}
-use Rattle.tp_engine.specs.Stepped.{IsPaid, Moves}
+use Rattle.tp_machine.specs.Steps.{IsStep}
+use Rattle.tp_machine.specs.Stepped.{IsPaid, Moves}
 use Rattle.tp_scenario.specs.Answered.{ArePromised, submission}
 use Rattle.tp_scenario.proofs.StepLaws.{playing, given, refused, back, stands_after, promised_step}
 use Rattle.tp_scenario.proofs.step.Runner.step.Goals as goal

@@ -1,5 +1,0 @@
-pub mod Answers
-pub mod Readings
-pub mod Seen
-pub mod Stepped
-pub mod Steps

@@ -1,0 +1,169 @@
+//! Submitters' steps.
+
+ghost use Rattle.std.specs.Prelude.{◌≡◌, IfOk, IfErr, OnOk, OnErr, Some};
+ghost use Rattle.tp_record.specs.Effects.{submits};
+ghost use Rattle.tp_parts.specs.Payloads.{Keeps, PutsIn};
+ghost use Rattle.tp_machine.specs.Answers.{IsJudged};
+ghost use Rattle.tp_machine.specs.Seen.{FitsAtCaller};
+ghost use Rattle.tp_machine.specs.Steps.{IsStep, Stays, IsRefusedBy};
+
+use super::{Machine, note, note_owed};
+use crate::answers::Judged;
+use tp_record::entries::{Ask, Did};
+use tp_record::recorders::Recorder;
+use tp_submitters::{callerend, grow, look, offer, second, submit, verdict};
+use tp_types::configs::Verdict;
+use tp_types::ids::TaskId;
+use tp_types::refusals::PoolError;
+use tp_types::tasks::{Kind, Outcome, Promise};
+
+impl<P, R: Recorder> Machine<P, R> {
+    /// Submits a task of this kind, with what its job promises and its payload, and looks at once, as `execute`. BookFull (5), or
+    /// NoMemory (4): the payload comes back, and nothing has changed.
+    pub fn submit(
+        &mut self,
+        by: u32,
+        kind: Kind,
+        promise: Promise,
+        payload: P,
+    ) -> Result<(TaskId, Did), (PoolError, P)>
+    where
+        P: Drop,
+        ensures step { IfOk result (λ r. IsStep R.tells self.old self.new by (Ask.Submit kind) r.1) }
+        ensures number { IfOk result (λ r. submits r.1 ≡ Some r.0.0) }
+        ensures payloads { IfOk result (λ r. PutsIn self.old.parts.tasks self.new.parts.tasks r.0.0 promise payload) }
+        ensures refused { IfErr result (λ r. IsRefusedBy R.tells self.old (Ask.Submit kind) r.0) }
+        ensures returned { IfErr result (λ r. r.1 ≡ payload) }
+        ensures unchanged { OnErr result (Stays R.tells self.old self.new) }
+    {
+        let looked = match submit::answer(&self.parts, kind) {
+            Ok(looked) => looked,
+            Err(error) => return Err((error, payload)),
+        };
+        if let Err(error) = submit::prepare(&mut self.parts, kind) {
+            return Err((error, payload));
+        }
+        let did = Did::Submit(TaskId(self.parts.tasks.submitted()), kind, looked);
+        note(&self.parts, &mut self.noted, by, Ask::Submit(kind), did);
+        let t = submit::apply(&mut self.parts, kind, promise, payload, looked);
+        Ok((t, did))
+    }
+
+    /// Looks at the pool for a task that was refused and is tried again, as the beginning of `execute`: a core slot is reserved, the task
+    /// is to be offered, or it is refused. UnknownTask (6) or NotThere (8).
+    pub fn look(&mut self, by: u32, t: TaskId) -> Result<Did, PoolError>
+        ensures step { IfOk result (λ d. IsStep R.tells self.old self.new by (Ask.Look t) d) }
+        ensures refused { IfErr result (λ e. IsRefusedBy R.tells self.old (Ask.Look t) e) }
+        ensures unchanged { OnErr result (self.new ≡ self.old) }
+        ensures payloads { Keeps self.old.parts.tasks self.new.parts.tasks }
+    {
+        let looked = match look::answer(&self.parts, t) {
+            Ok(looked) => looked,
+            Err(error) => return Err(error),
+        };
+        let did = Did::Look(t, looked);
+        note_owed(&self.parts, &mut self.noted, by, Ask::Look(t), did);
+        look::apply(&mut self.parts, t, looked);
+        Ok(did)
+    }
+
+    /// Offers the task to the queue, as `workQueue.offer` in `execute`: it is queued, handed to the worker that is idle longest, or the
+    /// queue is full. UnknownTask (6) or NotThere (8).
+    pub fn offer(&mut self, by: u32, t: TaskId) -> Result<Did, PoolError>
+        ensures step { IfOk result (λ d. IsStep R.tells self.old self.new by (Ask.Offer t) d) }
+        ensures refused { IfErr result (λ e. IsRefusedBy R.tells self.old (Ask.Offer t) e) }
+        ensures unchanged { OnErr result (self.new ≡ self.old) }
+        ensures payloads { Keeps self.old.parts.tasks self.new.parts.tasks }
+    {
+        let offered = match offer::answer(&self.parts, t) {
+            Ok(offered) => offered,
+            Err(error) => return Err(error),
+        };
+        let did = Did::Offer(t, offered);
+        note_owed(&self.parts, &mut self.noted, by, Ask::Offer(t), did);
+        offer::apply(&mut self.parts, t, offered);
+        Ok(did)
+    }
+
+    /// Takes the second look that the task owes after its offer, as the recheck in `execute`: a pool that was shut down meanwhile gives a
+    /// queued task back, and one without slots reserves a bare one. UnknownTask (6) or NotThere (8).
+    pub fn second(&mut self, by: u32, t: TaskId) -> Result<Did, PoolError>
+        ensures step { IfOk result (λ d. IsStep R.tells self.old self.new by (Ask.Second t) d) }
+        ensures refused { IfErr result (λ e. IsRefusedBy R.tells self.old (Ask.Second t) e) }
+        ensures unchanged { OnErr result (self.new ≡ self.old) }
+        ensures payloads { Keeps self.old.parts.tasks self.new.parts.tasks }
+    {
+        let seconded = match second::answer(&self.parts, t) {
+            Ok(seconded) => seconded,
+            Err(error) => return Err(error),
+        };
+        let did = Did::Second(t, seconded);
+        note_owed(&self.parts, &mut self.noted, by, Ask::Second(t), did);
+        second::apply(&mut self.parts, t, seconded);
+        Ok(did)
+    }
+
+    /// Grows the pool for the task that the full queue did not take, as the last `addWorker` of `execute`, or refuses it. UnknownTask (6)
+    /// or NotThere (8).
+    pub fn grow(&mut self, by: u32, t: TaskId) -> Result<Did, PoolError>
+        ensures step { IfOk result (λ d. IsStep R.tells self.old self.new by (Ask.Grow t) d) }
+        ensures refused { IfErr result (λ e. IsRefusedBy R.tells self.old (Ask.Grow t) e) }
+        ensures unchanged { OnErr result (self.new ≡ self.old) }
+        ensures payloads { Keeps self.old.parts.tasks self.new.parts.tasks }
+    {
+        let grown = match grow::answer(&self.parts, t) {
+            Ok(grown) => grown,
+            Err(error) => return Err(error),
+        };
+        let did = Did::Grow(t, grown);
+        note_owed(&self.parts, &mut self.noted, by, Ask::Grow(t), did);
+        grow::apply(&mut self.parts, t, grown);
+        Ok(did)
+    }
+
+    /// What becomes of a refused task, as `RejectedExecutionHandler.rejectedExecution`. It hands out the task's own payload where
+    /// the task is gone or begins at its caller, and that of a head that a retry dropped. UnknownTask (6) or NotThere (8).
+    pub fn verdict(&mut self, by: u32, t: TaskId, verdict: Verdict) -> Result<Judged<P>, PoolError>
+        ensures step { IfOk result (λ j. IsStep R.tells self.old self.new by (Ask.Verdict t verdict) j.did) }
+        ensures payloads { IfOk result (λ j. IsJudged self.old.parts.tasks self.new.parts.tasks t j) }
+        ensures refused { IfErr result (λ e. IsRefusedBy R.tells self.old (Ask.Verdict t verdict) e) }
+        ensures unchanged { OnErr result (self.new ≡ self.old) }
+    {
+        let ruled = match verdict::answer(&self.parts, t, verdict) {
+            Ok(ruled) => ruled,
+            Err(error) => return Err(error),
+        };
+        let did = Did::Verdict(t, verdict, ruled);
+        note(
+            &self.parts,
+            &mut self.noted,
+            by,
+            Ask::Verdict(t, verdict),
+            did,
+        );
+        let payload = verdict::apply(&mut self.parts, t, verdict, ruled);
+        Ok(Judged::of(did, ruled, payload))
+    }
+
+    /// The task's caller ran it to this outcome, which is as the task promised. UnknownTask (6) or NotThere (8).
+    pub fn caller_end(&mut self, by: u32, t: TaskId, outcome: Outcome) -> Result<(), PoolError>
+        requires { FitsAtCaller self.old t outcome }
+        ensures step { OnOk result (IsStep R.tells self.old self.new by (Ask.CallerEnd t outcome) (Did.CallerEnd t outcome)) }
+        ensures refused { IfErr result (λ e. IsRefusedBy R.tells self.old (Ask.CallerEnd t outcome) e) }
+        ensures unchanged { OnErr result (self.new ≡ self.old) }
+        ensures payloads { Keeps self.old.parts.tasks self.new.parts.tasks }
+    {
+        if let Err(error) = callerend::answer(&self.parts, t) {
+            return Err(error);
+        }
+        note_owed(
+            &self.parts,
+            &mut self.noted,
+            by,
+            Ask::CallerEnd(t, outcome),
+            Did::CallerEnd(t, outcome),
+        );
+        callerend::apply(&mut self.parts, t, outcome);
+        Ok(())
+    }
+}
