@@ -15,6 +15,8 @@ pub mod outcomes;
 pub mod runs;
 pub mod shutdown;
 pub mod tasks;
+#[cfg(test)]
+mod tests;
 pub mod waiting;
 pub mod workers;
 
