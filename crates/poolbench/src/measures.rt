@@ -1,7 +1,7 @@
 //! What is measured: a function for each, which makes a structure of so many entries ready, and then
 //! times turns on it.
 
-ghost use Rattle.std.specs.Prelude.{◌≡◌, ◌≤◌, IfOk};
+ghost use Rattle.std.specs.Prelude.{◌≡◌, ◌≤◌, ◌<◌, ◌^◌, IfOk};
 ghost use Rattle.tp_queue.specs.Queues.{waiting_of};
 
 use std::alloc::{AllocError, Global};
@@ -95,33 +95,43 @@ fn full_queue(alloc: Global, entries: u32) -> Result<Queue, AllocError>
 }
 
 fn take_and_offer<R: Clock + AllocGlobal>(rt: &R, size: Size) -> io::Result<Measured> {
-    let Size { entries, turns } = size;
-    let mut queue = full_queue(rt.alloc(), entries)?;
+    let mut queue = full_queue(rt.alloc(), size.entries)?;
+    Ok(Measured {
+        elapsed: turns_of_take(rt, &mut queue, size.turns)?,
+        left: queue.len(),
+    })
+}
+
+fn turns_of_take<R: Clock>(rt: &R, queue: &mut Queue, turns: u32) -> io::Result<Duration>
+    requires { (waiting_of queue.old).offers < 2 ^ 32 }
+{
     let start = Instant::now(rt)?;
     for turn in 0..turns {
         queue.take_head();
         let _ = queue.offer(TaskId(turn));
     }
-    Ok(Measured {
-        elapsed: start.elapsed(rt)?,
-        left: queue.len(),
-    })
+    start.elapsed(rt)
 }
 
 /// The first half of the queue stays, so that the dead lie in its middle.
 fn remove_and_offer<R: Clock + AllocGlobal>(rt: &R, size: Size) -> io::Result<Measured> {
-    let Size { entries, turns } = size;
-    let mut queue = full_queue(rt.alloc(), entries)?;
-    let middle = u64::from(entries) / 2;
+    let mut queue = full_queue(rt.alloc(), size.entries)?;
+    Ok(Measured {
+        elapsed: turns_of_remove(rt, &mut queue, size)?,
+        left: queue.len(),
+    })
+}
+
+fn turns_of_remove<R: Clock>(rt: &R, queue: &mut Queue, size: Size) -> io::Result<Duration>
+    requires { (waiting_of queue.old).offers < 2 ^ 32 }
+{
+    let middle = u64::from(size.entries) / 2;
     let start = Instant::now(rt)?;
-    for turn in 0..turns {
+    for turn in 0..size.turns {
         queue.remove(middle + u64::from(turn));
         let _ = queue.offer(TaskId(turn));
     }
-    Ok(Measured {
-        elapsed: start.elapsed(rt)?,
-        left: queue.len(),
-    })
+    start.elapsed(rt)
 }
 
 /// A table in which every worker is idle.
@@ -140,8 +150,16 @@ fn idle_slots(alloc: Global, entries: u32) -> Result<Slots, AllocError>
 }
 
 fn wake_longest<R: Clock + AllocGlobal>(rt: &R, size: Size) -> io::Result<Measured> {
-    let Size { entries, turns } = size;
-    let mut slots = idle_slots(rt.alloc(), entries)?;
+    let mut slots = idle_slots(rt.alloc(), size.entries)?;
+    Ok(Measured {
+        elapsed: turns_of_longest(rt, &mut slots, size.turns)?,
+        left: slots.live(),
+    })
+}
+
+fn turns_of_longest<R: Clock>(rt: &R, slots: &mut Slots, turns: u32) -> io::Result<Duration>
+    requires { slots.old.idlings < 2 ^ 32 }
+{
     let start = Instant::now(rt)?;
     for turn in 0..turns {
         if let Some(w) = slots.longest_idle() {
@@ -149,29 +167,31 @@ fn wake_longest<R: Clock + AllocGlobal>(rt: &R, size: Size) -> io::Result<Measur
             slots.idle(w, u64::from(turn));
         }
     }
-    Ok(Measured {
-        elapsed: start.elapsed(rt)?,
-        left: slots.live(),
-    })
+    start.elapsed(rt)
 }
 
 /// Slots are woken from the middle one on, round and round.
 fn wake_middle<R: Clock + AllocGlobal>(rt: &R, size: Size) -> io::Result<Measured> {
-    let Size { entries, turns } = size;
-    let mut slots = idle_slots(rt.alloc(), entries)?;
-    let middle = entries / 2;
+    let mut slots = idle_slots(rt.alloc(), size.entries)?;
+    Ok(Measured {
+        elapsed: turns_of_middle(rt, &mut slots, size)?,
+        left: slots.live(),
+    })
+}
+
+fn turns_of_middle<R: Clock>(rt: &R, slots: &mut Slots, size: Size) -> io::Result<Duration>
+    requires { slots.old.idlings < 2 ^ 32 }
+{
+    let middle = size.entries / 2;
     let start = Instant::now(rt)?;
-    for turn in 0..turns {
-        let w = SlotId((middle + turn % (entries - middle).max(1)) as usize);
+    for turn in 0..size.turns {
+        let w = SlotId((middle + turn % (size.entries - middle).max(1)) as usize);
         if slots.get(w).is_some_and(|row| row.is_idle()) {
             slots.wake(w, None);
             slots.idle(w, u64::from(turn));
         }
     }
-    Ok(Measured {
-        elapsed: start.elapsed(rt)?,
-        left: slots.live(),
-    })
+    start.elapsed(rt)
 }
 
 /// One more task of group 0, put and completed.
@@ -194,18 +214,21 @@ fn put_completed(tasks: &mut Tasks<u32>, turn: u32) -> Result<(), AllocError> {
 }
 
 fn put_and_complete<R: Clock + AllocGlobal>(rt: &R, size: Size) -> io::Result<Measured> {
-    let Size { entries, turns } = size;
     let mut tasks = Tasks::new(rt.alloc());
-    for entry in 0..entries {
-        put_completed(&mut tasks, entry)?;
-    }
-    let start = Instant::now(rt)?;
-    for turn in 0..turns {
-        put_completed(&mut tasks, turn)?;
-        let _ = tasks.take_done(0);
-    }
     Ok(Measured {
-        elapsed: start.elapsed(rt)?,
+        elapsed: turns_of_put(rt, &mut tasks, size)?,
         left: tasks.fated(Fate::Run) as usize,
     })
+}
+
+fn turns_of_put<R: Clock>(rt: &R, tasks: &mut Tasks<u32>, size: Size) -> io::Result<Duration> {
+    for entry in 0..size.entries {
+        put_completed(tasks, entry)?;
+    }
+    let start = Instant::now(rt)?;
+    for turn in 0..size.turns {
+        put_completed(tasks, turn)?;
+        let _ = tasks.take_done(0);
+    }
+    start.elapsed(rt)
 }

@@ -173,6 +173,3 @@ impl<T: Copy> Line<T> {
         first_live(&self.ring, lower_bound(&self.ring, number))
     }
 }
-
-#[cfg(test)]
-mod tests;

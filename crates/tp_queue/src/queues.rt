@@ -114,6 +114,3 @@ impl WorkQueue for Queue {
         }
     }
 }
-
-#[cfg(test)]
-mod tests;
