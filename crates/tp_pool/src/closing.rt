@@ -4,10 +4,11 @@ ghost use Rattle.tp_types.specs.Config.{IsConfig};
 ghost use Rattle.tp_record.specs.Paths.{own};
 ghost use Rattle.tp_record.specs.State.{state, counts};
 ghost use Rattle.tp_record.specs.Step.{Legal};
+ghost use Rattle.tp_pool.specs.Passes.{IsUnended};
 
 use crate::edges::Edge;
 use crate::jobs::Job;
-use crate::locked::Core;
+use crate::locked::{Core, seen_is_published};
 use crate::names::PoolNaming;
 use crate::pool::{Hold, PoolOf};
 use crate::shared::Shared;
@@ -31,9 +32,10 @@ pub struct CloseFault<G: PoolNaming, J, E> {
 
 impl<G: PoolNaming, J: Job, E: Edge> PoolOf<G, J, E> {
     /// Closes a terminated pool with all passes that callers got, and gives its record and counters; Java
-    /// has no such call. NotTerminated (20), else MissingPass (21), else, once no thread has the pool any
-    /// more, TornRecord (22) where a pass's receipts are not its own entries of the record: then the pool
-    /// and the passes come back.
+    /// has no such call. NotTerminated (20), which never comes with a pass that has seen the pool
+    /// terminated; else MissingPass (21); else, once no thread has the pool any more, TornRecord (22)
+    /// where a pass's receipts are not its own entries of the record. Then the pool and the passes come
+    /// back.
     pub fn close<R: Wait>(self, rt: &R, passes: Vec<Pass<G>>) -> Result<Report, CloseFault<G, J, E>>
         ensures good { OnOk result (IsConfig G.config) }
         ensures legal { IfOk result (λ r. Legal G.config (reverse r.entries.items)) }
@@ -41,10 +43,14 @@ impl<G: PoolNaming, J: Job, E: Edge> PoolOf<G, J, E> {
         ensures counts { IfOk result (λ r. r.counts ≡ counts (state G.config (reverse r.entries.items))) }
         ensures shares { IfOk result (λ r. sum_by (λ p. p.amount) passes.items ≡ length r.entries.items) }
         ensures receipts { IfOk result (λ r. All (λ p. own p.number r.entries.items ≡ p.receipts) passes.items) }
-        ensures refused { IfErr result (λ f. (f.error ≡ PoolError.NotTerminated) ⊎ (f.error ≡ PoolError.MissingPass) ⊎ (f.error ≡ PoolError.TornRecord)) }
+        ensures refused { IfErr result (λ f. IsUnended passes.items f.error ⊎ (f.error ≡ PoolError.MissingPass) ⊎ (f.error ≡ PoolError.TornRecord)) }
         ensures returned { IfErr result (λ f. f.passes ≡ passes) }
     {
-        let refused = self.shared().hold(rt).may_close(passes.len());
+        let mut passes = passes;
+        let shared = self.shared();
+        let refused = shared
+            .hold(rt)
+            .may_close(&shared.glance, passes.as_mut_slice());
         if let Err(error) = refused {
             return Err(CloseFault {
                 error,
@@ -82,7 +88,7 @@ impl<G: PoolNaming, J: Job, E: Edge> Shared<G, J, E> {
         ensures counts { IfOk result (λ r. r.counts ≡ counts (state G.config (reverse r.entries.items))) }
         ensures shares { IfOk result (λ r. sum_by (λ p. p.amount) passes.items ≡ length r.entries.items) }
         ensures receipts { IfOk result (λ r. All (λ p. own p.number r.entries.items ≡ p.receipts) passes.items) }
-        ensures refused { IfErr result (λ f. (f.error ≡ PoolError.NotTerminated) ⊎ (f.error ≡ PoolError.MissingPass) ⊎ (f.error ≡ PoolError.TornRecord)) }
+        ensures refused { IfErr result (λ f. IsUnended passes.items f.error ⊎ (f.error ≡ PoolError.MissingPass) ⊎ (f.error ≡ PoolError.TornRecord)) }
         ensures returned { IfErr result (λ f. f.passes ≡ passes) }
     {
         let Shared {
@@ -92,7 +98,9 @@ impl<G: PoolNaming, J: Job, E: Edge> Shared<G, J, E> {
             edge,
             alloc,
         } = self;
-        let book = core.into_inner().into_book();
+        let mut passes = passes;
+        let mut book = core.into_inner().into_book();
+        seen_is_published(&mut book, &glance, passes.as_mut_slice());
         match book.close(passes, Vec::new(alloc)) {
             Ok(report) => Ok(report),
             Err(unclosed) => {

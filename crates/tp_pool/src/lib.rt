@@ -20,6 +20,4 @@ mod locked;
 pub mod names;
 pub mod pool;
 mod shared;
-#[cfg(test)]
-mod tests;
 mod wakes;

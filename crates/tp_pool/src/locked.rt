@@ -1,5 +1,5 @@
 //! The value under a pool's lock.
-ghost use Rattle.std.specs.Prelude.{◌≡◌, ◌≢◌, ◌⊎◌, ◌+◌, ◌<◌, ◌≤◌, [], ◌∷◌, length, map, vec_len, vec_capacity, IfOk, IfErr, OnOk, OnErr};
+ghost use Rattle.std.specs.Prelude.{◌≡◌, ◌≢◌, ◌⊎◌, ◌+◌, ◌<◌, ◌≤◌, [], ◌∷◌, length, map, All, vec_len, vec_capacity, IfOk, IfErr, OnOk, OnErr};
 ghost use Rattle.tp_types.specs.Config.{IsConfig};
 ghost use Rattle.tp_types.specs.RunState.{state_rank};
 ghost use Rattle.tp_record.specs.Effects.{reaches};
@@ -7,7 +7,7 @@ ghost use Rattle.tp_record.specs.State.{counts as counts_of};
 ghost use Rattle.tp_record.specs.Step.{Gives};
 ghost use Rattle.tp_machine.specs.Stepped.{IsAnswer, did_of};
 ghost use Rattle.tp_book.specs.BookView.{config, state_of};
-ghost use Rattle.tp_pool.specs.Passes.{Adds, AddsStep, LooksOnly, IsBare, IsRefusal, Refuses, tidied};
+ghost use Rattle.tp_pool.specs.Passes.{Adds, AddsStep, LooksOnly, IsBare, IsRefusal, Refuses, IsUnended, tidied};
 ghost use Rattle.tp_pool.specs.Records.{AtSome};
 
 use crate::answers::Drained;
@@ -84,6 +84,22 @@ fn step_of<G: PoolNaming, J: Drop>(
             Ok(stepped)
         }
         Err((error, _)) => Err(error),
+    }
+}
+
+// The law that none of these passes has seen more than is published.
+pub fn seen_is_published<G: PoolNaming, J>(
+    book: &mut Book<G, J>,
+    glance: &Glance<G>,
+    passes: &mut [Pass<G>],
+)
+    ensures below { All (λ p. p.seen ≤ book.old.published) passes.old }
+    ensures rank { book.old.published ≤ 4 }
+    ensures same { (passes.new ≡ passes.old) × (book.new ≡ book.old) }
+{
+    let _ = book.state();
+    for pass in passes.iter_mut() {
+        book.seen_is_published(glance, pass);
     }
 }
 
@@ -172,24 +188,20 @@ impl<G: PoolNaming, J> Core<G, J> {
         self.book.split_pass(alloc, glance, pass)
     }
 
-    /// Why the pool cannot be closed with so many passes of callers: NotTerminated (20), else
-    /// MissingPass (21).
-    pub fn may_close(&self, passes: usize) -> Result<(), PoolError>
-        ensures refused { IfErr result (λ e. (e ≡ PoolError.NotTerminated) ⊎ (e ≡ PoolError.MissingPass)) }
+    /// Why the pool cannot be closed with these passes of callers: NotTerminated (20), which none of
+    /// them has seen otherwise, else MissingPass (21).
+    pub fn may_close(&mut self, glance: &Glance<G>, passes: &mut [Pass<G>]) -> Result<(), PoolError>
+        ensures refused { IfErr result (λ e. IsUnended passes.old e ⊎ (e ≡ PoolError.MissingPass)) }
+        ensures same { passes.new ≡ passes.old }
     {
         if self.book.state() != RunState::Terminated {
+            seen_is_published(&mut self.book, glance, passes);
             return Err(PoolError::NotTerminated);
         }
-        if self.book.callers() as usize != passes {
+        if self.book.callers() as usize != passes.len() {
             return Err(PoolError::MissingPass);
         }
         Ok(())
-    }
-
-    /// Whether somebody may wait in `await_termination`.
-    #[cfg(test)]
-    pub fn is_awaited(&self) -> bool {
-        self.awaited
     }
 
     /// The book.

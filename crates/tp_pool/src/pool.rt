@@ -150,6 +150,3 @@ impl<G: PoolNaming, J: Job, E: Edge> PoolOf<G, J, E> {
         self.shared().hold(rt).counts()
     }
 }
-
-#[cfg(test)]
-mod tests;

@@ -1,4 +1,4 @@
-use Rattle.tp_pool.proofs.pool.tests.changes_settings.Given as goal
+use Rattle.tp_lives.proofs.tests.settings.changes_settings.Given as goal
 
 abbrev pub ghosts-settings_change-G-Ledger : goal.ghosts-settings_change-G-Ledger
 ghosts-settings_change-G-Ledger g a = record { name = a.unopened.ledger; parts = a.unopened.parts }

@@ -1,4 +1,4 @@
-use Rattle.tp_pool.proofs.pool.tests.closes_with_both_passes.Given as goal
+use Rattle.tp_lives.proofs.tests.closing.closes_with_both_passes.Given as goal
 
 abbrev pub ghosts-two_callers-G-Ledger : goal.ghosts-two_callers-G-Ledger
 ghosts-two_callers-G-Ledger g a = record { name = a.unopened.ledger; parts = a.unopened.parts }

@@ -1,4 +1,4 @@
-use Rattle.tp_pool.proofs.pool.tests.wakes_who_waits.Given as goal
+use Rattle.tp_lives.proofs.tests.waits.is_woken.Given as goal
 
 abbrev pub ghosts-waits_for-G-Ledger : goal.ghosts-waits_for-G-Ledger
 ghosts-waits_for-G-Ledger g a = record { name = a.unopened.ledger; parts = a.unopened.parts }

@@ -1,4 +1,4 @@
-use Rattle.tp_pool.proofs.pool.tests.closes_passes_of_two_threads.Given as goal
+use Rattle.tp_lives.proofs.tests.threads.closes_passes_of_two_threads.Given as goal
 
 abbrev pub ghosts-two_threads-G-Ledger : goal.ghosts-two_threads-G-Ledger
 ghosts-two_threads-G-Ledger g a = record { name = a.unopened.ledger; parts = a.unopened.parts }
