@@ -4,11 +4,12 @@ ghost use Rattle.tp_types.specs.Config.{IsConfig};
 ghost use Rattle.tp_record.specs.Paths.{own};
 ghost use Rattle.tp_record.specs.State.{state, counts};
 ghost use Rattle.tp_record.specs.Step.{Legal};
+ghost use Rattle.tp_laws.specs.Lawful.{IsLawful};
 ghost use Rattle.tp_pool.specs.Passes.{IsUnended};
 
 use crate::edges::Edge;
 use crate::jobs::Job;
-use crate::locked::{Core, seen_is_published};
+use crate::locked::{Core, all_seen_is_published};
 use crate::names::PoolNaming;
 use crate::pool::{Hold, PoolOf};
 use crate::shared::Shared;
@@ -17,6 +18,7 @@ use std::thread;
 pub use tp_book::book::Report;
 use tp_book::book::Unclosed;
 use tp_book::passes::Pass;
+use tp_laws::lawful::legal_is_lawful;
 use tp_types::refusals::PoolError;
 
 /// A pool that was not closed, which comes back with the passes that were handed in.
@@ -39,18 +41,17 @@ impl<G: PoolNaming, J: Job, E: Edge> PoolOf<G, J, E> {
     pub fn close<R: Wait>(self, rt: &R, passes: Vec<Pass<G>>) -> Result<Report, CloseFault<G, J, E>>
         ensures good { OnOk result (IsConfig G.config) }
         ensures legal { IfOk result (λ r. Legal G.config (reverse r.entries.items)) }
+        ensures lawful { IfOk result (λ r. IsLawful G.config (reverse r.entries.items)) }
         ensures ended { IfOk result (λ r. (state G.config (reverse r.entries.items)).rank ≡ 4) }
         ensures counts { IfOk result (λ r. r.counts ≡ counts (state G.config (reverse r.entries.items))) }
         ensures shares { IfOk result (λ r. sum_by (λ p. p.amount) passes.items ≡ length r.entries.items) }
         ensures receipts { IfOk result (λ r. All (λ p. own p.number r.entries.items ≡ p.receipts) passes.items) }
         ensures refused { IfErr result (λ f. IsUnended passes.items f.error ⊎ (f.error ≡ PoolError.MissingPass) ⊎ (f.error ≡ PoolError.TornRecord)) }
-        ensures returned { IfErr result (λ f. f.passes ≡ passes) }
+        ensures returned { IfErr result (λ f. f.passes.items ≡ passes.items) }
     {
         let mut passes = passes;
         let shared = self.shared();
-        let refused = shared
-            .hold(rt)
-            .may_close(&shared.glance, passes.as_mut_slice());
+        let refused = shared.hold(rt).may_close(&shared.glance, &mut passes);
         if let Err(error) = refused {
             return Err(CloseFault {
                 error,
@@ -84,12 +85,13 @@ impl<G: PoolNaming, J: Job, E: Edge> Shared<G, J, E> {
     fn close(self, passes: Vec<Pass<G>>) -> Result<Report, CloseFault<G, J, E>>
         ensures good { OnOk result (IsConfig G.config) }
         ensures legal { IfOk result (λ r. Legal G.config (reverse r.entries.items)) }
+        ensures lawful { IfOk result (λ r. IsLawful G.config (reverse r.entries.items)) }
         ensures ended { IfOk result (λ r. (state G.config (reverse r.entries.items)).rank ≡ 4) }
         ensures counts { IfOk result (λ r. r.counts ≡ counts (state G.config (reverse r.entries.items))) }
         ensures shares { IfOk result (λ r. sum_by (λ p. p.amount) passes.items ≡ length r.entries.items) }
         ensures receipts { IfOk result (λ r. All (λ p. own p.number r.entries.items ≡ p.receipts) passes.items) }
         ensures refused { IfErr result (λ f. IsUnended passes.items f.error ⊎ (f.error ≡ PoolError.MissingPass) ⊎ (f.error ≡ PoolError.TornRecord)) }
-        ensures returned { IfErr result (λ f. f.passes ≡ passes) }
+        ensures returned { IfErr result (λ f. f.passes.items ≡ passes.items) }
     {
         let Shared {
             core,
@@ -100,9 +102,12 @@ impl<G: PoolNaming, J: Job, E: Edge> Shared<G, J, E> {
         } = self;
         let mut passes = passes;
         let mut book = core.into_inner().into_book();
-        seen_is_published(&mut book, &glance, passes.as_mut_slice());
+        all_seen_is_published(&mut book, &glance, &mut passes);
         match book.close(passes, Vec::new(alloc)) {
-            Ok(report) => Ok(report),
+            Ok(report) => {
+                legal_is_lawful();
+                Ok(report)
+            }
             Err(unclosed) => {
                 let Unclosed {
                     error,

@@ -88,7 +88,7 @@ fn step_of<G: PoolNaming, J: Drop>(
 }
 
 // The law that none of these passes has seen more than is published.
-pub fn seen_is_published<G: PoolNaming, J>(
+fn seen_is_published<G: PoolNaming, J>(
     book: &mut Book<G, J>,
     glance: &Glance<G>,
     passes: &mut [Pass<G>],
@@ -101,6 +101,20 @@ pub fn seen_is_published<G: PoolNaming, J>(
     for pass in passes.iter_mut() {
         book.seen_is_published(glance, pass);
     }
+}
+
+/// The law that none of these passes has seen more than is published.
+#[tactic(auto, using(std::proofs::lemmas::List::with_items_is))]
+pub fn all_seen_is_published<G: PoolNaming, J>(
+    book: &mut Book<G, J>,
+    glance: &Glance<G>,
+    passes: &mut Vec<Pass<G>>,
+)
+    ensures below { All (λ p. p.seen ≤ book.old.published) passes.old.items }
+    ensures rank { book.old.published ≤ 4 }
+    ensures same { (passes.new.items ≡ passes.old.items) × (book.new ≡ book.old) }
+{
+    seen_is_published(book, glance, passes.as_mut_slice());
 }
 
 // Moves the tasks that a stop handed back to an empty list with room for them.
@@ -190,12 +204,16 @@ impl<G: PoolNaming, J> Core<G, J> {
 
     /// Why the pool cannot be closed with these passes of callers: NotTerminated (20), which none of
     /// them has seen otherwise, else MissingPass (21).
-    pub fn may_close(&mut self, glance: &Glance<G>, passes: &mut [Pass<G>]) -> Result<(), PoolError>
-        ensures refused { IfErr result (λ e. IsUnended passes.old e ⊎ (e ≡ PoolError.MissingPass)) }
-        ensures same { passes.new ≡ passes.old }
+    pub fn may_close(
+        &mut self,
+        glance: &Glance<G>,
+        passes: &mut Vec<Pass<G>>,
+    ) -> Result<(), PoolError>
+        ensures refused { IfErr result (λ e. IsUnended passes.old.items e ⊎ (e ≡ PoolError.MissingPass)) }
+        ensures same { passes.new.items ≡ passes.old.items }
     {
         if self.book.state() != RunState::Terminated {
-            seen_is_published(&mut self.book, glance, passes);
+            all_seen_is_published(&mut self.book, glance, passes);
             return Err(PoolError::NotTerminated);
         }
         if self.book.callers() as usize != passes.len() {

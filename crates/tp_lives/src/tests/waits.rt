@@ -114,8 +114,11 @@ fn waits_for<G: PoolNaming + Send + Sync, R: Abort + Threads + Wait + Copy + Sen
     Ok(())
 }
 
-fn is_woken(rt: HostRuntime, waker: Waker) -> Result<(), Fail> {
-    let alloc = rt.alloc();
+fn is_woken<R: Abort + Threads + Wait + Copy + Send + Sync>(
+    rt: R,
+    alloc: Global,
+    waker: Waker,
+) -> Result<(), Fail> {
     let unopened = Unopened::new(alloc)?;
     let boxes = Boxes::new(
         Box::new(alloc, Consenting)?,
@@ -130,7 +133,7 @@ fn is_woken(rt: HostRuntime, waker: Waker) -> Result<(), Fail> {
 #[test]
 fn wakes_who_waits(rt: HostRuntime) -> Result<(), Fail> {
     for waker in [Waker::Tick, Waker::Shutdown, Waker::Stop] {
-        is_woken(rt, waker)?;
+        is_woken(rt, rt.alloc(), waker)?;
     }
     Ok(())
 }
