@@ -53,6 +53,14 @@ impl<G: Naming> Account<G> {
         glance.show(book, &mut self.seat);
     }
 
+    // The law that the seat has seen no more than the book's seat knows.
+    pub fn seen_is_published(&mut self, glance: &Glance<G>, book: &mut BookSeat<G>)
+        ensures below { self.old.seen ≤ book.old }
+        ensures same { (self.new ≡ self.old) × (book.new ≡ book.old) }
+    {
+        glance.seen_is_published(book, &mut self.seat);
+    }
+
     // Publishes the state after a step, and lets the seat see it, where the step changed it.
     pub fn publish(
         &mut self,

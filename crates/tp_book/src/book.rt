@@ -135,6 +135,14 @@ impl<G: Naming, P> Book<G, P> {
         self.state()
     }
 
+    /// The law that no pass has seen more than is published.
+    pub fn seen_is_published(&mut self, glance: &Glance<G>, pass: &mut Pass<G>)
+        ensures below { pass.old.seen ≤ self.old.published }
+        ensures same { (pass.new ≡ pass.old) × (self.new ≡ self.old) }
+    {
+        pass.account.seen_is_published(glance, &mut self.seat);
+    }
+
     /// The law that the machine stands at its record, which is legal, that each of its entries was
     /// accounted for, and that the word publishes its rank.
     pub fn is_balanced(&self)

@@ -1,1 +1,5 @@
+pub mod Answers
+pub mod Names
+pub mod Passes
+pub mod Records
 pub mod Wakes

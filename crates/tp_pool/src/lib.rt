@@ -1,4 +1,4 @@
-//! The interfaces of a running pool: what its users write, and what its calls answer.
+//! A pool of threads: its calls, what its users write, and what its calls answer.
 //!
 //! A user hands jobs to a pool, and when it is made a thread factory, a rejection handler, hooks and
 //! a gate. All of them are called outside the pool's lock, so each may ask the pool for its state,
@@ -6,13 +6,18 @@
 #![tactic(auto)]
 
 pub mod answers;
+pub mod closing;
+pub mod controls;
 pub mod edges;
+pub mod endings;
 pub mod factories;
 pub mod gates;
 pub mod handlers;
 pub mod hooks;
 pub mod jobs;
 pub mod lock;
-#[cfg(test)]
-mod tests;
-pub mod wakes;
+mod locked;
+pub mod names;
+pub mod pool;
+mod shared;
+mod wakes;

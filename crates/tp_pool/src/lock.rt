@@ -24,26 +24,3 @@ pub fn polite<'a, T, R: Wait>(rt: &R, lock: &'a Mutex<T>, pause: u32) -> MutexGu
     }
     lock.lock(rt)
 }
-
-#[cfg(test)]
-mod tests {
-    use super::*;
-    use std::test::Fail;
-    use std::thread;
-
-    // Adds 1, so many times, each in a hold of its own.
-    fn add<R: Wait>(rt: &R, lock: &Mutex<u64>, times: u32) {
-        for _ in 0..times {
-            let mut sum = polite(rt, lock, PAUSE);
-            *sum = sum.saturating_add(1);
-        }
-    }
-
-    #[test]
-    fn two_threads_take_turns(rt: HostRuntime) -> Result<(), Fail> {
-        let lock = Mutex::new(0);
-        thread::join(&rt, || add(&rt, &lock, 1000), || add(&rt, &lock, 1000));
-        assert_eq!(rt; lock.into_inner(), 2000);
-        Ok(())
-    }
-}

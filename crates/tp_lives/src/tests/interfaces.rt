@@ -1,12 +1,13 @@
+// What users write, called through its interfaces.
 ghost use Rattle.std.specs.Prelude.{true};
 
-use crate::factories::{Consenting, ThreadFactory};
-use crate::gates::{Gate, OpenGate, Point};
-use crate::handlers::{OneVerdict, RejectionHandler};
-use crate::hooks::{Hooks, NoHooks};
-use crate::jobs::{Boxed, Job};
 use std::test::Fail;
 use tp_book::flags::CancelFlag;
+use tp_pool::factories::{Consenting, ThreadFactory};
+use tp_pool::gates::{Gate, OpenGate, Point};
+use tp_pool::handlers::{OneVerdict, RejectionHandler};
+use tp_pool::hooks::{Hooks, NoHooks};
+use tp_pool::jobs::{Boxed, Job};
 use tp_types::configs::Verdict;
 use tp_types::ids::{SlotId, TaskId};
 use tp_types::states::RunState;

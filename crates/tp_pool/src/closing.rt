@@ -1,0 +1,136 @@
+//! The end of a pool: its record, with every pass accounted for.
+ghost use Rattle.std.specs.Prelude.{◌≡◌, ◌⊎◌, ◌+◌, List, length, reverse, IfOk, IfErr, OnOk, All, sum_by};
+ghost use Rattle.tp_types.specs.Config.{IsConfig};
+ghost use Rattle.tp_record.specs.Paths.{own};
+ghost use Rattle.tp_record.specs.State.{state, counts};
+ghost use Rattle.tp_record.specs.Step.{Legal};
+ghost use Rattle.tp_laws.specs.Lawful.{IsLawful};
+ghost use Rattle.tp_pool.specs.Passes.{IsUnended};
+
+use crate::edges::Edge;
+use crate::jobs::Job;
+use crate::locked::{Core, all_seen_is_published};
+use crate::names::PoolNaming;
+use crate::pool::{Hold, PoolOf};
+use crate::shared::Shared;
+use std::sync::{Arc, Mutex, Wait};
+use std::thread;
+pub use tp_book::book::Report;
+use tp_book::book::Unclosed;
+use tp_book::passes::Pass;
+use tp_laws::lawful::legal_is_lawful;
+use tp_types::refusals::PoolError;
+
+/// A pool that was not closed, which comes back with the passes that were handed in.
+#[derive(Drop)]
+pub struct CloseFault<G: PoolNaming, J, E> {
+    /// Why: NotTerminated (20), MissingPass (21) or TornRecord (22).
+    pub error: PoolError,
+    /// The pool.
+    pub pool: PoolOf<G, J, E>,
+    /// The passes.
+    pub passes: Vec<Pass<G>>,
+}
+
+impl<G: PoolNaming, J: Job, E: Edge> PoolOf<G, J, E> {
+    /// Closes a terminated pool with all passes that callers got, and gives its record and counters; Java
+    /// has no such call. NotTerminated (20), which never comes with a pass that has seen the pool
+    /// terminated; else MissingPass (21); else, once no thread has the pool any more, TornRecord (22)
+    /// where a pass's receipts are not its own entries of the record. Then the pool and the passes come
+    /// back.
+    pub fn close<R: Wait>(self, rt: &R, passes: Vec<Pass<G>>) -> Result<Report, CloseFault<G, J, E>>
+        ensures good { OnOk result (IsConfig G.config) }
+        ensures legal { IfOk result (λ r. Legal G.config (reverse r.entries.items)) }
+        ensures lawful { IfOk result (λ r. IsLawful G.config (reverse r.entries.items)) }
+        ensures ended { IfOk result (λ r. (state G.config (reverse r.entries.items)).rank ≡ 4) }
+        ensures counts { IfOk result (λ r. r.counts ≡ counts (state G.config (reverse r.entries.items))) }
+        ensures shares { IfOk result (λ r. sum_by (λ p. p.amount) passes.items ≡ length r.entries.items) }
+        ensures receipts { IfOk result (λ r. All (λ p. own p.number r.entries.items ≡ p.receipts) passes.items) }
+        ensures refused { IfErr result (λ f. IsUnended passes.items f.error ⊎ (f.error ≡ PoolError.MissingPass) ⊎ (f.error ≡ PoolError.TornRecord)) }
+        ensures returned { IfErr result (λ f. f.passes.items ≡ passes.items) }
+    {
+        let mut passes = passes;
+        let shared = self.shared();
+        let refused = shared.hold(rt).may_close(&shared.glance, &mut passes);
+        if let Err(error) = refused {
+            return Err(CloseFault {
+                error,
+                pool: self,
+                passes,
+            });
+        }
+        let PoolOf { hold } = self;
+        let shared = match hold {
+            Hold::Many(shared) => sole(rt, shared),
+            Hold::One(shared) => shared,
+        };
+        shared.close(passes)
+    }
+}
+
+// The value, once nobody else has it.
+fn sole<T, R: Wait>(rt: &R, shared: Arc<T>) -> T {
+    let mut shared = shared;
+    for _ in rt.forever() {
+        match Arc::try_unwrap(shared) {
+            Ok(value) => return value,
+            Err(others) => shared = others,
+        }
+        thread::yield_now();
+    }
+    unreachable!()
+}
+
+impl<G: PoolNaming, J: Job, E: Edge> Shared<G, J, E> {
+    fn close(self, passes: Vec<Pass<G>>) -> Result<Report, CloseFault<G, J, E>>
+        ensures good { OnOk result (IsConfig G.config) }
+        ensures legal { IfOk result (λ r. Legal G.config (reverse r.entries.items)) }
+        ensures lawful { IfOk result (λ r. IsLawful G.config (reverse r.entries.items)) }
+        ensures ended { IfOk result (λ r. (state G.config (reverse r.entries.items)).rank ≡ 4) }
+        ensures counts { IfOk result (λ r. r.counts ≡ counts (state G.config (reverse r.entries.items))) }
+        ensures shares { IfOk result (λ r. sum_by (λ p. p.amount) passes.items ≡ length r.entries.items) }
+        ensures receipts { IfOk result (λ r. All (λ p. own p.number r.entries.items ≡ p.receipts) passes.items) }
+        ensures refused { IfErr result (λ f. IsUnended passes.items f.error ⊎ (f.error ≡ PoolError.MissingPass) ⊎ (f.error ≡ PoolError.TornRecord)) }
+        ensures returned { IfErr result (λ f. f.passes.items ≡ passes.items) }
+    {
+        let Shared {
+            core,
+            end,
+            glance,
+            edge,
+            alloc,
+        } = self;
+        let mut passes = passes;
+        let mut book = core.into_inner().into_book();
+        all_seen_is_published(&mut book, &glance, &mut passes);
+        match book.close(passes, Vec::new(alloc)) {
+            Ok(report) => {
+                legal_is_lawful();
+                Ok(report)
+            }
+            Err(unclosed) => {
+                let Unclosed {
+                    error,
+                    book,
+                    passes,
+                    workers: _,
+                } = unclosed;
+                let shared = Shared {
+                    core: Mutex::new(Core::new(book)),
+                    end,
+                    glance,
+                    edge,
+                    alloc,
+                };
+                let pool = PoolOf {
+                    hold: Hold::One(shared),
+                };
+                Err(CloseFault {
+                    error,
+                    pool,
+                    passes,
+                })
+            }
+        }
+    }
+}

@@ -1,0 +1,173 @@
+//! The controlling calls: settings, the moment, and single tasks. Each makes one step, with one receipt.
+ghost use Rattle.std.specs.Prelude.{ℕ, IfOk, IfErr, OnOk, OnErr};
+ghost use Rattle.tp_machine.specs.Stepped.{IsAnswer, did_of};
+ghost use Rattle.tp_pool.specs.Answers.{is_removed};
+ghost use Rattle.tp_pool.specs.Passes.{AddsStep, AddsNone, IsBare, Refuses};
+
+use crate::answers::Removal;
+use crate::edges::Edge;
+use crate::jobs::Job;
+use crate::names::PoolNaming;
+use crate::pool::PoolOf;
+use std::sync::Wait;
+use tp_book::book::Stepped;
+use tp_book::passes::Pass;
+use tp_record::entries::{Ask, Did};
+use tp_types::ids::TaskId;
+use tp_types::refusals::PoolError;
+
+impl<G: PoolNaming, J: Job, E: Edge> PoolOf<G, J, E> {
+    // Makes the step of this ask, for whose receipt it takes the memory first.
+    fn control<R: Wait>(
+        &self,
+        rt: &R,
+        ask: Ask,
+        pass: &mut Pass<G>,
+    ) -> Result<Stepped<J>, PoolError>
+        requires bare { IsBare ask }
+        ensures answer { IfOk result (λ s. IsAnswer ask s) }
+        ensures step { IfOk result (λ s. AddsStep pass.old ask (did_of ask s) pass.new) }
+        ensures refused { IfErr result (λ e. Refuses G.config ask e) }
+        ensures unchanged { OnErr result (AddsNone pass.old pass.new) }
+    {
+        if let Err(error) = pass.reserve(1) {
+            return Err(error);
+        }
+        self.shared().step(rt, ask, pass)
+    }
+
+    /// Sets the core size in workers, as `setCorePoolSize`. NoMemory (4) for its receipt, else BadSizes
+    /// (1) or BookFull (5).
+    pub fn set_core<R: Wait>(&self, rt: &R, core: u32, pass: &mut Pass<G>) -> Result<(), PoolError>
+        ensures step { OnOk result ((added : ℕ) × AddsStep pass.old (Ask.Core core) (Did.Core core added) pass.new) }
+        ensures refused { IfErr result (λ e. Refuses G.config (Ask.Core core) e) }
+        ensures unchanged { OnErr result (AddsNone pass.old pass.new) }
+    {
+        match self.control(rt, Ask::Core(core), pass) {
+            Ok(Stepped::Core(_)) => Ok(()),
+            Ok(_) => unreachable!(),
+            Err(error) => Err(error),
+        }
+    }
+
+    /// Sets the maximum size in workers, as `setMaximumPoolSize`. NoMemory (4) for its receipt, else
+    /// BadSizes (1), BookFull (5), or NoMemory (4) for the places of more slots.
+    pub fn set_maximum<R: Wait>(
+        &self,
+        rt: &R,
+        maximum: u32,
+        pass: &mut Pass<G>,
+    ) -> Result<(), PoolError>
+        ensures step { OnOk result (AddsStep pass.old (Ask.Maximum maximum) (Did.Maximum maximum) pass.new) }
+        ensures refused { IfErr result (λ e. Refuses G.config (Ask.Maximum maximum) e) }
+        ensures unchanged { OnErr result (AddsNone pass.old pass.new) }
+    {
+        match self.control(rt, Ask::Maximum(maximum), pass) {
+            Ok(Stepped::Maximum) => Ok(()),
+            Ok(_) => unreachable!(),
+            Err(error) => Err(error),
+        }
+    }
+
+    /// Sets the keep-alive in ticks, as `setKeepAliveTime`. NoMemory (4) for its receipt, else KeepZero
+    /// (11) or BookFull (5).
+    pub fn set_keep<R: Wait>(&self, rt: &R, keep: u64, pass: &mut Pass<G>) -> Result<(), PoolError>
+        ensures step { OnOk result (AddsStep pass.old (Ask.Keep keep) (Did.Keep keep) pass.new) }
+        ensures refused { IfErr result (λ e. Refuses G.config (Ask.Keep keep) e) }
+        ensures unchanged { OnErr result (AddsNone pass.old pass.new) }
+    {
+        match self.control(rt, Ask::Keep(keep), pass) {
+            Ok(Stepped::Keep) => Ok(()),
+            Ok(_) => unreachable!(),
+            Err(error) => Err(error),
+        }
+    }
+
+    /// Says whether core workers time out too, as `allowCoreThreadTimeOut`. NoMemory (4) for its receipt,
+    /// else KeepZero (11) or BookFull (5).
+    pub fn allow_core_timeout<R: Wait>(
+        &self,
+        rt: &R,
+        on: bool,
+        pass: &mut Pass<G>,
+    ) -> Result<(), PoolError>
+        ensures step { OnOk result (AddsStep pass.old (Ask.CoreTimeout on) (Did.CoreTimeout on) pass.new) }
+        ensures refused { IfErr result (λ e. Refuses G.config (Ask.CoreTimeout on) e) }
+        ensures unchanged { OnErr result (AddsNone pass.old pass.new) }
+    {
+        match self.control(rt, Ask::CoreTimeout(on), pass) {
+            Ok(Stepped::CoreTimeout) => Ok(()),
+            Ok(_) => unreachable!(),
+            Err(error) => Err(error),
+        }
+    }
+
+    /// The moment is this one from now on, in ticks; Java's pool reads a clock. NoMemory (4) for its
+    /// receipt, else ClockBack (10) or BookFull (5).
+    pub fn tick<R: Wait>(&self, rt: &R, now: u64, pass: &mut Pass<G>) -> Result<(), PoolError>
+        ensures step { OnOk result (AddsStep pass.old (Ask.Tick now) (Did.Tick now) pass.new) }
+        ensures refused { IfErr result (λ e. Refuses G.config (Ask.Tick now) e) }
+        ensures unchanged { OnErr result (AddsNone pass.old pass.new) }
+    {
+        match self.control(rt, Ask::Tick(now), pass) {
+            Ok(Stepped::Tick) => Ok(()),
+            Ok(_) => unreachable!(),
+            Err(error) => Err(error),
+        }
+    }
+
+    /// Takes the cancelled tasks out of the queue, as `purge`, and says how many. NoMemory (4) for its
+    /// receipt, else BookFull (5).
+    pub fn purge<R: Wait>(&self, rt: &R, pass: &mut Pass<G>) -> Result<u32, PoolError>
+        ensures step { IfOk result (λ n. AddsStep pass.old Ask.Purge (Did.Purge n) pass.new) }
+        ensures refused { IfErr result (λ e. Refuses G.config Ask.Purge e) }
+        ensures unchanged { OnErr result (AddsNone pass.old pass.new) }
+    {
+        match self.control(rt, Ask::Purge, pass) {
+            Ok(Stepped::Purge(cancelled)) => Ok(cancelled),
+            Ok(_) => unreachable!(),
+            Err(error) => Err(error),
+        }
+    }
+
+    /// Takes a task out of the queue, as `remove`, and hands its job back unless it was cancelled.
+    /// NoMemory (4) for its receipt, else UnknownTask (6) or BookFull (5).
+    pub fn remove<R: Wait>(
+        &self,
+        rt: &R,
+        t: TaskId,
+        pass: &mut Pass<G>,
+    ) -> Result<Removal<J>, PoolError>
+        ensures step { IfOk result (λ r. AddsStep pass.old (Ask.Remove t) (Did.Remove t (is_removed r)) pass.new) }
+        ensures refused { IfErr result (λ e. Refuses G.config (Ask.Remove t) e) }
+        ensures unchanged { OnErr result (AddsNone pass.old pass.new) }
+    {
+        match self.control(rt, Ask::Remove(t), pass) {
+            Ok(Stepped::Remove(None)) => Ok(Removal::No),
+            Ok(Stepped::Remove(Some((_, job)))) => Ok(Removal::Yes(job)),
+            Ok(_) => unreachable!(),
+            Err(error) => Err(error),
+        }
+    }
+
+    /// Cancels a future that has no fate yet, as `Future.cancel`, and says whether that had effect; a job
+    /// that has not begun is given up. NoMemory (4) for its receipt, else UnknownTask (6), NotFuture (9)
+    /// or BookFull (5).
+    pub fn cancel<R: Wait>(
+        &self,
+        rt: &R,
+        t: TaskId,
+        flag: bool,
+        pass: &mut Pass<G>,
+    ) -> Result<bool, PoolError>
+        ensures step { IfOk result (λ effective. AddsStep pass.old (Ask.Cancel t flag) (Did.Cancel t flag effective) pass.new) }
+        ensures refused { IfErr result (λ e. Refuses G.config (Ask.Cancel t flag) e) }
+        ensures unchanged { OnErr result (AddsNone pass.old pass.new) }
+    {
+        match self.control(rt, Ask::Cancel(t, flag), pass) {
+            Ok(Stepped::Cancel(effective, _)) => Ok(effective),
+            Ok(_) => unreachable!(),
+            Err(error) => Err(error),
+        }
+    }
+}

@@ -1,0 +1,85 @@
+//! The calls that end a pool, and the wait for its end.
+ghost use Rattle.std.specs.Prelude.{◌≡◌, ◌⊎◌, ◌≤◌, [], ◌∷◌, length, IfOk, IfErr, OnOk, OnErr};
+ghost use Rattle.tp_pool.specs.Passes.{Adds, AddsNone, AddsAndEnds, Refuses, tidied, ended};
+
+use crate::answers::Drained;
+use crate::edges::Edge;
+use crate::jobs::Job;
+use crate::names::PoolNaming;
+use crate::pool::PoolOf;
+use std::sync::Wait;
+use tp_book::book::Stepped;
+use tp_book::passes::Pass;
+use tp_record::entries::{Ask, Did};
+use tp_types::refusals::PoolError;
+
+impl<G: PoolNaming, J: Job, E: Edge> PoolOf<G, J, E> {
+    /// The pool takes no more tasks and runs those that it has, as `shutdown`. Where it can end at once,
+    /// this call ends it. NoMemory (4) for its receipts, else BookFull (5).
+    pub fn shutdown<R: Wait>(&self, rt: &R, pass: &mut Pass<G>) -> Result<(), PoolError>
+        ensures steps { OnOk result (AddsAndEnds pass.old Ask.Shutdown Did.Shutdown pass.new) }
+        ensures seen { OnOk result (1 ≤ pass.new.seen) }
+        ensures refused { IfErr result (λ e. Refuses G.config Ask.Shutdown e) }
+        ensures unchanged { OnErr result (AddsNone pass.old pass.new) }
+    {
+        if let Err(error) = pass.reserve(3) {
+            return Err(error);
+        }
+        let shared = self.shared();
+        match shared.step(rt, Ask::Shutdown, pass) {
+            Ok(Stepped::Shutdown) => {
+                shared.try_end(rt, pass);
+                Ok(())
+            }
+            Ok(_) => unreachable!(),
+            Err(error) => Err(error),
+        }
+    }
+
+    /// Stops the pool, as `shutdownNow`: the tasks in its queue are handed back in their order, and no
+    /// task begins any more. Where it can end at once, this call ends it. NoMemory (4) for its receipts,
+    /// else BookFull (5), or NoMemory (4) for its answer, whose memory is taken before the step: a job is
+    /// handed back or still queued, and never lost.
+    pub fn shutdown_now<R: Wait>(
+        &self,
+        rt: &R,
+        pass: &mut Pass<G>,
+    ) -> Result<Vec<Drained<J>>, PoolError>
+        ensures steps { IfOk result (λ drained. AddsAndEnds pass.old Ask.Stop (Did.Stop (length drained.items)) pass.new) }
+        ensures seen { OnOk result (2 ≤ pass.new.seen) }
+        ensures refused { IfErr result (λ e. Refuses G.config Ask.Stop e) }
+        ensures unchanged { OnErr result (AddsNone pass.old pass.new) }
+    {
+        if let Err(error) = pass.reserve(3) {
+            return Err(error);
+        }
+        let shared = self.shared();
+        match shared.stop(rt, pass) {
+            Ok(drained) => {
+                shared.try_end(rt, pass);
+                Ok(drained)
+            }
+            Err(error) => Err(error),
+        }
+    }
+
+    /// Waits until the pool is terminated, as `awaitTermination`, or until now has reached this moment,
+    /// in ticks; where the pool can end, this call ends it. NoMemory (4) for its receipts, else TimedOut
+    /// (16), at once where now is there already, or TornRecord (22) where its own last step is not taken.
+    pub fn await_termination<R: Wait>(
+        &self,
+        rt: &R,
+        deadline: u64,
+        pass: &mut Pass<G>,
+    ) -> Result<(), PoolError>
+        ensures steps { OnOk result (Adds pass.old [] pass.new ⊎ Adds pass.old (tidied pass.old.number ∷ ended pass.old.number ∷ []) pass.new) }
+        ensures seen { OnOk result (4 ≤ pass.new.seen) }
+        ensures refused { IfErr result (λ e. (((e ≡ PoolError.NoMemory) ⊎ (e ≡ PoolError.TimedOut)) × Adds pass.old [] pass.new)
+            ⊎ ((e ≡ PoolError.TornRecord) × Adds pass.old (tidied pass.old.number ∷ []) pass.new)) }
+    {
+        if let Err(error) = pass.reserve(2) {
+            return Err(error);
+        }
+        self.shared().await_end(rt, deadline, pass)
+    }
+}

@@ -1,0 +1,146 @@
+//! What all threads of a pool share, and the holds of its lock.
+ghost use Rattle.std.specs.Prelude.{◌≡◌, ◌⊎◌, ◌+◌, ◌<◌, ◌≤◌, [], ◌∷◌, List, length, IfOk, IfErr, OnOk, OnErr};
+ghost use Rattle.tp_record.specs.declared.entries.Entry.{Entry};
+ghost use Rattle.tp_record.specs.Effects.{reaches};
+ghost use Rattle.tp_machine.specs.Stepped.{IsAnswer, did_of};
+ghost use Rattle.tp_pool.specs.Passes.{Adds, AddsStep, IsBare, IsRefusal, Refuses, IsEnding, tidied, ended};
+
+use crate::answers::Drained;
+use crate::edges::Edge;
+use crate::lock::{PAUSE, polite};
+use crate::locked::{Core, Look};
+use crate::names::PoolNaming;
+use std::alloc::Global;
+use std::sync::{Condvar, Mutex, MutexGuard, Wait};
+use tp_book::book::Stepped;
+use tp_book::passes::Pass;
+use tp_glance::glance::Glance;
+use tp_record::entries::{Ask, Did};
+use tp_types::refusals::PoolError;
+
+/// The one lock, what lies beside it, and the caller's objects.
+#[derive(Drop)]
+pub struct Shared<G: PoolNaming, J, E> {
+    /// The value under the lock.
+    pub core: Mutex<Core<G, J>>,
+    /// Who waits in `await_termination` sleeps here.
+    pub end: Condvar,
+    /// The word of the run state, which is read with no lock held.
+    pub glance: Glance<G>,
+    /// The caller's objects.
+    pub edge: E,
+    /// What answers take their memory from.
+    pub alloc: Global,
+}
+
+impl<G: PoolNaming, J: Drop, E: Edge> Shared<G, J, E> {
+    /// Takes the lock.
+    pub fn hold<R: Wait>(&self, rt: &R) -> MutexGuard<'_, Core<G, J>> {
+        polite(rt, &self.core, PAUSE)
+    }
+
+    /// Makes the step of this ask in a hold of its own, with a pass that has room for its receipt, and
+    /// wakes whom it concerns after the hold.
+    pub fn step<R: Wait>(
+        &self,
+        rt: &R,
+        ask: Ask,
+        pass: &mut Pass<G>,
+    ) -> Result<Stepped<J>, PoolError>
+        requires bare { IsBare ask }
+        requires room { 0 < pass.old.room }
+        ensures answer { IfOk result (λ s. IsAnswer ask s) }
+        ensures step { IfOk result (λ s. AddsStep pass.old ask (did_of ask s) pass.new) }
+        ensures seen { IfOk result (λ s. reaches (did_of ask s) ≤ pass.new.seen) }
+        ensures left { OnOk result (pass.old.room ≤ pass.new.room + 1) }
+        ensures refused { IfErr result (λ e. IsRefusal G.config ask e) }
+        ensures unchanged { OnErr result (pass.new ≡ pass.old) }
+    {
+        let mut core = self.hold(rt);
+        let stepped = core.step(ask, &self.glance, pass);
+        let wakes = stepped.is_ok() && core.calls_waiters(&ask);
+        drop(core);
+        self.wake(wakes);
+        stepped
+    }
+
+    /// Makes the step `stop` in a hold of its own, as `step`; the answer's memory is taken in the same
+    /// hold, before the step.
+    pub fn stop<R: Wait>(&self, rt: &R, pass: &mut Pass<G>) -> Result<Vec<Drained<J>>, PoolError>
+        requires room { 0 < pass.old.room }
+        ensures step { IfOk result (λ drained. AddsStep pass.old Ask.Stop (Did.Stop (length drained.items)) pass.new) }
+        ensures seen { OnOk result (2 ≤ pass.new.seen) }
+        ensures left { OnOk result (pass.old.room ≤ pass.new.room + 1) }
+        ensures refused { IfErr result (λ e. Refuses G.config Ask.Stop e) }
+        ensures unchanged { OnErr result (pass.new ≡ pass.old) }
+    {
+        let mut core = self.hold(rt);
+        let drained = core.stop(self.alloc, &self.glance, pass);
+        let wakes = drained.is_ok() && core.calls_waiters(&Ask::Stop);
+        drop(core);
+        self.wake(wakes);
+        drained
+    }
+
+    // Wakes who waits in `await_termination`, with no lock held.
+    fn wake(&self, wakes: bool) {
+        if wakes {
+            self.end.notify_all();
+        }
+    }
+
+    /// Ends the pool, where it can end now: the step `tidy`, the terminated hook and the step `ended`.
+    pub fn try_end<R: Wait>(&self, rt: &R, pass: &mut Pass<G>)
+        requires room { 2 ≤ pass.old.room }
+        ensures { (steps : List Entry) × IsEnding pass.old.number steps × Adds pass.old steps pass.new }
+    {
+        if self.step(rt, Ask::Tidy, pass).is_ok() {
+            let _ = self.terminate(rt, pass);
+        }
+    }
+
+    // The terminated hook, with no lock held, and the step `ended`, by the pass that made the step
+    // `tidy`. TornRecord (22) where the book does not take it.
+    fn terminate<R: Wait>(&self, rt: &R, pass: &mut Pass<G>) -> Result<(), PoolError>
+        requires room { 0 < pass.old.room }
+        ensures step { OnOk result (Adds pass.old (ended pass.old.number ∷ []) pass.new) }
+        ensures seen { OnOk result (4 ≤ pass.new.seen) }
+        ensures refused { IfErr result (λ e. e ≡ PoolError.TornRecord) }
+        ensures unchanged { OnErr result (pass.new ≡ pass.old) }
+    {
+        self.edge.terminated(rt);
+        match self.step(rt, Ask::Ended, pass) {
+            Ok(Stepped::Ended) => Ok(()),
+            Ok(_) => unreachable!(),
+            Err(_) => Err(PoolError::TornRecord),
+        }
+    }
+
+    /// Waits until the pool is terminated, or now has reached the deadline, and ends the pool where it
+    /// can end. Whoever waits does so with the guard of the hold in which its look failed.
+    pub fn await_end<R: Wait>(
+        &self,
+        rt: &R,
+        deadline: u64,
+        pass: &mut Pass<G>,
+    ) -> Result<(), PoolError>
+        requires room { 2 ≤ pass.old.room }
+        ensures steps { OnOk result (Adds pass.old [] pass.new ⊎ Adds pass.old (tidied pass.old.number ∷ ended pass.old.number ∷ []) pass.new) }
+        ensures seen { OnOk result (4 ≤ pass.new.seen) }
+        ensures refused { IfErr result (λ e. ((e ≡ PoolError.TimedOut) × Adds pass.old [] pass.new) ⊎ ((e ≡ PoolError.TornRecord) × Adds pass.old (tidied pass.old.number ∷ []) pass.new)) }
+    {
+        let mut core = self.hold(rt);
+        for _ in rt.forever() {
+            match core.look(deadline, &self.glance, pass) {
+                Look::Terminated => return Ok(()),
+                Look::Late => return Err(PoolError::TimedOut),
+                Look::Tidied => {
+                    drop(core);
+                    return self.terminate(rt, pass);
+                }
+                Look::Waits => core = self.end.wait(rt, core),
+            }
+        }
+        unreachable!()
+    }
+}
