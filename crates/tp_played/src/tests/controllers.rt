@@ -143,7 +143,7 @@ const STOPS_THEN: [Row; 6] = [
 
 const STOPS_TOLD_LAST: [Told; 1] = [(T0, Place::Gone, Some(Fate::Run), Ok(Some(8)))];
 
-/// A stop hands Some(Fate::HandedBack) the queue in its order, a cancelled task without its payload, and a second stop nothing.
+/// A stop hands back the queue in its order, a cancelled task without its payload, and a second stop nothing.
 #[test]
 fn stops(rt: HostRuntime) {
     let mut pool = busy(&rt, rt.alloc(), Kind::Future);
