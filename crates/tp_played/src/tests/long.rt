@@ -1,6 +1,6 @@
 //! Thousands of tasks through a bounded queue and four workers: what the pool counts is what its callers count.
 
-use super::stage::{NONE, Pool, ask, counts, has_fate, pays, plays, pool, reads, task_in};
+use super::stage::{NO_COUNTS, Pool, ask, asks, counts, does, has_fate, pays, pool, task_in};
 use std::process::Abort;
 use tp_record::entries::{Ask, Did, Grown, Looked, Offered, Ruled, Started};
 use tp_types::configs::{Config, Policy, QueueKind, Verdict};
@@ -61,18 +61,9 @@ fn execute(rt: &impl Abort, pool: &mut Pool, tally: &mut Tally, number: u32) {
     }
     let verdict = Verdict::CallerRuns;
     let ruled = Did::Verdict(t, verdict, Ruled::Caller);
-    plays(
-        rt,
-        pool,
-        &[
-            (
-                Ask::Verdict(t, verdict),
-                Ok(ruled),
-                pays(number.wrapping_add(10)),
-            ),
-            (Ask::CallerEnd(t, Ok(1)), Ok(Did::CallerEnd(t, Ok(1))), NONE),
-        ],
-    );
+    let payload = pays(number.wrapping_add(10));
+    asks(rt, pool, Ask::Verdict(t, verdict), Ok(ruled), payload);
+    does(rt, pool, Ask::CallerEnd(t, Ok(1)));
     tally.caller = tally.caller.saturating_add(1);
 }
 
@@ -137,32 +128,21 @@ fn submit_all(rt: &impl Abort, pool: &mut Pool, tally: &mut Tally) {
             cancel(rt, pool, tally, TaskId(number));
         }
         if seed % 32 == 5 {
-            let moment = u64::from(number);
-            plays(
-                rt,
-                pool,
-                &[(Ask::Tick(moment), Ok(Did::Tick(moment)), NONE)],
-            );
+            does(rt, pool, Ask::Tick(u64::from(number)));
         }
     }
 }
 
 /// The pool is shut down, and its workers go on until it is terminated.
 fn terminate(rt: &impl Abort, pool: &mut Pool, tally: &mut Tally) {
-    plays(rt, pool, &[(Ask::Shutdown, Ok(Did::Shutdown), NONE)]);
+    does(rt, pool, Ask::Shutdown);
     for _ in 0..200 {
         for w in 0..WORKERS {
             work(rt, pool, tally, SlotId(w));
         }
     }
-    plays(
-        rt,
-        pool,
-        &[
-            (Ask::Tidy, Ok(Did::Tidy), NONE),
-            (Ask::Ended, Ok(Did::Ended), NONE),
-        ],
-    );
+    does(rt, pool, Ask::Tidy);
+    does(rt, pool, Ask::Ended);
 }
 
 /// How many tasks of this group are done, each taken once.
@@ -188,7 +168,7 @@ fn counts_what_is_done(rt: HostRuntime) {
         cancelled: tally.cancelled,
         completed: tally.completed,
         largest: 4,
-        ..Counts::default()
+        ..NO_COUNTS
     };
     assert_eq!(rt; counts(&pool), seen);
     assert!(rt;

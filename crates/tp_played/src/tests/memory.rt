@@ -1,7 +1,10 @@
-//! Want of memory. Each ask of these tests that is answered with 4 must change nothing, and is asked once more: so all tests are run
-//! with each allocation failing in turn.
+//! Want of memory. Each ask of these tests that is answered with 4 must change nothing, and is asked once more: so all tests pass
+//! too where an allocation fails, each in its turn under `rt try --test --fail-alloc 1..`.
 
-use super::stage::{NONE, Pool, Row, SMALL, W0, plays, pool, read, reads, tells, tells_nothing};
+use super::stage::Act::{self, Asks};
+use super::stage::{
+    NO_COUNTS, NONE, Pool, SMALL, W0, act_out, asks, pool, read, reads, tells, tells_nothing,
+};
 use std::process::Abort;
 use tp_record::entries::{Ask, Did, Looked, Offered, Seconded};
 use tp_types::configs::{Config, QueueKind};
@@ -21,31 +24,23 @@ fn submit(rt: &impl Abort, pool: &mut Pool, number: u32) {
     } else {
         Seconded::Stay
     };
-    plays(
-        rt,
-        pool,
-        &[
-            (
-                Ask::Submit(kind),
-                Ok(Did::Submit(t, kind, Looked::Queue)),
-                NONE,
-            ),
-            (Ask::Offer(t), Ok(Did::Offer(t, Offered::Queued)), NONE),
-            (Ask::Second(t), Ok(Did::Second(t, seconded)), NONE),
-        ],
-    );
+    let submitted = Did::Submit(t, kind, Looked::Queue);
+    asks(rt, pool, Ask::Submit(kind), Ok(submitted), NONE);
+    let queued = Did::Offer(t, Offered::Queued);
+    asks(rt, pool, Ask::Offer(t), Ok(queued), NONE);
+    asks(rt, pool, Ask::Second(t), Ok(Did::Second(t, seconded)), NONE);
 }
 
 /// The pool runs, and each task waits in its queue.
 fn waits(rt: &impl Abort, pool: &Pool) {
     for number in 0..TASKS {
-        tells(rt, pool, &[(TaskId(number), Place::Queued, None, Ok(None))]);
+        tells(rt, pool, TaskId(number), Place::Queued, None, Ok(None));
     }
     tells_nothing(rt, pool, TaskId(TASKS));
     let counts = Counts {
         submitted: TASKS,
         queued: TASKS,
-        ..Counts::default()
+        ..NO_COUNTS
     };
     reads(rt, pool, RunState::Running, 0, counts);
 }
@@ -78,10 +73,10 @@ fn stop(rt: &impl Abort, pool: &mut Pool) {
 }
 
 /// The maximum is set, and then the core size.
-const LARGER: [Row; 3] = [
-    (Ask::Core(3), Err(PoolError::BadSizes), NONE),
-    (Ask::Maximum(200), Ok(Did::Maximum(200)), NONE),
-    (Ask::Core(3), Ok(Did::Core(3, 3)), NONE),
+const LARGER: [Act; 3] = [
+    Asks(Ask::Core(3), Err(PoolError::BadSizes), NONE),
+    Asks(Ask::Maximum(200), Ok(Did::Maximum(200)), NONE),
+    Asks(Ask::Core(3), Ok(Did::Core(3, 3)), NONE),
 ];
 
 /// Tasks of several groups grow the tasks, the groups and the queue, and each more than once; a larger maximum grows the slots.
@@ -99,7 +94,7 @@ fn grows(rt: HostRuntime) {
             submit(&rt, &mut pool, number);
         }
         waits(&rt, &pool);
-        plays(&rt, &mut pool, &LARGER);
+        act_out(&rt, &mut pool, &LARGER);
         waits(&rt, &pool);
         stop(&rt, &mut pool);
         tells_nothing(&rt, &pool, TaskId(TASKS));

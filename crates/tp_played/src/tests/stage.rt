@@ -1,4 +1,4 @@
-//! The machine of these tests, and how a table of asks is played on it. No function here says anything of the machine, so that a test
+//! The machine of these tests, and how a script of asks is acted out on it. No function here says anything of the machine, so that a test
 //! is proved without the machine's own contracts: it is compared when it runs.
 
 ghost use Rattle.tp_machine.specs.Stepped.{IsPaid, FitsOutcome};
@@ -22,11 +22,23 @@ pub type Pool = Machine<u32, Full>;
 /// The payloads that a step hands out: the first three.
 pub type Handed = (Option<u32>, Option<u32>, Option<u32>);
 
-/// An ask, its answer, and the payloads that it hands out.
-pub type Row = (Ask, Result<Did, PoolError>, Handed);
-
-/// What is told of a task: where it is, its fate, and what its future answers.
-pub type Told = (TaskId, Place, Option<Fate>, Result<Option<i64>, PoolError>);
+/// A line of a script: an ask with its answer, or what is read of the pool then.
+pub enum Act {
+    /// This is asked, and answered so, with these payloads.
+    Asks(Ask, Result<Did, PoolError>, Handed),
+    /// The task is here, with this fate, and its future answers this.
+    Tells(TaskId, Place, Option<Fate>, Result<Option<i64>, PoolError>),
+    /// There is no such task.
+    Unknown(TaskId),
+    /// The slot has this task.
+    Holds(SlotId, Option<TaskId>),
+    /// Whether a task of this group has no fate yet.
+    Opens(u32, bool),
+    /// The pool's state, moment and counts.
+    Reads(RunState, u64, Counts),
+    /// The record is filled up to what is owed.
+    Fills,
+}
 
 pub const T0: TaskId = TaskId(0);
 
@@ -67,6 +79,22 @@ pub const ANY: Promise = Promise {
     low: -1000,
     high: 1000,
     may_fault: true,
+};
+
+/// Nothing is counted.
+pub const NO_COUNTS: Counts = Counts {
+    submitted: 0,
+    run: 0,
+    caller: 0,
+    rejected: 0,
+    discarded: 0,
+    handedback: 0,
+    removed: 0,
+    cancelled: 0,
+    completed: 0,
+    queued: 0,
+    live: 0,
+    largest: 0,
 };
 
 /// One core worker, one more at need, and one place in the queue.
@@ -226,12 +254,22 @@ pub fn ask(rt: &impl Abort, pool: &mut Pool, ask: Ask) -> (Result<Did, PoolError
     }
 }
 
-/// Asks each of these, and gets its answer and its payloads. Task t is submitted with payload t + 10.
-pub fn plays(rt: &impl Abort, pool: &mut Pool, rows: &[Row]) {
-    for &(asked, answer, handed) in rows {
-        let played = ask(rt, pool, asked);
-        assert_eq!(rt; played, (answer, handed), "{asked:?}");
-    }
+/// This is asked, and answered so, with these payloads. Task t is submitted with payload t + 10.
+pub fn asks(
+    rt: &impl Abort,
+    pool: &mut Pool,
+    asked: Ask,
+    answer: Result<Did, PoolError>,
+    paid: Handed,
+) {
+    let played = ask(rt, pool, asked);
+    assert_eq!(rt; played, (answer, paid), "{asked:?}");
+}
+
+/// This is asked, and done.
+pub fn does(rt: &impl Abort, pool: &mut Pool, asked: Ask) {
+    let (answer, _) = ask(rt, pool, asked);
+    assert!(rt; answer.is_ok(), "{asked:?}");
 }
 
 /// Fills the record up to what is owed.
@@ -276,17 +314,22 @@ fn told(pool: &Pool, t: TaskId) -> TaskReading {
     }
 }
 
-/// This is told of each of these tasks, and that it promises what each task promises.
-pub fn tells(rt: &impl Abort, pool: &Pool, rows: &[Told]) {
-    for &(t, place, fate, result) in rows {
-        let wanted = TaskReading {
-            place: Ok(place),
-            fate: Ok(fate),
-            result,
-            promise: Ok(ANY),
-        };
-        assert_eq!(rt; told(pool, t), wanted, "{t:?}");
-    }
+/// This is told of the task, and that it promises what each task promises.
+pub fn tells(
+    rt: &impl Abort,
+    pool: &Pool,
+    t: TaskId,
+    place: Place,
+    fate: Option<Fate>,
+    future: Result<Option<i64>, PoolError>,
+) {
+    let wanted = TaskReading {
+        place: Ok(place),
+        fate: Ok(fate),
+        result: future,
+        promise: Ok(ANY),
+    };
+    assert_eq!(rt; told(pool, t), wanted, "{t:?}");
 }
 
 /// Nothing is told of a task that is not submitted.
@@ -300,16 +343,30 @@ pub fn tells_nothing(rt: &impl Abort, pool: &Pool, t: TaskId) {
     assert_eq!(rt; told(pool, t), wanted);
 }
 
-/// The slots of these numbers have these tasks.
-pub fn holds(rt: &impl Abort, pool: &Pool, rows: &[(SlotId, Option<TaskId>)]) {
-    for &(w, t) in rows {
-        assert_eq!(rt; pool.task_in(w), t, "{w:?}");
+/// Acts a line of a script out.
+fn act_line(rt: &impl Abort, pool: &mut Pool, line: &Act) {
+    match line {
+        Act::Asks(asked, answer, paid) => asks(rt, pool, *asked, *answer, *paid),
+        Act::Tells(t, place, fate, future) => tells(rt, pool, *t, *place, *fate, *future),
+        Act::Unknown(t) => tells_nothing(rt, pool, *t),
+        Act::Holds(w, t) => assert_eq!(rt; task_in(pool, *w), *t, "{w:?}"),
+        Act::Opens(group, is_open) => assert_eq!(rt; pool.group_open(*group), *is_open, "{group}"),
+        Act::Reads(state, moment, counts) => reads(rt, pool, *state, *moment, *counts),
+        Act::Fills => fill(rt, pool),
     }
 }
 
-/// Whether a task of the group has no fate yet.
-pub fn is_open(pool: &Pool, group: u32) -> bool {
-    pool.group_open(group)
+/// Acts a script out.
+pub fn act_out(rt: &impl Abort, pool: &mut Pool, script: &[Act]) {
+    for line in script {
+        act_line(rt, pool, line);
+    }
+}
+
+/// Acts a script out in a new pool.
+pub fn plays(rt: &impl Abort, alloc: Global, config: Config, script: &[Act]) {
+    let mut pool = pool(rt, alloc, config);
+    act_out(rt, &mut pool, script);
 }
 
 /// The task in this slot.
