@@ -2,13 +2,14 @@
 
 use super::stage::Act::{self, Asks, Fills, Opens, Reads, Tells};
 use super::stage::{
-    BARE, NO_COUNTS, NONE, P0, P1, P2, P3, SMALL, T0, T1, T2, T3, T4, T9, W0, W1, act_out, does,
-    plays, pool,
+    BARE, NO_COUNTS, NONE, P0, P1, P2, P3, Pool, SMALL, T0, T1, T2, T3, T4, T9, W0, W1, act_out,
+    does, plays, pool,
 };
 use std::alloc::Global;
 use std::process::Abort;
 use tp_record::entries::{Ask, Did, Looked, Opened, Started, Took};
 use tp_types::configs::{Config, Verdict};
+use tp_types::ids::TaskId;
 use tp_types::refusals::PoolError;
 use tp_types::states::{Counts, RunState};
 use tp_types::tasks::{Fate, Kind, Place};
@@ -16,22 +17,28 @@ use tp_types::tasks::{Fate, Kind, Place};
 /// One core worker, one more at need, and a queue without bound.
 const BUSY: Config = Config { core: 1, ..BARE };
 
+/// The pool's one worker runs task 0.
+fn starts(rt: &impl Abort, pool: &mut Pool, kind: Kind) {
+    does(rt, pool, Ask::Submit(kind));
+    does(rt, pool, Ask::Open(W0));
+    does(rt, pool, Ask::Take(W0));
+    does(rt, pool, Ask::Begin(W0));
+}
+
+/// This task waits in the queue.
+fn queues(rt: &impl Abort, pool: &mut Pool, kind: Kind, t: TaskId) {
+    does(rt, pool, Ask::Submit(kind));
+    does(rt, pool, Ask::Offer(t));
+    does(rt, pool, Ask::Second(t));
+}
+
 /// A script of a pool of one live worker, with tasks 0 to 3 of this kind: the worker runs the first, and the others are queued.
 fn plays_busy(rt: &impl Abort, alloc: Global, kind: Kind, acts: &[Act]) {
     let mut pool = pool(rt, alloc, BUSY);
-    for asked in [
-        Ask::Submit(kind),
-        Ask::Open(W0),
-        Ask::Take(W0),
-        Ask::Begin(W0),
-    ] {
-        does(rt, &mut pool, asked);
-    }
-    for t in [T1, T2, T3] {
-        for asked in [Ask::Submit(kind), Ask::Offer(t), Ask::Second(t)] {
-            does(rt, &mut pool, asked);
-        }
-    }
+    starts(rt, &mut pool, kind);
+    queues(rt, &mut pool, kind, T1);
+    queues(rt, &mut pool, kind, T2);
+    queues(rt, &mut pool, kind, T3);
     act_out(rt, &mut pool, acts);
 }
 

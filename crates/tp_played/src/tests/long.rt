@@ -23,7 +23,7 @@ const BOUNDED: Config = Config {
 };
 
 /// What the callers saw.
-#[derive(Clone, Copy, Debug, Default)]
+#[derive(Clone, Copy, Default)]
 struct Tally {
     run: u32,
     caller: u32,
@@ -155,12 +155,17 @@ fn take_done(rt: &impl Abort, pool: &mut Pool, group: u32) -> u32 {
     TASKS
 }
 
-#[test]
-fn counts_what_is_done(rt: HostRuntime) {
-    let mut pool = pool(&rt, rt.alloc(), BOUNDED);
-    let mut tally = Tally::default();
-    submit_all(&rt, &mut pool, &mut tally);
-    terminate(&rt, &mut pool, &mut tally);
+/// Each task had its end, and each way to an end was gone often.
+fn adds_up(rt: &impl Abort, tally: &Tally) {
+    let run = tally.run.wrapping_add(tally.caller);
+    assert_eq!(rt; run.wrapping_add(tally.cancelled), TASKS);
+    assert!(rt; tally.run > 1000);
+    assert!(rt; tally.caller > 100);
+    assert!(rt; tally.cancelled > 10);
+}
+
+/// The pool counts what its callers saw.
+fn counts_the_same(rt: &impl Abort, pool: &Pool, tally: &Tally) {
     let seen = Counts {
         submitted: TASKS,
         run: tally.run,
@@ -170,20 +175,24 @@ fn counts_what_is_done(rt: HostRuntime) {
         largest: 4,
         ..NO_COUNTS
     };
-    assert_eq!(rt; counts(&pool), seen);
-    assert!(rt;
-        tally.run > 1000 && tally.caller > 100 && tally.cancelled > 10,
-        "{tally:?}"
-    );
-    assert_eq!(rt;
-        tally
-            .run
-            .wrapping_add(tally.caller)
-            .wrapping_add(tally.cancelled),
-        TASKS
-    );
-    for group in 0..3 {
-        assert_eq!(rt; take_done(&rt, &mut pool, group), 600);
+    assert_eq!(rt; counts(pool), seen);
+}
+
+/// The tasks of each of the three groups are handed out, and there are no others.
+fn hands_out(rt: &impl Abort, pool: &mut Pool) {
+    for group in 0..4 {
+        let tasks = if group < 3 { 600 } else { 0 };
+        assert_eq!(rt; take_done(rt, pool, group), tasks);
     }
-    assert_eq!(rt; take_done(&rt, &mut pool, 3), 0);
+}
+
+#[test]
+fn counts_what_is_done(rt: HostRuntime) {
+    let mut pool = pool(&rt, rt.alloc(), BOUNDED);
+    let mut tally = Tally::default();
+    submit_all(&rt, &mut pool, &mut tally);
+    terminate(&rt, &mut pool, &mut tally);
+    adds_up(&rt, &tally);
+    counts_the_same(&rt, &pool, &tally);
+    hands_out(&rt, &mut pool);
 }

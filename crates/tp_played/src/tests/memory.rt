@@ -1,5 +1,5 @@
-//! Want of memory. Each ask of these tests that is answered with 4 must change nothing, and is asked once more: so all tests pass
-//! too where an allocation fails, each in its turn under `rt try --test --fail-alloc 1..`.
+//! Want of memory. An ask of any test that is answered with 4 must change nothing, and is asked once more: so all tests pass also
+//! where the Nth allocation fails, as under `rt try --test --fail-alloc N`.
 
 use super::stage::Act::{self, Asks};
 use super::stage::{
