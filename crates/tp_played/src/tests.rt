@@ -1,0 +1,8 @@
+//! Tables of asks, by wings; readings; want of memory; and a long run.
+
+mod controllers;
+mod long;
+mod memory;
+mod stage;
+mod submitters;
+mod workers;

@@ -1,0 +1,285 @@
+//! Controllers' asks.
+
+use super::stage::Act::{self, Asks, Fills, Opens, Reads, Tells};
+use super::stage::{
+    BARE, NO_COUNTS, NONE, P0, P1, P2, P3, Pool, SMALL, T0, T1, T2, T3, T4, T9, W0, W1, act_out,
+    does, plays, pool,
+};
+use std::alloc::Global;
+use std::process::Abort;
+use tp_record::entries::{Ask, Did, Looked, Opened, Started, Took};
+use tp_types::configs::{Config, Verdict};
+use tp_types::ids::TaskId;
+use tp_types::refusals::PoolError;
+use tp_types::states::{Counts, RunState};
+use tp_types::tasks::{Fate, Kind, Place};
+
+/// One core worker, one more at need, and a queue without bound.
+const BUSY: Config = Config { core: 1, ..BARE };
+
+/// The pool's one worker runs task 0.
+fn starts(rt: &impl Abort, pool: &mut Pool, kind: Kind) {
+    does(rt, pool, Ask::Submit(kind));
+    does(rt, pool, Ask::Open(W0));
+    does(rt, pool, Ask::Take(W0));
+    does(rt, pool, Ask::Begin(W0));
+}
+
+/// This task waits in the queue.
+fn queues(rt: &impl Abort, pool: &mut Pool, kind: Kind, t: TaskId) {
+    does(rt, pool, Ask::Submit(kind));
+    does(rt, pool, Ask::Offer(t));
+    does(rt, pool, Ask::Second(t));
+}
+
+/// A script of a pool of one live worker, with tasks 0 to 3 of this kind: the worker runs the first, and the others are queued.
+fn plays_busy(rt: &impl Abort, alloc: Global, kind: Kind, acts: &[Act]) {
+    let mut pool = pool(rt, alloc, BUSY);
+    starts(rt, &mut pool, kind);
+    queues(rt, &mut pool, kind, T1);
+    queues(rt, &mut pool, kind, T2);
+    queues(rt, &mut pool, kind, T3);
+    act_out(rt, &mut pool, acts);
+}
+
+const SHUTS_DOWN: [Act; 21] = [
+    Reads(
+        RunState::Running,
+        0,
+        Counts {
+            submitted: 4,
+            queued: 3,
+            live: 1,
+            largest: 1,
+            ..NO_COUNTS
+        },
+    ),
+    Asks(Ask::Tidy, Err(PoolError::NotThere), NONE),
+    Asks(Ask::Ended, Err(PoolError::NotThere), NONE),
+    Asks(Ask::Shutdown, Ok(Did::Shutdown), NONE),
+    Asks(Ask::Tidy, Err(PoolError::NotThere), NONE),
+    Asks(Ask::End(W0, Ok(0)), Ok(Did::End(W0, T0, Ok(0))), NONE),
+    Asks(Ask::Take(W0), Ok(Did::Take(W0, Took::Head(T1))), NONE),
+    Asks(Ask::Begin(W0), Ok(Did::Begin(W0, Started::Run(T1))), P1),
+    Asks(Ask::End(W0, Ok(0)), Ok(Did::End(W0, T1, Ok(0))), NONE),
+    Asks(Ask::Remove(T2), Ok(Did::Remove(T2, true)), P2),
+    Asks(Ask::Stop, Ok(Did::Stop(1)), P3),
+    Reads(
+        RunState::Stop,
+        0,
+        Counts {
+            submitted: 4,
+            run: 2,
+            handedback: 1,
+            removed: 1,
+            completed: 2,
+            live: 1,
+            largest: 1,
+            ..NO_COUNTS
+        },
+    ),
+    Asks(Ask::Shutdown, Ok(Did::Shutdown), NONE),
+    Asks(Ask::Take(W0), Ok(Did::Take(W0, Took::Leave)), NONE),
+    Asks(Ask::Ended, Err(PoolError::NotThere), NONE),
+    Asks(Ask::Tidy, Ok(Did::Tidy), NONE),
+    Asks(Ask::Tidy, Err(PoolError::NotThere), NONE),
+    Reads(
+        RunState::Tidying,
+        0,
+        Counts {
+            submitted: 4,
+            run: 2,
+            handedback: 1,
+            removed: 1,
+            completed: 2,
+            largest: 1,
+            ..NO_COUNTS
+        },
+    ),
+    Asks(Ask::Ended, Ok(Did::Ended), NONE),
+    Asks(Ask::Ended, Err(PoolError::NotThere), NONE),
+    Reads(
+        RunState::Terminated,
+        0,
+        Counts {
+            submitted: 4,
+            run: 2,
+            handedback: 1,
+            removed: 1,
+            completed: 2,
+            largest: 1,
+            ..NO_COUNTS
+        },
+    ),
+];
+
+/// From running to terminated, each rank in its turn.
+#[test]
+fn shuts_down(rt: HostRuntime) {
+    plays_busy(&rt, rt.alloc(), Kind::Plain, &SHUTS_DOWN);
+}
+
+const STOPS: [Act; 15] = [
+    Asks(Ask::Cancel(T2, false), Ok(Did::Cancel(T2, false, true)), P2),
+    Asks(Ask::Stop, Ok(Did::Stop(3)), (Some(11), None, Some(13))),
+    Asks(Ask::Stop, Ok(Did::Stop(0)), NONE),
+    Tells(T0, Place::Running(W0), None, Ok(None)),
+    Tells(
+        T1,
+        Place::Gone,
+        Some(Fate::HandedBack),
+        Err(PoolError::Lost(Fate::HandedBack)),
+    ),
+    Tells(
+        T2,
+        Place::Gone,
+        Some(Fate::Cancelled),
+        Err(PoolError::CancelledTask),
+    ),
+    Tells(
+        T3,
+        Place::Gone,
+        Some(Fate::HandedBack),
+        Err(PoolError::Lost(Fate::HandedBack)),
+    ),
+    Fills,
+    Asks(Ask::Stop, Err(PoolError::BookFull), NONE),
+    Asks(Ask::Shutdown, Err(PoolError::BookFull), NONE),
+    Asks(Ask::End(W0, Ok(8)), Ok(Did::End(W0, T0, Ok(8))), NONE),
+    Asks(Ask::Take(W0), Ok(Did::Take(W0, Took::Leave)), NONE),
+    Asks(Ask::Tidy, Ok(Did::Tidy), NONE),
+    Asks(Ask::Ended, Ok(Did::Ended), NONE),
+    Tells(T0, Place::Gone, Some(Fate::Run), Ok(Some(8))),
+];
+
+/// A stop hands back the queue in its order, a cancelled task without its payload, and a second stop nothing.
+#[test]
+fn stops(rt: HostRuntime) {
+    plays_busy(&rt, rt.alloc(), Kind::Future, &STOPS);
+}
+
+const REMOVES_CANCELS_AND_PURGES: [Act; 22] = [
+    Asks(Ask::Cancel(T0, true), Ok(Did::Cancel(T0, true, true)), NONE),
+    Asks(
+        Ask::Cancel(T0, true),
+        Ok(Did::Cancel(T0, true, false)),
+        NONE,
+    ),
+    Asks(Ask::Cancel(T1, false), Ok(Did::Cancel(T1, false, true)), P1),
+    Asks(Ask::Cancel(T3, true), Ok(Did::Cancel(T3, true, true)), P3),
+    Asks(Ask::Remove(T2), Ok(Did::Remove(T2, true)), P2),
+    Asks(Ask::Remove(T2), Ok(Did::Remove(T2, false)), NONE),
+    Asks(
+        Ask::Cancel(T2, true),
+        Ok(Did::Cancel(T2, true, false)),
+        NONE,
+    ),
+    Asks(Ask::Remove(T1), Ok(Did::Remove(T1, true)), NONE),
+    Asks(Ask::Remove(T0), Ok(Did::Remove(T0, false)), NONE),
+    Asks(Ask::Purge, Ok(Did::Purge(1)), NONE),
+    Asks(Ask::Purge, Ok(Did::Purge(0)), NONE),
+    Asks(
+        Ask::Submit(Kind::Plain),
+        Ok(Did::Submit(T4, Kind::Plain, Looked::Queue)),
+        NONE,
+    ),
+    Asks(Ask::Cancel(T4, true), Err(PoolError::NotFuture), NONE),
+    Asks(Ask::Cancel(T9, true), Err(PoolError::UnknownTask), NONE),
+    Asks(Ask::Remove(T9), Err(PoolError::UnknownTask), NONE),
+    Reads(
+        RunState::Running,
+        0,
+        Counts {
+            submitted: 5,
+            removed: 1,
+            cancelled: 3,
+            live: 1,
+            largest: 1,
+            ..NO_COUNTS
+        },
+    ),
+    Fills,
+    Asks(Ask::Purge, Err(PoolError::BookFull), NONE),
+    Asks(Ask::Remove(T1), Err(PoolError::BookFull), NONE),
+    Asks(Ask::Cancel(T1, true), Err(PoolError::BookFull), NONE),
+    Asks(Ask::TakeDone(0), Err(PoolError::NotThere), NONE),
+    Asks(Ask::Prestart, Err(PoolError::BookFull), NONE),
+];
+
+/// A cancel has effect until the task's end, and takes its payload until its begin; a removed task is cancelled no more.
+#[test]
+fn removes_cancels_and_purges(rt: HostRuntime) {
+    plays_busy(&rt, rt.alloc(), Kind::Future, &REMOVES_CANCELS_AND_PURGES);
+}
+
+const TAKES_DONE_TASKS: [Act; 12] = [
+    Opens(4, true),
+    Opens(5, false),
+    Asks(Ask::TakeDone(4), Err(PoolError::NotThere), NONE),
+    Asks(Ask::Cancel(T3, false), Ok(Did::Cancel(T3, false, true)), P3),
+    Asks(Ask::End(W0, Ok(1)), Ok(Did::End(W0, T0, Ok(1))), NONE),
+    Asks(Ask::TakeDone(5), Err(PoolError::NotThere), NONE),
+    Asks(Ask::TakeDone(4), Ok(Did::TakeDone(4, T3)), NONE),
+    Asks(Ask::TakeDone(4), Ok(Did::TakeDone(4, T0)), NONE),
+    Asks(Ask::TakeDone(4), Err(PoolError::NotThere), NONE),
+    Asks(Ask::Stop, Ok(Did::Stop(3)), (Some(11), Some(12), None)),
+    Opens(4, false),
+    Asks(Ask::TakeDone(4), Err(PoolError::NotThere), NONE),
+];
+
+/// The tasks of a group are handed out in the order in which they were completed, and none that was handed back.
+#[test]
+fn takes_done_tasks(rt: HostRuntime) {
+    plays_busy(&rt, rt.alloc(), Kind::Group(4), &TAKES_DONE_TASKS);
+}
+
+const SETS: [Act; 30] = [
+    Asks(Ask::Core(3), Err(PoolError::BadSizes), NONE),
+    Asks(Ask::Maximum(0), Err(PoolError::BadSizes), NONE),
+    Asks(Ask::Maximum(1025), Err(PoolError::BadSizes), NONE),
+    Asks(Ask::Maximum(9), Ok(Did::Maximum(9)), NONE),
+    Asks(Ask::Core(3), Ok(Did::Core(3, 0)), NONE),
+    Asks(Ask::Maximum(2), Err(PoolError::BadSizes), NONE),
+    Asks(Ask::Prestart, Ok(Did::Prestart(Some(W0))), NONE),
+    Asks(Ask::Open(W0), Ok(Did::Open(W0, Opened::Live)), NONE),
+    Asks(Ask::Core(1), Ok(Did::Core(1, 0)), NONE),
+    Asks(Ask::Prestart, Ok(Did::Prestart(None)), NONE),
+    Asks(Ask::Core(2), Ok(Did::Core(2, 0)), NONE),
+    Asks(Ask::Prestart, Ok(Did::Prestart(Some(W1))), NONE),
+    Asks(Ask::Keep(6), Ok(Did::Keep(6)), NONE),
+    Asks(Ask::CoreTimeout(true), Ok(Did::CoreTimeout(true)), NONE),
+    Asks(Ask::Keep(0), Err(PoolError::KeepZero), NONE),
+    Asks(Ask::CoreTimeout(false), Ok(Did::CoreTimeout(false)), NONE),
+    Asks(Ask::Keep(0), Ok(Did::Keep(0)), NONE),
+    Asks(Ask::CoreTimeout(true), Err(PoolError::KeepZero), NONE),
+    Asks(Ask::Tick(9), Ok(Did::Tick(9)), NONE),
+    Asks(Ask::Tick(9), Ok(Did::Tick(9)), NONE),
+    Asks(Ask::Tick(8), Err(PoolError::ClockBack), NONE),
+    Reads(
+        RunState::Running,
+        9,
+        Counts {
+            live: 1,
+            largest: 1,
+            ..NO_COUNTS
+        },
+    ),
+    Fills,
+    Asks(Ask::Core(1), Err(PoolError::BookFull), NONE),
+    Asks(Ask::Maximum(3), Err(PoolError::BookFull), NONE),
+    Asks(Ask::Keep(1), Err(PoolError::BookFull), NONE),
+    Asks(Ask::CoreTimeout(false), Err(PoolError::BookFull), NONE),
+    Asks(Ask::Tick(9), Err(PoolError::BookFull), NONE),
+    Asks(Ask::Prestart, Err(PoolError::BookFull), NONE),
+    Asks(
+        Ask::Verdict(T0, Verdict::Abort),
+        Err(PoolError::UnknownTask),
+        NONE,
+    ),
+];
+
+/// Sizes and times in the order that each allows, and those that another forbids.
+#[test]
+fn sets(rt: HostRuntime) {
+    plays(&rt, rt.alloc(), SMALL, &SETS);
+}

@@ -1,0 +1,102 @@
+//! Want of memory. An ask of any test that is answered with 4 must change nothing, and is asked once more: so all tests pass also
+//! where the Nth allocation fails, as under `rt try --test --fail-alloc N`.
+
+use super::stage::Act::{self, Asks};
+use super::stage::{
+    NO_COUNTS, NONE, Pool, SMALL, W0, act_out, asks, pool, read, reads, tells, tells_nothing,
+};
+use std::process::Abort;
+use tp_record::entries::{Ask, Did, Looked, Offered, Seconded};
+use tp_types::configs::{Config, QueueKind};
+use tp_types::ids::TaskId;
+use tp_types::refusals::PoolError;
+use tp_types::states::{Counts, RunState};
+use tp_types::tasks::{Kind, Place};
+
+const TASKS: u32 = 40;
+
+/// Task t waits in the queue.
+fn submit(rt: &impl Abort, pool: &mut Pool, number: u32) {
+    let t = TaskId(number);
+    let kind = Kind::Group(number % 11);
+    let seconded = if number == 0 {
+        Seconded::StayReserve(W0)
+    } else {
+        Seconded::Stay
+    };
+    let submitted = Did::Submit(t, kind, Looked::Queue);
+    asks(rt, pool, Ask::Submit(kind), Ok(submitted), NONE);
+    let queued = Did::Offer(t, Offered::Queued);
+    asks(rt, pool, Ask::Offer(t), Ok(queued), NONE);
+    asks(rt, pool, Ask::Second(t), Ok(Did::Second(t, seconded)), NONE);
+}
+
+/// The pool runs, and each task waits in its queue.
+fn waits(rt: &impl Abort, pool: &Pool) {
+    for number in 0..TASKS {
+        tells(rt, pool, TaskId(number), Place::Queued, None, Ok(None));
+    }
+    tells_nothing(rt, pool, TaskId(TASKS));
+    let counts = Counts {
+        submitted: TASKS,
+        queued: TASKS,
+        ..NO_COUNTS
+    };
+    reads(rt, pool, RunState::Running, 0, counts);
+}
+
+/// What a stop hands back.
+fn stop_once(pool: &mut Pool) -> Result<Vec<(TaskId, Option<u32>)>, PoolError> {
+    pool.stop_now(1)
+}
+
+/// A stop hands back every task, with its payload. A want of memory changes nothing, and the stop is asked once more.
+fn stop(rt: &impl Abort, pool: &mut Pool) {
+    let before = read(pool);
+    let handed = match stop_once(pool) {
+        Ok(handed) => handed,
+        Err(error) => {
+            assert_eq!(rt; error, PoolError::NoMemory);
+            assert_eq!(rt; read(pool), before);
+            waits(rt, pool);
+            stop_once(pool).expect(rt, "memory at the second try")
+        }
+    };
+    assert_eq!(rt; handed.len(), TASKS as usize);
+    for number in 0..TASKS {
+        let payload = Some(number.wrapping_add(10));
+        assert_eq!(rt;
+            handed.get(number as usize).copied(),
+            Some((TaskId(number), payload))
+        );
+    }
+}
+
+/// The maximum is set, and then the core size.
+const LARGER: [Act; 3] = [
+    Asks(Ask::Core(3), Err(PoolError::BadSizes), NONE),
+    Asks(Ask::Maximum(200), Ok(Did::Maximum(200)), NONE),
+    Asks(Ask::Core(3), Ok(Did::Core(3, 3)), NONE),
+];
+
+/// Tasks of several groups grow the tasks, the groups and the queue, and each more than once; a larger maximum grows the slots.
+#[test]
+fn grows(rt: HostRuntime) {
+    for queue in [QueueKind::Unbounded, QueueKind::Bounded(TASKS)] {
+        let config = Config {
+            core: 0,
+            queue,
+            record_limit: 512,
+            ..SMALL
+        };
+        let mut pool = pool(&rt, rt.alloc(), config);
+        for number in 0..TASKS {
+            submit(&rt, &mut pool, number);
+        }
+        waits(&rt, &pool);
+        act_out(&rt, &mut pool, &LARGER);
+        waits(&rt, &pool);
+        stop(&rt, &mut pool);
+        tells_nothing(&rt, &pool, TaskId(TASKS));
+    }
+}

@@ -1,0 +1,385 @@
+//! The machine of these tests, and how a script of asks is acted out on it. No function here says anything of the machine, so that a test
+//! is proved without the machine's own contracts: it is compared when it runs.
+
+ghost use Rattle.tp_machine.specs.Stepped.{IsPaid, FitsOutcome};
+
+use std::alloc::Global;
+use std::process::Abort;
+use tp_machine::answers::Begun;
+use tp_machine::machine::Machine;
+use tp_machine::steps::Stepped;
+use tp_record::entries::{Ask, Did, Entry};
+use tp_record::recorders::Full;
+use tp_types::configs::{Config, Policy, QueueKind};
+use tp_types::ids::{SlotId, TaskId};
+use tp_types::refusals::PoolError;
+use tp_types::states::{Counts, RunState};
+use tp_types::tasks::{Fate, Place, Promise};
+
+/// A pool whose payloads are numbers, and which keeps its whole record.
+pub type Pool = Machine<u32, Full>;
+
+/// The payloads that a step hands out: the first three.
+pub type Handed = (Option<u32>, Option<u32>, Option<u32>);
+
+/// A line of a script: an ask with its answer, or what is read of the pool then.
+pub enum Act {
+    /// This is asked, and answered so, with these payloads.
+    Asks(Ask, Result<Did, PoolError>, Handed),
+    /// The task is here, with this fate, and its future answers this.
+    Tells(TaskId, Place, Option<Fate>, Result<Option<i64>, PoolError>),
+    /// There is no such task.
+    Unknown(TaskId),
+    /// The slot has this task.
+    Holds(SlotId, Option<TaskId>),
+    /// Whether a task of this group has no fate yet.
+    Opens(u32, bool),
+    /// The pool's state, moment and counts.
+    Reads(RunState, u64, Counts),
+    /// The record is filled up to what is owed.
+    Fills,
+}
+
+pub const T0: TaskId = TaskId(0);
+
+pub const T1: TaskId = TaskId(1);
+
+pub const T2: TaskId = TaskId(2);
+
+pub const T3: TaskId = TaskId(3);
+
+pub const T4: TaskId = TaskId(4);
+
+/// A task that is not submitted.
+pub const T9: TaskId = TaskId(9);
+
+pub const W0: SlotId = SlotId(0);
+
+pub const W1: SlotId = SlotId(1);
+
+/// A slot that is not reserved.
+pub const W9: SlotId = SlotId(9);
+
+/// No payload.
+pub const NONE: Handed = (None, None, None);
+
+/// The payload of each task.
+pub const P0: Handed = (Some(10), None, None);
+
+pub const P1: Handed = (Some(11), None, None);
+
+pub const P2: Handed = (Some(12), None, None);
+
+pub const P3: Handed = (Some(13), None, None);
+
+pub const P4: Handed = (Some(14), None, None);
+
+/// What each job promises.
+pub const ANY: Promise = Promise {
+    low: -1000,
+    high: 1000,
+    may_fault: true,
+};
+
+/// Nothing is counted.
+pub const NO_COUNTS: Counts = Counts {
+    submitted: 0,
+    run: 0,
+    caller: 0,
+    rejected: 0,
+    discarded: 0,
+    handedback: 0,
+    removed: 0,
+    cancelled: 0,
+    completed: 0,
+    queued: 0,
+    live: 0,
+    largest: 0,
+};
+
+/// One core worker, one more at need, and one place in the queue.
+pub const SMALL: Config = Config {
+    core: 1,
+    maximum: 2,
+    queue: QueueKind::Bounded(1),
+    keep: 5,
+    core_timeout: false,
+    policy: Policy::Abort,
+    record_limit: 128,
+};
+
+/// No core worker, two at need, and a queue without bound.
+pub const BARE: Config = Config {
+    core: 0,
+    queue: QueueKind::Unbounded,
+    ..SMALL
+};
+
+/// One payload.
+pub fn pays(payload: u32) -> Handed {
+    (Some(payload), None, None)
+}
+
+/// What is read of a pool as a whole.
+#[derive(Clone, Copy, Debug, PartialEq, Eq)]
+pub struct Reading {
+    counts: Counts,
+    state: RunState,
+    moment: u64,
+    entries: usize,
+    last: Option<Entry>,
+}
+
+/// What is read of the pool now.
+pub fn read(pool: &Pool) -> Reading {
+    Reading {
+        counts: pool.counts(),
+        state: pool.state(),
+        moment: pool.now(),
+        entries: pool.entries().len(),
+        last: pool.entries().last().copied(),
+    }
+}
+
+/// A new pool. A want of memory is tried once more.
+pub fn pool(rt: &impl Abort, alloc: Global, config: Config) -> Pool {
+    match Machine::new(alloc, config) {
+        Ok(pool) => pool,
+        Err(error) => {
+            assert_eq!(rt; error, PoolError::NoMemory);
+            Machine::new(alloc, config).expect(rt, "memory at the second try")
+        }
+    }
+}
+
+/// The payload of one of the tasks that are handed back.
+fn payload_at(handed: &[(TaskId, Option<u32>)], index: usize) -> Option<u32> {
+    match handed.get(index) {
+        Some((_, payload)) => *payload,
+        None => None,
+    }
+}
+
+/// The payloads that a step handed out.
+fn handed(stepped: &Stepped<u32>) -> Handed {
+    match stepped {
+        Stepped::Begin(Begun::Run(_, payload)) => (Some(*payload), None, None),
+        Stepped::Verdict(judged) => match judged.dropped {
+            Some((_, dropped)) => (judged.payload, dropped, None),
+            None => (judged.payload, None, None),
+        },
+        Stepped::Remove(Some((_, payload))) => (*payload, None, None),
+        Stepped::Cancel(_, payload) => (*payload, None, None),
+        Stepped::Stop(tasks) => (
+            payload_at(tasks, 0),
+            payload_at(tasks, 1),
+            payload_at(tasks, 2),
+        ),
+        _ => NONE,
+    }
+}
+
+/// What a step did, and the payloads that it handed out; or its refusal, and the payload that came back.
+type Answer = Result<(Did, Handed), (PoolError, Option<u32>)>;
+
+/// Makes the step of an ask.
+fn step(pool: &mut Pool, by: u32, ask: Ask, submitted: Option<(Promise, u32)>) -> Answer
+    requires paid { IsPaid ask submitted }
+    requires outcome { FitsOutcome pool.old ask }
+{
+    match pool.step(by, ask, submitted) {
+        Ok(stepped) => Ok((stepped.did(&ask), handed(&stepped))),
+        Err(refusal) => Err(refusal),
+    }
+}
+
+/// Asks for a step, with this payload where it is a submission. An outcome that was not promised is no step: it is answered with TornRecord (22).
+fn answer(pool: &mut Pool, by: u32, ask: Ask, payload: u32) -> Answer {
+    if let Ask::Submit(_) = ask {
+        return step(pool, by, ask, Some((ANY, payload)));
+    }
+    if let Ask::End(w, outcome) = ask {
+        if !pool.may_end(w, &outcome) {
+            return Err((PoolError::TornRecord, None));
+        }
+    }
+    if let Ask::CallerEnd(t, outcome) = ask {
+        if !pool.may_end_at_caller(t, &outcome) {
+            return Err((PoolError::TornRecord, None));
+        }
+    }
+    step(pool, by, ask, None)
+}
+
+/// The answer to an ask. A step adds the one entry that the answer is of, and a refusal changes nothing and gives the payload back.
+fn ask_once(rt: &impl Abort, pool: &mut Pool, ask: Ask) -> (Result<Did, PoolError>, Handed) {
+    let before = read(pool);
+    let by = before.counts.submitted;
+    let payload = by.wrapping_add(10);
+    match answer(pool, by, ask, payload) {
+        Ok((did, handed)) => {
+            let after = read(pool);
+            assert_eq!(rt; after.entries, before.entries.wrapping_add(1));
+            assert_eq!(rt; after.last, Some(Entry { by, ask, did }));
+            (Ok(did), handed)
+        }
+        Err((error, returned)) => {
+            let paid = match ask {
+                Ask::Submit(_) => Some(payload),
+                _ => None,
+            };
+            assert_eq!(rt; returned, paid);
+            assert_eq!(rt; read(pool), before);
+            (Err(error), NONE)
+        }
+    }
+}
+
+/// Whether the step of an ask takes memory.
+fn takes_memory(ask: Ask) -> bool {
+    match ask {
+        Ask::Submit(_) | Ask::Stop | Ask::Maximum(_) => true,
+        _ => false,
+    }
+}
+
+/// The answer to an ask. A want of memory is tried once more.
+pub fn ask(rt: &impl Abort, pool: &mut Pool, ask: Ask) -> (Result<Did, PoolError>, Handed) {
+    match ask_once(rt, pool, ask) {
+        (Err(PoolError::NoMemory), _) => {
+            assert!(rt; takes_memory(ask));
+            ask_once(rt, pool, ask)
+        }
+        answer => answer,
+    }
+}
+
+/// This is asked, and answered so, with these payloads. Task t is submitted with payload t + 10.
+pub fn asks(
+    rt: &impl Abort,
+    pool: &mut Pool,
+    asked: Ask,
+    answer: Result<Did, PoolError>,
+    paid: Handed,
+) {
+    let played = ask(rt, pool, asked);
+    assert_eq!(rt; played, (answer, paid), "{asked:?}");
+}
+
+/// This is asked, and done.
+pub fn does(rt: &impl Abort, pool: &mut Pool, asked: Ask) {
+    let (answer, _) = ask(rt, pool, asked);
+    assert!(rt; answer.is_ok(), "{asked:?}");
+}
+
+/// Fills the record up to what is owed.
+pub fn fill(rt: &impl Abort, pool: &mut Pool) {
+    for _ in 0..SMALL.record_limit {
+        match ask(rt, pool, Ask::Tick(9)) {
+            (Ok(_), _) => {}
+            (full, _) => return assert_eq!(rt; full, Err(PoolError::BookFull)),
+        }
+    }
+    assert!(rt; false, "the record is never full");
+}
+
+/// The pool's state, moment and counts are these.
+pub fn reads(rt: &impl Abort, pool: &Pool, state: RunState, moment: u64, counts: Counts) {
+    let reading = read(pool);
+    let wanted = Reading {
+        state,
+        moment,
+        counts,
+        ..reading
+    };
+    assert_eq!(rt; reading, wanted);
+}
+
+/// What a pool tells of one task.
+#[derive(Clone, Copy, Debug, PartialEq, Eq)]
+struct TaskReading {
+    place: Result<Place, PoolError>,
+    fate: Result<Option<Fate>, PoolError>,
+    result: Result<Option<i64>, PoolError>,
+    promise: Result<Promise, PoolError>,
+}
+
+/// What the pool tells of this task now.
+fn told(pool: &Pool, t: TaskId) -> TaskReading {
+    TaskReading {
+        place: pool.place(t),
+        fate: pool.fate(t),
+        result: pool.result(t),
+        promise: pool.promise(t),
+    }
+}
+
+/// This is told of the task, and that it promises what each task promises.
+pub fn tells(
+    rt: &impl Abort,
+    pool: &Pool,
+    t: TaskId,
+    place: Place,
+    fate: Option<Fate>,
+    future: Result<Option<i64>, PoolError>,
+) {
+    let wanted = TaskReading {
+        place: Ok(place),
+        fate: Ok(fate),
+        result: future,
+        promise: Ok(ANY),
+    };
+    assert_eq!(rt; told(pool, t), wanted, "{t:?}");
+}
+
+/// Nothing is told of a task that is not submitted.
+pub fn tells_nothing(rt: &impl Abort, pool: &Pool, t: TaskId) {
+    let wanted = TaskReading {
+        place: Err(PoolError::UnknownTask),
+        fate: Err(PoolError::UnknownTask),
+        result: Err(PoolError::UnknownTask),
+        promise: Err(PoolError::UnknownTask),
+    };
+    assert_eq!(rt; told(pool, t), wanted);
+}
+
+/// Acts a line of a script out.
+fn act_line(rt: &impl Abort, pool: &mut Pool, line: &Act) {
+    match line {
+        Act::Asks(asked, answer, paid) => asks(rt, pool, *asked, *answer, *paid),
+        Act::Tells(t, place, fate, future) => tells(rt, pool, *t, *place, *fate, *future),
+        Act::Unknown(t) => tells_nothing(rt, pool, *t),
+        Act::Holds(w, t) => assert_eq!(rt; task_in(pool, *w), *t, "{w:?}"),
+        Act::Opens(group, is_open) => assert_eq!(rt; pool.group_open(*group), *is_open, "{group}"),
+        Act::Reads(state, moment, counts) => reads(rt, pool, *state, *moment, *counts),
+        Act::Fills => fill(rt, pool),
+    }
+}
+
+/// Acts a script out.
+pub fn act_out(rt: &impl Abort, pool: &mut Pool, script: &[Act]) {
+    for line in script {
+        act_line(rt, pool, line);
+    }
+}
+
+/// Acts a script out in a new pool.
+pub fn plays(rt: &impl Abort, alloc: Global, config: Config, script: &[Act]) {
+    let mut pool = pool(rt, alloc, config);
+    act_out(rt, &mut pool, script);
+}
+
+/// The task in this slot.
+pub fn task_in(pool: &Pool, w: SlotId) -> Option<TaskId> {
+    pool.task_in(w)
+}
+
+/// Whether the task has a fate.
+pub fn has_fate(pool: &Pool, t: TaskId) -> bool {
+    matches!(pool.fate(t), Ok(Some(_)))
+}
+
+/// The twelve counters.
+pub fn counts(pool: &Pool) -> Counts {
+    pool.counts()
+}
