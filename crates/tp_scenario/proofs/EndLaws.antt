@@ -1,5 +1,5 @@
 -- What stands at the end of a run, line by line.
-use Rattle.std.proofs.Common.{◌≡◌, ℕ, suc, ◌+◌, ◌<◌, List, [], ◌∷◌, ◌++◌, length, take, Option, refl, sym, ◌∙◌, ap, arith, append_assoc}
+use Rattle.std.proofs.Common.{◌≡◌, ℕ, suc, ◌+◌, ◌<◌, List, [], ◌∷◌, ◌++◌, length, take, Option, Result, Ok, Err, OnOk, OnErr, refl, sym, ◌∙◌, ap, arith, append_assoc}
 use Rattle.tp_types.specs.declared.states.Counts.{Counts}
 use Rattle.tp_types.specs.declared.states.RunState.{RunState}
 use Rattle.tp_types.specs.declared.tasks.Fate.{Fate}
@@ -9,6 +9,19 @@ use Rattle.tp_record.specs.State.{State, counts, fate_of, row_at}
 use Rattle.tp_text.specs.EndLines.{fate_line, state_line, state_at, counts_line}
 use Rattle.tp_text.specs.RunText.{fate_lines, end_lines, IsFront}
 use Rattle.tp_text.proofs.RunLaws.{fate_lines-push, fate_lines-take, state_at-rank}
+
+-- what follows from what a call says of its success, or of its failure
+pub where_ok : {A E : Type 0} (r : Result A E) {P Q : Type 0} → (P → Q) → OnOk r P → OnOk r Q
+where_ok (Ok a) f p = f p
+where_ok (Err e) f p = tt
+
+pub where_err : {A E : Type 0} (r : Result A E) {P Q : Type 0} → (P → Q) → OnErr r P → OnErr r Q
+where_err (Ok a) f p = tt
+where_err (Err e) f p = f p
+
+pub on_err : {A E : Type 0} (r : Result A E) {P : Type 0} → P → OnErr r P
+on_err (Ok a) p = tt
+on_err (Err e) p = p
 
 -- the fates are written task by task
 pub fates_on : (old mid new : List ℕ) (rows : List TaskRow) (t : ℕ) (f : Option Fate) → mid ≡ old ++ fate_lines 0 (take t rows) → new ≡ mid ++ fate_line t f → f ≡ fate_of (row_at rows t) → t < length rows

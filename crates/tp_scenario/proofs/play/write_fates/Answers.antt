@@ -7,6 +7,6 @@ pub loop-task-preserved : goal.loop-task-preserved
 loop-task-preserved c = record {
   all = c.loop-task.invariant.all;
   fates =
-      fates_on c.args.output.now.written.items c.loop-task.output.written.items c.fate-2.new.output.written.items (state c.args.runner.now.config c.args.runner.now.history).tasks c.loop-task.task c.fate-fate.result
-      c.loop-task.invariant.fates c.in_ok.ensures.ok c.fate-fate.ensures (omega (arith, c.loop-task-test.true, c.loop-task.invariant.all));
+      fates_on c.args.output.now.written.items c.loop-task.output.written.items c.fate.new.self.written.items (state c.args.runner.now.config c.args.runner.now.history).tasks c.loop-task.task c.fate-fate.result
+      c.loop-task.invariant.fates c.in_ok-fate.ensures.ok c.fate-fate.ensures (omega (arith, c.loop-task-test.true, c.loop-task.invariant.all));
 }
