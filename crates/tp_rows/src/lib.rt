@@ -1,6 +1,11 @@
 //! The worked rows: records with what the step gives at each front, computed by the checker in `proofs/`, and tests of
-//! the plain programs on some of them.
+//! the plain programs on some of them. Beside them the tests of the texts: each form of line, and whole runs of scenarios,
+//! from bytes to bytes.
 #![tactic(auto)]
 
+#[cfg(test)]
+mod lines;
+#[cfg(test)]
+mod runs;
 #[cfg(test)]
 mod tests;

@@ -1,5 +1,5 @@
 -- Lines that are answered one after another make a run.
-use Rattle.std.proofs.Common.{◌≡◌, ℕ, suc, ◌+◌, ◌<◌, List, [], ◌∷◌, ◌++◌, length, map, take, Result, Ok, Err, refl, sym, ◌∙◌, ap, subst, inl, inr, ◌⊎◌, ◌≤◌, Bool, true, false, is_ok, get_or, arith, append-nil, append_assoc}
+use Rattle.std.proofs.Common.{◌≡◌, ℕ, suc, ◌+◌, ◌<◌, List, [], ◌∷◌, ◌++◌, length, map, take, Result, Ok, Err, refl, sym, ◌∙◌, ap, subst, inl, inr, ◌⊎◌, ◌≤◌, Bool, true, false, is_ok, get_or, arith}
 use Rattle.std.proofs.lemmas.List.{take_more}
 use Rattle.tp_types.specs.declared.configs.Config.{Config}
 use Rattle.tp_record.specs.declared.entries.Entry.{Entry}
@@ -9,6 +9,7 @@ use Rattle.tp_record.specs.Step as steps
 use Rattle.tp_types.specs.declared.refusals.PoolError.{PoolError}
 use Rattle.tp_machine.specs.declared.steps.Stepped.{Stepped}
 use Rattle.tp_text.specs.RunText.{Answer, after, after_all, run_lines, answer_lines}
+use Rattle.tp_text.proofs.RunLaws.{after_all-push, run_lines-push}
 use Rattle.tp_scenario.specs.declared.lines.ScenarioLine.{ScenarioLine}
 use Rattle.tp_scenario.specs.Played.{Outcomes, ask_of, asks_of, outcomes_after, told, IsPlay}
 use Rattle.tp_scenario.specs.Answered.{Answers, answer_of, PlaysFrom, outcomes_all, Playing, Stands, Breaks}
@@ -57,14 +58,6 @@ outcomes_on os [] (b ∷ answers) l a each = absurd (omega arith)
 outcomes_on os (k ∷ lines) [] l a each = absurd (omega arith)
 outcomes_on os (k ∷ lines) (b ∷ answers) l a each = outcomes_on (outcomes_after os k b) lines answers l a (omega arith)
 
-history_on : (h : List Entry) (answers : List Answer) (a : Answer) → after_all h (answers ++ a ∷ []) ≡ after (after_all h answers) a
-history_on h [] a = refl
-history_on h (b ∷ answers) a = history_on (after h b) answers a
-
-output_on : (h : List Entry) (answers : List Answer) (a : Answer) → run_lines h (answers ++ a ∷ []) ≡ run_lines h answers ++ answer_lines (after_all h answers) a
-output_on h [] a = append-nil (answer_lines h a)
-output_on h (b ∷ answers) a = ap (λ x. answer_lines h b ++ x) (output_on (after h b) answers a) ∙ sym (append_assoc (answer_lines h b) (run_lines (after h b) answers) (answer_lines (after_all (after h b) answers) a))
-
 -- where the runner stands after one more line
 pub stands_on : (c : Config) (lines : List ScenarioLine) (answers : List Answer) (r p : Playing) (out out' : List ℕ) (l : ScenarioLine) (a : Answer) → Stands c lines answers r out
     → Answers r.config r.history (ask_of (state r.config r.history) r.outcomes l) a
@@ -79,9 +72,9 @@ stands_on c lines answers r p out out' l a so_far more leads grows =
     record {
       plays = plays_on c [] [] lines answers l a so_far.plays told_there;
       runner = leads ∙ ap on so_far.runner
-          ∙ ap (λ h. record { config = c; history = h; outcomes = outcomes_after (outcomes_all [] lines answers) l a }) (sym (history_on [] answers a))
+          ∙ ap (λ h. record { config = c; history = h; outcomes = outcomes_after (outcomes_all [] lines answers) l a }) (sym (after_all-push [] answers a))
           ∙ ap (λ os. record { config = c; history = after_all [] (answers ++ a ∷ []); outcomes = os }) (sym (outcomes_on [] lines answers l a (one_each c [] [] lines answers so_far.plays)));
-      output = grows ∙ ap (λ x. x ++ answer_lines r.history a) so_far.output ∙ ap (λ (q : Playing). run_lines [] answers ++ answer_lines q.history a) so_far.runner ∙ sym (output_on [] answers a);
+      output = grows ∙ ap (λ x. x ++ answer_lines r.history a) so_far.output ∙ ap (λ (q : Playing). run_lines [] answers ++ answer_lines q.history a) so_far.runner ∙ sym (run_lines-push [] answers a);
     }
 
 -- the first lines are answered, and as many entries are counted as the record has

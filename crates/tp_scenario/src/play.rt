@@ -13,8 +13,7 @@ use crate::scenarios::{Scenario, read_scenario};
 use crate::step::{Runner, Told};
 use std::alloc::{AllocError, Global};
 use tp_machine::steps::Stepped;
-use tp_text::ends::{counts_line, fate_line, refusal_line, state_line};
-use tp_text::runs::entry_lines;
+use tp_text::printing::Output;
 use tp_types::ids::TaskId;
 use tp_types::refusals::PoolError;
 
@@ -25,17 +24,6 @@ pub struct Played {
     pub output: Vec<u8>,
     /// How the run ended.
     pub ending: Result<(), PoolError>,
-}
-
-/// Writes a text behind what is written.
-fn append(output: &mut Vec<u8>, text: &[u8]) -> Result<(), PoolError>
-    ensures ok { OnOk result (output.new.items ≡ output.old.items ++ text.now) }
-    ensures err { OnErr result (output.new.items ≡ output.old.items) }
-    ensures only_memory { IsOkUnless result PoolError.NoMemory }
-{
-    output
-        .extend_from_slice(text)
-        .map_err(|_| PoolError::NoMemory)
 }
 
 /// The tasks without their payloads.
@@ -62,10 +50,17 @@ fn tasks_back(alloc: Global, stepped: &Stepped<()>) -> Result<Vec<TaskId>, Alloc
     }
 }
 
-/// What comes of a line, as it is written. An entry has this number in its record.
-fn told_lines(alloc: Global, number: usize, told: &Told) -> Result<Vec<u8>, PoolError>
-    ensures text { IfOk result (λ lines. (h : List Entry) → number ≡ suc (length h)
-        → IfOk told.now (λ x. handed_back x.1 ≡ drained h x.0.did) → lines.items ≡ answer_lines h (answer_of told.now)) }
+/// Writes what comes of a line. An entry has this number in its record.
+fn write_told(
+    alloc: Global,
+    number: usize,
+    told: &Told,
+    output: &mut Output,
+) -> Result<(), PoolError>
+    ensures ok { OnOk result ((h : List Entry) → number ≡ suc (length h)
+        → IfOk told.now (λ x. handed_back x.1 ≡ drained h x.0.did)
+        → output.new.written.items ≡ output.old.written.items ++ answer_lines h (answer_of told.now)) }
+    ensures err { OnErr result (output.new.written.items ≡ output.old.written.items) }
     ensures only_memory { IsOkUnless result PoolError.NoMemory }
 {
     match told {
@@ -73,28 +68,9 @@ fn told_lines(alloc: Global, number: usize, told: &Told) -> Result<Vec<u8>, Pool
             let Ok(back) = tasks_back(alloc, stepped) else {
                 return Err(PoolError::NoMemory);
             };
-            entry_lines(alloc, number, entry, back.as_slice())
+            output.entry(number, entry, back.as_slice())
         }
-        Err(refusal) => refusal_line(alloc, *refusal),
-    }
-}
-
-/// Writes what comes of a line. An entry has this number in its record.
-fn write_told(
-    alloc: Global,
-    number: usize,
-    told: &Told,
-    output: &mut Vec<u8>,
-) -> Result<(), PoolError>
-    ensures ok { OnOk result ((h : List Entry) → number ≡ suc (length h)
-        → IfOk told.now (λ x. handed_back x.1 ≡ drained h x.0.did)
-        → output.new.items ≡ output.old.items ++ answer_lines h (answer_of told.now)) }
-    ensures err { OnErr result (output.new.items ≡ output.old.items) }
-    ensures only_memory { IsOkUnless result PoolError.NoMemory }
-{
-    match told_lines(alloc, number, told) {
-        Ok(lines) => append(output, lines.as_slice()),
-        Err(error) => Err(error),
+        Err(refusal) => output.refusal(*refusal),
     }
 }
 
@@ -103,11 +79,11 @@ fn play_steps(
     alloc: Global,
     runner: &mut Runner,
     steps: &[ScenarioLine],
-    output: &mut Vec<u8>,
+    output: &mut Output,
 ) -> Result<(), PoolError>
-    requires starts { Stands runner.old.config [] [] runner.old output.old.items }
-    ensures ok { OnOk result ((answers : List Answer) × Stands runner.old.config steps.now answers runner.new output.new.items) }
-    ensures err { OnErr result (Breaks runner.old.config steps.now output.new.items) }
+    requires starts { Stands runner.old.config [] [] runner.old output.old.written.items }
+    ensures ok { OnOk result ((answers : List Answer) × Stands runner.old.config steps.now answers runner.new output.new.written.items) }
+    ensures err { OnErr result (Breaks runner.old.config steps.now output.new.written.items) }
     ensures only_memory { IsOkUnless result PoolError.NoMemory }
 {
     let mut accepted = 0;
@@ -126,56 +102,38 @@ fn play_steps(
 }
 
 /// Writes the fates of the tasks.
-fn write_fates(alloc: Global, runner: &Runner, output: &mut Vec<u8>) -> Result<(), PoolError>
-    ensures ok { OnOk result (output.new.items ≡ output.old.items ++ fate_lines 0 (state runner.now.config runner.now.history).tasks) }
-    ensures err { OnErr result ((n : ℕ) × (output.new.items ≡ output.old.items ++ fate_lines 0 (take n (state runner.now.config runner.now.history).tasks))) }
+fn write_fates(runner: &Runner, output: &mut Output) -> Result<(), PoolError>
+    ensures ok { OnOk result (output.new.written.items ≡ output.old.written.items
+        ++ fate_lines 0 (state runner.now.config runner.now.history).tasks) }
+    ensures err { OnErr result ((n : ℕ) × (output.new.written.items ≡ output.old.written.items
+        ++ fate_lines 0 (take n (state runner.now.config runner.now.history).tasks))) }
     ensures only_memory { IsOkUnless result PoolError.NoMemory }
 {
     for task in 0..runner.counts().submitted {
         let fate = runner.fate(TaskId(task));
-        let line = match fate_line(alloc, TaskId(task), fate) {
-            Ok(line) => line,
-            Err(error) => return Err(error),
-        };
-        if let Err(error) = append(output, line.as_slice()) {
-            return Err(error);
-        }
+        output.fate(TaskId(task), fate)?;
     }
     Ok(())
 }
 
 /// Writes what stands at the end of a run: the fates, the run state and the counters.
-fn write_ends(alloc: Global, runner: &Runner, output: &mut Vec<u8>) -> Result<(), PoolError>
-    ensures ok { OnOk result (output.new.items ≡ output.old.items ++ end_lines (state runner.now.config runner.now.history)) }
-    ensures err { OnErr result ((front : List ℕ) × (output.new.items ≡ output.old.items ++ front)
+fn write_ends(runner: &Runner, output: &mut Output) -> Result<(), PoolError>
+    ensures ok { OnOk result (output.new.written.items ≡ output.old.written.items
+        ++ end_lines (state runner.now.config runner.now.history)) }
+    ensures err { OnErr result ((front : List ℕ) × (output.new.written.items ≡ output.old.written.items ++ front)
         × IsFront front (end_lines (state runner.now.config runner.now.history))) }
     ensures only_memory { IsOkUnless result PoolError.NoMemory }
 {
-    if let Err(error) = write_fates(alloc, runner, output) {
-        return Err(error);
-    }
-    let state = match state_line(alloc, runner.state()) {
-        Ok(state) => state,
-        Err(error) => return Err(error),
-    };
-    if let Err(error) = append(output, state.as_slice()) {
-        return Err(error);
-    }
-    let counts = match counts_line(alloc, &runner.counts()) {
-        Ok(counts) => counts,
-        Err(error) => return Err(error),
-    };
-    match append(output, counts.as_slice()) {
-        Ok(()) => Ok(()),
-        Err(error) => Err(error),
-    }
+    write_fates(runner, output)?;
+    output.state(runner.state())?;
+    output.counts(&runner.counts())
 }
 
 /// Plays a scenario that was read.
-fn play_scenario(alloc: Global, scenario: &Scenario, output: &mut Vec<u8>) -> Result<(), PoolError>
-    requires empty { output.old.items ≡ [] }
-    ensures { (ComesOf (Ok (scenario.now.pool, asked_of scenario.now)) output.new.items result)
-        ⊎ ((result ≡ Err PoolError.NoMemory) × BreaksOff (Ok (scenario.now.pool, asked_of scenario.now)) output.new.items) }
+fn play_scenario(alloc: Global, scenario: &Scenario, output: &mut Output) -> Result<(), PoolError>
+    requires empty { output.old.written.items ≡ [] }
+    ensures { (ComesOf (Ok (scenario.now.pool, asked_of scenario.now)) output.new.written.items result)
+        ⊎ ((result ≡ Err PoolError.NoMemory) × BreaksOff (Ok (scenario.now.pool, asked_of scenario.now)) output.new.written.items) }
 {
     let config = scenario.pool.config();
     if let Err(error) = config.check() {
@@ -191,17 +149,17 @@ fn play_scenario(alloc: Global, scenario: &Scenario, output: &mut Vec<u8>) -> Re
     if let Some(line) = scenario.bad {
         return Err(PoolError::BadLine(line));
     }
-    match write_ends(alloc, &runner, output) {
+    match write_ends(&runner, output) {
         Ok(()) => Ok(()),
         Err(error) => Err(error),
     }
 }
 
 /// Plays the scenario of a text.
-fn play_text(alloc: Global, text: &[u8], output: &mut Vec<u8>) -> Result<(), PoolError>
+fn play_text(alloc: Global, text: &[u8], output: &mut Output) -> Result<(), PoolError>
     requires short { length text.now ≤ 1048576 }
-    requires empty { output.old.items ≡ [] }
-    ensures { IsPlayed text.now output.new.items result }
+    requires empty { output.old.written.items ≡ [] }
+    ensures { IsPlayed text.now output.new.written.items result }
 {
     let Ok(said) = read_scenario(alloc, text) else {
         return Err(PoolError::NoMemory);
@@ -217,7 +175,10 @@ pub fn play(alloc: Global, text: &[u8]) -> Played
     requires { length text.now ≤ 1048576 }
     ensures { IsPlayed text.now result.output.items result.ending }
 {
-    let mut output = Vec::new(alloc);
+    let mut output = Output::new(alloc);
     let ending = play_text(alloc, text, &mut output);
-    Played { output, ending }
+    Played {
+        output: output.written,
+        ending,
+    }
 }

@@ -34,6 +34,3 @@ pub fn run<R: Read, W: Write>(
     }
     played.ending
 }
-
-#[cfg(test)]
-mod tests;

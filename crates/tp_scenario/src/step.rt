@@ -1,6 +1,6 @@
 //! A pool that a scenario's lines are played on, step by step.
 
-ghost use Rattle.std.specs.Prelude.{◌≡◌, ◌⊎◌, ◌<◌, ◌++◌, [], length, vec_len, vec_capacity, Option, IfOk, IfErr, OnErr, Ok, Err};
+ghost use Rattle.std.specs.Prelude.{◌≡◌, ◌⊎◌, ◌<◌, ◌++◌, [], length, vec_len, vec_capacity, Option, IfOk, IfErr, IfSome, IsErr, IsSome, OnErr, OnOk, Ok, Err};
 ghost use Rattle.std.specs.Option.{option_to_list};
 ghost use Rattle.tp_types.specs.Config.{checked, IsConfig};
 ghost use Rattle.tp_types.specs.RunState.{state_rank};
@@ -84,9 +84,21 @@ fn submission(outcome: Option<Outcome>) -> Option<(Promise, ())>
     }
 }
 
+/// Makes room for how a new task ends, where there is one.
+fn make_room(outcomes: &mut Vec<Outcome>, outcome: Option<Outcome>) -> Result<(), AllocError>
+    ensures room { OnOk result (IfSome outcome (λ o. vec_len outcomes.new < vec_capacity outcomes.new)) }
+    ensures same { outcomes.new.items ≡ outcomes.old.items }
+    ensures wanted { IsErr result → IsSome outcome }
+{
+    match outcome {
+        None => Ok(()),
+        Some(_) => outcomes.reserve(1),
+    }
+}
+
 /// Keeps how a new task ends. There is room for it.
 fn keep(outcomes: &mut Vec<Outcome>, outcome: Option<Outcome>)
-    requires { vec_len outcomes.old < vec_capacity outcomes.old }
+    requires { IfSome outcome (λ o. vec_len outcomes.old < vec_capacity outcomes.old) }
     ensures { outcomes.new.items ≡ outcomes.old.items ++ option_to_list outcome }
 {
     if let Some(outcome) = outcome {
@@ -113,7 +125,7 @@ impl Runner {
     }
 
     /// Plays one line: the pool answers what the line asks. An error is want of memory for the runner
-    /// itself, and changes nothing.
+    /// itself, where the line submits, and changes nothing.
     pub fn step(&mut self, line: &ScenarioLine) -> Result<Told, AllocError>
         ensures answers { IfOk result (λ a. Answers self.old.config self.old.history
             (ask_of (state self.old.config self.old.history) self.old.outcomes line.now) (answer_of a)) }
@@ -124,11 +136,12 @@ impl Runner {
           outcomes = outcomes_after self.old.outcomes line.now (answer_of a);
         }) }
         ensures unchanged { OnErr result (self.new ≡ self.old) }
+        ensures submits { IsErr result → IsSome (outcome_said line.now) }
     {
-        // The room for a new task's outcome is taken first, since no accepted submission is undone.
-        self.outcomes.reserve(1)?;
-        let ask = ask_of(&self.machine, self.outcomes.as_slice(), line);
         let outcome = outcome_said(line);
+        // Before the step, since no accepted submission is undone.
+        make_room(&mut self.outcomes, outcome)?;
+        let ask = ask_of(&self.machine, self.outcomes.as_slice(), line);
         self.machine.keeps_waiting();
         match self.machine.step(0, ask, submission(outcome)) {
             Ok(stepped) => {

@@ -44,7 +44,7 @@ pub fate_lines-push : (i : ℕ) (rows : List TaskRow) → i < length rows → fa
 fate_lines-push i rows below = fate_lines-more 0 i rows below ∙ ap (λ n. fate_lines 0 (take i rows) ++ fate_line n (fate_of (row_at rows i))) (omega arith)
 
 -- the fates of the first tasks are written first
-fate_lines-take : (t i : ℕ) (rows : List TaskRow) → IsFront (fate_lines t (take i rows)) (fate_lines t rows)
+pub fate_lines-take : (t i : ℕ) (rows : List TaskRow) → IsFront (fate_lines t (take i rows)) (fate_lines t rows)
 fate_lines-take t zero rows = (fate_lines t rows, refl)
 fate_lines-take t (suc i) [] = ([], refl)
 fate_lines-take t (suc i) (r ∷ rows) =

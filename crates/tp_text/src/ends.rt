@@ -1,10 +1,9 @@
 //! The lines other than entries.
-ghost use Rattle.std.specs.Prelude.{◌≡◌, ◌++◌, IfOk, IsOkUnless, OnOk, codes, map, string_bytes};
-ghost use Rattle.tp_types.specs.RunState.{state_rank};
+ghost use Rattle.std.specs.Prelude.{◌≡◌, ◌++◌, OnOk, codes, map, string_bytes};
 ghost use Rattle.tp_text.specs.EntryLine.{behind};
-ghost use Rattle.tp_text.specs.EndLines.{refused_place, refusal_line, back_line, fate_word, fate_line, state_line, state_at, ran_counters, lost_counters, worker_counters, counts_line};
+ghost use Rattle.tp_text.specs.EndLines.{refused_place, refusal_line, back_line, fate_word, fate_line, state_line, ran_counters, lost_counters, worker_counters, counts_line};
 
-use std::alloc::{AllocError, Global};
+use std::alloc::AllocError;
 use tp_types::ids::TaskId;
 use tp_types::refusals::PoolError;
 use tp_types::states::{Counts, RunState};
@@ -64,8 +63,7 @@ pub fn write_fate(line: &mut String, task: TaskId, fate: Option<Fate>) -> Result
 
 /// Writes the line of the run state, as `state running`.
 pub fn write_state(line: &mut String, state: RunState) -> Result<(), AllocError>
-    ensures text { OnOk result (string_bytes line.new ≡ string_bytes line.old ++ state_line state) }
-    ensures ranked { OnOk result (string_bytes line.new ≡ string_bytes line.old ++ state_line (state_at (state_rank state))) }
+    ensures { OnOk result (string_bytes line.new ≡ string_bytes line.old ++ state_line state) }
 {
     let name = state.name();
     write!(line, "state {name}\n")
@@ -127,45 +125,4 @@ pub fn write_counts(line: &mut String, counts: &Counts) -> Result<(), AllocError
     write_lost(line, counts)?;
     write_workers(line, counts)?;
     line.push_str("\n")
-}
-
-/// The line of a refusal, as `write_refusal` has it.
-pub fn refusal_line(alloc: Global, refusal: PoolError) -> Result<Vec<u8>, PoolError>
-    ensures text { IfOk result (λ line. line.items ≡ refusal_line refusal) }
-    ensures only_memory { IsOkUnless result PoolError.NoMemory }
-{
-    let mut line = String::new(alloc);
-    write_refusal(&mut line, refusal).map_err(|_| PoolError::NoMemory)?;
-    Ok(line.into_bytes())
-}
-
-/// The line of a task's fate, as `write_fate` has it.
-pub fn fate_line(alloc: Global, task: TaskId, fate: Option<Fate>) -> Result<Vec<u8>, PoolError>
-    ensures text { IfOk result (λ line. line.items ≡ fate_line task.0 fate) }
-    ensures only_memory { IsOkUnless result PoolError.NoMemory }
-{
-    let mut line = String::new(alloc);
-    write_fate(&mut line, task, fate).map_err(|_| PoolError::NoMemory)?;
-    Ok(line.into_bytes())
-}
-
-/// The line of the run state, as `write_state` has it.
-pub fn state_line(alloc: Global, state: RunState) -> Result<Vec<u8>, PoolError>
-    ensures text { IfOk result (λ line. line.items ≡ state_line state) }
-    ensures ranked { IfOk result (λ line. line.items ≡ state_line (state_at (state_rank state))) }
-    ensures only_memory { IsOkUnless result PoolError.NoMemory }
-{
-    let mut line = String::new(alloc);
-    write_state(&mut line, state).map_err(|_| PoolError::NoMemory)?;
-    Ok(line.into_bytes())
-}
-
-/// The line of the counters, as `write_counts` has it.
-pub fn counts_line(alloc: Global, counts: &Counts) -> Result<Vec<u8>, PoolError>
-    ensures text { IfOk result (λ line. line.items ≡ counts_line counts.now) }
-    ensures only_memory { IsOkUnless result PoolError.NoMemory }
-{
-    let mut line = String::new(alloc);
-    write_counts(&mut line, counts).map_err(|_| PoolError::NoMemory)?;
-    Ok(line.into_bytes())
 }

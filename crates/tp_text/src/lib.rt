@@ -12,6 +12,4 @@ pub mod numbers;
 pub mod pools;
 pub mod printing;
 pub mod runs;
-#[cfg(test)]
-mod tests;
 pub mod words;

@@ -1,13 +1,12 @@
 //! The output of a run, as far as it is written.
-ghost use Rattle.std.specs.Prelude.{◌≡◌, ℕ, suc, List, [], ◌++◌, length, map, Ok, OnErr, OnOk, IsOkUnless, string_bytes};
-ghost use Rattle.tp_types.specs.RunState.{state_rank};
+ghost use Rattle.std.specs.Prelude.{◌≡◌, ℕ, suc, List, [], ◌++◌, length, map, Ok, IsOk, OnErr, OnOk, IsOkUnless, string_bytes};
 ghost use Rattle.tp_record.specs.declared.entries.Entry.{Entry};
-ghost use Rattle.tp_text.specs.EndLines.{refusal_line, fate_line, state_line, state_at, counts_line};
+ghost use Rattle.tp_text.specs.EndLines.{refusal_line, fate_line, state_line, counts_line};
 ghost use Rattle.tp_text.specs.RunText.{answer_lines, drained};
 
 use crate::ends::{write_counts, write_fate, write_refusal, write_state};
 use crate::runs::write_lines;
-use std::alloc::Global;
+use std::alloc::{AllocError, Global};
 use tp_record::entries::Entry;
 use tp_types::ids::TaskId;
 use tp_types::refusals::PoolError;
@@ -34,12 +33,16 @@ impl Output {
         }
     }
 
-    /// Writes the line that was made.
-    fn keep(&mut self) -> Result<(), PoolError>
+    /// Writes the line, where all of it was made.
+    fn keep(&mut self, made: Result<(), AllocError>) -> Result<(), PoolError>
+        ensures made { OnOk result (IsOk made) }
         ensures ok { OnOk result (self.new.written.items ≡ self.old.written.items ++ string_bytes self.old.line) }
         ensures err { OnErr result (self.new.written.items ≡ self.old.written.items) }
         ensures only_memory { IsOkUnless result PoolError.NoMemory }
     {
+        if made.is_err() {
+            return Err(PoolError::NoMemory);
+        }
         self.written
             .extend_from_slice(self.line.as_bytes())
             .map_err(|_| PoolError::NoMemory)
@@ -55,10 +58,8 @@ impl Output {
         ensures only_memory { IsOkUnless result PoolError.NoMemory }
     {
         self.line.clear();
-        if write_lines(&mut self.line, number, entry, back).is_err() {
-            return Err(PoolError::NoMemory);
-        }
-        self.keep()
+        let made = write_lines(&mut self.line, number, entry, back);
+        self.keep(made)
     }
 
     /// Writes the line of a refused step, as `refused 8 NotThere`.
@@ -68,10 +69,8 @@ impl Output {
         ensures only_memory { IsOkUnless result PoolError.NoMemory }
     {
         self.line.clear();
-        if write_refusal(&mut self.line, refusal).is_err() {
-            return Err(PoolError::NoMemory);
-        }
-        self.keep()
+        let made = write_refusal(&mut self.line, refusal);
+        self.keep(made)
     }
 
     /// Writes the line of a task's fate, as `t0 run`, or `t0 open` where it has none.
@@ -81,24 +80,19 @@ impl Output {
         ensures only_memory { IsOkUnless result PoolError.NoMemory }
     {
         self.line.clear();
-        if write_fate(&mut self.line, task, fate).is_err() {
-            return Err(PoolError::NoMemory);
-        }
-        self.keep()
+        let made = write_fate(&mut self.line, task, fate);
+        self.keep(made)
     }
 
     /// Writes the line of the run state, as `state running`.
     pub fn state(&mut self, state: RunState) -> Result<(), PoolError>
         ensures ok { OnOk result (self.new.written.items ≡ self.old.written.items ++ state_line state) }
-        ensures ranked { OnOk result (self.new.written.items ≡ self.old.written.items ++ state_line (state_at (state_rank state))) }
         ensures err { OnErr result (self.new.written.items ≡ self.old.written.items) }
         ensures only_memory { IsOkUnless result PoolError.NoMemory }
     {
         self.line.clear();
-        if write_state(&mut self.line, state).is_err() {
-            return Err(PoolError::NoMemory);
-        }
-        self.keep()
+        let made = write_state(&mut self.line, state);
+        self.keep(made)
     }
 
     /// Writes the line of the counters, as `counts submitted=1 run=1 caller=0 ..`.
@@ -108,9 +102,7 @@ impl Output {
         ensures only_memory { IsOkUnless result PoolError.NoMemory }
     {
         self.line.clear();
-        if write_counts(&mut self.line, counts).is_err() {
-            return Err(PoolError::NoMemory);
-        }
-        self.keep()
+        let made = write_counts(&mut self.line, counts);
+        self.keep(made)
     }
 }

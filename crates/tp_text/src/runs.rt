@@ -1,5 +1,5 @@
 //! What a run writes, step by step.
-ghost use Rattle.std.specs.Prelude.{◌≡◌, ℕ, suc, ◌+◌, ◌<◌, List, [], ◌∷◌, ◌++◌, length, map, take, Ok, IfOk, IsOkUnless, OnOk, string_bytes};
+ghost use Rattle.std.specs.Prelude.{◌≡◌, ℕ, suc, ◌+◌, ◌<◌, List, [], ◌∷◌, ◌++◌, length, map, take, Ok, OnOk, string_bytes};
 ghost use Rattle.tp_types.specs.declared.configs.Config.{Config};
 ghost use Rattle.tp_types.specs.declared.states.RunState.{RunState};
 ghost use Rattle.tp_types.specs.RunState.{state_rank};
@@ -11,10 +11,9 @@ ghost use Rattle.tp_text.specs.RunText.{Answer, drained, answer_lines, after, af
 
 use crate::ends::write_back;
 use crate::entries::write_entry;
-use std::alloc::{AllocError, Global};
+use std::alloc::AllocError;
 use tp_record::entries::Entry;
 use tp_types::ids::TaskId;
-use tp_types::refusals::PoolError;
 
 /// Writes what an accepted step writes: its entry's line, and after it the line of the tasks that it
 /// handed back, where there are any. Where room is missing, some of it may be written.
@@ -33,22 +32,6 @@ pub fn write_lines(
         return Ok(());
     }
     write_back(line, back)
-}
-
-/// What an accepted step writes, as `write_lines` has it.
-pub fn entry_lines(
-    alloc: Global,
-    number: usize,
-    entry: &Entry,
-    back: &[TaskId],
-) -> Result<Vec<u8>, PoolError>
-    ensures text { IfOk result (λ lines. (h : List Entry) → number ≡ suc (length h)
-        → map (λ task. task.0) back.now ≡ drained h entry.now.did → lines.items ≡ answer_lines h (Ok entry.now)) }
-    ensures only_memory { IsOkUnless result PoolError.NoMemory }
-{
-    let mut lines = String::new(alloc);
-    write_lines(&mut lines, number, entry, back).map_err(|_| PoolError::NoMemory)?;
-    Ok(lines.into_bytes())
 }
 
 /// The law that what a run writes grows by what each answer writes.

@@ -1,5 +1,7 @@
 //! Every way to call the program, over real files in the test's folder.
 
+mod scenarios;
+
 use super::*;
 use std::io::ErrorKind as Reason;
 use std::test::Fail;

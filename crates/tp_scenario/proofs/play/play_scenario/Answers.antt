@@ -7,13 +7,13 @@ use Rattle.tp_scenario.proofs.play.play_scenario.Goals as goal
 
 pub returns-in-Err-new : goal.returns-in-Err-new
 returns-in-Err-new c =
-    let s = c.args.scenario.now in comes_of_new s.pool (asked_of s) c.args.output.now.items c.config-config.result c.in-Err-new.error c.config-config.ensures c.in_default.ensures.computed c.requires.empty c.in-Err-new.ensures.refuses
+    let s = c.args.scenario.now in comes_of_new s.pool (asked_of s) c.args.output.now.written.items c.config-config.result c.in-Err-new.error c.config-config.ensures c.in_default.ensures.computed c.requires.empty c.in-Err-new.ensures.refuses
 
 pub returns-in-Err-play_steps : goal.returns-in-Err-play_steps
 returns-in-Err-play_steps c =
     let s = c.args.scenario.now in
     let d = c.in-Ok.runner.config in
-    let out = c.play_steps.new.output.items in
+    let out = c.play_steps.new.output.written.items in
     let made : d ≡ c.config-config.result = ap (λ (q : Playing). q.config) c.in-Ok.ensures.starts in
     let good = c.in_default.ensures.computed ∙ ap checked (sym made) in
     let one : d ≡ config_of s.pool = made ∙ c.config-config.ensures in
@@ -24,7 +24,7 @@ returns-in-Some c =
     let s = c.args.scenario.now in
     let d = c.in-Ok.runner.config in
     let r = c.play_steps.new.runner in
-    let out = c.play_steps.new.output.items in
+    let out = c.play_steps.new.output.written.items in
     let made : d ≡ c.config-config.result = ap (λ (q : Playing). q.config) c.in-Ok.ensures.starts in
     let played = c.in_default-play_steps.ensures.ok in
     inl (comes_bad s.pool (asked_of s) c.in-Some.line out d played.0 r (made ∙ c.config-config.ensures) (c.in_default.ensures.computed ∙ ap checked (sym made)) c.in-Some.is
@@ -35,10 +35,10 @@ returns-in-Ok-write_ends c =
     let s = c.args.scenario.now in
     let d = c.in-Ok.runner.config in
     let r = c.play_steps.new.runner in
-    let mid = c.play_steps.new.output.items in
+    let mid = c.play_steps.new.output.written.items in
     let made : d ≡ c.config-config.result = ap (λ (q : Playing). q.config) c.in-Ok.ensures.starts in
     let played = c.in_default-play_steps.ensures.ok in
-    inl (comes_whole s.pool (asked_of s) mid c.write_ends.new.output.items d played.0 r (made ∙ c.config-config.ensures) (c.in_default.ensures.computed ∙ ap checked (sym made)) c.in_default-bad.is
+    inl (comes_whole s.pool (asked_of s) mid c.write_ends.new.output.written.items d played.0 r (made ∙ c.config-config.ensures) (c.in_default.ensures.computed ∙ ap checked (sym made)) c.in_default-bad.is
     (subst (λ x. Stands d x played.0 r mid) c.as_slice.ensures.value played.1) c.in-Ok-write_ends.ensures.ok)
 
 pub returns : goal.returns
@@ -46,7 +46,7 @@ returns c =
     let s = c.args.scenario.now in
     let d = c.in-Ok.runner.config in
     let r = c.play_steps.new.runner in
-    let mid = c.play_steps.new.output.items in
+    let mid = c.play_steps.new.output.written.items in
     let made : d ≡ c.config-config.result = ap (λ (q : Playing). q.config) c.in-Ok.ensures.starts in
     let good = c.in_default.ensures.computed ∙ ap checked (sym made) in
     let one : d ≡ config_of s.pool = made ∙ c.config-config.ensures in
@@ -54,6 +54,6 @@ returns c =
     let more = c.in-Err-write_ends.ensures.err in
     inr (
       ap Err c.in-Err-write_ends.ensures.only_memory,
-      breaks_end s.pool (asked_of s) mid c.write_ends.new.output.items more.0 d played.0 r one good c.in_default-bad.is
+      breaks_end s.pool (asked_of s) mid c.write_ends.new.output.written.items more.0 d played.0 r one good c.in_default-bad.is
           (subst (λ x. Stands d x played.0 r mid) c.as_slice.ensures.value played.1) more.1 more.2,
     )

@@ -1,4 +1,4 @@
-use Rattle.std.proofs.Common.{◌∙◌, arith}
+use Rattle.std.proofs.Common.{arith}
 use Rattle.tp_record.specs.State.{state}
 use Rattle.tp_scenario.proofs.EndLaws.{fates_on}
 use Rattle.tp_scenario.proofs.play.write_fates.Goals as goal
@@ -7,6 +7,6 @@ pub loop-task-preserved : goal.loop-task-preserved
 loop-task-preserved c = record {
   all = c.loop-task.invariant.all;
   fates =
-      fates_on c.args.output.now.items c.loop-task.output.items c.append.new.output.items c.as_slice.result.now (state c.args.runner.now.config c.args.runner.now.history).tasks c.loop-task.task c.fate-fate.result
-      c.loop-task.invariant.fates c.in_default.ensures.ok (c.as_slice.ensures.value ∙ c.in-Ok.ensures.text) c.fate-fate.ensures (omega (arith, c.loop-task-test.true, c.loop-task.invariant.all));
+      fates_on c.args.output.now.written.items c.loop-task.output.written.items c.fate.new.self.written.items (state c.args.runner.now.config c.args.runner.now.history).tasks c.loop-task.task c.fate-fate.result
+      c.loop-task.invariant.fates c.in_ok-fate.ensures.ok c.fate-fate.ensures (omega (arith, c.loop-task-test.true, c.loop-task.invariant.all));
 }

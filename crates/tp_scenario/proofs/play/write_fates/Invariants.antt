@@ -6,5 +6,5 @@ use Rattle.tp_scenario.proofs.play.write_fates.Given as goal
 abbrev pub invariant-loop-task : goal.invariant-loop-task
 invariant-loop-task l = record {
   all : l.task-end ≡ length (state l.runner.config l.runner.history).tasks;
-  fates : l.output.items ≡ l.fn.output.items ++ fate_lines 0 (take l.task (state l.runner.config l.runner.history).tasks);
+  fates : l.output.written.items ≡ l.fn.output.written.items ++ fate_lines 0 (take l.task (state l.runner.config l.runner.history).tasks);
 }

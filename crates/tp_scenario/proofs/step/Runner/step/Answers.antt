@@ -1,4 +1,4 @@
-use Rattle.std.proofs.Common.{◌≡◌, ◌++◌, List, reverse, ap, sym, subst, ◌∙◌}
+use Rattle.std.proofs.Common.{◌≡◌, ◌++◌, reverse, ap, sym, subst, ◌∙◌}
 use Rattle.std.specs.Option.{option_to_list}
 use Rattle.tp_machine.specs.Steps.{IsStep}
 use Rattle.tp_machine.specs.Stepped.{IsPaid, Moves}
@@ -14,7 +14,7 @@ invariant_of-self-in-Ok c =
     let a = c.ask_of-ask.result in
     let o = c.outcome_said-outcome.result in
     let os = c.as_slice.result.now in
-    let same : os ≡ c.self.inside.outcomes.items = c.as_slice.ensures.value ∙ c.reserve.ensures.items in
+    let same : os ≡ c.self.inside.outcomes.items = c.as_slice.ensures.value ∙ c.make_room.ensures.same in
     let is = ap (playing m) same ∙ c.self.view_is in (
       stands_after (λ f h. reverse f.entries ≡ h) (λ f h told. told) m os c.args.self.now is c.self.invariant.0 n a _ c.in-Ok.ensures.step,
       promised_step (λ f h. reverse f.entries ≡ h) (λ f h told. told) m os c.args.self.now is c.self.invariant.0 n a x o c.keep.new.outcomes.items
@@ -30,7 +30,7 @@ pub returns-in-Ok-clause-answers : goal.returns-in-Ok-clause-answers
 returns-in-Ok-clause-answers c =
     let m = c.self.inside.machine in
     let os = c.as_slice.result.now in
-    let same : os ≡ c.self.inside.outcomes.items = c.as_slice.ensures.value ∙ c.reserve.ensures.items in
+    let same : os ≡ c.self.inside.outcomes.items = c.as_slice.ensures.value ∙ c.make_room.ensures.same in
     given (λ f h. reverse f.entries ≡ h) (λ f h told. told) m os c.args.self.now (ap (playing m) same ∙ c.self.view_is) c.self.invariant.0
     c.args.line.now c.ask_of-ask.result c.did-did.result c.step.new.self c.ask_of-ask.ensures.asks
     (subst (λ d. IsStep (λ f h. reverse f.entries ≡ h) m c.step.new.self 0 c.ask_of-ask.result d) (sym c.did-did.ensures) c.in-Ok.ensures.step)
@@ -39,7 +39,7 @@ pub returns-in-Ok-clause-back : goal.returns-in-Ok-clause-back
 returns-in-Ok-clause-back c =
     let m = c.self.inside.machine in
     let os = c.as_slice.result.now in
-    let same : os ≡ c.self.inside.outcomes.items = c.as_slice.ensures.value ∙ c.reserve.ensures.items in
+    let same : os ≡ c.self.inside.outcomes.items = c.as_slice.ensures.value ∙ c.make_room.ensures.same in
     rw c.did-did.ensures
     (back (λ f h. reverse f.entries ≡ h) (λ f h told. told) m os c.args.self.now (ap (playing m) same ∙ c.self.view_is) c.self.invariant.0
     c.ask_of-ask.result c.in-Ok.stepped c.step.new.self c.in-Ok.ensures.answer c.in-Ok.ensures.step c.in-Ok.ensures.order)
@@ -48,6 +48,6 @@ pub returns-in-Err-clause-answers : goal.returns-in-Err-clause-answers
 returns-in-Err-clause-answers c =
     let m = c.self.inside.machine in
     let os = c.as_slice.result.now in
-    let same : os ≡ c.self.inside.outcomes.items = c.as_slice.ensures.value ∙ c.reserve.ensures.items in
+    let same : os ≡ c.self.inside.outcomes.items = c.as_slice.ensures.value ∙ c.make_room.ensures.same in
     refused (λ f h. reverse f.entries ≡ h) (λ f h told. told) m os c.args.self.now (ap (playing m) same ∙ c.self.view_is) c.self.invariant.0
     c.args.line.now c.ask_of-ask.result c.in-Err.error c.ask_of-ask.ensures.asks c.in-Err.ensures.refused

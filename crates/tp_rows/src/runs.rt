@@ -8,9 +8,11 @@ mod long;
 mod refusing;
 mod working;
 
-use super::*;
-use std::io;
+use std::alloc::Global;
+use std::io::{self, Read, Write};
+use tp_scenario::run::run;
 use tp_types::limits::MAX_TEXT_BYTES;
+use tp_types::refusals::PoolError;
 
 const ROW_01: &[u8] = b"pool 1 1 unbounded keep 0 abort\n\
 submit plain 5\n\
@@ -72,22 +74,22 @@ fn plays(alloc: Global, text: &[u8], output: &[u8]) -> bool {
     written.as_slice() == output && ending.is_ok()
 }
 
+const ROWS: [(&[u8], &[u8], Result<(), PoolError>); 7] = [
+    (ROW_01, ROW_01_OUTPUT, Ok(())),
+    (ROW_18, ROW_18_OUTPUT, Err(PoolError::BadLine(10))),
+    (ROW_22A, b"", Err(PoolError::BadSizes)),
+    (ROW_22B, b"", Err(PoolError::BadCapacity)),
+    (ROW_22C, b"", Err(PoolError::BadLimit)),
+    (ROW_22D, b"", Err(PoolError::KeepZero)),
+    (ROW_22E, b"", Err(PoolError::BadLine(1))),
+];
+
 #[test]
 fn plays_worked_rows(rt: HostRuntime) {
-    let none: &[u8] = b"";
-    let rows = [
-        (ROW_01, ROW_01_OUTPUT, Ok(())),
-        (ROW_18, ROW_18_OUTPUT, Err(PoolError::BadLine(10))),
-        (ROW_22A, none, Err(PoolError::BadSizes)),
-        (ROW_22B, none, Err(PoolError::BadCapacity)),
-        (ROW_22C, none, Err(PoolError::BadLimit)),
-        (ROW_22D, none, Err(PoolError::KeepZero)),
-        (ROW_22E, none, Err(PoolError::BadLine(1))),
-    ];
-    for (text, output, answer) in rows {
+    for (text, output, answer) in &ROWS {
         let (written, given) = outcome_of(rt.alloc(), text);
-        assert_eq!(rt; written.as_slice(), output);
-        assert_eq!(rt; given, answer);
+        assert!(rt; written.as_slice() == *output);
+        assert_eq!(rt; given, *answer);
     }
 }
 
@@ -236,10 +238,87 @@ fn refuses_a_writer_that_fails(rt: HostRuntime) {
     }
 }
 
+/// Every step that takes memory: submissions of each kind, until the tables grow, a larger maximum and
+/// a stop that hands tasks back.
+const GROWING: &[u8] = b"pool 1 1 unbounded keep 0 abort\n\
+submit plain 1\n\
+submit future 2\n\
+offer 1\n\
+second 1\n\
+submit group 3 3\n\
+offer 2\n\
+second 2\n\
+submit group 4 4\n\
+offer 3\n\
+second 3\n\
+submit plain 5\n\
+offer 4\n\
+second 4\n\
+max 40\n\
+core 2\n\
+prestart\n\
+open 0\n\
+take 0\n\
+begin 0\n\
+end 0\n\
+take 0\n\
+begin 0\n\
+end 0\n\
+take 0\n\
+begin 0\n\
+end 0\n\
+takedone 3\n\
+stop\n\
+take 0\n\
+open 1\n\
+tidy\n\
+ended\n";
+
+const GROWING_OUTPUT: &[u8] = b"1 submit t0 plain reserve w0\n\
+2 submit t1 future queue\n\
+3 offer t1 queued\n\
+4 second t1 stay\n\
+5 submit t2 group 3 queue\n\
+6 offer t2 queued\n\
+7 second t2 stay\n\
+8 submit t3 group 4 queue\n\
+9 offer t3 queued\n\
+10 second t3 stay\n\
+11 submit t4 plain queue\n\
+12 offer t4 queued\n\
+13 second t4 stay\n\
+14 max 40\n\
+15 core 2 add 1\n\
+16 prestart reserve w1\n\
+17 open w0 live\n\
+18 take w0 held t0\n\
+19 begin w0 t0\n\
+20 end w0 t0 value 1\n\
+21 take w0 head t1\n\
+22 begin w0 t1\n\
+23 end w0 t1 value 2\n\
+24 take w0 head t2\n\
+25 begin w0 t2\n\
+26 end w0 t2 value 3\n\
+27 takedone 3 t2\n\
+28 stop drained 2\n\
+back t3 t4\n\
+29 take w0 leave\n\
+30 open w1 givenup\n\
+31 tidy\n\
+32 ended\n\
+t0 run\n\
+t1 run\n\
+t2 run\n\
+t3 handedback\n\
+t4 handedback\n\
+state terminated\n\
+counts submitted=5 run=3 caller=0 rejected=0 discarded=0 handedback=2 removed=0 cancelled=0 completed=3 queued=0 live=0 largest=1\n";
+
 /// Keeps what is written, and takes no memory.
 #[derive(Drop)]
 struct Page {
-    bytes: [u8; 512],
+    bytes: [u8; 2_048],
     len: usize,
 }
 
@@ -261,26 +340,36 @@ impl Write for Page {
     }
 }
 
+/// What stands behind the front that a text shares with another.
+fn behind_same_front<'a>(text: &'a [u8], other: &[u8]) -> &'a [u8] {
+    for i in 0..text.len() {
+        if other.get(i) != text.get(i) {
+            return &text[i..];
+        }
+    }
+    &[]
+}
+
 /// Where any one allocation fails, what was written is a front of the output and the answer is 4; or
-/// the submission is refused 4 and the run goes on. With ample memory the output is whole.
+/// a step is refused 4, and the run goes on. With ample memory the output is whole.
 #[test]
 fn want_of_memory_breaks_off(rt: HostRuntime) {
-    let mut reader = ROW_01;
+    let mut reader = GROWING;
     let mut page = Page {
-        bytes: [0; 512],
+        bytes: [0; 2_048],
         len: 0,
     };
     let answer = run(rt.alloc(), &mut reader, &mut page);
-    assert!(rt; page.len <= 512);
+    assert!(rt; page.len <= 2_048);
     let written = &page.bytes[..page.len];
+    let more = behind_same_front(written, GROWING_OUTPUT);
     match answer {
         Ok(()) => {
-            let refused: &[u8] = b"refused 4 NoMemory\n";
-            assert!(rt; written == ROW_01_OUTPUT || written.starts_with(refused));
+            assert!(rt; written == GROWING_OUTPUT || more.starts_with(b"refused 4 NoMemory\n"));
         }
         Err(error) => {
             assert_eq!(rt; error, PoolError::NoMemory);
-            assert!(rt; ROW_01_OUTPUT.starts_with(written));
+            assert!(rt; more.is_empty());
         }
     }
 }

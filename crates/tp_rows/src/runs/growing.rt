@@ -246,19 +246,20 @@ t3 run\n\
 state running\n\
 counts submitted=4 run=4 caller=0 rejected=0 discarded=0 handedback=0 removed=0 cancelled=0 completed=4 queued=0 live=1 largest=1\n";
 
+const ROWS: [(&[u8], &[u8]); 8] = [
+    (ROW_02, ROW_02_OUTPUT),
+    (ROW_03, ROW_03_OUTPUT),
+    (ROW_04, ROW_04_OUTPUT),
+    (ROW_05, ROW_05_OUTPUT),
+    (ROW_10, ROW_10_OUTPUT),
+    (ROW_16, ROW_16_OUTPUT),
+    (ROW_04_SHORT, ROW_04_SHORT_OUTPUT),
+    (ROW_16_SHORT, ROW_16_SHORT_OUTPUT),
+];
+
 #[test]
 fn grows_as_worked_out(rt: HostRuntime) {
-    let rows = [
-        (ROW_02, ROW_02_OUTPUT),
-        (ROW_03, ROW_03_OUTPUT),
-        (ROW_04, ROW_04_OUTPUT),
-        (ROW_05, ROW_05_OUTPUT),
-        (ROW_10, ROW_10_OUTPUT),
-        (ROW_16, ROW_16_OUTPUT),
-        (ROW_04_SHORT, ROW_04_SHORT_OUTPUT),
-        (ROW_16_SHORT, ROW_16_SHORT_OUTPUT),
-    ];
-    for (text, output) in rows {
+    for (text, output) in &ROWS {
         assert!(rt; plays(rt.alloc(), text, output));
     }
 }

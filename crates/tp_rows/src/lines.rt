@@ -1,0 +1,348 @@
+//! Each form of line once. The texts are those of the worked examples, and the table of texts has the forms that no
+//! example shows.
+
+use std::alloc::{AllocError, Global};
+use std::test::Fail;
+use tp_record::entries::{
+    Ask, Did, Entry, Failed, Grown, Looked, Offered, Opened, Ruled, Seconded, Started, Took,
+};
+use tp_text::ends::{write_back, write_counts, write_fate, write_refusal, write_state};
+use tp_text::entries::write_entry;
+use tp_text::printing::Output;
+use tp_types::configs::Verdict;
+use tp_types::ids::{SlotId, TaskId};
+use tp_types::refusals::PoolError;
+use tp_types::states::{Counts, RunState};
+use tp_types::tasks::{Fate, Kind};
+
+const TASK_0: TaskId = TaskId(0);
+
+const TASK_1: TaskId = TaskId(1);
+
+const TASK_2: TaskId = TaskId(2);
+
+const SLOT_0: SlotId = SlotId(0);
+
+const SLOT_1: SlotId = SlotId(1);
+
+// The ask of an entry is not written.
+fn entry(by: u32, did: Did) -> Entry {
+    Entry {
+        by,
+        ask: Ask::Tidy,
+        did,
+    }
+}
+
+const SUBMISSIONS_AND_LOOKS: [(usize, Did, &str); 7] = [
+    (
+        1,
+        Did::Submit(TASK_0, Kind::Plain, Looked::Reserve(SLOT_0)),
+        "1 submit t0 plain reserve w0\n",
+    ),
+    (
+        2,
+        Did::Submit(TASK_1, Kind::Future, Looked::Queue),
+        "2 submit t1 future queue\n",
+    ),
+    (
+        1,
+        Did::Submit(TASK_0, Kind::Group(3), Looked::Reserve(SLOT_0)),
+        "1 submit t0 group 3 reserve w0\n",
+    ),
+    (
+        10,
+        Did::Submit(TASK_2, Kind::Plain, Looked::Refuse),
+        "10 submit t2 plain refuse\n",
+    ),
+    (9, Did::Look(TASK_2, Looked::Queue), "9 look t2 queue\n"),
+    (
+        9,
+        Did::Look(TASK_2, Looked::Reserve(SLOT_1)),
+        "9 look t2 reserve w1\n",
+    ),
+    (9, Did::Look(TASK_2, Looked::Refuse), "9 look t2 refuse\n"),
+];
+
+const OFFERS_AND_GROWTH: [(usize, Did, &str); 8] = [
+    (
+        3,
+        Did::Offer(TASK_1, Offered::Queued),
+        "3 offer t1 queued\n",
+    ),
+    (
+        10,
+        Did::Offer(TASK_1, Offered::Hand(SLOT_0)),
+        "10 offer t1 hand w0\n",
+    ),
+    (6, Did::Offer(TASK_2, Offered::Full), "6 offer t2 full\n"),
+    (4, Did::Second(TASK_1, Seconded::Stay), "4 second t1 stay\n"),
+    (
+        3,
+        Did::Second(TASK_0, Seconded::StayReserve(SLOT_0)),
+        "3 second t0 stay reserve w0\n",
+    ),
+    (5, Did::Second(TASK_1, Seconded::Back), "5 second t1 back\n"),
+    (
+        7,
+        Did::Grow(TASK_2, Grown::Reserve(SLOT_1)),
+        "7 grow t2 reserve w1\n",
+    ),
+    (7, Did::Grow(TASK_2, Grown::Refuse), "7 grow t2 refuse\n"),
+];
+
+const VERDICTS: [(usize, Did, &str); 8] = [
+    (
+        6,
+        Did::Verdict(TASK_1, Verdict::Abort, Ruled::Rejected),
+        "6 verdict t1 abort rejected\n",
+    ),
+    (
+        7,
+        Did::Verdict(TASK_1, Verdict::CallerRuns, Ruled::Caller),
+        "7 verdict t1 callerruns caller\n",
+    ),
+    (
+        8,
+        Did::Verdict(TASK_1, Verdict::CallerRuns, Ruled::Skip),
+        "8 verdict t1 callerruns skip\n",
+    ),
+    (
+        7,
+        Did::Verdict(TASK_1, Verdict::Discard, Ruled::Discarded),
+        "7 verdict t1 discard discarded\n",
+    ),
+    (
+        7,
+        Did::Verdict(TASK_1, Verdict::DiscardOldest, Ruled::Retry),
+        "7 verdict t1 discardoldest retry\n",
+    ),
+    (
+        8,
+        Did::Verdict(TASK_2, Verdict::DiscardOldest, Ruled::RetryDrop(TASK_1)),
+        "8 verdict t2 discardoldest retry drop t1\n",
+    ),
+    (8, Did::CallerEnd(TASK_1, Ok(2)), "8 callerend t1 value 2\n"),
+    (
+        8,
+        Did::CallerEnd(TASK_1, Err(7)),
+        "8 callerend t1 fault 7\n",
+    ),
+];
+
+const SLOTS: [(usize, Did, &str); 17] = [
+    (2, Did::Open(SLOT_0, Opened::Live), "2 open w0 live\n"),
+    (8, Did::Open(SLOT_0, Opened::GivenUp), "8 open w0 givenup\n"),
+    (
+        3,
+        Did::Open(SLOT_0, Opened::GivenUpRefuse(TASK_0)),
+        "3 open w0 givenup t0 refuse\n",
+    ),
+    (5, Did::Fail(SLOT_0, Failed::Nothing), "5 fail w0 none\n"),
+    (
+        2,
+        Did::Fail(SLOT_0, Failed::Offer(TASK_0)),
+        "2 fail w0 t0 offer\n",
+    ),
+    (
+        8,
+        Did::Fail(SLOT_0, Failed::Refuse(TASK_0)),
+        "8 fail w0 t0 refuse\n",
+    ),
+    (
+        3,
+        Did::Take(SLOT_0, Took::Held(TASK_0)),
+        "3 take w0 held t0\n",
+    ),
+    (
+        9,
+        Did::Take(SLOT_0, Took::Head(TASK_1)),
+        "9 take w0 head t1\n",
+    ),
+    (9, Did::Take(SLOT_0, Took::Leave), "9 take w0 leave\n"),
+    (8, Did::Take(SLOT_0, Took::Idle), "8 take w0 idle\n"),
+    (
+        4,
+        Did::Begin(SLOT_0, Started::Run(TASK_0)),
+        "4 begin w0 t0\n",
+    ),
+    (
+        12,
+        Did::Begin(SLOT_0, Started::Skip(TASK_1)),
+        "12 begin w0 skip t1\n",
+    ),
+    (5, Did::End(SLOT_0, TASK_0, Ok(5)), "5 end w0 t0 value 5\n"),
+    (
+        5,
+        Did::End(SLOT_0, TASK_0, Ok(-5)),
+        "5 end w0 t0 value -5\n",
+    ),
+    (5, Did::End(SLOT_0, TASK_0, Err(7)), "5 end w0 t0 fault 7\n"),
+    (6, Did::Leave(SLOT_0, None), "6 leave w0\n"),
+    (
+        6,
+        Did::Leave(SLOT_0, Some(SLOT_0)),
+        "6 leave w0 reserve w0\n",
+    ),
+];
+
+const POOLS: [(usize, Did, &str); 20] = [
+    (3, Did::Shutdown, "3 shutdown\n"),
+    (7, Did::Stop(0), "7 stop drained 0\n"),
+    (12, Did::Tidy, "12 tidy\n"),
+    (13, Did::Ended, "13 ended\n"),
+    (13, Did::Remove(TASK_1, true), "13 remove t1 yes\n"),
+    (14, Did::Remove(TASK_1, false), "14 remove t1 no\n"),
+    (11, Did::Purge(1), "11 purge 1\n"),
+    (5, Did::Cancel(TASK_1, false, true), "5 cancel t1 yes\n"),
+    (6, Did::Cancel(TASK_1, false, false), "6 cancel t1 no\n"),
+    (
+        21,
+        Did::Cancel(TASK_2, true, true),
+        "21 cancel t2 flag yes\n",
+    ),
+    (
+        22,
+        Did::Cancel(TASK_2, true, false),
+        "22 cancel t2 flag no\n",
+    ),
+    (10, Did::TakeDone(3, TASK_1), "10 takedone 3 t1\n"),
+    (7, Did::Core(3, 2), "7 core 3 add 2\n"),
+    (23, Did::Maximum(1), "23 max 1\n"),
+    (11, Did::Keep(7), "11 keep 7\n"),
+    (12, Did::CoreTimeout(true), "12 coretimeout on\n"),
+    (12, Did::CoreTimeout(false), "12 coretimeout off\n"),
+    (8, Did::Tick(5), "8 tick 5\n"),
+    (1, Did::Prestart(Some(SLOT_0)), "1 prestart reserve w0\n"),
+    (10, Did::Prestart(None), "10 prestart none\n"),
+];
+
+/// The first line of a table that is not written of its entry.
+fn first_wrong<'a>(
+    alloc: Global,
+    table: &[(usize, Did, &'a str)],
+) -> Result<Option<&'a str>, AllocError> {
+    for (number, did, text) in table {
+        let mut line = String::new(alloc);
+        write_entry(&mut line, *number, &entry(0, *did))?;
+        if line.as_str() != *text {
+            return Ok(Some(*text));
+        }
+    }
+    Ok(None)
+}
+
+#[test]
+fn entries(rt: HostRuntime) -> Result<(), Fail> {
+    for table in [
+        &SUBMISSIONS_AND_LOOKS[..],
+        &OFFERS_AND_GROWTH,
+        &VERDICTS,
+        &SLOTS,
+        &POOLS,
+    ] {
+        assert_eq!(rt; first_wrong(rt.alloc(), table)?, None);
+    }
+    Ok(())
+}
+
+#[test]
+fn a_pass_stands_before_the_words(rt: HostRuntime) -> Result<(), Fail> {
+    let held = entry(1, Did::Take(SLOT_0, Took::Held(TASK_0)));
+    let mut line = String::from_str(rt.alloc(), "2 open w0 live\n")?;
+    write_entry(&mut line, 3, &held)?;
+    assert_eq!(rt; line.as_str(), "2 open w0 live\n3 p1 take w0 held t0\n");
+    Ok(())
+}
+
+#[test]
+fn a_stop_names_the_tasks_it_hands_back(rt: HostRuntime) -> Result<(), Fail> {
+    let mut output = Output::new(rt.alloc());
+    output.entry(7, &entry(0, Did::Stop(0)), &[])?;
+    output.entry(11, &entry(0, Did::Stop(1)), &[TASK_2])?;
+    assert_eq!(rt;
+        output.written.as_slice(),
+        "7 stop drained 0\n11 stop drained 1\nback t2\n".as_bytes()
+    );
+    let mut line = String::new(rt.alloc());
+    write_back(&mut line, &[TASK_2, TASK_0])?;
+    assert_eq!(rt; line.as_str(), "back t2 t0\n");
+    Ok(())
+}
+
+#[test]
+fn an_output_grows_line_by_line(rt: HostRuntime) -> Result<(), Fail> {
+    let mut output = Output::new(rt.alloc());
+    output.refusal(PoolError::NotThere)?;
+    output.fate(TASK_1, Some(Fate::Run))?;
+    output.state(RunState::Running)?;
+    output.counts(&Counts::default())?;
+    assert_eq!(rt;
+        output.written.as_slice(),
+        "refused 8 NotThere\nt1 run\nstate running\ncounts submitted=0 run=0 caller=0 rejected=0 discarded=0 handedback=0 removed=0 cancelled=0 completed=0 queued=0 live=0 largest=0\n".as_bytes()
+    );
+    Ok(())
+}
+
+const REFUSALS: [(PoolError, &str); 5] = [
+    (PoolError::NotThere, "refused 8 NotThere\n"),
+    (PoolError::ClockBack, "refused 10 ClockBack\n"),
+    (PoolError::BadLine(10), "refused 23 BadLine 10\n"),
+    (PoolError::BadEntry(5), "refused 24 BadEntry 5\n"),
+    (PoolError::Faulted(7), "refused 14 Faulted\n"),
+];
+
+#[test]
+fn refusals(rt: HostRuntime) -> Result<(), Fail> {
+    for (refusal, text) in &REFUSALS {
+        let mut line = String::new(rt.alloc());
+        write_refusal(&mut line, *refusal)?;
+        assert_eq!(rt; line.as_str(), *text);
+    }
+    Ok(())
+}
+
+const FATES: [(TaskId, Option<Fate>, &str); 5] = [
+    (TASK_0, Some(Fate::Run), "t0 run\n"),
+    (TASK_1, Some(Fate::RunByCaller), "t1 caller\n"),
+    (TASK_2, Some(Fate::Cancelled), "t2 cancelled\n"),
+    (TaskId(3), Some(Fate::HandedBack), "t3 handedback\n"),
+    (TASK_1, None, "t1 open\n"),
+];
+
+#[test]
+fn fates(rt: HostRuntime) -> Result<(), Fail> {
+    for (task, fate, text) in &FATES {
+        let mut line = String::new(rt.alloc());
+        write_fate(&mut line, *task, *fate)?;
+        assert_eq!(rt; line.as_str(), *text);
+    }
+    Ok(())
+}
+
+const COUNTS: Counts = Counts {
+    submitted: 1,
+    run: 2,
+    caller: 3,
+    rejected: 4,
+    discarded: 5,
+    handedback: 6,
+    removed: 7,
+    cancelled: 8,
+    completed: 9,
+    queued: 10,
+    live: 11,
+    largest: 12,
+};
+
+#[test]
+fn ends(rt: HostRuntime) -> Result<(), Fail> {
+    let mut lines = String::new(rt.alloc());
+    write_state(&mut lines, RunState::Terminated)?;
+    write_counts(&mut lines, &COUNTS)?;
+    assert_eq!(rt;
+        lines.as_str(),
+        "state terminated\ncounts submitted=1 run=2 caller=3 rejected=4 discarded=5 handedback=6 removed=7 cancelled=8 completed=9 queued=10 live=11 largest=12\n"
+    );
+    Ok(())
+}

@@ -1,0 +1,176 @@
+//! Texts that are cut, that have a wrong byte, or whose numbers are at an end of their type.
+
+use super::{ROW_01, outcome_of};
+use std::alloc::Global;
+use std::test::Fail;
+use tp_types::refusals::PoolError;
+
+/// How many lines of a text are ended.
+fn ended_lines(text: &[u8]) -> u32 {
+    let mut count = 0;
+    for byte in text {
+        if *byte == b'\n' && count < u32::MAX {
+            count += 1;
+        }
+    }
+    count
+}
+
+/// Each cut of a good text is good where it ends with a line, and else its last line is bad. Cut to nothing it has no pool line.
+#[test]
+fn cut_texts_end_at_the_cut_line(rt: HostRuntime) {
+    for end in 0..ROW_01.len() {
+        let text = &ROW_01[..end];
+        let answer = if text.last() == Some(&b'\n') {
+            Ok(())
+        } else {
+            Err(PoolError::BadLine(ended_lines(text).wrapping_add(1)))
+        };
+        let (_, given) = outcome_of(rt.alloc(), text);
+        assert_eq!(rt; given, answer, "the first {end} bytes");
+    }
+}
+
+/// The ending of a scenario whose second line is this one.
+fn ending_with(alloc: Global, line: &[u8]) -> Result<Result<(), PoolError>, Fail> {
+    let mut text = Vec::new(alloc);
+    text.extend_from_slice(b"pool 1 1 unbounded keep 0 abort\n")?;
+    text.extend_from_slice(line)?;
+    text.push(b'\n')?;
+    let (_, given) = outcome_of(alloc, text.as_slice());
+    Ok(given)
+}
+
+const BAD_LINES: [&[u8]; 28] = [
+    b"submit plain -0",
+    b"submit plain !-1",
+    b"submit plain 05",
+    b"submit plain",
+    b"submit plain 1 ",
+    b"submit group 1",
+    b"submit group -1 5",
+    b"Submit plain 1",
+    b"open 00",
+    b"open -1",
+    b"open",
+    b"open 0 0",
+    b"open  0",
+    b" open 0",
+    b"open\t0",
+    b"open 0\r",
+    b"open 0\0",
+    b"\xEF\xBB\xBFopen 0",
+    b"op\xC3\xA9n 0",
+    b"tick +1",
+    b"tick -1",
+    b"core -1",
+    b"offer -1",
+    b"tick 1.0",
+    b"verdict 0 own",
+    b"coretimeout maybe",
+    b"shutdown now",
+    b"# ",
+];
+
+#[test]
+fn refuses_bad_lines(rt: HostRuntime) -> Result<(), Fail> {
+    for line in &BAD_LINES {
+        let given = ending_with(rt.alloc(), line)?;
+        assert_eq!(rt; given, Err(PoolError::BadLine(2)), "{line:?}");
+    }
+    Ok(())
+}
+
+const LAST_AND_PAST: [(&[u8], &[u8]); 9] = [
+    (
+        b"submit plain 9223372036854775807",
+        b"submit plain 9223372036854775808",
+    ),
+    (
+        b"submit plain -9223372036854775808",
+        b"submit plain -9223372036854775809",
+    ),
+    (b"submit plain !4294967295", b"submit plain !4294967296"),
+    (b"submit group 4294967295 0", b"submit group 4294967296 0"),
+    (b"offer 4294967295", b"offer 4294967296"),
+    (b"take 18446744073709551615", b"take 18446744073709551616"),
+    (b"core 4294967295", b"core 4294967296"),
+    (b"tick 18446744073709551615", b"tick 18446744073709551616"),
+    (b"cancel 4294967295 flag", b"cancel 4294967296 flag"),
+];
+
+/// The last number of each type is good, and the one past it is not; what is asked of it may be refused, which does not end the run.
+#[test]
+fn reads_numbers_to_the_ends_of_their_types(rt: HostRuntime) -> Result<(), Fail> {
+    for (last, past) in &LAST_AND_PAST {
+        let good = ending_with(rt.alloc(), last)?;
+        assert_eq!(rt; good, Ok(()), "{last:?}");
+        let bad = ending_with(rt.alloc(), past)?;
+        assert_eq!(rt; bad, Err(PoolError::BadLine(2)), "{past:?}");
+    }
+    Ok(())
+}
+
+const POOL_LINES: [(&[u8], Result<(), PoolError>); 12] = [
+    (b"pool 0 1 handoff keep 18446744073709551615 own\n", Ok(())),
+    (b"pool 1024 1024 bounded 65536 keep 0 discard\n", Ok(())),
+    (
+        b"pool 1 1 unbounded keep 1 abort coretimeout limit 1048576\n",
+        Ok(()),
+    ),
+    (
+        b"pool 1 1025 handoff keep 0 own\n",
+        Err(PoolError::BadSizes),
+    ),
+    (b"pool 0 0 handoff keep 0 own\n", Err(PoolError::BadSizes)),
+    (
+        b"pool 1 1 bounded 65537 keep 0 own\n",
+        Err(PoolError::BadCapacity),
+    ),
+    (
+        b"pool 1 1 handoff keep 0 own limit 1048577\n",
+        Err(PoolError::BadLimit),
+    ),
+    (
+        b"pool 1 4294967295 handoff keep 0 own\n",
+        Err(PoolError::BadSizes),
+    ),
+    (
+        b"pool 1 4294967296 handoff keep 0 own\n",
+        Err(PoolError::BadLine(1)),
+    ),
+    (
+        b"pool 1 1 handoff keep 18446744073709551616 own\n",
+        Err(PoolError::BadLine(1)),
+    ),
+    (
+        b"pool 1 1 handoff keep 0 own limit 64 coretimeout\n",
+        Err(PoolError::BadLine(1)),
+    ),
+    (
+        b"\xEF\xBB\xBFpool 1 1 unbounded keep 0 abort\n",
+        Err(PoolError::BadLine(1)),
+    ),
+];
+
+#[test]
+fn reads_pool_lines_to_the_ends_of_their_numbers(rt: HostRuntime) {
+    for (text, answer) in &POOL_LINES {
+        let (_, given) = outcome_of(rt.alloc(), text);
+        assert_eq!(rt; given, *answer, "{text:?}");
+    }
+}
+
+/// A line may have 200 bytes, and no more, before its line feed.
+#[test]
+fn measures_long_lines(rt: HostRuntime) -> Result<(), Fail> {
+    for (length, answer) in [(200, Ok(())), (201, Err(PoolError::BadLine(2)))] {
+        let mut line = Vec::new(rt.alloc());
+        for _ in 0..length {
+            line.push(b'#')?;
+        }
+        let given = ending_with(rt.alloc(), line.as_slice())?;
+        assert_eq!(rt; given, answer, "a line of {length} bytes");
+    }
+    Ok(())
+}
