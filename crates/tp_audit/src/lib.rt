@@ -3,5 +3,3 @@
 
 pub mod plain;
 pub mod summary;
-#[cfg(test)]
-mod tests;

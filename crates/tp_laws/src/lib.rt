@@ -15,8 +15,6 @@ pub mod outcomes;
 pub mod runs;
 pub mod shutdown;
 pub mod tasks;
-#[cfg(test)]
-mod tests;
 pub mod waiting;
 pub mod workers;
 

@@ -1,8 +1,10 @@
 mod closing;
+mod flags;
 mod helpers;
 mod interfaces;
 mod lock;
 mod memory;
+mod receipts;
 mod settings;
 mod threads;
 mod waits;

@@ -1,8 +1,12 @@
 //! The worked rows: records with what the step gives at each front, computed by the checker in `proofs/`, and tests of
-//! the plain programs on some of them. Beside them the tests of the texts: each form of line, and whole runs of scenarios,
-//! from bytes to bytes.
+//! the plain programs on some of them. Beside them the tests of runs of asks and of the auditor, and of the texts: each form
+//! of line, and whole runs of scenarios, from bytes to bytes.
 #![tactic(auto)]
 
+#[cfg(test)]
+mod asked;
+#[cfg(test)]
+mod judged;
 #[cfg(test)]
 mod lines;
 #[cfg(test)]

@@ -1,9 +1,9 @@
 //! Records judged, with answers from the worked rows or told by hand.
 
-use crate::plain::audit_plain;
-use crate::summary::{Flaw, Summary};
 use std::alloc::Global;
 use std::test::Fail;
+use tp_audit::plain::audit_plain;
+use tp_audit::summary::{Flaw, Summary};
 use tp_record::entries::{Ask, Did, Entry, Looked, Opened, Started, Took};
 use tp_types::configs::{Config, Policy, QueueKind};
 use tp_types::ids::{SlotId, TaskId};
@@ -11,7 +11,7 @@ use tp_types::states::{Counts, RunState};
 use tp_types::tasks::{Fate, Kind};
 
 /// One worker, and refused tasks are rejected.
-const LONE: Config = Config {
+pub const LONE: Config = Config {
     core: 1,
     maximum: 1,
     queue: QueueKind::Unbounded,

@@ -1,25 +1,13 @@
 //! Runs of asks, and their records judged. Answers are from the worked rows or told by hand.
 
-use crate::runs::run_asks;
-use std::alloc::Global;
+use crate::judged::LONE;
 use std::test::Fail;
-use tp_audit::plain::audit_plain;
+use tp_laws::audit_plain;
+use tp_laws::runs::run_asks;
 use tp_record::entries::{Ask, Did, Looked, Opened, Started, Took};
-use tp_types::configs::{Config, Policy, QueueKind};
 use tp_types::ids::{SlotId, TaskId};
 use tp_types::refusals::PoolError;
 use tp_types::tasks::Kind;
-
-/// One worker, and refused tasks are rejected.
-const LONE: Config = Config {
-    core: 1,
-    maximum: 1,
-    queue: QueueKind::Unbounded,
-    keep: 0,
-    core_timeout: false,
-    policy: Policy::Abort,
-    record_limit: 4096,
-};
 
 /// Row 1, the shortest life of a task, with an ask before it that is refused: the refusal is an answer,
 /// and adds no entry.
