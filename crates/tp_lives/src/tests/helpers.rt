@@ -48,10 +48,11 @@ pub fn listed<T: Drop>(
         return Err(PoolError::NoMemory);
     }
     all.push_reserved(first);
-    for next in [second, third] {
-        if let Some(next) = next {
-            let _ = all.push(next);
-        }
+    if let Some(second) = second {
+        let _ = all.push(second);
+    }
+    if let Some(third) = third {
+        let _ = all.push(third);
     }
     Ok(all)
 }
