@@ -172,7 +172,7 @@ fn futures() -> [Entry; 13] {
 }
 
 #[test]
-fn rejected_submission(rt: HostRuntime) -> Result<(), Fail> {
+fn rejected_submission(rt: HostRuntime) {
     let entries = &rejected();
     assert_eq!(rt; rank(entries), 0);
     assert_eq!(rt; core(entries, 1), 1);
@@ -192,13 +192,23 @@ fn rejected_submission(rt: HostRuntime) -> Result<(), Fail> {
     );
     assert_eq!(rt; kind(entries, TaskId(3)), Kind::Plain);
     assert!(rt; !is_cancelled(entries, TaskId(3)));
-    let queue = queue(rt.alloc(), entries)?;
-    assert_eq!(rt; queue.as_slice(), [1].as_slice());
     let row = SlotRow {
         stage: Stage::ReservedMaximum,
         task: Some(TaskId(2)),
     };
     assert_eq!(rt; slot_row(entries, SlotId(1)), Some(row));
+}
+
+#[test]
+fn rejected_submission_is_not_queued(rt: HostRuntime) -> Result<(), Fail> {
+    let queue = queue(rt.alloc(), &rejected())?;
+    assert_eq!(rt; queue.as_slice(), [1].as_slice());
+    Ok(())
+}
+
+#[test]
+fn rejected_submission_is_counted(rt: HostRuntime) -> Result<(), Fail> {
+    let entries = &rejected();
     let expected = Counts {
         submitted: 4,
         rejected: 1,
@@ -213,7 +223,7 @@ fn rejected_submission(rt: HostRuntime) -> Result<(), Fail> {
 }
 
 #[test]
-fn dropped_oldest(rt: HostRuntime) -> Result<(), Fail> {
+fn dropped_oldest(rt: HostRuntime) {
     let entries = &dropped();
     assert_eq!(rt; rank(entries), 0);
     assert_eq!(rt; place(entries, TaskId(1)), Place::Gone);
@@ -222,14 +232,31 @@ fn dropped_oldest(rt: HostRuntime) -> Result<(), Fail> {
     assert_eq!(rt; fate(entries, TaskId(1)), Some(Fate::Discarded));
     assert_eq!(rt; fate(entries, TaskId(2)), None);
     assert_eq!(rt; retries(entries, TaskId(2)), 1);
+}
+
+#[test]
+fn dropped_oldest_leaves_the_queue(rt: HostRuntime) -> Result<(), Fail> {
+    let entries = &dropped();
     let queue = queue(rt.alloc(), entries)?;
     assert_eq!(rt; queue.as_slice(), [2].as_slice());
     let tasks = tasks(rt.alloc(), entries)?;
     assert_eq!(rt; tasks.len(), 3);
     assert_eq!(rt; tasks[1], task_row(entries, TaskId(1)));
+    Ok(())
+}
+
+#[test]
+fn dropped_oldest_opens_no_slot(rt: HostRuntime) -> Result<(), Fail> {
+    let entries = &dropped();
     assert_eq!(rt; slots(rt.alloc(), entries)?.len(), 1);
     assert!(rt; idling(rt.alloc(), entries)?.is_empty());
     assert!(rt; done(rt.alloc(), entries)?.is_empty());
+    Ok(())
+}
+
+#[test]
+fn dropped_oldest_is_counted(rt: HostRuntime) -> Result<(), Fail> {
+    let entries = &dropped();
     assert_eq!(rt; live(rt.alloc(), entries)?, 0);
     assert_eq!(rt; largest(rt.alloc(), entries)?, 0);
     let expected = Counts {
