@@ -2,8 +2,8 @@
 
 use super::stage::Act::{self, Asks, Fills, Opens, Reads, Tells};
 use super::stage::{
-    BARE, NO_COUNTS, NONE, P0, P1, P2, P3, Pool, SMALL, T0, T1, T2, T3, T4, T9, W0, W1, act_out,
-    does, plays, pool,
+    BARE, NO_COUNTS, NONE, PAYLOAD_0, PAYLOAD_1, PAYLOAD_2, PAYLOAD_3, Pool, SLOT_0, SLOT_1, SMALL,
+    TASK_0, TASK_1, TASK_2, TASK_3, TASK_4, TASK_9, act_out, does, plays, pool,
 };
 use std::alloc::Global;
 use std::process::Abort;
@@ -20,9 +20,9 @@ const BUSY: Config = Config { core: 1, ..BARE };
 /// The pool's one worker runs task 0.
 fn starts(rt: &impl Abort, pool: &mut Pool, kind: Kind) {
     does(rt, pool, Ask::Submit(kind));
-    does(rt, pool, Ask::Open(W0));
-    does(rt, pool, Ask::Take(W0));
-    does(rt, pool, Ask::Begin(W0));
+    does(rt, pool, Ask::Open(SLOT_0));
+    does(rt, pool, Ask::Take(SLOT_0));
+    does(rt, pool, Ask::Begin(SLOT_0));
 }
 
 /// This task waits in the queue.
@@ -36,9 +36,9 @@ fn queues(rt: &impl Abort, pool: &mut Pool, kind: Kind, t: TaskId) {
 fn plays_busy(rt: &impl Abort, alloc: Global, kind: Kind, acts: &[Act]) {
     let mut pool = pool(rt, alloc, BUSY);
     starts(rt, &mut pool, kind);
-    queues(rt, &mut pool, kind, T1);
-    queues(rt, &mut pool, kind, T2);
-    queues(rt, &mut pool, kind, T3);
+    queues(rt, &mut pool, kind, TASK_1);
+    queues(rt, &mut pool, kind, TASK_2);
+    queues(rt, &mut pool, kind, TASK_3);
     act_out(rt, &mut pool, acts);
 }
 
@@ -58,12 +58,32 @@ const SHUTS_DOWN: [Act; 21] = [
     Asks(Ask::Ended, Err(PoolError::NotThere), NONE),
     Asks(Ask::Shutdown, Ok(Did::Shutdown), NONE),
     Asks(Ask::Tidy, Err(PoolError::NotThere), NONE),
-    Asks(Ask::End(W0, Ok(0)), Ok(Did::End(W0, T0, Ok(0))), NONE),
-    Asks(Ask::Take(W0), Ok(Did::Take(W0, Took::Head(T1))), NONE),
-    Asks(Ask::Begin(W0), Ok(Did::Begin(W0, Started::Run(T1))), P1),
-    Asks(Ask::End(W0, Ok(0)), Ok(Did::End(W0, T1, Ok(0))), NONE),
-    Asks(Ask::Remove(T2), Ok(Did::Remove(T2, true)), P2),
-    Asks(Ask::Stop, Ok(Did::Stop(1)), P3),
+    Asks(
+        Ask::End(SLOT_0, Ok(0)),
+        Ok(Did::End(SLOT_0, TASK_0, Ok(0))),
+        NONE,
+    ),
+    Asks(
+        Ask::Take(SLOT_0),
+        Ok(Did::Take(SLOT_0, Took::Head(TASK_1))),
+        NONE,
+    ),
+    Asks(
+        Ask::Begin(SLOT_0),
+        Ok(Did::Begin(SLOT_0, Started::Run(TASK_1))),
+        PAYLOAD_1,
+    ),
+    Asks(
+        Ask::End(SLOT_0, Ok(0)),
+        Ok(Did::End(SLOT_0, TASK_1, Ok(0))),
+        NONE,
+    ),
+    Asks(
+        Ask::Remove(TASK_2),
+        Ok(Did::Remove(TASK_2, true)),
+        PAYLOAD_2,
+    ),
+    Asks(Ask::Stop, Ok(Did::Stop(1)), PAYLOAD_3),
     Reads(
         RunState::Stop,
         0,
@@ -79,7 +99,7 @@ const SHUTS_DOWN: [Act; 21] = [
         },
     ),
     Asks(Ask::Shutdown, Ok(Did::Shutdown), NONE),
-    Asks(Ask::Take(W0), Ok(Did::Take(W0, Took::Leave)), NONE),
+    Asks(Ask::Take(SLOT_0), Ok(Did::Take(SLOT_0, Took::Leave)), NONE),
     Asks(Ask::Ended, Err(PoolError::NotThere), NONE),
     Asks(Ask::Tidy, Ok(Did::Tidy), NONE),
     Asks(Ask::Tidy, Err(PoolError::NotThere), NONE),
@@ -120,24 +140,28 @@ fn shuts_down(rt: HostRuntime) {
 }
 
 const STOPS: [Act; 15] = [
-    Asks(Ask::Cancel(T2, false), Ok(Did::Cancel(T2, false, true)), P2),
+    Asks(
+        Ask::Cancel(TASK_2, false),
+        Ok(Did::Cancel(TASK_2, false, true)),
+        PAYLOAD_2,
+    ),
     Asks(Ask::Stop, Ok(Did::Stop(3)), (Some(11), None, Some(13))),
     Asks(Ask::Stop, Ok(Did::Stop(0)), NONE),
-    Tells(T0, Place::Running(W0), None, Ok(None)),
+    Tells(TASK_0, Place::Running(SLOT_0), None, Ok(None)),
     Tells(
-        T1,
+        TASK_1,
         Place::Gone,
         Some(Fate::HandedBack),
         Err(PoolError::Lost(Fate::HandedBack)),
     ),
     Tells(
-        T2,
+        TASK_2,
         Place::Gone,
         Some(Fate::Cancelled),
         Err(PoolError::CancelledTask),
     ),
     Tells(
-        T3,
+        TASK_3,
         Place::Gone,
         Some(Fate::HandedBack),
         Err(PoolError::Lost(Fate::HandedBack)),
@@ -145,11 +169,15 @@ const STOPS: [Act; 15] = [
     Fills,
     Asks(Ask::Stop, Err(PoolError::BookFull), NONE),
     Asks(Ask::Shutdown, Err(PoolError::BookFull), NONE),
-    Asks(Ask::End(W0, Ok(8)), Ok(Did::End(W0, T0, Ok(8))), NONE),
-    Asks(Ask::Take(W0), Ok(Did::Take(W0, Took::Leave)), NONE),
+    Asks(
+        Ask::End(SLOT_0, Ok(8)),
+        Ok(Did::End(SLOT_0, TASK_0, Ok(8))),
+        NONE,
+    ),
+    Asks(Ask::Take(SLOT_0), Ok(Did::Take(SLOT_0, Took::Leave)), NONE),
     Asks(Ask::Tidy, Ok(Did::Tidy), NONE),
     Asks(Ask::Ended, Ok(Did::Ended), NONE),
-    Tells(T0, Place::Gone, Some(Fate::Run), Ok(Some(8))),
+    Tells(TASK_0, Place::Gone, Some(Fate::Run), Ok(Some(8))),
 ];
 
 /// A stop hands back the queue in its order, a cancelled task without its payload, and a second stop nothing.
@@ -159,33 +187,49 @@ fn stops(rt: HostRuntime) {
 }
 
 const REMOVES_CANCELS_AND_PURGES: [Act; 22] = [
-    Asks(Ask::Cancel(T0, true), Ok(Did::Cancel(T0, true, true)), NONE),
     Asks(
-        Ask::Cancel(T0, true),
-        Ok(Did::Cancel(T0, true, false)),
+        Ask::Cancel(TASK_0, true),
+        Ok(Did::Cancel(TASK_0, true, true)),
         NONE,
     ),
-    Asks(Ask::Cancel(T1, false), Ok(Did::Cancel(T1, false, true)), P1),
-    Asks(Ask::Cancel(T3, true), Ok(Did::Cancel(T3, true, true)), P3),
-    Asks(Ask::Remove(T2), Ok(Did::Remove(T2, true)), P2),
-    Asks(Ask::Remove(T2), Ok(Did::Remove(T2, false)), NONE),
     Asks(
-        Ask::Cancel(T2, true),
-        Ok(Did::Cancel(T2, true, false)),
+        Ask::Cancel(TASK_0, true),
+        Ok(Did::Cancel(TASK_0, true, false)),
         NONE,
     ),
-    Asks(Ask::Remove(T1), Ok(Did::Remove(T1, true)), NONE),
-    Asks(Ask::Remove(T0), Ok(Did::Remove(T0, false)), NONE),
+    Asks(
+        Ask::Cancel(TASK_1, false),
+        Ok(Did::Cancel(TASK_1, false, true)),
+        PAYLOAD_1,
+    ),
+    Asks(
+        Ask::Cancel(TASK_3, true),
+        Ok(Did::Cancel(TASK_3, true, true)),
+        PAYLOAD_3,
+    ),
+    Asks(
+        Ask::Remove(TASK_2),
+        Ok(Did::Remove(TASK_2, true)),
+        PAYLOAD_2,
+    ),
+    Asks(Ask::Remove(TASK_2), Ok(Did::Remove(TASK_2, false)), NONE),
+    Asks(
+        Ask::Cancel(TASK_2, true),
+        Ok(Did::Cancel(TASK_2, true, false)),
+        NONE,
+    ),
+    Asks(Ask::Remove(TASK_1), Ok(Did::Remove(TASK_1, true)), NONE),
+    Asks(Ask::Remove(TASK_0), Ok(Did::Remove(TASK_0, false)), NONE),
     Asks(Ask::Purge, Ok(Did::Purge(1)), NONE),
     Asks(Ask::Purge, Ok(Did::Purge(0)), NONE),
     Asks(
         Ask::Submit(Kind::Plain),
-        Ok(Did::Submit(T4, Kind::Plain, Looked::Queue)),
+        Ok(Did::Submit(TASK_4, Kind::Plain, Looked::Queue)),
         NONE,
     ),
-    Asks(Ask::Cancel(T4, true), Err(PoolError::NotFuture), NONE),
-    Asks(Ask::Cancel(T9, true), Err(PoolError::UnknownTask), NONE),
-    Asks(Ask::Remove(T9), Err(PoolError::UnknownTask), NONE),
+    Asks(Ask::Cancel(TASK_4, true), Err(PoolError::NotFuture), NONE),
+    Asks(Ask::Cancel(TASK_9, true), Err(PoolError::UnknownTask), NONE),
+    Asks(Ask::Remove(TASK_9), Err(PoolError::UnknownTask), NONE),
     Reads(
         RunState::Running,
         0,
@@ -200,8 +244,8 @@ const REMOVES_CANCELS_AND_PURGES: [Act; 22] = [
     ),
     Fills,
     Asks(Ask::Purge, Err(PoolError::BookFull), NONE),
-    Asks(Ask::Remove(T1), Err(PoolError::BookFull), NONE),
-    Asks(Ask::Cancel(T1, true), Err(PoolError::BookFull), NONE),
+    Asks(Ask::Remove(TASK_1), Err(PoolError::BookFull), NONE),
+    Asks(Ask::Cancel(TASK_1, true), Err(PoolError::BookFull), NONE),
     Asks(Ask::TakeDone(0), Err(PoolError::NotThere), NONE),
     Asks(Ask::Prestart, Err(PoolError::BookFull), NONE),
 ];
@@ -216,11 +260,19 @@ const TAKES_DONE_TASKS: [Act; 12] = [
     Opens(4, true),
     Opens(5, false),
     Asks(Ask::TakeDone(4), Err(PoolError::NotThere), NONE),
-    Asks(Ask::Cancel(T3, false), Ok(Did::Cancel(T3, false, true)), P3),
-    Asks(Ask::End(W0, Ok(1)), Ok(Did::End(W0, T0, Ok(1))), NONE),
+    Asks(
+        Ask::Cancel(TASK_3, false),
+        Ok(Did::Cancel(TASK_3, false, true)),
+        PAYLOAD_3,
+    ),
+    Asks(
+        Ask::End(SLOT_0, Ok(1)),
+        Ok(Did::End(SLOT_0, TASK_0, Ok(1))),
+        NONE,
+    ),
     Asks(Ask::TakeDone(5), Err(PoolError::NotThere), NONE),
-    Asks(Ask::TakeDone(4), Ok(Did::TakeDone(4, T3)), NONE),
-    Asks(Ask::TakeDone(4), Ok(Did::TakeDone(4, T0)), NONE),
+    Asks(Ask::TakeDone(4), Ok(Did::TakeDone(4, TASK_3)), NONE),
+    Asks(Ask::TakeDone(4), Ok(Did::TakeDone(4, TASK_0)), NONE),
     Asks(Ask::TakeDone(4), Err(PoolError::NotThere), NONE),
     Asks(Ask::Stop, Ok(Did::Stop(3)), (Some(11), Some(12), None)),
     Opens(4, false),
@@ -240,12 +292,12 @@ const SETS: [Act; 30] = [
     Asks(Ask::Maximum(9), Ok(Did::Maximum(9)), NONE),
     Asks(Ask::Core(3), Ok(Did::Core(3, 0)), NONE),
     Asks(Ask::Maximum(2), Err(PoolError::BadSizes), NONE),
-    Asks(Ask::Prestart, Ok(Did::Prestart(Some(W0))), NONE),
-    Asks(Ask::Open(W0), Ok(Did::Open(W0, Opened::Live)), NONE),
+    Asks(Ask::Prestart, Ok(Did::Prestart(Some(SLOT_0))), NONE),
+    Asks(Ask::Open(SLOT_0), Ok(Did::Open(SLOT_0, Opened::Live)), NONE),
     Asks(Ask::Core(1), Ok(Did::Core(1, 0)), NONE),
     Asks(Ask::Prestart, Ok(Did::Prestart(None)), NONE),
     Asks(Ask::Core(2), Ok(Did::Core(2, 0)), NONE),
-    Asks(Ask::Prestart, Ok(Did::Prestart(Some(W1))), NONE),
+    Asks(Ask::Prestart, Ok(Did::Prestart(Some(SLOT_1))), NONE),
     Asks(Ask::Keep(6), Ok(Did::Keep(6)), NONE),
     Asks(Ask::CoreTimeout(true), Ok(Did::CoreTimeout(true)), NONE),
     Asks(Ask::Keep(0), Err(PoolError::KeepZero), NONE),
@@ -272,7 +324,7 @@ const SETS: [Act; 30] = [
     Asks(Ask::Tick(9), Err(PoolError::BookFull), NONE),
     Asks(Ask::Prestart, Err(PoolError::BookFull), NONE),
     Asks(
-        Ask::Verdict(T0, Verdict::Abort),
+        Ask::Verdict(TASK_0, Verdict::Abort),
         Err(PoolError::UnknownTask),
         NONE,
     ),

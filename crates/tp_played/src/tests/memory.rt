@@ -3,7 +3,7 @@
 
 use super::stage::Act::{self, Asks};
 use super::stage::{
-    NO_COUNTS, NONE, Pool, SMALL, W0, act_out, asks, pool, read, reads, tells, tells_nothing,
+    NO_COUNTS, NONE, Pool, SLOT_0, SMALL, act_out, asks, pool, read, reads, tells, tells_nothing,
 };
 use std::process::Abort;
 use tp_record::entries::{Ask, Did, Looked, Offered, Seconded};
@@ -20,7 +20,7 @@ fn submit(rt: &impl Abort, pool: &mut Pool, number: u32) {
     let t = TaskId(number);
     let kind = Kind::Group(number % 11);
     let seconded = if number == 0 {
-        Seconded::StayReserve(W0)
+        Seconded::StayReserve(SLOT_0)
     } else {
         Seconded::Stay
     };

@@ -40,39 +40,39 @@ pub enum Act {
     Fills,
 }
 
-pub const T0: TaskId = TaskId(0);
+pub const TASK_0: TaskId = TaskId(0);
 
-pub const T1: TaskId = TaskId(1);
+pub const TASK_1: TaskId = TaskId(1);
 
-pub const T2: TaskId = TaskId(2);
+pub const TASK_2: TaskId = TaskId(2);
 
-pub const T3: TaskId = TaskId(3);
+pub const TASK_3: TaskId = TaskId(3);
 
-pub const T4: TaskId = TaskId(4);
+pub const TASK_4: TaskId = TaskId(4);
 
 /// A task that is not submitted.
-pub const T9: TaskId = TaskId(9);
+pub const TASK_9: TaskId = TaskId(9);
 
-pub const W0: SlotId = SlotId(0);
+pub const SLOT_0: SlotId = SlotId(0);
 
-pub const W1: SlotId = SlotId(1);
+pub const SLOT_1: SlotId = SlotId(1);
 
 /// A slot that is not reserved.
-pub const W9: SlotId = SlotId(9);
+pub const SLOT_9: SlotId = SlotId(9);
 
 /// No payload.
 pub const NONE: Handed = (None, None, None);
 
 /// The payload of each task.
-pub const P0: Handed = (Some(10), None, None);
+pub const PAYLOAD_0: Handed = (Some(10), None, None);
 
-pub const P1: Handed = (Some(11), None, None);
+pub const PAYLOAD_1: Handed = (Some(11), None, None);
 
-pub const P2: Handed = (Some(12), None, None);
+pub const PAYLOAD_2: Handed = (Some(12), None, None);
 
-pub const P3: Handed = (Some(13), None, None);
+pub const PAYLOAD_3: Handed = (Some(13), None, None);
 
-pub const P4: Handed = (Some(14), None, None);
+pub const PAYLOAD_4: Handed = (Some(14), None, None);
 
 /// What each job promises.
 pub const ANY: Promise = Promise {

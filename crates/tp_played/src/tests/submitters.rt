@@ -2,8 +2,8 @@
 
 use super::stage::Act::{self, Asks, Fills, Reads, Tells};
 use super::stage::{
-    BARE, Handed, NO_COUNTS, NONE, P0, P1, P4, SMALL, T0, T1, T2, T3, T4, T9, W0, W1, act_out,
-    plays, pool,
+    BARE, Handed, NO_COUNTS, NONE, PAYLOAD_0, PAYLOAD_1, PAYLOAD_4, SLOT_0, SLOT_1, SMALL, TASK_0,
+    TASK_1, TASK_2, TASK_3, TASK_4, TASK_9, act_out, plays, pool,
 };
 use std::alloc::Global;
 use std::process::Abort;
@@ -49,22 +49,34 @@ const RETRIED: Config = Config {
 const FULL_POOL: [Act; 6] = [
     Asks(
         Ask::Submit(Kind::Future),
-        Ok(Did::Submit(T0, Kind::Future, Looked::Queue)),
+        Ok(Did::Submit(TASK_0, Kind::Future, Looked::Queue)),
         NONE,
     ),
-    Asks(Ask::Offer(T0), Ok(Did::Offer(T0, Offered::Queued)), NONE),
     Asks(
-        Ask::Second(T0),
-        Ok(Did::Second(T0, Seconded::StayReserve(W0))),
+        Ask::Offer(TASK_0),
+        Ok(Did::Offer(TASK_0, Offered::Queued)),
+        NONE,
+    ),
+    Asks(
+        Ask::Second(TASK_0),
+        Ok(Did::Second(TASK_0, Seconded::StayReserve(SLOT_0))),
         NONE,
     ),
     Asks(
         Ask::Submit(Kind::Future),
-        Ok(Did::Submit(T1, Kind::Future, Looked::Queue)),
+        Ok(Did::Submit(TASK_1, Kind::Future, Looked::Queue)),
         NONE,
     ),
-    Asks(Ask::Offer(T1), Ok(Did::Offer(T1, Offered::Full)), NONE),
-    Asks(Ask::Grow(T1), Ok(Did::Grow(T1, Grown::Refuse)), NONE),
+    Asks(
+        Ask::Offer(TASK_1),
+        Ok(Did::Offer(TASK_1, Offered::Full)),
+        NONE,
+    ),
+    Asks(
+        Ask::Grow(TASK_1),
+        Ok(Did::Grow(TASK_1, Grown::Refuse)),
+        NONE,
+    ),
 ];
 
 /// A script of a pool of futures, without workers, whose next task is refused: its one place is taken by task 0.
@@ -81,12 +93,12 @@ const JUDGES: [(Policy, [Act; 2]); 8] = [
         Policy::Abort,
         [
             Asks(
-                Ask::Verdict(T1, Verdict::Abort),
-                Ok(Did::Verdict(T1, Verdict::Abort, Ruled::Rejected)),
-                P1,
+                Ask::Verdict(TASK_1, Verdict::Abort),
+                Ok(Did::Verdict(TASK_1, Verdict::Abort, Ruled::Rejected)),
+                PAYLOAD_1,
             ),
             Tells(
-                T1,
+                TASK_1,
                 Place::Gone,
                 Some(Fate::Rejected),
                 Err(PoolError::Lost(Fate::Rejected)),
@@ -97,12 +109,12 @@ const JUDGES: [(Policy, [Act; 2]); 8] = [
         Policy::Own,
         [
             Asks(
-                Ask::Verdict(T1, Verdict::Abort),
-                Ok(Did::Verdict(T1, Verdict::Abort, Ruled::Rejected)),
-                P1,
+                Ask::Verdict(TASK_1, Verdict::Abort),
+                Ok(Did::Verdict(TASK_1, Verdict::Abort, Ruled::Rejected)),
+                PAYLOAD_1,
             ),
             Tells(
-                T1,
+                TASK_1,
                 Place::Gone,
                 Some(Fate::Rejected),
                 Err(PoolError::Lost(Fate::Rejected)),
@@ -113,12 +125,12 @@ const JUDGES: [(Policy, [Act; 2]); 8] = [
         Policy::Discard,
         [
             Asks(
-                Ask::Verdict(T1, Verdict::Discard),
-                Ok(Did::Verdict(T1, Verdict::Discard, Ruled::Discarded)),
-                P1,
+                Ask::Verdict(TASK_1, Verdict::Discard),
+                Ok(Did::Verdict(TASK_1, Verdict::Discard, Ruled::Discarded)),
+                PAYLOAD_1,
             ),
             Tells(
-                T1,
+                TASK_1,
                 Place::Gone,
                 Some(Fate::Discarded),
                 Err(PoolError::Lost(Fate::Discarded)),
@@ -129,12 +141,12 @@ const JUDGES: [(Policy, [Act; 2]); 8] = [
         Policy::Own,
         [
             Asks(
-                Ask::Verdict(T1, Verdict::Discard),
-                Ok(Did::Verdict(T1, Verdict::Discard, Ruled::Discarded)),
-                P1,
+                Ask::Verdict(TASK_1, Verdict::Discard),
+                Ok(Did::Verdict(TASK_1, Verdict::Discard, Ruled::Discarded)),
+                PAYLOAD_1,
             ),
             Tells(
-                T1,
+                TASK_1,
                 Place::Gone,
                 Some(Fate::Discarded),
                 Err(PoolError::Lost(Fate::Discarded)),
@@ -145,44 +157,44 @@ const JUDGES: [(Policy, [Act; 2]); 8] = [
         Policy::CallerRuns,
         [
             Asks(
-                Ask::Verdict(T1, Verdict::CallerRuns),
-                Ok(Did::Verdict(T1, Verdict::CallerRuns, Ruled::Caller)),
-                P1,
+                Ask::Verdict(TASK_1, Verdict::CallerRuns),
+                Ok(Did::Verdict(TASK_1, Verdict::CallerRuns, Ruled::Caller)),
+                PAYLOAD_1,
             ),
-            Tells(T1, Place::Caller, None, Ok(None)),
+            Tells(TASK_1, Place::Caller, None, Ok(None)),
         ],
     ),
     (
         Policy::Own,
         [
             Asks(
-                Ask::Verdict(T1, Verdict::CallerRuns),
-                Ok(Did::Verdict(T1, Verdict::CallerRuns, Ruled::Caller)),
-                P1,
+                Ask::Verdict(TASK_1, Verdict::CallerRuns),
+                Ok(Did::Verdict(TASK_1, Verdict::CallerRuns, Ruled::Caller)),
+                PAYLOAD_1,
             ),
-            Tells(T1, Place::Caller, None, Ok(None)),
+            Tells(TASK_1, Place::Caller, None, Ok(None)),
         ],
     ),
     (
         Policy::DiscardOldest,
         [
             Asks(
-                Ask::Verdict(T1, Verdict::DiscardOldest),
-                Ok(Did::Verdict(T1, Verdict::DiscardOldest, Ruled::RetryDrop(T0))),
+                Ask::Verdict(TASK_1, Verdict::DiscardOldest),
+                Ok(Did::Verdict(TASK_1, Verdict::DiscardOldest, Ruled::RetryDrop(TASK_0))),
                 DROPPED,
             ),
-            Tells(T1, Place::Looking, None, Ok(None)),
+            Tells(TASK_1, Place::Looking, None, Ok(None)),
         ],
     ),
     (
         Policy::Own,
         [
             Asks(
-                Ask::Verdict(T1, Verdict::DiscardOldest),
-                Ok(Did::Verdict(T1, Verdict::DiscardOldest, Ruled::RetryDrop(T0))),
+                Ask::Verdict(TASK_1, Verdict::DiscardOldest),
+                Ok(Did::Verdict(TASK_1, Verdict::DiscardOldest, Ruled::RetryDrop(TASK_0))),
                 DROPPED,
             ),
-            Tells(T1, Place::Looking, None, Ok(None)),
+            Tells(TASK_1, Place::Looking, None, Ok(None)),
         ],
     ),
 ];
@@ -198,69 +210,109 @@ fn judges(rt: HostRuntime) {
 const SUBMITS: [Act; 28] = [
     Asks(
         Ask::Submit(Kind::Plain),
-        Ok(Did::Submit(T0, Kind::Plain, Looked::Reserve(W0))),
+        Ok(Did::Submit(TASK_0, Kind::Plain, Looked::Reserve(SLOT_0))),
         NONE,
     ),
     Asks(
         Ask::Submit(Kind::Plain),
-        Ok(Did::Submit(T1, Kind::Plain, Looked::Queue)),
+        Ok(Did::Submit(TASK_1, Kind::Plain, Looked::Queue)),
         NONE,
     ),
     Asks(
         Ask::Submit(Kind::Future),
-        Ok(Did::Submit(T2, Kind::Future, Looked::Queue)),
+        Ok(Did::Submit(TASK_2, Kind::Future, Looked::Queue)),
         NONE,
     ),
     Asks(
         Ask::Submit(Kind::Group(1)),
-        Ok(Did::Submit(T3, Kind::Group(1), Looked::Queue)),
+        Ok(Did::Submit(TASK_3, Kind::Group(1), Looked::Queue)),
         NONE,
     ),
-    Asks(Ask::Offer(T1), Ok(Did::Offer(T1, Offered::Queued)), NONE),
-    Asks(Ask::Second(T1), Ok(Did::Second(T1, Seconded::Stay)), NONE),
-    Asks(Ask::Offer(T2), Ok(Did::Offer(T2, Offered::Full)), NONE),
-    Asks(Ask::Grow(T2), Ok(Did::Grow(T2, Grown::Reserve(W1))), NONE),
-    Asks(Ask::Offer(T3), Ok(Did::Offer(T3, Offered::Full)), NONE),
-    Asks(Ask::Grow(T3), Ok(Did::Grow(T3, Grown::Refuse)), NONE),
     Asks(
-        Ask::Verdict(T3, Verdict::DiscardOldest),
-        Ok(Did::Verdict(T3, Verdict::DiscardOldest, Ruled::RetryDrop(T1))),
+        Ask::Offer(TASK_1),
+        Ok(Did::Offer(TASK_1, Offered::Queued)),
+        NONE,
+    ),
+    Asks(
+        Ask::Second(TASK_1),
+        Ok(Did::Second(TASK_1, Seconded::Stay)),
+        NONE,
+    ),
+    Asks(
+        Ask::Offer(TASK_2),
+        Ok(Did::Offer(TASK_2, Offered::Full)),
+        NONE,
+    ),
+    Asks(
+        Ask::Grow(TASK_2),
+        Ok(Did::Grow(TASK_2, Grown::Reserve(SLOT_1))),
+        NONE,
+    ),
+    Asks(
+        Ask::Offer(TASK_3),
+        Ok(Did::Offer(TASK_3, Offered::Full)),
+        NONE,
+    ),
+    Asks(
+        Ask::Grow(TASK_3),
+        Ok(Did::Grow(TASK_3, Grown::Refuse)),
+        NONE,
+    ),
+    Asks(
+        Ask::Verdict(TASK_3, Verdict::DiscardOldest),
+        Ok(Did::Verdict(TASK_3, Verdict::DiscardOldest, Ruled::RetryDrop(TASK_1))),
         (None, Some(11), None),
     ),
-    Asks(Ask::Look(T3), Ok(Did::Look(T3, Looked::Queue)), NONE),
-    Asks(Ask::Offer(T3), Ok(Did::Offer(T3, Offered::Queued)), NONE),
     Asks(
-        Ask::Submit(Kind::Future),
-        Ok(Did::Submit(T4, Kind::Future, Looked::Queue)),
+        Ask::Look(TASK_3),
+        Ok(Did::Look(TASK_3, Looked::Queue)),
         NONE,
     ),
-    Asks(Ask::Offer(T4), Ok(Did::Offer(T4, Offered::Full)), NONE),
-    Asks(Ask::Grow(T4), Ok(Did::Grow(T4, Grown::Refuse)), NONE),
     Asks(
-        Ask::Verdict(T4, Verdict::CallerRuns),
-        Ok(Did::Verdict(T4, Verdict::CallerRuns, Ruled::Caller)),
-        P4,
+        Ask::Offer(TASK_3),
+        Ok(Did::Offer(TASK_3, Offered::Queued)),
+        NONE,
     ),
     Asks(
-        Ask::CallerEnd(T4, Ok(1001)),
+        Ask::Submit(Kind::Future),
+        Ok(Did::Submit(TASK_4, Kind::Future, Looked::Queue)),
+        NONE,
+    ),
+    Asks(
+        Ask::Offer(TASK_4),
+        Ok(Did::Offer(TASK_4, Offered::Full)),
+        NONE,
+    ),
+    Asks(
+        Ask::Grow(TASK_4),
+        Ok(Did::Grow(TASK_4, Grown::Refuse)),
+        NONE,
+    ),
+    Asks(
+        Ask::Verdict(TASK_4, Verdict::CallerRuns),
+        Ok(Did::Verdict(TASK_4, Verdict::CallerRuns, Ruled::Caller)),
+        PAYLOAD_4,
+    ),
+    Asks(
+        Ask::CallerEnd(TASK_4, Ok(1001)),
         Err(PoolError::TornRecord),
         NONE,
     ),
     Asks(
-        Ask::CallerEnd(T4, Ok(-9)),
-        Ok(Did::CallerEnd(T4, Ok(-9))),
+        Ask::CallerEnd(TASK_4, Ok(-9)),
+        Ok(Did::CallerEnd(TASK_4, Ok(-9))),
         NONE,
     ),
-    Tells(T0, Place::Held(W0), None, Err(PoolError::NotFuture)),
+    Tells(TASK_0, Place::Held(SLOT_0), None, Err(PoolError::NotFuture)),
     Tells(
-        T1,
+        TASK_1,
         Place::Gone,
         Some(Fate::Discarded),
         Err(PoolError::NotFuture),
     ),
-    Tells(T2, Place::Held(W1), None, Ok(None)),
-    Tells(T3, Place::Queued, None, Ok(None)),
-    Tells(T4, Place::Gone, Some(Fate::RunByCaller), Ok(Some(-9))),
+    Tells(TASK_2, Place::Held(SLOT_1), None, Ok(None)),
+    Tells(TASK_3, Place::Queued, None, Ok(None)),
+    Tells(TASK_4, Place::Gone, Some(Fate::RunByCaller), Ok(Some(-9))),
     Reads(
         RunState::Running,
         0,
@@ -284,37 +336,66 @@ fn submits(rt: HostRuntime) {
 }
 
 const HANDS_TO_THE_LONGEST_IDLE: [Act; 19] = [
-    Asks(Ask::Prestart, Ok(Did::Prestart(Some(W0))), NONE),
-    Asks(Ask::Prestart, Ok(Did::Prestart(Some(W1))), NONE),
+    Asks(Ask::Prestart, Ok(Did::Prestart(Some(SLOT_0))), NONE),
+    Asks(Ask::Prestart, Ok(Did::Prestart(Some(SLOT_1))), NONE),
     Asks(Ask::Prestart, Ok(Did::Prestart(None)), NONE),
-    Asks(Ask::Open(W0), Ok(Did::Open(W0, Opened::Live)), NONE),
-    Asks(Ask::Open(W1), Ok(Did::Open(W1, Opened::Live)), NONE),
-    Asks(Ask::Take(W1), Ok(Did::Take(W1, Took::Idle)), NONE),
-    Asks(Ask::Take(W0), Ok(Did::Take(W0, Took::Idle)), NONE),
+    Asks(Ask::Open(SLOT_0), Ok(Did::Open(SLOT_0, Opened::Live)), NONE),
+    Asks(Ask::Open(SLOT_1), Ok(Did::Open(SLOT_1, Opened::Live)), NONE),
+    Asks(Ask::Take(SLOT_1), Ok(Did::Take(SLOT_1, Took::Idle)), NONE),
+    Asks(Ask::Take(SLOT_0), Ok(Did::Take(SLOT_0, Took::Idle)), NONE),
     Asks(
         Ask::Submit(Kind::Plain),
-        Ok(Did::Submit(T0, Kind::Plain, Looked::Queue)),
+        Ok(Did::Submit(TASK_0, Kind::Plain, Looked::Queue)),
         NONE,
     ),
     Asks(
         Ask::Submit(Kind::Plain),
-        Ok(Did::Submit(T1, Kind::Plain, Looked::Queue)),
+        Ok(Did::Submit(TASK_1, Kind::Plain, Looked::Queue)),
         NONE,
     ),
     Asks(
         Ask::Submit(Kind::Plain),
-        Ok(Did::Submit(T2, Kind::Plain, Looked::Queue)),
+        Ok(Did::Submit(TASK_2, Kind::Plain, Looked::Queue)),
         NONE,
     ),
-    Asks(Ask::Offer(T0), Ok(Did::Offer(T0, Offered::Hand(W1))), NONE),
-    Asks(Ask::Offer(T1), Ok(Did::Offer(T1, Offered::Hand(W0))), NONE),
-    Asks(Ask::Offer(T2), Ok(Did::Offer(T2, Offered::Full)), NONE),
-    Asks(Ask::Second(T0), Ok(Did::Second(T0, Seconded::Stay)), NONE),
-    Asks(Ask::Take(W1), Ok(Did::Take(W1, Took::Held(T0))), NONE),
-    Asks(Ask::Begin(W1), Ok(Did::Begin(W1, Started::Run(T0))), P0),
-    Tells(T0, Place::Running(W1), None, Err(PoolError::NotFuture)),
-    Tells(T1, Place::Held(W0), None, Err(PoolError::NotFuture)),
-    Tells(T2, Place::ToGrow, None, Err(PoolError::NotFuture)),
+    Asks(
+        Ask::Offer(TASK_0),
+        Ok(Did::Offer(TASK_0, Offered::Hand(SLOT_1))),
+        NONE,
+    ),
+    Asks(
+        Ask::Offer(TASK_1),
+        Ok(Did::Offer(TASK_1, Offered::Hand(SLOT_0))),
+        NONE,
+    ),
+    Asks(
+        Ask::Offer(TASK_2),
+        Ok(Did::Offer(TASK_2, Offered::Full)),
+        NONE,
+    ),
+    Asks(
+        Ask::Second(TASK_0),
+        Ok(Did::Second(TASK_0, Seconded::Stay)),
+        NONE,
+    ),
+    Asks(
+        Ask::Take(SLOT_1),
+        Ok(Did::Take(SLOT_1, Took::Held(TASK_0))),
+        NONE,
+    ),
+    Asks(
+        Ask::Begin(SLOT_1),
+        Ok(Did::Begin(SLOT_1, Started::Run(TASK_0))),
+        PAYLOAD_0,
+    ),
+    Tells(
+        TASK_0,
+        Place::Running(SLOT_1),
+        None,
+        Err(PoolError::NotFuture),
+    ),
+    Tells(TASK_1, Place::Held(SLOT_0), None, Err(PoolError::NotFuture)),
+    Tells(TASK_2, Place::ToGrow, None, Err(PoolError::NotFuture)),
 ];
 
 /// A handoff goes to the worker that is idle longest, and to none where none is idle.
@@ -326,41 +407,53 @@ fn hands_to_the_longest_idle(rt: HostRuntime) {
 const LOOKS_TWICE: [Act; 12] = [
     Asks(
         Ask::Submit(Kind::Plain),
-        Ok(Did::Submit(T0, Kind::Plain, Looked::Queue)),
+        Ok(Did::Submit(TASK_0, Kind::Plain, Looked::Queue)),
         NONE,
     ),
     Asks(
         Ask::Submit(Kind::Plain),
-        Ok(Did::Submit(T1, Kind::Plain, Looked::Queue)),
+        Ok(Did::Submit(TASK_1, Kind::Plain, Looked::Queue)),
         NONE,
     ),
-    Asks(Ask::Offer(T0), Ok(Did::Offer(T0, Offered::Queued)), NONE),
-    Asks(Ask::Offer(T1), Ok(Did::Offer(T1, Offered::Queued)), NONE),
     Asks(
-        Ask::Second(T0),
-        Ok(Did::Second(T0, Seconded::StayReserve(W0))),
+        Ask::Offer(TASK_0),
+        Ok(Did::Offer(TASK_0, Offered::Queued)),
+        NONE,
+    ),
+    Asks(
+        Ask::Offer(TASK_1),
+        Ok(Did::Offer(TASK_1, Offered::Queued)),
+        NONE,
+    ),
+    Asks(
+        Ask::Second(TASK_0),
+        Ok(Did::Second(TASK_0, Seconded::StayReserve(SLOT_0))),
         NONE,
     ),
     Asks(Ask::Shutdown, Ok(Did::Shutdown), NONE),
-    Asks(Ask::Second(T1), Ok(Did::Second(T1, Seconded::Back)), NONE),
     Asks(
-        Ask::Verdict(T1, Verdict::Abort),
-        Ok(Did::Verdict(T1, Verdict::Abort, Ruled::Rejected)),
-        P1,
+        Ask::Second(TASK_1),
+        Ok(Did::Second(TASK_1, Seconded::Back)),
+        NONE,
+    ),
+    Asks(
+        Ask::Verdict(TASK_1, Verdict::Abort),
+        Ok(Did::Verdict(TASK_1, Verdict::Abort, Ruled::Rejected)),
+        PAYLOAD_1,
     ),
     Asks(
         Ask::Submit(Kind::Plain),
-        Ok(Did::Submit(T2, Kind::Plain, Looked::Refuse)),
+        Ok(Did::Submit(TASK_2, Kind::Plain, Looked::Refuse)),
         NONE,
     ),
-    Tells(T0, Place::Queued, None, Err(PoolError::NotFuture)),
+    Tells(TASK_0, Place::Queued, None, Err(PoolError::NotFuture)),
     Tells(
-        T1,
+        TASK_1,
         Place::Gone,
         Some(Fate::Rejected),
         Err(PoolError::NotFuture),
     ),
-    Tells(T2, Place::Refused, None, Err(PoolError::NotFuture)),
+    Tells(TASK_2, Place::Refused, None, Err(PoolError::NotFuture)),
 ];
 
 /// The second look reserves a slot where there is none, and gives a task back where the pool was shut down meanwhile.
@@ -370,27 +463,35 @@ fn looks_twice(rt: HostRuntime) {
 }
 
 const JUDGES_LATE: [Act; 7] = [
-    Asks(Ask::Cancel(T0, false), Ok(Did::Cancel(T0, false, true)), P0),
     Asks(
-        Ask::Verdict(T1, Verdict::DiscardOldest),
-        Ok(Did::Verdict(T1, Verdict::DiscardOldest, Ruled::RetryDrop(T0))),
+        Ask::Cancel(TASK_0, false),
+        Ok(Did::Cancel(TASK_0, false, true)),
+        PAYLOAD_0,
+    ),
+    Asks(
+        Ask::Verdict(TASK_1, Verdict::DiscardOldest),
+        Ok(Did::Verdict(TASK_1, Verdict::DiscardOldest, Ruled::RetryDrop(TASK_0))),
         NONE,
     ),
     Asks(Ask::Shutdown, Ok(Did::Shutdown), NONE),
-    Asks(Ask::Look(T1), Ok(Did::Look(T1, Looked::Refuse)), NONE),
     Asks(
-        Ask::Verdict(T1, Verdict::CallerRuns),
-        Ok(Did::Verdict(T1, Verdict::CallerRuns, Ruled::Discarded)),
-        P1,
+        Ask::Look(TASK_1),
+        Ok(Did::Look(TASK_1, Looked::Refuse)),
+        NONE,
+    ),
+    Asks(
+        Ask::Verdict(TASK_1, Verdict::CallerRuns),
+        Ok(Did::Verdict(TASK_1, Verdict::CallerRuns, Ruled::Discarded)),
+        PAYLOAD_1,
     ),
     Tells(
-        T0,
+        TASK_0,
         Place::Gone,
         Some(Fate::Cancelled),
         Err(PoolError::CancelledTask),
     ),
     Tells(
-        T1,
+        TASK_1,
         Place::Gone,
         Some(Fate::Discarded),
         Err(PoolError::Lost(Fate::Discarded)),
@@ -404,10 +505,14 @@ fn judges_late(rt: HostRuntime) {
 }
 
 const SKIPS: [Act; 2] = [
-    Asks(Ask::Cancel(T1, true), Ok(Did::Cancel(T1, true, true)), P1),
     Asks(
-        Ask::Verdict(T1, Verdict::CallerRuns),
-        Ok(Did::Verdict(T1, Verdict::CallerRuns, Ruled::Skip)),
+        Ask::Cancel(TASK_1, true),
+        Ok(Did::Cancel(TASK_1, true, true)),
+        PAYLOAD_1,
+    ),
+    Asks(
+        Ask::Verdict(TASK_1, Verdict::CallerRuns),
+        Ok(Did::Verdict(TASK_1, Verdict::CallerRuns, Ruled::Skip)),
         NONE,
     ),
 ];
@@ -419,31 +524,39 @@ fn skips(rt: HostRuntime) {
 }
 
 const REFUSES_SUBMITTERS: [Act; 13] = [
-    Asks(Ask::Look(T9), Err(PoolError::UnknownTask), NONE),
-    Asks(Ask::Offer(T9), Err(PoolError::UnknownTask), NONE),
-    Asks(Ask::Second(T9), Err(PoolError::UnknownTask), NONE),
-    Asks(Ask::Grow(T9), Err(PoolError::UnknownTask), NONE),
+    Asks(Ask::Look(TASK_9), Err(PoolError::UnknownTask), NONE),
+    Asks(Ask::Offer(TASK_9), Err(PoolError::UnknownTask), NONE),
+    Asks(Ask::Second(TASK_9), Err(PoolError::UnknownTask), NONE),
+    Asks(Ask::Grow(TASK_9), Err(PoolError::UnknownTask), NONE),
     Asks(
-        Ask::Verdict(T9, Verdict::Abort),
+        Ask::Verdict(TASK_9, Verdict::Abort),
         Err(PoolError::UnknownTask),
         NONE,
     ),
-    Asks(Ask::CallerEnd(T9, Ok(0)), Err(PoolError::UnknownTask), NONE),
-    Asks(Ask::Look(T1), Err(PoolError::NotThere), NONE),
-    Asks(Ask::Offer(T1), Err(PoolError::NotThere), NONE),
-    Asks(Ask::Second(T1), Err(PoolError::NotThere), NONE),
-    Asks(Ask::Grow(T1), Err(PoolError::NotThere), NONE),
     Asks(
-        Ask::Verdict(T0, Verdict::Abort),
+        Ask::CallerEnd(TASK_9, Ok(0)),
+        Err(PoolError::UnknownTask),
+        NONE,
+    ),
+    Asks(Ask::Look(TASK_1), Err(PoolError::NotThere), NONE),
+    Asks(Ask::Offer(TASK_1), Err(PoolError::NotThere), NONE),
+    Asks(Ask::Second(TASK_1), Err(PoolError::NotThere), NONE),
+    Asks(Ask::Grow(TASK_1), Err(PoolError::NotThere), NONE),
+    Asks(
+        Ask::Verdict(TASK_0, Verdict::Abort),
         Err(PoolError::NotThere),
         NONE,
     ),
     Asks(
-        Ask::Verdict(T1, Verdict::Discard),
+        Ask::Verdict(TASK_1, Verdict::Discard),
         Err(PoolError::NotThere),
         NONE,
     ),
-    Asks(Ask::CallerEnd(T1, Ok(0)), Err(PoolError::NotThere), NONE),
+    Asks(
+        Ask::CallerEnd(TASK_1, Ok(0)),
+        Err(PoolError::NotThere),
+        NONE,
+    ),
 ];
 
 /// No such task, the wrong moment of one, or a verdict that the policy does not give.
@@ -455,35 +568,63 @@ fn refuses_submitters(rt: HostRuntime) {
 const RETRIES: [Act; 6] = [
     Asks(
         Ask::Submit(Kind::Plain),
-        Ok(Did::Submit(T0, Kind::Plain, Looked::Queue)),
+        Ok(Did::Submit(TASK_0, Kind::Plain, Looked::Queue)),
         NONE,
     ),
-    Asks(Ask::Offer(T0), Ok(Did::Offer(T0, Offered::Full)), NONE),
-    Asks(Ask::Grow(T0), Ok(Did::Grow(T0, Grown::Reserve(W0))), NONE),
+    Asks(
+        Ask::Offer(TASK_0),
+        Ok(Did::Offer(TASK_0, Offered::Full)),
+        NONE,
+    ),
+    Asks(
+        Ask::Grow(TASK_0),
+        Ok(Did::Grow(TASK_0, Grown::Reserve(SLOT_0))),
+        NONE,
+    ),
     Asks(
         Ask::Submit(Kind::Plain),
-        Ok(Did::Submit(T1, Kind::Plain, Looked::Queue)),
+        Ok(Did::Submit(TASK_1, Kind::Plain, Looked::Queue)),
         NONE,
     ),
-    Asks(Ask::Offer(T1), Ok(Did::Offer(T1, Offered::Full)), NONE),
-    Asks(Ask::Grow(T1), Ok(Did::Grow(T1, Grown::Refuse)), NONE),
+    Asks(
+        Ask::Offer(TASK_1),
+        Ok(Did::Offer(TASK_1, Offered::Full)),
+        NONE,
+    ),
+    Asks(
+        Ask::Grow(TASK_1),
+        Ok(Did::Grow(TASK_1, Grown::Refuse)),
+        NONE,
+    ),
 ];
 
 const RETRIED_ONCE: [Act; 4] = [
     Asks(
-        Ask::Verdict(T1, Verdict::DiscardOldest),
-        Ok(Did::Verdict(T1, Verdict::DiscardOldest, Ruled::Retry)),
+        Ask::Verdict(TASK_1, Verdict::DiscardOldest),
+        Ok(Did::Verdict(TASK_1, Verdict::DiscardOldest, Ruled::Retry)),
         NONE,
     ),
-    Asks(Ask::Look(T1), Ok(Did::Look(T1, Looked::Queue)), NONE),
-    Asks(Ask::Offer(T1), Ok(Did::Offer(T1, Offered::Full)), NONE),
-    Asks(Ask::Grow(T1), Ok(Did::Grow(T1, Grown::Refuse)), NONE),
+    Asks(
+        Ask::Look(TASK_1),
+        Ok(Did::Look(TASK_1, Looked::Queue)),
+        NONE,
+    ),
+    Asks(
+        Ask::Offer(TASK_1),
+        Ok(Did::Offer(TASK_1, Offered::Full)),
+        NONE,
+    ),
+    Asks(
+        Ask::Grow(TASK_1),
+        Ok(Did::Grow(TASK_1, Grown::Refuse)),
+        NONE,
+    ),
 ];
 
 const RETRIED_NO_MORE: [Act; 1] = [Asks(
-    Ask::Verdict(T1, Verdict::DiscardOldest),
-    Ok(Did::Verdict(T1, Verdict::DiscardOldest, Ruled::Discarded)),
-    P1,
+    Ask::Verdict(TASK_1, Verdict::DiscardOldest),
+    Ok(Did::Verdict(TASK_1, Verdict::DiscardOldest, Ruled::Discarded)),
+    PAYLOAD_1,
 )];
 
 /// A handoff has no head: its refused task is tried again as it is, and after 64 retries it is discarded.

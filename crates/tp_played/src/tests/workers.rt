@@ -1,7 +1,10 @@
 //! Workers' asks.
 
 use super::stage::Act::{self, Asks, Holds, Reads, Tells, Unknown};
-use super::stage::{BARE, NO_COUNTS, NONE, P0, P1, SMALL, T0, T1, T2, W0, W1, W9, plays};
+use super::stage::{
+    BARE, NO_COUNTS, NONE, PAYLOAD_0, PAYLOAD_1, SLOT_0, SLOT_1, SLOT_9, SMALL, TASK_0, TASK_1,
+    TASK_2, plays,
+};
 use tp_record::entries::{
     Ask, Did, Failed, Grown, Looked, Offered, Opened, Seconded, Started, Took,
 };
@@ -17,29 +20,54 @@ const LARGER: Config = Config {
 };
 
 const WORKS: [Act; 20] = [
-    Unknown(T0),
+    Unknown(TASK_0),
     Asks(
         Ask::Submit(Kind::Plain),
-        Ok(Did::Submit(T0, Kind::Plain, Looked::Reserve(W0))),
+        Ok(Did::Submit(TASK_0, Kind::Plain, Looked::Reserve(SLOT_0))),
         NONE,
     ),
-    Asks(Ask::Open(W0), Ok(Did::Open(W0, Opened::Live)), NONE),
-    Asks(Ask::Open(W0), Err(PoolError::NotThere), NONE),
-    Asks(Ask::Fail(W0), Err(PoolError::NotThere), NONE),
-    Asks(Ask::Begin(W0), Err(PoolError::NotThere), NONE),
-    Asks(Ask::Take(W0), Ok(Did::Take(W0, Took::Held(T0))), NONE),
-    Asks(Ask::Take(W0), Err(PoolError::NotThere), NONE),
-    Asks(Ask::Begin(W0), Ok(Did::Begin(W0, Started::Run(T0))), P0),
-    Asks(Ask::Begin(W0), Err(PoolError::NotThere), NONE),
-    Asks(Ask::Leave(W0), Err(PoolError::NotThere), NONE),
-    Asks(Ask::End(W0, Ok(1001)), Err(PoolError::TornRecord), NONE),
-    Asks(Ask::End(W0, Err(2)), Ok(Did::End(W0, T0, Err(2))), NONE),
-    Asks(Ask::End(W0, Ok(2)), Err(PoolError::NotThere), NONE),
-    Asks(Ask::Take(W0), Err(PoolError::NotThere), NONE),
-    Asks(Ask::Leave(W0), Ok(Did::Leave(W0, Some(W0))), NONE),
-    Asks(Ask::Fail(W0), Ok(Did::Fail(W0, Failed::Nothing)), NONE),
-    Tells(T0, Place::Gone, Some(Fate::Run), Err(PoolError::NotFuture)),
-    Unknown(T1),
+    Asks(Ask::Open(SLOT_0), Ok(Did::Open(SLOT_0, Opened::Live)), NONE),
+    Asks(Ask::Open(SLOT_0), Err(PoolError::NotThere), NONE),
+    Asks(Ask::Fail(SLOT_0), Err(PoolError::NotThere), NONE),
+    Asks(Ask::Begin(SLOT_0), Err(PoolError::NotThere), NONE),
+    Asks(
+        Ask::Take(SLOT_0),
+        Ok(Did::Take(SLOT_0, Took::Held(TASK_0))),
+        NONE,
+    ),
+    Asks(Ask::Take(SLOT_0), Err(PoolError::NotThere), NONE),
+    Asks(
+        Ask::Begin(SLOT_0),
+        Ok(Did::Begin(SLOT_0, Started::Run(TASK_0))),
+        PAYLOAD_0,
+    ),
+    Asks(Ask::Begin(SLOT_0), Err(PoolError::NotThere), NONE),
+    Asks(Ask::Leave(SLOT_0), Err(PoolError::NotThere), NONE),
+    Asks(Ask::End(SLOT_0, Ok(1001)), Err(PoolError::TornRecord), NONE),
+    Asks(
+        Ask::End(SLOT_0, Err(2)),
+        Ok(Did::End(SLOT_0, TASK_0, Err(2))),
+        NONE,
+    ),
+    Asks(Ask::End(SLOT_0, Ok(2)), Err(PoolError::NotThere), NONE),
+    Asks(Ask::Take(SLOT_0), Err(PoolError::NotThere), NONE),
+    Asks(
+        Ask::Leave(SLOT_0),
+        Ok(Did::Leave(SLOT_0, Some(SLOT_0))),
+        NONE,
+    ),
+    Asks(
+        Ask::Fail(SLOT_0),
+        Ok(Did::Fail(SLOT_0, Failed::Nothing)),
+        NONE,
+    ),
+    Tells(
+        TASK_0,
+        Place::Gone,
+        Some(Fate::Run),
+        Err(PoolError::NotFuture),
+    ),
+    Unknown(TASK_1),
     Reads(
         RunState::Running,
         0,
@@ -60,12 +88,12 @@ fn works(rt: HostRuntime) {
 }
 
 const REFUSES_WORKERS: [Act; 7] = [
-    Asks(Ask::Open(W9), Err(PoolError::UnknownSlot), NONE),
-    Asks(Ask::Fail(W9), Err(PoolError::UnknownSlot), NONE),
-    Asks(Ask::Take(W9), Err(PoolError::UnknownSlot), NONE),
-    Asks(Ask::Begin(W9), Err(PoolError::UnknownSlot), NONE),
-    Asks(Ask::End(W9, Ok(0)), Err(PoolError::UnknownSlot), NONE),
-    Asks(Ask::Leave(W9), Err(PoolError::UnknownSlot), NONE),
+    Asks(Ask::Open(SLOT_9), Err(PoolError::UnknownSlot), NONE),
+    Asks(Ask::Fail(SLOT_9), Err(PoolError::UnknownSlot), NONE),
+    Asks(Ask::Take(SLOT_9), Err(PoolError::UnknownSlot), NONE),
+    Asks(Ask::Begin(SLOT_9), Err(PoolError::UnknownSlot), NONE),
+    Asks(Ask::End(SLOT_9, Ok(0)), Err(PoolError::UnknownSlot), NONE),
+    Asks(Ask::Leave(SLOT_9), Err(PoolError::UnknownSlot), NONE),
     Reads(RunState::Running, 0, NO_COUNTS),
 ];
 
@@ -78,36 +106,77 @@ fn refuses_workers(rt: HostRuntime) {
 const WORKS_ON_FUTURES: [Act; 16] = [
     Asks(
         Ask::Submit(Kind::Future),
-        Ok(Did::Submit(T0, Kind::Future, Looked::Queue)),
+        Ok(Did::Submit(TASK_0, Kind::Future, Looked::Queue)),
         NONE,
     ),
-    Asks(Ask::Offer(T0), Ok(Did::Offer(T0, Offered::Queued)), NONE),
     Asks(
-        Ask::Second(T0),
-        Ok(Did::Second(T0, Seconded::StayReserve(W0))),
+        Ask::Offer(TASK_0),
+        Ok(Did::Offer(TASK_0, Offered::Queued)),
         NONE,
     ),
-    Asks(Ask::Open(W0), Ok(Did::Open(W0, Opened::Live)), NONE),
-    Asks(Ask::Take(W0), Ok(Did::Take(W0, Took::Head(T0))), NONE),
-    Asks(Ask::Cancel(T0, true), Ok(Did::Cancel(T0, true, true)), P0),
-    Asks(Ask::Begin(W0), Ok(Did::Begin(W0, Started::Skip(T0))), NONE),
+    Asks(
+        Ask::Second(TASK_0),
+        Ok(Did::Second(TASK_0, Seconded::StayReserve(SLOT_0))),
+        NONE,
+    ),
+    Asks(Ask::Open(SLOT_0), Ok(Did::Open(SLOT_0, Opened::Live)), NONE),
+    Asks(
+        Ask::Take(SLOT_0),
+        Ok(Did::Take(SLOT_0, Took::Head(TASK_0))),
+        NONE,
+    ),
+    Asks(
+        Ask::Cancel(TASK_0, true),
+        Ok(Did::Cancel(TASK_0, true, true)),
+        PAYLOAD_0,
+    ),
+    Asks(
+        Ask::Begin(SLOT_0),
+        Ok(Did::Begin(SLOT_0, Started::Skip(TASK_0))),
+        NONE,
+    ),
     Asks(
         Ask::Submit(Kind::Future),
-        Ok(Did::Submit(T1, Kind::Future, Looked::Queue)),
+        Ok(Did::Submit(TASK_1, Kind::Future, Looked::Queue)),
         NONE,
     ),
-    Asks(Ask::Offer(T1), Ok(Did::Offer(T1, Offered::Queued)), NONE),
-    Asks(Ask::Second(T1), Ok(Did::Second(T1, Seconded::Stay)), NONE),
-    Asks(Ask::Take(W0), Ok(Did::Take(W0, Took::Head(T1))), NONE),
-    Asks(Ask::Begin(W0), Ok(Did::Begin(W0, Started::Run(T1))), P1),
-    Asks(Ask::End(W0, Err(4)), Ok(Did::End(W0, T1, Err(4))), NONE),
+    Asks(
+        Ask::Offer(TASK_1),
+        Ok(Did::Offer(TASK_1, Offered::Queued)),
+        NONE,
+    ),
+    Asks(
+        Ask::Second(TASK_1),
+        Ok(Did::Second(TASK_1, Seconded::Stay)),
+        NONE,
+    ),
+    Asks(
+        Ask::Take(SLOT_0),
+        Ok(Did::Take(SLOT_0, Took::Head(TASK_1))),
+        NONE,
+    ),
+    Asks(
+        Ask::Begin(SLOT_0),
+        Ok(Did::Begin(SLOT_0, Started::Run(TASK_1))),
+        PAYLOAD_1,
+    ),
+    Asks(
+        Ask::End(SLOT_0, Err(4)),
+        Ok(Did::End(SLOT_0, TASK_1, Err(4))),
+        NONE,
+    ),
     Tells(
-        T0,
+        TASK_0,
         Place::Gone,
         Some(Fate::Cancelled),
         Err(PoolError::CancelledTask),
     ),
-    Tells(T1, Place::Gone, Some(Fate::Run), Err(PoolError::Faulted(4))),
+    Tells(
+        TASK_1,
+        Place::Gone,
+        Some(Fate::Run),
+        Err(PoolError::Faulted(4)),
+    ),
     Reads(
         RunState::Running,
         0,
@@ -131,15 +200,15 @@ fn works_on_futures(rt: HostRuntime) {
 
 const TIMES_OUT: [Act; 11] = [
     Asks(Ask::CoreTimeout(true), Ok(Did::CoreTimeout(true)), NONE),
-    Asks(Ask::Prestart, Ok(Did::Prestart(Some(W0))), NONE),
-    Asks(Ask::Open(W0), Ok(Did::Open(W0, Opened::Live)), NONE),
+    Asks(Ask::Prestart, Ok(Did::Prestart(Some(SLOT_0))), NONE),
+    Asks(Ask::Open(SLOT_0), Ok(Did::Open(SLOT_0, Opened::Live)), NONE),
     Asks(Ask::Tick(2), Ok(Did::Tick(2)), NONE),
-    Asks(Ask::Take(W0), Ok(Did::Take(W0, Took::Idle)), NONE),
+    Asks(Ask::Take(SLOT_0), Ok(Did::Take(SLOT_0, Took::Idle)), NONE),
     Asks(Ask::Tick(6), Ok(Did::Tick(6)), NONE),
-    Asks(Ask::Take(W0), Err(PoolError::NotThere), NONE),
+    Asks(Ask::Take(SLOT_0), Err(PoolError::NotThere), NONE),
     Asks(Ask::Tick(7), Ok(Did::Tick(7)), NONE),
-    Asks(Ask::Take(W0), Ok(Did::Take(W0, Took::Leave)), NONE),
-    Asks(Ask::Take(W0), Err(PoolError::UnknownSlot), NONE),
+    Asks(Ask::Take(SLOT_0), Ok(Did::Take(SLOT_0, Took::Leave)), NONE),
+    Asks(Ask::Take(SLOT_0), Err(PoolError::UnknownSlot), NONE),
     Reads(
         RunState::Running,
         7,
@@ -159,49 +228,81 @@ fn times_out(rt: HostRuntime) {
 const FAILS_AND_GIVES_UP: [Act; 20] = [
     Asks(
         Ask::Submit(Kind::Plain),
-        Ok(Did::Submit(T0, Kind::Plain, Looked::Reserve(W0))),
+        Ok(Did::Submit(TASK_0, Kind::Plain, Looked::Reserve(SLOT_0))),
         NONE,
     ),
-    Asks(Ask::Fail(W0), Ok(Did::Fail(W0, Failed::Offer(T0))), NONE),
-    Asks(Ask::Offer(T0), Ok(Did::Offer(T0, Offered::Queued)), NONE),
     Asks(
-        Ask::Second(T0),
-        Ok(Did::Second(T0, Seconded::StayReserve(W0))),
+        Ask::Fail(SLOT_0),
+        Ok(Did::Fail(SLOT_0, Failed::Offer(TASK_0))),
+        NONE,
+    ),
+    Asks(
+        Ask::Offer(TASK_0),
+        Ok(Did::Offer(TASK_0, Offered::Queued)),
+        NONE,
+    ),
+    Asks(
+        Ask::Second(TASK_0),
+        Ok(Did::Second(TASK_0, Seconded::StayReserve(SLOT_0))),
+        NONE,
+    ),
+    Asks(
+        Ask::Submit(Kind::Plain),
+        Ok(Did::Submit(TASK_1, Kind::Plain, Looked::Queue)),
+        NONE,
+    ),
+    Asks(
+        Ask::Offer(TASK_1),
+        Ok(Did::Offer(TASK_1, Offered::Full)),
+        NONE,
+    ),
+    Asks(
+        Ask::Grow(TASK_1),
+        Ok(Did::Grow(TASK_1, Grown::Reserve(SLOT_1))),
+        NONE,
+    ),
+    Holds(SLOT_0, None),
+    Holds(SLOT_1, Some(TASK_1)),
+    Holds(SLOT_9, None),
+    Asks(
+        Ask::Fail(SLOT_1),
+        Ok(Did::Fail(SLOT_1, Failed::Refuse(TASK_1))),
         NONE,
     ),
     Asks(
         Ask::Submit(Kind::Plain),
-        Ok(Did::Submit(T1, Kind::Plain, Looked::Queue)),
+        Ok(Did::Submit(TASK_2, Kind::Plain, Looked::Queue)),
         NONE,
     ),
-    Asks(Ask::Offer(T1), Ok(Did::Offer(T1, Offered::Full)), NONE),
-    Asks(Ask::Grow(T1), Ok(Did::Grow(T1, Grown::Reserve(W1))), NONE),
-    Holds(W0, None),
-    Holds(W1, Some(T1)),
-    Holds(W9, None),
-    Asks(Ask::Fail(W1), Ok(Did::Fail(W1, Failed::Refuse(T1))), NONE),
     Asks(
-        Ask::Submit(Kind::Plain),
-        Ok(Did::Submit(T2, Kind::Plain, Looked::Queue)),
+        Ask::Offer(TASK_2),
+        Ok(Did::Offer(TASK_2, Offered::Full)),
         NONE,
     ),
-    Asks(Ask::Offer(T2), Ok(Did::Offer(T2, Offered::Full)), NONE),
-    Asks(Ask::Grow(T2), Ok(Did::Grow(T2, Grown::Reserve(W1))), NONE),
-    Asks(Ask::Stop, Ok(Did::Stop(1)), P0),
     Asks(
-        Ask::Open(W1),
-        Ok(Did::Open(W1, Opened::GivenUpRefuse(T2))),
+        Ask::Grow(TASK_2),
+        Ok(Did::Grow(TASK_2, Grown::Reserve(SLOT_1))),
         NONE,
     ),
-    Asks(Ask::Open(W0), Ok(Did::Open(W0, Opened::GivenUp)), NONE),
+    Asks(Ask::Stop, Ok(Did::Stop(1)), PAYLOAD_0),
+    Asks(
+        Ask::Open(SLOT_1),
+        Ok(Did::Open(SLOT_1, Opened::GivenUpRefuse(TASK_2))),
+        NONE,
+    ),
+    Asks(
+        Ask::Open(SLOT_0),
+        Ok(Did::Open(SLOT_0, Opened::GivenUp)),
+        NONE,
+    ),
     Tells(
-        T0,
+        TASK_0,
         Place::Gone,
         Some(Fate::HandedBack),
         Err(PoolError::NotFuture),
     ),
-    Tells(T1, Place::Refused, None, Err(PoolError::NotFuture)),
-    Tells(T2, Place::Refused, None, Err(PoolError::NotFuture)),
+    Tells(TASK_1, Place::Refused, None, Err(PoolError::NotFuture)),
+    Tells(TASK_2, Place::Refused, None, Err(PoolError::NotFuture)),
 ];
 
 /// A slot without a worker: its task is offered, or refused where it has no core slot. One that opens too late is given up.
