@@ -3,3 +3,4 @@ pub mod Readings
 pub mod Seen
 pub mod Stepped
 pub mod Steps
+pub mod Payloads
