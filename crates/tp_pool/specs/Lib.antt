@@ -2,4 +2,4 @@ pub mod Answers
 pub mod Names
 pub mod Passes
 pub mod Records
-pub mod Wakes
+

@@ -7,8 +7,8 @@ ghost use Rattle.tp_record.specs.Step.{Legal};
 ghost use Rattle.tp_laws.specs.Lawful.{IsLawful};
 ghost use Rattle.tp_pool.specs.Passes.{IsUnended};
 
-use crate::edges::Edge;
-use crate::jobs::Job;
+use tp_callbacks::edges::Edge;
+use tp_callbacks::jobs::Job;
 use crate::locked::{Core, all_seen_is_published};
 use crate::names::PoolNaming;
 use crate::pool::{Hold, PoolOf};

@@ -5,8 +5,8 @@ ghost use Rattle.tp_pool.specs.Answers.{is_removed};
 ghost use Rattle.tp_pool.specs.Passes.{AddsStep, AddsNone, IsBare, Refuses};
 
 use crate::answers::Removal;
-use crate::edges::Edge;
-use crate::jobs::Job;
+use tp_callbacks::edges::Edge;
+use tp_callbacks::jobs::Job;
 use crate::names::PoolNaming;
 use crate::pool::PoolOf;
 use std::sync::Wait;

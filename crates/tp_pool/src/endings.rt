@@ -3,8 +3,8 @@ ghost use Rattle.std.specs.Prelude.{◌≡◌, ◌⊎◌, ◌≤◌, [], ◌∷�
 ghost use Rattle.tp_pool.specs.Passes.{Adds, AddsNone, AddsAndEnds, Refuses, tidied, ended};
 
 use crate::answers::Drained;
-use crate::edges::Edge;
-use crate::jobs::Job;
+use tp_callbacks::edges::Edge;
+use tp_callbacks::jobs::Job;
 use crate::names::PoolNaming;
 use crate::pool::PoolOf;
 use std::sync::Wait;

@@ -8,16 +8,11 @@
 pub mod answers;
 pub mod closing;
 pub mod controls;
-pub mod edges;
 pub mod endings;
-pub mod factories;
-pub mod gates;
-pub mod handlers;
-pub mod hooks;
-pub mod jobs;
 pub mod lock;
 mod locked;
 pub mod names;
 pub mod pool;
 mod shared;
-mod wakes;
+
+pub use tp_callbacks::{edges, factories, gates, handlers, hooks, jobs};

@@ -12,7 +12,7 @@ ghost use Rattle.tp_pool.specs.Records.{AtSome};
 
 use crate::answers::Drained;
 use crate::names::PoolNaming;
-use crate::wakes::changes_end;
+use tp_waking::ends::changes_end;
 use std::alloc::Global;
 use std::marker::Model;
 use tp_book::book::{Book, Report, Stepped, Unclosed};

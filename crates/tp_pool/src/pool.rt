@@ -5,12 +5,12 @@ ghost use Rattle.tp_types.specs.RunState.{state_rank};
 ghost use Rattle.tp_record.specs.State.{counts as counts_of};
 ghost use Rattle.tp_pool.specs.Records.{AtSome};
 
-use crate::edges::{Boxes, Edge};
-use crate::factories::ThreadFactory;
-use crate::gates::Gate;
-use crate::handlers::RejectionHandler;
-use crate::hooks::Hooks;
-use crate::jobs::{Boxed, Job};
+use tp_callbacks::edges::{Boxes, Edge};
+use tp_callbacks::factories::ThreadFactory;
+use tp_callbacks::gates::Gate;
+use tp_callbacks::handlers::RejectionHandler;
+use tp_callbacks::hooks::Hooks;
+use tp_callbacks::jobs::{Boxed, Job};
 use crate::locked::Core;
 use crate::names::PoolNaming;
 use crate::shared::Shared;

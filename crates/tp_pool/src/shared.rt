@@ -6,7 +6,7 @@ ghost use Rattle.tp_machine.specs.Stepped.{IsAnswer, did_of};
 ghost use Rattle.tp_pool.specs.Passes.{Adds, AddsStep, IsBare, IsRefusal, Refuses, IsEnding, tidied, ended};
 
 use crate::answers::Drained;
-use crate::edges::Edge;
+use tp_callbacks::edges::Edge;
 use crate::lock::{PAUSE, polite};
 use crate::locked::{Core, Look};
 use crate::names::PoolNaming;

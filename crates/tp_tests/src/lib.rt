@@ -24,3 +24,5 @@ mod slots;
 mod states;
 #[cfg(test)]
 mod tasks;
+#[cfg(test)]
+mod turns;

@@ -2,7 +2,7 @@
 ghost use Rattle.std.specs.Prelude.{◌≡◌};
 ghost use Rattle.tp_types.specs.Promise.{FitsPromise};
 
-use tp_book::flags::CancelFlag;
+use crate::flags::CancelFlag;
 use tp_types::tasks::{Outcome, Promise};
 
 /// A body that a pool runs once, as a `Runnable` or a `Callable`. A boxed job is called at most once

@@ -1,6 +1,6 @@
-//! Who is woken by which step: the table of `docs/WAKING.md`.
+//! Which steps wake who waits for a pool's end: its lines of the table in `docs/WAKING.md`.
 ghost use Rattle.std.specs.Prelude.{◌↔◌, IsTrue};
-ghost use Rattle.tp_pool.specs.Wakes.{ChangesEnd};
+ghost use Rattle.tp_waking.specs.Ends.{ChangesEnd};
 
 use tp_record::entries::Ask;
 use tp_types::states::{Counts, RunState};

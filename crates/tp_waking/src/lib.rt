@@ -1,0 +1,6 @@
+//! Who is woken by which step of a pool: the table of `docs/WAKING.md`.
+#![tactic(auto)]
+
+pub mod calls;
+pub mod ends;
+pub mod waking;
