@@ -149,3 +149,6 @@ impl Sleepers {
         }
     }
 }
+
+#[cfg(test)]
+mod tests;
