@@ -1,5 +1,5 @@
-//! Tests of the types, the record, the structures and the published word: one module for each of them, over public calls
-//! alone. They stand above those crates, so that none of them is proved twice for its tests.
+//! Tests of the types, the record, the structures, the published word, and what submitters and workers
+//! do in order: one module for each of them, over public calls alone. They stand above those crates, so that none of them is proved twice for its tests.
 #![tactic(auto)]
 
 #[cfg(test)]
@@ -13,11 +13,15 @@ mod lines;
 #[cfg(test)]
 mod owed;
 #[cfg(test)]
+mod paths;
+#[cfg(test)]
 mod queues;
 #[cfg(test)]
 mod recorders;
 #[cfg(test)]
 mod refusals;
+#[cfg(test)]
+mod sleepers;
 #[cfg(test)]
 mod slots;
 #[cfg(test)]
@@ -26,3 +30,5 @@ mod states;
 mod tasks;
 #[cfg(test)]
 mod turns;
+#[cfg(test)]
+mod waking;
