@@ -110,17 +110,13 @@ module _ {P : Type 0} (c : Config) (asks : List (ℕ × Ask)) (answers : List An
   has_run_on (Ok d) step refused stays = after_step d step
   has_run_on (Err e) step refused stays = after_refusal e refused stays
 
--- a machine over an empty record has run no asks, and no task has promised anything
-module _ {P : Type 0} (c : Config) (m : Seen P Kept) (stands : At told_by m (reverse m.noted.entries)) (config : config_of m ≡ c) (empty : m.noted.entries ≡ []) where
-  pub none_run : HasRun c [] [] m
-  none_run = record { stands = stands; config = config; run = ap (λ xs. reverse xs) empty }
+-- a machine that stands at no entry has run no asks
+pub none_run : {P : Type 0} (c : Config) (m : Seen P Kept) → At told_by m [] → config_of m ≡ c → HasRun c [] [] m
+none_run c m stands config = record { stands = subst (λ h. At told_by m h) (sym stands.told) stands; config = config; run = stands.told }
 
-  none_there : (p : Promise) (o : Option Promise) (t : ℕ) → is_some o ≡ nat_lt t 0 → IfSome o (λ x. x ≡ p)
-  none_there p None t is = tt
-  none_there p (Some x) t is = let h : t < 0 = ltb-true _ _ (sym is) in absurd (omega (arith, h))
-
-  pub none_promised : (p : Promise) → ((h : List Entry) → At told_by m h → (t : ℕ) → is_some (promise m t) ≡ nat_lt t (length (state (config_of m) h).tasks)) → AllPromise p m
-  none_promised p each t = none_there p (promise m t) t (each [] (subst (λ x. At told_by m x) (ap (λ xs. reverse xs) empty) stands) t)
+-- and no task of it has promised anything
+pub none_promised : {P R : Type 0} (p : Promise) (m : Seen P R) → ((t : ℕ) → promise m t ≡ None) → AllPromise p m
+none_promised p m none t = subst (λ o. IfSome o (λ x. x ≡ p)) (sym (none t)) tt
 
 -- one ask more of a list
 pub has_run_next : {P : Type 0} (c : Config) (asks : List (ℕ × Ask)) (i : ℕ) (d : ℕ × Ask) (answers more : List Answer) (old new : Seen P Kept) (r : Answer) →

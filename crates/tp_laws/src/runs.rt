@@ -83,8 +83,6 @@ pub fn run_asks(alloc: Global, config: Config, asks: &[(u32, Ask)]) -> Result<Ru
     let Ok(mut answers) = Vec::with_capacity(alloc, asks.len()) else {
         return Err(PoolError::NoMemory);
     };
-    machine.stands();
-    machine.keeps_waiting();
     for &(by, ask) in asks {
         answers.push_reserved(answer(&mut machine, by, ask));
     }

@@ -10,8 +10,8 @@ loop-by-init c =
     let room = c.in-Ok-with_capacity.ensures.capacity in
     let len = c.in-Ok-with_capacity.ensures.len in
     record {
-      run = subst (λ xs. HasRun c.args.config [] xs m) (sym c.in-Ok-with_capacity.ensures.items) (none_run c.args.config m c.stands.ensures.«record» made.config made.empty);
-      promises = none_promised c.args.config m c.stands.ensures.«record» made.config made.empty WIDEST c.keeps_waiting.ensures.promises;
+      run = subst (λ xs. HasRun c.args.config [] xs m) (sym c.in-Ok-with_capacity.ensures.items) (none_run c.args.config m made.stands made.config);
+      promises = none_promised WIDEST m made.promises;
       places = omega (arith, room);
       count = omega (arith, len);
     }
