@@ -1,7 +1,7 @@
 //! The lines of a text.
 
 ghost use Rattle.std.specs.Prelude.{◌≡◌, ◌↔◌, ◌++◌, ◌∷◌, IsTrue, MatchOption};
-ghost use Rattle.tp_text.specs.Lines.{HasNoLineFeed, IsClean, IsWellSpaced};
+ghost use Rattle.tp_text.specs.Lines.{HasNoLineFeed, IsClean};
 
 use tp_types::limits::MAX_LINE_BYTES;
 
@@ -13,36 +13,34 @@ pub fn next_line(text: &[u8]) -> Option<(&[u8], &[u8])>
     Some((&text[..end], &text[end + 1..]))
 }
 
-/// Whether no space stands beside another or at an end.
-fn is_well_spaced(text: &str) -> bool
-    ensures { IsTrue result ↔ IsWellSpaced text.now }
+/// Whether the bytes are what each line must be.
+fn is_clean(line: &[u8]) -> bool
+    ensures { IsTrue result ↔ IsClean line.now }
 {
-    if text.contains("  ") {
+    if line.len() > MAX_LINE_BYTES {
         return false;
     }
-    if text.starts_with(' ') {
-        return false;
+    // No space may stand first, as none may behind another.
+    let mut before = b' ';
+    for byte in line {
+        let byte = *byte;
+        if byte >= 128 || byte == b'\r' {
+            return false;
+        }
+        if byte == b' ' && before == b' ' {
+            return false;
+        }
+        before = byte;
     }
-    !text.ends_with(' ')
-}
-
-/// Whether the text is what each line must be.
-fn is_clean(text: &str) -> bool
-    ensures { IsTrue result ↔ IsClean text.now }
-{
-    if text.len() > MAX_LINE_BYTES || !text.is_ascii() {
-        return false;
-    }
-    if text.contains('\r') {
-        return false;
-    }
-    is_well_spaced(text)
+    line.is_empty() || before != b' '
 }
 
 /// The text of a line that is what each line must be.
 pub fn clean_text(line: &[u8]) -> Option<&str>
     ensures { MatchOption result (IsClean line.now → ⊥) (λ text. (text.now ≡ line.now) × IsClean line.now) }
 {
-    let text = str::from_utf8(line).ok()?;
-    is_clean(text).then_some(text)
+    if !is_clean(line) {
+        return None;
+    }
+    str::from_utf8(line).ok()
 }

@@ -1,6 +1,5 @@
-use Rattle.std.proofs.Common.{sym, ◌∙◌}
-use Rattle.tp_text.proofs.TextLaws.{not_text}
+use Rattle.tp_text.proofs.TextLaws.{clean_is_text}
 use Rattle.tp_text.proofs.lines.clean_text.Goals as goal
 
-pub returns-in_err-text : goal.returns-in_err-text
-returns-in_err-text c = rw c.from_residual.ensures (not_text c.args.line.now c.from_utf8.result _ c.from_utf8.ensures.cases (sym c.ok.ensures.value ∙ c.in_err-text.was))
+pub returns : goal.returns
+returns c = clean_is_text c.args.line.now c.from_utf8.result c.ok.result _ c.from_utf8.ensures.cases c.ok.ensures.value (c.is_clean.ensures.0 c.if-not-is_clean.false)

@@ -1,9 +1,19 @@
 use Rattle.std.proofs.Common.{arith}
-use Rattle.std.proofs.lemmas.Str.Pattern.{contains_char}
-use Rattle.tp_text.proofs.TextLaws.{by_spaces}
+use Rattle.tp_text.proofs.TextLaws.{one_more, space_stands_out, clean_by_last}
 use Rattle.tp_text.proofs.lines.is_clean.Goals as goal
+use Rattle.tp_text.proofs.lines.is_clean.Goals.{else-byte-eq32-via-then-byte-eq32+else-before-eq32, else-byte-eq32-via-else-byte-eq32}
 
-pub returns : goal.returns
-returns c =
-    by_spaces c.args.text.now c.is_ascii.result c.contains.result c.is_well_spaced.result c.if-text-gt-MAX_LINE_BYTES.false c.is_ascii.ensures.cases c.if-not-is_ascii.false
-    (contains_char 13 c.args.text.now c.contains.result c.contains.ensures.cases (omega arith)).1 c.if-contains.false c.is_well_spaced.ensures
+pub returns-then-before-eq32 : goal.returns-then-before-eq32
+returns-then-before-eq32 c =
+    let out = space_stands_out c.args.line.now c.loop-byte.byte-index c.loop-byte.before c.loop-byte.invariant c.loop-byte-test.true c.if-byte-eq32.true c.if-before-eq32.true in
+    ((λ e. cc), (λ clean. absurd (out clean)))
+
+pub loop-byte-preserved : goal.loop-byte-preserved
+loop-byte-preserved c =
+    one_more c.args.line.now c.loop-byte.byte-index c.loop-byte.before c.loop-byte.invariant (omega arith) c.if-byte-eq13.false
+    (elim c.else-byte-eq32.branch [ else-byte-eq32-via-then-byte-eq32+else-before-eq32 w ↦ (λ e. w.if-before-eq32.false) | else-byte-eq32-via-else-byte-eq32 w ↦ (λ e. absurd (w.if-byte-eq32.false e)) ])
+
+pub returns-else-is_empty : goal.returns-else-is_empty
+returns-else-is_empty c =
+    clean_by_last c.args.line.now c.loop-byte.byte-index c.loop-byte.before c.is_empty.result c.if-line-gt-MAX_LINE_BYTES.false c.loop-byte-test.false c.loop-byte.auto.byte-index-end
+    c.if-is_empty.false c.is_empty.ensures c.loop-byte.invariant
