@@ -1,4 +1,5 @@
 pub mod Answers
+pub mod Closing
 pub mod Names
 pub mod Passes
 pub mod Records

@@ -1,8 +1,8 @@
 -- What a call of a pool adds to its caller's pass.
-use Rattle.std.specs.Prelude.{ℕ, ◌≡◌, ◌⊎◌, ◌+◌, ◌<◌, ◌≤◌, List, All, [], ◌∷◌, ◌++◌, length, ⊤}
+use Rattle.std.specs.Prelude.{ℕ, ◌≡◌, ◌⊎◌, ◌+◌, ◌≤◌, List, [], ◌∷◌, ◌++◌, length, ⊤}
 use Rattle.tp_types.specs.declared.configs.Config.{Config}
 use Rattle.tp_types.specs.declared.refusals.PoolError.{PoolError}
-use Rattle.tp_types.specs.declared.refusals.PoolError.TheVariants.{NoMemory, NotTerminated}
+use Rattle.tp_types.specs.declared.refusals.PoolError.TheVariants.{NoMemory}
 use Rattle.tp_record.specs.declared.entries.Entry.{Entry}
 use Rattle.tp_record.specs.declared.entries.Ask.{Ask}
 use Rattle.tp_record.specs.declared.entries.Ask.TheVariants as ask
@@ -49,10 +49,6 @@ IsRefusal c a e = AtSome c (λ s. IsRefused c s a e)
 -- for want of memory for its receipt, or as its step is refused
 abbrev pub Refuses : Config → Ask → PoolError → Type 0
 Refuses c a e = (e ≡ NoMemory) ⊎ IsRefusal c a e
-
--- the pool is not terminated, and none of these passes has seen it terminated
-abbrev pub IsUnended : List PassView → PoolError → Type 0
-IsUnended passes e = (e ≡ NotTerminated) × All (λ p. p.seen < 4) passes
 
 -- the steps of an end that the pass of this number made: none, `tidy`, or `tidy` and `ended`
 abbrev pub tidied : ℕ → Entry

@@ -1,11 +1,6 @@
 //! The end of a pool: its record, with every pass accounted for.
-ghost use Rattle.std.specs.Prelude.{◌≡◌, ◌⊎◌, ◌+◌, List, length, reverse, IfOk, IfErr, OnOk, All, sum_by};
-ghost use Rattle.tp_types.specs.Config.{IsConfig};
-ghost use Rattle.tp_record.specs.Paths.{own};
-ghost use Rattle.tp_record.specs.State.{state, counts};
-ghost use Rattle.tp_record.specs.Step.{Legal};
-ghost use Rattle.tp_laws.specs.Lawful.{IsLawful};
-ghost use Rattle.tp_pool.specs.Passes.{IsUnended};
+ghost use Rattle.std.specs.Prelude.{◌≡◌, IfOk, IfErr};
+ghost use Rattle.tp_pool.specs.Closing.{Reports, KeepsOpen};
 
 use tp_callbacks::edges::Edge;
 use tp_callbacks::jobs::Job;
@@ -35,18 +30,12 @@ pub struct CloseFault<G: PoolNaming, J, E> {
 impl<G: PoolNaming, J: Job, E: Edge> PoolOf<G, J, E> {
     /// Closes a terminated pool with all passes that callers got, and gives its record and counters; Java
     /// has no such call. NotTerminated (20), which never comes with a pass that has seen the pool
-    /// terminated; else MissingPass (21); else, once no thread has the pool any more, TornRecord (22)
-    /// where a pass's receipts are not its own entries of the record. Then the pool and the passes come
-    /// back.
+    /// terminated; else MissingPass (21) where they are not as many as the pool has made; else, once no
+    /// thread has the pool any more, TornRecord (22) where a pass's receipts are not its own entries of
+    /// the record. Then the pool and the passes come back.
     pub fn close<R: Wait>(self, rt: &R, passes: Vec<Pass<G>>) -> Result<Report, CloseFault<G, J, E>>
-        ensures good { OnOk result (IsConfig G.config) }
-        ensures legal { IfOk result (λ r. Legal G.config (reverse r.entries.items)) }
-        ensures lawful { IfOk result (λ r. IsLawful G.config (reverse r.entries.items)) }
-        ensures ended { IfOk result (λ r. (state G.config (reverse r.entries.items)).rank ≡ 4) }
-        ensures counts { IfOk result (λ r. r.counts ≡ counts (state G.config (reverse r.entries.items))) }
-        ensures shares { IfOk result (λ r. sum_by (λ p. p.amount) passes.items ≡ length r.entries.items) }
-        ensures receipts { IfOk result (λ r. All (λ p. own p.number r.entries.items ≡ p.receipts) passes.items) }
-        ensures refused { IfErr result (λ f. IsUnended passes.items f.error ⊎ (f.error ≡ PoolError.MissingPass) ⊎ (f.error ≡ PoolError.TornRecord)) }
+        ensures report { IfOk result (Reports G.config passes.items) }
+        ensures refused { IfErr result (λ f. KeepsOpen J G.config passes.items f.error) }
         ensures returned { IfErr result (λ f. f.passes.items ≡ passes.items) }
     {
         let mut passes = passes;
@@ -83,14 +72,8 @@ fn sole<T, R: Wait>(rt: &R, shared: Arc<T>) -> T {
 
 impl<G: PoolNaming, J: Job, E: Edge> Shared<G, J, E> {
     fn close(self, passes: Vec<Pass<G>>) -> Result<Report, CloseFault<G, J, E>>
-        ensures good { OnOk result (IsConfig G.config) }
-        ensures legal { IfOk result (λ r. Legal G.config (reverse r.entries.items)) }
-        ensures lawful { IfOk result (λ r. IsLawful G.config (reverse r.entries.items)) }
-        ensures ended { IfOk result (λ r. (state G.config (reverse r.entries.items)).rank ≡ 4) }
-        ensures counts { IfOk result (λ r. r.counts ≡ counts (state G.config (reverse r.entries.items))) }
-        ensures shares { IfOk result (λ r. sum_by (λ p. p.amount) passes.items ≡ length r.entries.items) }
-        ensures receipts { IfOk result (λ r. All (λ p. own p.number r.entries.items ≡ p.receipts) passes.items) }
-        ensures refused { IfErr result (λ f. IsUnended passes.items f.error ⊎ (f.error ≡ PoolError.MissingPass) ⊎ (f.error ≡ PoolError.TornRecord)) }
+        ensures report { IfOk result (Reports G.config passes.items) }
+        ensures refused { IfErr result (λ f. KeepsOpen J G.config passes.items f.error) }
         ensures returned { IfErr result (λ f. f.passes.items ≡ passes.items) }
     {
         let Shared {
@@ -103,6 +86,7 @@ impl<G: PoolNaming, J: Job, E: Edge> Shared<G, J, E> {
         let mut passes = passes;
         let mut book = core.into_inner().into_book();
         all_seen_is_published(&mut book, &glance, &mut passes);
+        book.is_balanced();
         match book.close(passes, Vec::new(alloc)) {
             Ok(report) => {
                 legal_is_lawful();

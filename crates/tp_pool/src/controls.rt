@@ -16,6 +16,17 @@ use tp_record::entries::{Ask, Did};
 use tp_types::ids::TaskId;
 use tp_types::refusals::PoolError;
 
+// What a call answers whose step is answered so.
+macro_rules! answered {
+    ($stepped:expr, $($answer:pat => $value:expr),+) => {
+        match $stepped {
+            $(Ok($answer) => Ok($value),)+
+            Ok(_) => unreachable!(),
+            Err(error) => Err(error),
+        }
+    };
+}
+
 impl<G: PoolNaming, J: Job, E: Edge> PoolOf<G, J, E> {
     // Makes the step of this ask, for whose receipt it takes the memory first.
     fn control<R: Wait>(
@@ -43,11 +54,7 @@ impl<G: PoolNaming, J: Job, E: Edge> PoolOf<G, J, E> {
         ensures refused { IfErr result (λ e. Refuses G.config (Ask.Core core) e) }
         ensures unchanged { OnErr result (AddsNone pass.old pass.new) }
     {
-        match self.control(rt, Ask::Core(core), pass) {
-            Ok(Stepped::Core(_)) => Ok(()),
-            Ok(_) => unreachable!(),
-            Err(error) => Err(error),
-        }
+        answered!(self.control(rt, Ask::Core(core), pass), Stepped::Core(_) => ())
     }
 
     /// Sets the maximum size in workers, as `setMaximumPoolSize`. NoMemory (4) for its receipt, else
@@ -62,11 +69,7 @@ impl<G: PoolNaming, J: Job, E: Edge> PoolOf<G, J, E> {
         ensures refused { IfErr result (λ e. Refuses G.config (Ask.Maximum maximum) e) }
         ensures unchanged { OnErr result (AddsNone pass.old pass.new) }
     {
-        match self.control(rt, Ask::Maximum(maximum), pass) {
-            Ok(Stepped::Maximum) => Ok(()),
-            Ok(_) => unreachable!(),
-            Err(error) => Err(error),
-        }
+        answered!(self.control(rt, Ask::Maximum(maximum), pass), Stepped::Maximum => ())
     }
 
     /// Sets the keep-alive in ticks, as `setKeepAliveTime`. NoMemory (4) for its receipt, else KeepZero
@@ -76,11 +79,7 @@ impl<G: PoolNaming, J: Job, E: Edge> PoolOf<G, J, E> {
         ensures refused { IfErr result (λ e. Refuses G.config (Ask.Keep keep) e) }
         ensures unchanged { OnErr result (AddsNone pass.old pass.new) }
     {
-        match self.control(rt, Ask::Keep(keep), pass) {
-            Ok(Stepped::Keep) => Ok(()),
-            Ok(_) => unreachable!(),
-            Err(error) => Err(error),
-        }
+        answered!(self.control(rt, Ask::Keep(keep), pass), Stepped::Keep => ())
     }
 
     /// Says whether core workers time out too, as `allowCoreThreadTimeOut`. NoMemory (4) for its receipt,
@@ -95,11 +94,7 @@ impl<G: PoolNaming, J: Job, E: Edge> PoolOf<G, J, E> {
         ensures refused { IfErr result (λ e. Refuses G.config (Ask.CoreTimeout on) e) }
         ensures unchanged { OnErr result (AddsNone pass.old pass.new) }
     {
-        match self.control(rt, Ask::CoreTimeout(on), pass) {
-            Ok(Stepped::CoreTimeout) => Ok(()),
-            Ok(_) => unreachable!(),
-            Err(error) => Err(error),
-        }
+        answered!(self.control(rt, Ask::CoreTimeout(on), pass), Stepped::CoreTimeout => ())
     }
 
     /// The moment is this one from now on, in ticks; Java's pool reads a clock. NoMemory (4) for its
@@ -109,11 +104,7 @@ impl<G: PoolNaming, J: Job, E: Edge> PoolOf<G, J, E> {
         ensures refused { IfErr result (λ e. Refuses G.config (Ask.Tick now) e) }
         ensures unchanged { OnErr result (AddsNone pass.old pass.new) }
     {
-        match self.control(rt, Ask::Tick(now), pass) {
-            Ok(Stepped::Tick) => Ok(()),
-            Ok(_) => unreachable!(),
-            Err(error) => Err(error),
-        }
+        answered!(self.control(rt, Ask::Tick(now), pass), Stepped::Tick => ())
     }
 
     /// Takes the cancelled tasks out of the queue, as `purge`, and says how many. NoMemory (4) for its
@@ -123,11 +114,7 @@ impl<G: PoolNaming, J: Job, E: Edge> PoolOf<G, J, E> {
         ensures refused { IfErr result (λ e. Refuses G.config Ask.Purge e) }
         ensures unchanged { OnErr result (AddsNone pass.old pass.new) }
     {
-        match self.control(rt, Ask::Purge, pass) {
-            Ok(Stepped::Purge(cancelled)) => Ok(cancelled),
-            Ok(_) => unreachable!(),
-            Err(error) => Err(error),
-        }
+        answered!(self.control(rt, Ask::Purge, pass), Stepped::Purge(cancelled) => cancelled)
     }
 
     /// Takes a task out of the queue, as `remove`, and hands its job back unless it was cancelled.
@@ -142,12 +129,7 @@ impl<G: PoolNaming, J: Job, E: Edge> PoolOf<G, J, E> {
         ensures refused { IfErr result (λ e. Refuses G.config (Ask.Remove t) e) }
         ensures unchanged { OnErr result (AddsNone pass.old pass.new) }
     {
-        match self.control(rt, Ask::Remove(t), pass) {
-            Ok(Stepped::Remove(None)) => Ok(Removal::No),
-            Ok(Stepped::Remove(Some((_, job)))) => Ok(Removal::Yes(job)),
-            Ok(_) => unreachable!(),
-            Err(error) => Err(error),
-        }
+        answered!(self.control(rt, Ask::Remove(t), pass), Stepped::Remove(None) => Removal::No, Stepped::Remove(Some((_, job))) => Removal::Yes(job))
     }
 
     /// Cancels a future that has no fate yet, as `Future.cancel`, and says whether that had effect; a job
@@ -164,10 +146,6 @@ impl<G: PoolNaming, J: Job, E: Edge> PoolOf<G, J, E> {
         ensures refused { IfErr result (λ e. Refuses G.config (Ask.Cancel t flag) e) }
         ensures unchanged { OnErr result (AddsNone pass.old pass.new) }
     {
-        match self.control(rt, Ask::Cancel(t, flag), pass) {
-            Ok(Stepped::Cancel(effective, _)) => Ok(effective),
-            Ok(_) => unreachable!(),
-            Err(error) => Err(error),
-        }
+        answered!(self.control(rt, Ask::Cancel(t, flag), pass), Stepped::Cancel(effective, _) => effective)
     }
 }

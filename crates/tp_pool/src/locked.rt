@@ -7,8 +7,9 @@ ghost use Rattle.tp_record.specs.State.{counts as counts_of};
 ghost use Rattle.tp_record.specs.Step.{Gives};
 ghost use Rattle.tp_machine.specs.Stepped.{IsAnswer, did_of};
 ghost use Rattle.tp_book.specs.BookView.{config, state_of};
-ghost use Rattle.tp_pool.specs.Passes.{Adds, AddsStep, LooksOnly, IsBare, IsRefusal, Refuses, IsUnended, tidied};
-ghost use Rattle.tp_pool.specs.Records.{AtSome};
+ghost use Rattle.tp_pool.specs.Passes.{Adds, AddsStep, LooksOnly, IsBare, IsRefusal, Refuses, tidied};
+ghost use Rattle.tp_pool.specs.Closing.{KeepsOpen};
+ghost use Rattle.tp_pool.specs.Records.{AtSome, BookAtSome};
 
 use crate::answers::Drained;
 use crate::names::PoolNaming;
@@ -195,23 +196,25 @@ impl<G: PoolNaming, J> Core<G, J> {
         glance: &Glance<G>,
         pass: &mut Pass<G>,
     ) -> Result<Pass<G>, PoolError>
-        ensures new { IfOk result (λ p. p ≡ record { number = p.number; amount = 0; seen = pass.old.seen; receipts = []; room = p.room }) }
-        ensures refused { IfErr result (λ e. e ≡ PoolError.BookFull) }
+        ensures new { IfOk result (λ p. BookAtSome J G.config (λ b. p ≡ record { number = b.accounts.made; amount = 0; seen = pass.old.seen; receipts = []; room = p.room })) }
+        ensures refused { IfErr result (λ e. (e ≡ PoolError.BookFull) × BookAtSome J G.config (λ b. 4294967295 ≤ b.accounts.made)) }
         ensures same { pass.new ≡ pass.old }
     {
+        self.book.is_balanced();
         self.book.split_pass(alloc, glance, pass)
     }
 
     /// Why the pool cannot be closed with these passes of callers: NotTerminated (20), which none of
-    /// them has seen otherwise, else MissingPass (21).
+    /// them has seen otherwise, else MissingPass (21), where callers got more.
     pub fn may_close(
         &mut self,
         glance: &Glance<G>,
         passes: &mut Vec<Pass<G>>,
     ) -> Result<(), PoolError>
-        ensures refused { IfErr result (λ e. IsUnended passes.old.items e ⊎ (e ≡ PoolError.MissingPass)) }
+        ensures refused { IfErr result (KeepsOpen J G.config passes.old.items) }
         ensures same { passes.new.items ≡ passes.old.items }
     {
+        self.book.is_balanced();
         if self.book.state() != RunState::Terminated {
             all_seen_is_published(&mut self.book, glance, passes);
             return Err(PoolError::NotTerminated);

@@ -3,7 +3,7 @@ ghost use Rattle.std.specs.Prelude.{◌≡◌, ◌⊎◌, ◌≤◌, [], IfOk, I
 ghost use Rattle.tp_types.specs.Config.{IsConfig, checked};
 ghost use Rattle.tp_types.specs.RunState.{state_rank};
 ghost use Rattle.tp_record.specs.State.{counts as counts_of};
-ghost use Rattle.tp_pool.specs.Records.{AtSome};
+ghost use Rattle.tp_pool.specs.Records.{AtSome, BookAtSome};
 
 use tp_callbacks::edges::{Boxes, Edge};
 use tp_callbacks::factories::ThreadFactory;
@@ -116,8 +116,8 @@ impl<G: PoolNaming, J: Job, E: Edge> PoolOf<G, J, E> {
     /// from 0 in the order in which they are made; at number 4,294,967,295 it is refused with BookFull
     /// (5).
     pub fn split_pass<R: Wait>(&self, rt: &R, pass: &mut Pass<G>) -> Result<Pass<G>, PoolError>
-        ensures new { IfOk result (λ p. p ≡ record { number = p.number; amount = 0; seen = pass.old.seen; receipts = []; room = p.room }) }
-        ensures refused { IfErr result (λ e. e ≡ PoolError.BookFull) }
+        ensures new { IfOk result (λ p. BookAtSome J G.config (λ b. p ≡ record { number = b.accounts.made; amount = 0; seen = pass.old.seen; receipts = []; room = p.room })) }
+        ensures refused { IfErr result (λ e. (e ≡ PoolError.BookFull) × BookAtSome J G.config (λ b. 4294967295 ≤ b.accounts.made)) }
         ensures same { pass.new ≡ pass.old }
     {
         let shared = self.shared();
