@@ -5,10 +5,6 @@ use Rattle.std.proofs.Math.Nat.{eq-or-lt_of_le}
 use Rattle.std.proofs.Math.Path.{subst}
 use Rattle.std.specs.Prelude.{◌↔◌, IsTrue}
 use Rattle.std.specs.Str.Iter.{HasSubslice}
-use Rattle.std.proofs.Common.{Option, Result, Ok, Err, Bor, MatchOption}
-use Rattle.std.specs.Result.{MatchResult, result_ok}
-use Rattle.std.specs.Str.{IsUtf8}
-use Rattle.std.proofs.lemmas.Str.{IsUtf8-from_ascii}
 use Rattle.std.proofs.lemmas.Str.Ascii.{IsAscii-from_reads}
 use Rattle.tp_text.specs.Lines.{IsClean}
 
@@ -126,9 +122,3 @@ clean_by_last bs n last empty short over under isnt is so =
       (λ test. clean_whole bs last short some whole (no_space last (nat_eq last 32) refl test)),
       (λ clean. test_space last (nat_eq last 32) refl (last_is_none bs (length bs) last refl some whole clean)),
     )
-
--- what is clean is a text
-pub clean_is_text : {E : Type 0} (bs : List ℕ) (r : Result (Bor (List ℕ)) E) (o : Option (Bor (List ℕ))) (other : E → Type 0)
-    → MatchResult r (λ s. (s.now ≡ bs) × IsUtf8 bs) (λ e. (IsUtf8 bs → ⊥) × other e) → o ≡ result_ok r → IsClean bs → MatchOption o (IsClean bs → ⊥) (λ text. (text.now ≡ bs) × IsClean bs)
-clean_is_text bs (Ok s) o other reads is clean = rw is (reads.0, clean)
-clean_is_text bs (Err e) o other reads is clean = absurd (reads.0 (IsUtf8-from_ascii bs clean.ascii))

@@ -42,5 +42,6 @@ pub fn clean_text(line: &[u8]) -> Option<&str>
     if !is_clean(line) {
         return None;
     }
-    str::from_utf8(line).ok()
+    // What is clean is ASCII, and so it is text; testing that would read each line once more.
+    Some(unsafe { str::from_utf8_unchecked(line) })
 }

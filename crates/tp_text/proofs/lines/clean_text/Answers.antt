@@ -1,5 +1,5 @@
-use Rattle.tp_text.proofs.TextLaws.{clean_is_text}
+use Rattle.std.proofs.lemmas.Str.{IsUtf8-from_ascii}
 use Rattle.tp_text.proofs.lines.clean_text.Goals as goal
 
-pub returns : goal.returns
-returns c = clean_is_text c.args.line.now c.from_utf8.result c.ok.result _ c.from_utf8.ensures.cases c.ok.ensures.value (c.is_clean.ensures.0 c.if-not-is_clean.false)
+pub from_utf8_unchecked-requires : goal.from_utf8_unchecked-requires
+from_utf8_unchecked-requires c = let clean = c.is_clean.ensures.0 c.if-not-is_clean.false in IsUtf8-from_ascii c.args.line.now clean.ascii
