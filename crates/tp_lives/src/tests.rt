@@ -1,3 +1,4 @@
+mod calls;
 mod closing;
 mod flags;
 mod helpers;

@@ -1,23 +1,17 @@
 // Who closes a pool, and with which passes.
-ghost use Rattle.std.specs.Prelude.{◌≡◌};
 
-use super::helpers::{ABORT, SETTINGS, end_of_two, last, listed, record, refused};
+use super::calls::{Call, Line, play};
+use super::helpers::{Life, Row, closes, end_of_two, last, lives, pair, refused};
 use std::alloc::Global;
-use std::marker::Brand;
 use std::process::Abort;
 use std::sync::atomic::{AtomicU64, Ordering};
 use std::sync::{Arc, Wait};
 use std::test::Fail;
-use tp_book::opening::Unopened;
-use tp_pool::edges::Boxes;
-use tp_pool::factories::{Consenting, ThreadFactory};
-use tp_pool::gates::{Gate, OpenGate};
-use tp_pool::handlers::RejectionHandler;
+use tp_book::passes::Pass;
 use tp_pool::hooks::{Hooks, NoHooks};
-use tp_pool::jobs::Boxed;
 use tp_pool::names::PoolNaming;
-use tp_pool::pool::{Pool, PoolOf};
-use tp_types::configs::Config;
+use tp_pool::pool::Pool;
+use tp_record::entries::{Ask, Did};
 use tp_types::ids::{SlotId, TaskId};
 use tp_types::refusals::PoolError;
 use tp_types::tasks::Outcome;
@@ -38,91 +32,74 @@ impl Hooks for Ends {
     }
 }
 
+const BEGINNING: [Line; 3] = [
+    (0, Call::Tick(5), Ok(())),
+    (1, Call::Keep(7), Ok(())),
+    (0, Call::Await(5), Err(PoolError::TimedOut)),
+];
+
 // Two callers in one thread.
-fn two_callers<G: PoolNaming, R: Abort + Wait>(
-    rt: &R,
+pub fn two_callers<G: PoolNaming, R: Abort + Wait + Copy>(
+    rt: R,
     alloc: Global,
-    unopened: Unopened,
-    settings: Config,
-    boxes: Boxes,
-) -> Result<(), PoolError>
-    requires named { unopened ≡ record { ledger = G.name; parts = G.parts; table = G.table } }
-    requires settings { settings ≡ G.config }
-{
-    let (pool, mut first) = PoolOf::<G, Boxed, Boxes>::over(alloc, unopened, settings, boxes)?;
-    let mut second = pool.split_pass(rt, &mut first)?;
+    pool: Pool<G>,
+    first: Pass<G>,
+) -> Result<(), PoolError> {
+    let mut first = first;
+    let second = pool.split_pass(&rt, &mut first)?;
     assert_eq!(rt; (first.number(), second.number()), (0, 1));
-    pool.tick(rt, 5, &mut first)?;
-    pool.set_keep(rt, 7, &mut second)?;
-    assert_eq!(rt;
-        pool.await_termination(rt, 5, &mut first),
-        Err(PoolError::TimedOut)
-    );
-    end_of_two(rt, alloc, pool, first, second)
+    let mut passes = pair(alloc, first, second)?;
+    play(&rt, &pool, &BEGINNING, &mut passes);
+    end_of_two(&rt, pool, passes)
 }
 
 #[test]
 fn closes_with_both_passes(rt: HostRuntime) -> Result<(), Fail> {
     let alloc = rt.alloc();
-    let unopened = Unopened::new(alloc)?;
     let count = Arc::new(alloc, AtomicU64::new(0))?;
     let ends = Ends {
         count: Arc::try_clone(&count)?,
     };
-    let boxes = Boxes::new(
-        Box::new(alloc, Consenting)?,
-        Box::new(alloc, ABORT)?,
-        Box::new(alloc, ends)?,
-        Box::new(alloc, OpenGate)?,
-    );
-    two_callers::<Brand, _>(&rt, alloc, unopened, SETTINGS, boxes)?;
+    lives(rt, alloc, Box::new(alloc, ends)?, Life::TwoCallers)?;
     assert_eq!(rt; count.load(Ordering::SeqCst), 1);
     Ok(())
 }
 
+const SHUTDOWN: [Line; 1] = [(1, Call::Shutdown, Ok(()))];
+
+const RECORD_OF_THREE: [Row; 3] = [
+    (1, Ask::Shutdown, Did::Shutdown),
+    (1, Ask::Tidy, Did::Tidy),
+    (1, Ask::Ended, Did::Ended),
+];
+
 // Three callers, of whom one is late.
-fn three_callers<G: PoolNaming, R: Abort + Wait>(
-    rt: &R,
+pub fn three_callers<G: PoolNaming, R: Abort + Wait + Copy>(
+    rt: R,
     alloc: Global,
-    unopened: Unopened,
-    settings: Config,
-    factory: Box<dyn ThreadFactory>,
-    handler: Box<dyn RejectionHandler>,
-    hooks: Box<dyn Hooks>,
-    gate: Box<dyn Gate>,
-) -> Result<(), PoolError>
-    requires named { unopened ≡ record { ledger = G.name; parts = G.parts; table = G.table } }
-    requires settings { settings ≡ G.config }
-{
-    let (pool, mut first) = Pool::<G>::new(
-        alloc, unopened, settings, factory, handler, hooks, gate,
-    )?;
-    let mut second = pool.split_pass(rt, &mut first)?;
-    let third = pool.split_pass(rt, &mut second)?;
+    pool: Pool<G>,
+    first: Pass<G>,
+) -> Result<(), PoolError> {
+    let mut first = first;
+    let mut second = pool.split_pass(&rt, &mut first)?;
+    let third = pool.split_pass(&rt, &mut second)?;
     assert_eq!(rt; third.number(), 2);
-    pool.shutdown(rt, &mut second)?;
-    let closed = pool.close(rt, listed(alloc, first, Some(second), None)?);
-    let (pool, mut passes) = refused(rt, closed, PoolError::MissingPass);
-    let second = last(rt, &mut passes);
-    let first = last(rt, &mut passes);
-    let all = listed(alloc, third, Some(first), Some(second))?;
-    assert_eq!(rt; record(rt, pool.close(rt, all)).len(), 3);
+    let mut passes = pair(alloc, first, second)?;
+    play(&rt, &pool, &SHUTDOWN, &mut passes);
+    let (pool, mut passes) = refused(&rt, pool.close(&rt, passes), PoolError::MissingPass);
+    let second = last(&rt, &mut passes);
+    let _ = passes.push(third);
+    let _ = passes.push(second);
+    closes(&rt, pool, passes, &RECORD_OF_THREE);
     Ok(())
 }
 
 #[test]
 fn closes_with_three_passes(rt: HostRuntime) -> Result<(), Fail> {
-    let alloc = rt.alloc();
-    let unopened = Unopened::new(alloc)?;
-    three_callers::<Brand, _>(
-        &rt,
-        alloc,
-        unopened,
-        SETTINGS,
-        Box::new(alloc, Consenting)?,
-        Box::new(alloc, ABORT)?,
-        Box::new(alloc, NoHooks)?,
-        Box::new(alloc, OpenGate)?,
-    )?;
-    Ok(())
+    lives(
+        rt,
+        rt.alloc(),
+        Box::new(rt.alloc(), NoHooks)?,
+        Life::ThreeCallers,
+    )
 }

@@ -1,24 +1,16 @@
 // Two callers, each in a thread of its own.
-ghost use Rattle.std.specs.Prelude.{◌≡◌};
 
-use super::helpers::{ABORT, SETTINGS, await_stage, end_of_two, in_two};
+use super::helpers::{Life, await_stage, end_of_two, in_two, lives, pair};
 use std::alloc::Global;
-use std::marker::Brand;
 use std::process::Abort;
 use std::sync::Wait;
 use std::sync::atomic::{AtomicU64, Ordering};
 use std::test::Fail;
 use std::thread::Threads;
-use tp_book::opening::Unopened;
 use tp_book::passes::Pass;
-use tp_pool::edges::Boxes;
-use tp_pool::factories::Consenting;
-use tp_pool::gates::OpenGate;
 use tp_pool::hooks::NoHooks;
-use tp_pool::jobs::Boxed;
 use tp_pool::names::PoolNaming;
-use tp_pool::pool::{Pool, PoolOf};
-use tp_types::configs::Config;
+use tp_pool::pool::Pool;
 use tp_types::refusals::PoolError;
 
 // The first caller's steps: a tick, and when the second has stepped a wait that is late at once.
@@ -48,17 +40,13 @@ fn keeps<G: PoolNaming, R: Wait>(
     Ok(pass)
 }
 
-fn two_threads<G: PoolNaming + Send + Sync, R: Abort + Threads + Wait + Copy + Send + Sync>(
+pub fn two_threads<G: PoolNaming + Send + Sync, R: Abort + Threads + Wait + Copy + Send + Sync>(
     rt: R,
     alloc: Global,
-    unopened: Unopened,
-    settings: Config,
-    boxes: Boxes,
-) -> Result<(), PoolError>
-    requires named { unopened ≡ record { ledger = G.name; parts = G.parts; table = G.table } }
-    requires settings { settings ≡ G.config }
-{
-    let (pool, mut first) = PoolOf::<G, Boxed, Boxes>::over(alloc, unopened, settings, boxes)?;
+    pool: Pool<G>,
+    first: Pass<G>,
+) -> Result<(), PoolError> {
+    let mut first = first;
     let second = pool.split_pass(&rt, &mut first)?;
     let word = AtomicU64::new(0);
     let stage = &word;
@@ -72,19 +60,15 @@ fn two_threads<G: PoolNaming + Send + Sync, R: Abort + Threads + Wait + Copy + S
     );
     let (awaited, first) = ticked?;
     assert_eq!(rt; awaited, Err(PoolError::TimedOut));
-    end_of_two(&rt, alloc, pool, first, kept?)
+    end_of_two(&rt, pool, pair(alloc, first, kept?)?)
 }
 
 #[test]
 fn closes_passes_of_two_threads(rt: HostRuntime) -> Result<(), Fail> {
-    let alloc = rt.alloc();
-    let unopened = Unopened::new(alloc)?;
-    let boxes = Boxes::new(
-        Box::new(alloc, Consenting)?,
-        Box::new(alloc, ABORT)?,
-        Box::new(alloc, NoHooks)?,
-        Box::new(alloc, OpenGate)?,
-    );
-    two_threads::<Brand, _>(rt, alloc, unopened, SETTINGS, boxes)?;
-    Ok(())
+    lives(
+        rt,
+        rt.alloc(),
+        Box::new(rt.alloc(), NoHooks)?,
+        Life::TwoThreads,
+    )
 }

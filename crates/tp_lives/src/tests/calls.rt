@@ -1,0 +1,65 @@
+// What callers ask of a pool without tasks, as scripts say it.
+
+use std::process::Abort;
+use std::sync::Wait;
+use tp_book::passes::Pass;
+use tp_pool::names::PoolNaming;
+use tp_pool::pool::Pool;
+use tp_types::ids::TaskId;
+use tp_types::refusals::PoolError;
+
+// A call that may make a step.
+#[derive(Clone, Copy, Debug)]
+pub enum Call {
+    Core(u32),
+    Maximum(u32),
+    Keep(u64),
+    CoreTimeout(bool),
+    Tick(u64),
+    Purge,
+    Remove(TaskId),
+    Cancel(TaskId),
+    Shutdown,
+    Stop,
+    Await(u64),
+}
+
+// Which of the callers asks it, and what the pool answers.
+pub type Line = (usize, Call, Result<(), PoolError>);
+
+// Makes the call. A pool without tasks gives back nothing.
+pub fn make<G: PoolNaming, R: Wait>(
+    rt: &R,
+    pool: &Pool<G>,
+    call: Call,
+    pass: &mut Pass<G>,
+) -> Result<(), PoolError> {
+    match call {
+        Call::Core(core) => pool.set_core(rt, core, pass),
+        Call::Maximum(maximum) => pool.set_maximum(rt, maximum, pass),
+        Call::Keep(keep) => pool.set_keep(rt, keep, pass),
+        Call::CoreTimeout(on) => pool.allow_core_timeout(rt, on, pass),
+        Call::Tick(now) => pool.tick(rt, now, pass),
+        Call::Purge => pool.purge(rt, pass).map(|_| ()),
+        Call::Remove(t) => pool.remove(rt, t, pass).map(|_| ()),
+        Call::Cancel(t) => pool.cancel(rt, t, true, pass).map(|_| ()),
+        Call::Shutdown => pool.shutdown(rt, pass),
+        Call::Stop => pool.shutdown_now(rt, pass).map(|_| ()),
+        Call::Await(deadline) => pool.await_termination(rt, deadline, pass),
+    }
+}
+
+// Makes the calls, each with the pass of its caller.
+pub fn play<G: PoolNaming, R: Abort + Wait>(
+    rt: &R,
+    pool: &Pool<G>,
+    lines: &[Line],
+    passes: &mut Vec<Pass<G>>,
+) {
+    for &(caller, call, answer) in lines {
+        let Some(pass) = passes.get_mut(caller) else {
+            panic!(rt; "no caller {caller}");
+        };
+        assert_eq!(rt; make(rt, pool, call, pass), answer, "at {call:?}");
+    }
+}
