@@ -3,4 +3,3 @@ pub mod Closing
 pub mod Names
 pub mod Passes
 pub mod Records
-

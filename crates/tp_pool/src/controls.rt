@@ -5,13 +5,13 @@ ghost use Rattle.tp_pool.specs.Answers.{is_removed};
 ghost use Rattle.tp_pool.specs.Passes.{AddsStep, AddsNone, IsBare, Refuses};
 
 use crate::answers::Removal;
-use tp_callbacks::edges::Edge;
-use tp_callbacks::jobs::Job;
 use crate::names::PoolNaming;
 use crate::pool::PoolOf;
 use std::sync::Wait;
 use tp_book::book::Stepped;
 use tp_book::passes::Pass;
+use tp_callbacks::edges::Edge;
+use tp_callbacks::jobs::Job;
 use tp_record::entries::{Ask, Did};
 use tp_types::ids::TaskId;
 use tp_types::refusals::PoolError;

@@ -13,7 +13,6 @@ ghost use Rattle.tp_pool.specs.Records.{AtSome, BookAtSome};
 
 use crate::answers::Drained;
 use crate::names::PoolNaming;
-use tp_waking::ends::changes_end;
 use std::alloc::Global;
 use std::marker::Model;
 use tp_book::book::{Book, Report, Stepped, Unclosed};
@@ -23,6 +22,7 @@ use tp_record::entries::{Ask, Did};
 use tp_types::ids::TaskId;
 use tp_types::refusals::PoolError;
 use tp_types::states::{Counts, RunState};
+use tp_waking::ends::changes_end;
 
 /// The pool's book, which is of the settings that its name says, and who waits for it.
 #[derive(Drop)]
