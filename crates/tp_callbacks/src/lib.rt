@@ -4,7 +4,6 @@
 //! and its steps; the pages of the traits say what would wait for ever.
 #![tactic(auto)]
 
-pub mod edges;
 pub mod factories;
 pub mod flags;
 pub mod gates;

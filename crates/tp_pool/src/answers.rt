@@ -1,6 +1,6 @@
 //! What the calls of a pool answer.
 
-use tp_callbacks::jobs::Boxed;
+use crate::boxes::Boxed;
 use tp_types::ids::TaskId;
 use tp_types::refusals::PoolError;
 use tp_types::tasks::Outcome;

@@ -2,6 +2,7 @@
 ghost use Rattle.std.specs.Prelude.{◌≡◌, IfOk, IfErr};
 ghost use Rattle.tp_pool.specs.Closing.{Reports, KeepsOpen};
 
+use crate::edges::Edge;
 use crate::locked::{Core, all_seen_is_published};
 use crate::names::PoolNaming;
 use crate::pool::{Hold, PoolOf};
@@ -11,7 +12,6 @@ use std::thread;
 pub use tp_book::book::Report;
 use tp_book::book::Unclosed;
 use tp_book::passes::Pass;
-use tp_callbacks::edges::Edge;
 use tp_callbacks::jobs::Job;
 use tp_laws::lawful::legal_is_lawful;
 use tp_types::refusals::PoolError;

@@ -5,12 +5,12 @@ ghost use Rattle.tp_pool.specs.Answers.{is_removed};
 ghost use Rattle.tp_pool.specs.Passes.{AddsStep, AddsNone, IsBare, Refuses};
 
 use crate::answers::Removal;
+use crate::edges::Edge;
 use crate::names::PoolNaming;
 use crate::pool::PoolOf;
 use std::sync::Wait;
 use tp_book::book::Stepped;
 use tp_book::passes::Pass;
-use tp_callbacks::edges::Edge;
 use tp_callbacks::jobs::Job;
 use tp_record::entries::{Ask, Did};
 use tp_types::ids::TaskId;

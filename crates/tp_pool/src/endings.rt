@@ -3,12 +3,12 @@ ghost use Rattle.std.specs.Prelude.{◌≡◌, ◌⊎◌, ◌≤◌, [], ◌∷�
 ghost use Rattle.tp_pool.specs.Passes.{Adds, AddsNone, AddsAndEnds, Refuses, tidied, ended};
 
 use crate::answers::Drained;
+use crate::edges::Edge;
 use crate::names::PoolNaming;
 use crate::pool::PoolOf;
 use std::sync::Wait;
 use tp_book::book::Stepped;
 use tp_book::passes::Pass;
-use tp_callbacks::edges::Edge;
 use tp_callbacks::jobs::Job;
 use tp_record::entries::{Ask, Did};
 use tp_types::refusals::PoolError;

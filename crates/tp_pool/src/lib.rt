@@ -6,8 +6,10 @@
 #![tactic(auto)]
 
 pub mod answers;
+pub mod boxes;
 pub mod closing;
 pub mod controls;
+pub mod edges;
 pub mod endings;
 pub mod lock;
 mod locked;
@@ -15,4 +17,10 @@ pub mod names;
 pub mod pool;
 mod shared;
 
-pub use tp_callbacks::{edges, factories, gates, handlers, hooks, jobs};
+pub use tp_callbacks::{factories, gates, handlers, hooks};
+
+/// What a pool runs.
+pub mod jobs {
+    pub use crate::boxes::Boxed;
+    pub use tp_callbacks::jobs::Job;
+}

@@ -6,6 +6,7 @@ ghost use Rattle.tp_machine.specs.Stepped.{IsAnswer, did_of};
 ghost use Rattle.tp_pool.specs.Passes.{Adds, AddsStep, IsBare, IsRefusal, Refuses, IsEnding, tidied, ended};
 
 use crate::answers::Drained;
+use crate::edges::Edge;
 use crate::lock::{PAUSE, polite};
 use crate::locked::{Core, Look};
 use crate::names::PoolNaming;
@@ -13,7 +14,6 @@ use std::alloc::Global;
 use std::sync::{Condvar, Mutex, MutexGuard, Wait};
 use tp_book::book::Stepped;
 use tp_book::passes::Pass;
-use tp_callbacks::edges::Edge;
 use tp_glance::glance::Glance;
 use tp_record::entries::{Ask, Did};
 use tp_types::refusals::PoolError;

@@ -1,10 +1,10 @@
 //! The caller's objects, as a pool calls them.
 
-use crate::factories::ThreadFactory;
-use crate::gates::{Gate, Point};
-use crate::handlers::RejectionHandler;
-use crate::hooks::Hooks;
 use std::sync::{Mutex, Wait};
+use tp_callbacks::factories::ThreadFactory;
+use tp_callbacks::gates::{Gate, Point};
+use tp_callbacks::handlers::RejectionHandler;
+use tp_callbacks::hooks::Hooks;
 use tp_types::configs::Verdict;
 use tp_types::ids::{SlotId, TaskId};
 use tp_types::states::RunState;

@@ -1,0 +1,26 @@
+//! Jobs in their boxes.
+
+use tp_callbacks::flags::CancelFlag;
+use tp_callbacks::jobs::Job;
+use tp_types::tasks::{Outcome, Promise};
+
+/// A job in its box: a job again, so that a pool holds any job of its caller's.
+#[derive(Drop)]
+pub struct Boxed {
+    /// The box.
+    pub job: Box<dyn Job>,
+}
+
+impl Job for Boxed {
+    ghost use Rattle.tp_types.specs.declared.tasks.Promise.{Promise};
+
+    ghost promised = { λ b. (Job-box b.job).promised b.job.value };
+
+    fn promise(&self) -> Promise {
+        self.job.promise()
+    }
+
+    fn call(&mut self, cancel: &CancelFlag) -> Outcome {
+        self.job.call(cancel)
+    }
+}
