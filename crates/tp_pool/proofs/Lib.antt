@@ -1,2 +1,4 @@
-pub mod Moments
-pub mod Stops
+pub mod Receipts
+pub mod Starts
+pub mod Submissions
+pub mod Walks

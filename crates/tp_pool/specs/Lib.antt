@@ -1,5 +1,3 @@
-pub mod Answers
+pub mod Admissions
 pub mod Closing
-pub mod Names
-pub mod Passes
-pub mod Records
+pub mod Prestarts

@@ -1,10 +1,10 @@
 //! The end of a pool: its record, with every pass accounted for.
 ghost use Rattle.std.specs.Prelude.{◌≡◌, IfOk, IfErr};
-ghost use Rattle.tp_pool.specs.Closing.{Reports, KeepsOpen};
+ghost use Rattle.tp_pool.specs.Closing.{Reports};
+ghost use Rattle.tp_locked.specs.Closing.{KeepsOpen};
+ghost use Rattle.tp_locked.specs.declared.tasks.Task.{Task};
 
 use crate::edges::Edge;
-use crate::locked::{Core, all_seen_is_published};
-use crate::names::PoolNaming;
 use crate::pool::{Hold, PoolOf};
 use crate::shared::Shared;
 use std::sync::{Arc, Mutex, Wait};
@@ -14,6 +14,8 @@ use tp_book::book::Unclosed;
 use tp_book::passes::Pass;
 use tp_callbacks::jobs::Job;
 use tp_laws::lawful::legal_is_lawful;
+use tp_locked::locked::{Core, all_seen_is_published};
+use tp_locked::names::PoolNaming;
 use tp_types::refusals::PoolError;
 
 /// A pool that was not closed, which comes back with the passes that were handed in.
@@ -35,7 +37,7 @@ impl<G: PoolNaming, J: Job, E: Edge> PoolOf<G, J, E> {
     /// the record. Then the pool and the passes come back.
     pub fn close<R: Wait>(self, rt: &R, passes: Vec<Pass<G>>) -> Result<Report, CloseFault<G, J, E>>
         ensures report { IfOk result (Reports G.config passes.items) }
-        ensures refused { IfErr result (λ f. KeepsOpen J G.config passes.items f.error) }
+        ensures refused { IfErr result (λ f. KeepsOpen (Task J) G.config passes.items f.error) }
         ensures returned { IfErr result (λ f. f.passes.items ≡ passes.items) }
     {
         let mut passes = passes;
@@ -48,6 +50,7 @@ impl<G: PoolNaming, J: Job, E: Edge> PoolOf<G, J, E> {
                 passes,
             });
         }
+        shared.await_workers(rt);
         let PoolOf { hold } = self;
         let shared = match hold {
             Hold::Many(shared) => sole(rt, shared),
@@ -73,21 +76,25 @@ fn sole<T, R: Wait>(rt: &R, shared: Arc<T>) -> T {
 impl<G: PoolNaming, J: Job, E: Edge> Shared<G, J, E> {
     fn close(self, passes: Vec<Pass<G>>) -> Result<Report, CloseFault<G, J, E>>
         ensures report { IfOk result (Reports G.config passes.items) }
-        ensures refused { IfErr result (λ f. KeepsOpen J G.config passes.items f.error) }
+        ensures refused { IfErr result (λ f. KeepsOpen (Task J) G.config passes.items f.error) }
         ensures returned { IfErr result (λ f. f.passes.items ≡ passes.items) }
     {
         let Shared {
             core,
             end,
+            gone,
+            begun,
+            parkers,
             glance,
             edge,
+            policy,
             alloc,
         } = self;
         let mut passes = passes;
-        let mut book = core.into_inner().into_book();
+        let (mut book, workers, beside) = core.into_inner().part();
         all_seen_is_published(&mut book, &glance, &mut passes);
         book.is_balanced();
-        match book.close(passes, Vec::new(alloc)) {
+        match book.close(passes, workers) {
             Ok(report) => {
                 legal_is_lawful();
                 Ok(report)
@@ -97,13 +104,17 @@ impl<G: PoolNaming, J: Job, E: Edge> Shared<G, J, E> {
                     error,
                     book,
                     passes,
-                    workers: _,
+                    workers,
                 } = unclosed;
                 let shared = Shared {
-                    core: Mutex::new(Core::new(book)),
+                    core: Mutex::new(Core::again(alloc, book, workers, beside)),
                     end,
+                    gone,
+                    begun,
+                    parkers,
                     glance,
                     edge,
+                    policy,
                     alloc,
                 };
                 let pool = PoolOf {

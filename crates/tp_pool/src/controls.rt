@@ -1,17 +1,19 @@
 //! The controlling calls: settings, the moment, and single tasks. Each makes one step, with one receipt.
 ghost use Rattle.std.specs.Prelude.{ℕ, IfOk, IfErr, OnOk, OnErr};
-ghost use Rattle.tp_machine.specs.Stepped.{IsAnswer, did_of};
-ghost use Rattle.tp_pool.specs.Answers.{is_removed};
-ghost use Rattle.tp_pool.specs.Passes.{AddsStep, AddsNone, IsBare, Refuses};
+ghost use Rattle.tp_machine.specs.Stepped.{IsAnswer, IsSubmission, did_of};
+ghost use Rattle.tp_locked.specs.Answers.{is_removed};
+ghost use Rattle.tp_locked.specs.Passes.{AddsStep, AddsNone, Refuses};
+ghost use Rattle.tp_locked.specs.Waits.{HasNoOutcome};
 
-use crate::answers::Removal;
 use crate::edges::Edge;
-use crate::names::PoolNaming;
 use crate::pool::PoolOf;
 use std::sync::Wait;
 use tp_book::book::Stepped;
 use tp_book::passes::Pass;
 use tp_callbacks::jobs::Job;
+use tp_locked::answers::Removal;
+use tp_locked::names::PoolNaming;
+use tp_locked::tasks::Task;
 use tp_record::entries::{Ask, Did};
 use tp_types::ids::TaskId;
 use tp_types::refusals::PoolError;
@@ -34,8 +36,9 @@ impl<G: PoolNaming, J: Job, E: Edge> PoolOf<G, J, E> {
         rt: &R,
         ask: Ask,
         pass: &mut Pass<G>,
-    ) -> Result<Stepped<J>, PoolError>
-        requires bare { IsBare ask }
+    ) -> Result<Stepped<Task<J>>, PoolError>
+        requires unpaid { ¬ IsSubmission ask }
+        requires no_outcome { HasNoOutcome ask }
         ensures answer { IfOk result (λ s. IsAnswer ask s) }
         ensures step { IfOk result (λ s. AddsStep pass.old ask (did_of ask s) pass.new) }
         ensures refused { IfErr result (λ e. Refuses G.config ask e) }
@@ -45,16 +48,6 @@ impl<G: PoolNaming, J: Job, E: Edge> PoolOf<G, J, E> {
             return Err(error);
         }
         self.shared().step(rt, ask, pass)
-    }
-
-    /// Sets the core size in workers, as `setCorePoolSize`. NoMemory (4) for its receipt, else BadSizes
-    /// (1) or BookFull (5).
-    pub fn set_core<R: Wait>(&self, rt: &R, core: u32, pass: &mut Pass<G>) -> Result<(), PoolError>
-        ensures step { OnOk result ((added : ℕ) × AddsStep pass.old (Ask.Core core) (Did.Core core added) pass.new) }
-        ensures refused { IfErr result (λ e. Refuses G.config (Ask.Core core) e) }
-        ensures unchanged { OnErr result (AddsNone pass.old pass.new) }
-    {
-        answered!(self.control(rt, Ask::Core(core), pass), Stepped::Core(_) => ())
     }
 
     /// Sets the maximum size in workers, as `setMaximumPoolSize`. NoMemory (4) for its receipt, else
@@ -129,7 +122,7 @@ impl<G: PoolNaming, J: Job, E: Edge> PoolOf<G, J, E> {
         ensures refused { IfErr result (λ e. Refuses G.config (Ask.Remove t) e) }
         ensures unchanged { OnErr result (AddsNone pass.old pass.new) }
     {
-        answered!(self.control(rt, Ask::Remove(t), pass), Stepped::Remove(None) => Removal::No, Stepped::Remove(Some((_, job))) => Removal::Yes(job))
+        answered!(self.control(rt, Ask::Remove(t), pass), Stepped::Remove(None) => Removal::No, Stepped::Remove(Some((_, task))) => Removal::Yes(task.map(Task::into_job)))
     }
 
     /// Cancels a future that has no fate yet, as `Future.cancel`, and says whether that had effect; a job

@@ -30,7 +30,13 @@ pub trait Edge: Drop {
 
     /// Passes the gate.
     fn pass(&self, p: Point, w: SlotId);
+
+    /// The stack of a worker's thread, in bytes.
+    fn stack(&self) -> usize;
 }
+
+// The stack of a worker's thread, in bytes.
+const STACK: usize = 2 * 1_024 * 1_024;
 
 /// The caller's boxes. Those that change are each behind a lock of its own.
 #[derive(Drop)]
@@ -81,5 +87,9 @@ impl Edge for Boxes {
 
     fn pass(&self, p: Point, w: SlotId) {
         self.gate.before(p, w);
+    }
+
+    fn stack(&self) -> usize {
+        STACK
     }
 }

@@ -1,15 +1,15 @@
 //! The calls that end a pool, and the wait for its end.
 ghost use Rattle.std.specs.Prelude.{◌≡◌, ◌⊎◌, ◌≤◌, [], ◌∷◌, length, IfOk, IfErr, OnOk, OnErr};
-ghost use Rattle.tp_pool.specs.Passes.{Adds, AddsNone, AddsAndEnds, Refuses, tidied, ended};
+ghost use Rattle.tp_locked.specs.Passes.{Adds, AddsNone, AddsAndEnds, Refuses, tidied, ended};
 
-use crate::answers::Drained;
 use crate::edges::Edge;
-use crate::names::PoolNaming;
 use crate::pool::PoolOf;
 use std::sync::Wait;
 use tp_book::book::Stepped;
 use tp_book::passes::Pass;
 use tp_callbacks::jobs::Job;
+use tp_locked::answers::Drained;
+use tp_locked::names::PoolNaming;
 use tp_record::entries::{Ask, Did};
 use tp_types::refusals::PoolError;
 

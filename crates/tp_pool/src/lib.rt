@@ -5,19 +5,21 @@
 //! its counters and its steps; the pages of the traits say what would wait for ever.
 #![tactic(auto)]
 
-pub mod answers;
 pub mod boxes;
 pub mod closing;
 pub mod controls;
 pub mod edges;
 pub mod endings;
 pub mod lock;
-mod locked;
-pub mod names;
 pub mod pool;
+mod prestarts;
 mod shared;
+mod staffing;
+mod submitting;
+mod working;
 
 pub use tp_callbacks::{factories, gates, handlers, hooks};
+pub use tp_locked::{answers, names};
 
 /// What a pool runs.
 pub mod jobs {

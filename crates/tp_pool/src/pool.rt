@@ -3,15 +3,15 @@ ghost use Rattle.std.specs.Prelude.{◌≡◌, ◌⊎◌, ◌≤◌, [], IfOk, I
 ghost use Rattle.tp_types.specs.Config.{IsConfig, checked};
 ghost use Rattle.tp_types.specs.RunState.{state_rank};
 ghost use Rattle.tp_record.specs.State.{counts as counts_of};
-ghost use Rattle.tp_pool.specs.Records.{AtSome, BookAtSome};
+ghost use Rattle.tp_locked.specs.Records.{AtSome, BookAtSome};
+ghost use Rattle.tp_locked.specs.declared.tasks.Task.{Task};
 
 use crate::boxes::Boxed;
 use crate::edges::{Boxes, Edge};
-use crate::locked::Core;
-use crate::names::PoolNaming;
 use crate::shared::Shared;
-use std::alloc::Global;
+use std::alloc::{AllocError, Global};
 use std::sync::{Arc, Condvar, Mutex, Wait};
+use std::thread::Parker;
 use tp_book::book::Book;
 use tp_book::opening::Unopened;
 use tp_book::passes::Pass;
@@ -20,7 +20,10 @@ use tp_callbacks::gates::Gate;
 use tp_callbacks::handlers::RejectionHandler;
 use tp_callbacks::hooks::Hooks;
 use tp_callbacks::jobs::Job;
+use tp_locked::locked::Core;
+use tp_locked::names::PoolNaming;
 use tp_types::configs::Config;
+use tp_types::limits::MAX_WORKERS;
 use tp_types::refusals::PoolError;
 use tp_types::states::{Counts, RunState};
 
@@ -97,11 +100,22 @@ impl<G: PoolNaming, J: Job, E: Edge> PoolOf<G, J, E> {
             Ok(opened) => opened,
             Err(error) => return Err(error),
         };
+        let policy = config.policy;
+        let Ok(core) = Core::new(alloc, book) else {
+            return Err(PoolError::NoMemory);
+        };
+        let Ok(parkers) = parkers(alloc) else {
+            return Err(PoolError::NoMemory);
+        };
         let shared = Shared {
-            core: Mutex::new(Core::new(book)),
+            core: Mutex::new(core),
             end: Condvar::new(),
+            gone: Condvar::new(),
+            begun: Condvar::new(),
+            parkers,
             glance,
             edge,
+            policy,
             alloc,
         };
         let Ok(shared) = Arc::new(alloc, shared) else {
@@ -117,8 +131,8 @@ impl<G: PoolNaming, J: Job, E: Edge> PoolOf<G, J, E> {
     /// from 0 in the order in which they are made; at number 4,294,967,295 it is refused with BookFull
     /// (5).
     pub fn split_pass<R: Wait>(&self, rt: &R, pass: &mut Pass<G>) -> Result<Pass<G>, PoolError>
-        ensures new { IfOk result (λ p. BookAtSome J G.config (λ b. p ≡ record { number = b.accounts.made; amount = 0; seen = pass.old.seen; receipts = []; room = p.room })) }
-        ensures refused { IfErr result (λ e. (e ≡ PoolError.BookFull) × BookAtSome J G.config (λ b. 4294967295 ≤ b.accounts.made)) }
+        ensures new { IfOk result (λ p. BookAtSome (Task J) G.config (λ b. p ≡ record { number = b.accounts.made; amount = 0; seen = pass.old.seen; receipts = []; room = p.room })) }
+        ensures refused { IfErr result (λ e. (e ≡ PoolError.BookFull) × BookAtSome (Task J) G.config (λ b. 4294967295 ≤ b.accounts.made)) }
         ensures same { pass.new ≡ pass.old }
     {
         let shared = self.shared();
@@ -150,4 +164,11 @@ impl<G: PoolNaming, J: Job, E: Edge> PoolOf<G, J, E> {
     {
         self.shared().hold(rt).counts()
     }
+}
+
+// A place to sleep for the worker of each slot.
+fn parkers(alloc: Global) -> Result<Vec<Parker>, AllocError> {
+    let mut parkers = Vec::new(alloc);
+    parkers.resize_with(MAX_WORKERS as usize, Parker::new)?;
+    Ok(parkers)
 }

@@ -2,21 +2,28 @@
 ghost use Rattle.std.specs.Prelude.{◌≡◌, ◌⊎◌, ◌+◌, ◌<◌, ◌≤◌, [], ◌∷◌, List, length, IfOk, IfErr, OnOk, OnErr};
 ghost use Rattle.tp_record.specs.declared.entries.Entry.{Entry};
 ghost use Rattle.tp_record.specs.Effects.{reaches};
-ghost use Rattle.tp_machine.specs.Stepped.{IsAnswer, did_of};
-ghost use Rattle.tp_pool.specs.Passes.{Adds, AddsStep, IsBare, IsRefusal, Refuses, IsEnding, tidied, ended};
+ghost use Rattle.tp_machine.specs.Stepped.{IsAnswer, IsSubmission, did_of};
+ghost use Rattle.tp_locked.specs.Passes.{Adds, AddsStep, IsRefusal, Refuses, IsEnding, tidied, ended};
+ghost use Rattle.tp_locked.specs.Waits.{HasNoOutcome};
 
-use crate::answers::Drained;
 use crate::edges::Edge;
 use crate::lock::{PAUSE, polite};
-use crate::locked::{Core, Look};
-use crate::names::PoolNaming;
 use std::alloc::Global;
 use std::sync::{Condvar, Mutex, MutexGuard, Wait};
+use std::thread::Parker;
 use tp_book::book::Stepped;
 use tp_book::passes::Pass;
 use tp_glance::glance::Glance;
+use tp_locked::answers::Drained;
+use tp_locked::locked::{Core, Look};
+use tp_locked::names::PoolNaming;
+use tp_locked::roster::Start;
+use tp_locked::tasks::Task;
 use tp_record::entries::{Ask, Did};
+use tp_types::configs::Policy;
+use tp_types::ids::SlotId;
 use tp_types::refusals::PoolError;
+use tp_waking::calls::Calls;
 
 /// The one lock, what lies beside it, and the caller's objects.
 #[derive(Drop)]
@@ -25,10 +32,18 @@ pub struct Shared<G: PoolNaming, J, E> {
     pub core: Mutex<Core<G, J>>,
     /// Who waits in `await_termination` sleeps here.
     pub end: Condvar,
+    /// Who waits in `close` for the workers' passes sleeps here.
+    pub gone: Condvar,
+    /// Threads of workers that are to be told of their slots sleep here.
+    pub begun: Condvar,
+    /// Each worker sleeps at its slot's place.
+    pub parkers: Vec<Parker>,
     /// The word of the run state, which is read with no lock held.
     pub glance: Glance<G>,
     /// The caller's objects.
     pub edge: E,
+    /// What becomes of tasks that the pool cannot take.
+    pub policy: Policy,
     /// What answers take their memory from.
     pub alloc: Global,
 }
@@ -39,6 +54,47 @@ impl<G: PoolNaming, J: Drop, E: Edge> Shared<G, J, E> {
         polite(rt, &self.core, PAUSE)
     }
 
+    /// Lets go of the lock, and then wakes whom the hold concerned.
+    pub fn release(&self, core: MutexGuard<'_, Core<G, J>>) {
+        let mut core = core;
+        let calls = core.release();
+        drop(core);
+        self.wake(&calls);
+    }
+
+    fn wake(&self, calls: &Calls) {
+        for w in [calls.first, calls.second].into_iter().flatten() {
+            self.unpark(w);
+        }
+        if calls.everyone {
+            for parker in &self.parkers {
+                parker.unpark();
+            }
+        }
+        if calls.waiters {
+            self.end.notify_all();
+        }
+    }
+
+    fn unpark(&self, w: SlotId) {
+        if let Some(parker) = self.parkers.get(w.0) {
+            parker.unpark();
+        }
+    }
+
+    /// Tells the thread of this slot what became of it.
+    pub fn tell<R: Wait>(&self, rt: &R, w: SlotId, start: Start) {
+        self.hold(rt).tell(w, start);
+        self.begun.notify_all();
+    }
+
+    /// Sleeps at this slot's place until somebody wakes it, or for no reason.
+    pub fn park<R: Wait>(&self, rt: &R, w: SlotId) {
+        if let Some(parker) = self.parkers.get(w.0) {
+            parker.park(rt);
+        }
+    }
+
     /// Makes the step of this ask in a hold of its own, with a pass that has room for its receipt, and
     /// wakes whom it concerns after the hold.
     pub fn step<R: Wait>(
@@ -46,21 +102,19 @@ impl<G: PoolNaming, J: Drop, E: Edge> Shared<G, J, E> {
         rt: &R,
         ask: Ask,
         pass: &mut Pass<G>,
-    ) -> Result<Stepped<J>, PoolError>
-        requires bare { IsBare ask }
+    ) -> Result<Stepped<Task<J>>, PoolError>
+        requires unpaid { ¬ IsSubmission ask }
         requires room { 0 < pass.old.room }
         ensures answer { IfOk result (λ s. IsAnswer ask s) }
         ensures step { IfOk result (λ s. AddsStep pass.old ask (did_of ask s) pass.new) }
         ensures seen { IfOk result (λ s. reaches (did_of ask s) ≤ pass.new.seen) }
         ensures left { OnOk result (pass.old.room ≤ pass.new.room + 1) }
-        ensures refused { IfErr result (λ e. IsRefusal G.config ask e) }
+        ensures refused { IfErr result (λ e. HasNoOutcome ask → IsRefusal G.config ask e) }
         ensures unchanged { OnErr result (pass.new ≡ pass.old) }
     {
         let mut core = self.hold(rt);
         let stepped = core.step(ask, &self.glance, pass);
-        let wakes = stepped.is_ok() && core.calls_waiters(&ask);
-        drop(core);
-        self.wake(wakes);
+        self.release(core);
         stepped
     }
 
@@ -76,17 +130,8 @@ impl<G: PoolNaming, J: Drop, E: Edge> Shared<G, J, E> {
     {
         let mut core = self.hold(rt);
         let drained = core.stop(self.alloc, &self.glance, pass);
-        let wakes = drained.is_ok() && core.calls_waiters(&Ask::Stop);
-        drop(core);
-        self.wake(wakes);
+        self.release(core);
         drained
-    }
-
-    // Wakes who waits in `await_termination`, with no lock held.
-    fn wake(&self, wakes: bool) {
-        if wakes {
-            self.end.notify_all();
-        }
     }
 
     /// Ends the pool, where it can end now: the step `tidy`, the terminated hook and the step `ended`.
@@ -135,12 +180,23 @@ impl<G: PoolNaming, J: Drop, E: Edge> Shared<G, J, E> {
                 Look::Terminated => return Ok(()),
                 Look::Late => return Err(PoolError::TimedOut),
                 Look::Tidied => {
-                    drop(core);
+                    self.release(core);
                     return self.terminate(rt, pass);
                 }
                 Look::Waits => core = self.end.wait(rt, core),
             }
         }
         unreachable!()
+    }
+
+    /// Waits until all threads of workers have handed in their passes.
+    pub fn await_workers<R: Wait>(&self, rt: &R) {
+        let mut core = self.hold(rt);
+        for _ in rt.forever() {
+            if core.running() == 0 {
+                return;
+            }
+            core = self.gone.wait(rt, core);
+        }
     }
 }

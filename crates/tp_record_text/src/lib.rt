@@ -4,6 +4,7 @@
 mod answers;
 mod dids;
 pub mod entries;
+mod heads;
 pub mod laws;
 pub mod records;
 mod steps;

@@ -1,6 +1,7 @@
 //! A worker's turns at a stand-in for its pool, which answers by a script and keeps each deed.
 use std::alloc::Global;
 use std::process::Abort;
+use std::sync::Wait;
 use std::test::Fail;
 use tp_callbacks::flags::CancelFlag;
 use tp_callbacks::gates::Point;
@@ -53,7 +54,7 @@ enum Script {
 #[derive(Drop)]
 struct Stage {
     script: Script,
-    flag: CancelFlag,
+    flag: Option<CancelFlag>,
     deeds: Vec<Deed>,
 }
 
@@ -63,7 +64,7 @@ impl Stage {
     }
 }
 
-impl Workplace<Fixed> for Stage {
+impl<R: Wait> Workplace<Fixed, R> for Stage {
     ghost did = { λ _ _ _. Unit {0} };
 
     ghost owes = { λ _ _. Unit {0} };
@@ -72,7 +73,7 @@ impl Workplace<Fixed> for Stage {
         self.note(Deed::Passed(p));
     }
 
-    fn take(&mut self) -> Taken {
+    fn take(&mut self, _rt: &R) -> Taken {
         let taken = match self.script {
             Script::Leaves => Taken::Left,
             Script::NoSlot => Taken::Refused,
@@ -82,13 +83,13 @@ impl Workplace<Fixed> for Stage {
         taken
     }
 
-    fn begin(&mut self) -> Begun<Fixed> {
-        match self.script {
-            Script::Runs(faults, _, _) => {
+    fn begin(&mut self, _rt: &R) -> Begun<Fixed> {
+        match (self.script, self.flag.take()) {
+            (Script::Runs(faults, _, _), Some(flag)) => {
                 self.note(Deed::Began(TASK));
-                Begun::Run(TASK, Fixed { value: 5, faults })
+                Begun::Run(TASK, Fixed { value: 5, faults }, flag)
             }
-            Script::Cancelled => {
+            (Script::Cancelled, _) => {
                 self.note(Deed::Skipped(TASK));
                 Begun::Skip(TASK)
             }
@@ -99,22 +100,22 @@ impl Workplace<Fixed> for Stage {
         }
     }
 
-    fn before(&mut self, t: TaskId) {
+    fn before(&mut self, _rt: &R, t: TaskId) {
         self.note(Deed::Before(t));
     }
 
-    fn run(&mut self, job: Fixed) -> Outcome {
+    fn run(&mut self, job: Fixed, flag: CancelFlag) -> Outcome {
         let mut job = job;
-        let outcome = job.call(&self.flag);
+        let outcome = job.call(&flag);
         self.note(Deed::Ran(outcome));
         outcome
     }
 
-    fn after(&mut self, t: TaskId, outcome: Option<Outcome>) {
+    fn after(&mut self, _rt: &R, t: TaskId, outcome: Option<Outcome>) {
         self.note(Deed::After(t, outcome));
     }
 
-    fn end(&mut self, outcome: Outcome) -> Ended {
+    fn end(&mut self, _rt: &R, outcome: Outcome) -> Ended {
         let ended = match self.script {
             Script::Runs(_, ended, _) => ended,
             _ => Ended::Refused,
@@ -123,7 +124,7 @@ impl Workplace<Fixed> for Stage {
         ended
     }
 
-    fn leave(&mut self) -> Departed {
+    fn leave(&mut self, _rt: &R) -> Departed {
         let departed = match self.script {
             Script::Runs(_, _, departed) => departed,
             _ => Departed::Refused,
@@ -132,11 +133,11 @@ impl Workplace<Fixed> for Stage {
         departed
     }
 
-    fn replace(&mut self, w: SlotId) {
+    fn replace(&mut self, _rt: &R, w: SlotId) {
         self.note(Deed::Replaced(w));
     }
 
-    fn tidy(&mut self) {
+    fn tidy(&mut self, _rt: &R) {
         self.note(Deed::Tidied);
     }
 }
@@ -192,7 +193,7 @@ const NO_TASK: [Deed; 3] = [
 ];
 
 // Plays one turn, and compares how it went and what was done.
-fn play<R: Abort>(
+fn play<R: Abort + Wait>(
     rt: &R,
     alloc: Global,
     script: Script,
@@ -201,10 +202,10 @@ fn play<R: Abort>(
 ) -> Result<(), PoolError> {
     let mut stage = Stage {
         script,
-        flag: CancelFlag::new(alloc)?,
+        flag: Some(CancelFlag::new(alloc)?),
         deeds: Vec::new(alloc),
     };
-    let went = one_turn(&mut stage);
+    let went = one_turn(rt, &mut stage);
     assert_eq!(rt; went, turn);
     assert_eq!(rt; stage.deeds.as_slice(), deeds);
     Ok(())

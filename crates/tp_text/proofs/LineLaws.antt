@@ -24,11 +24,6 @@ pub end_on_ok : {A E : Type 0} (r : Result A E) (line new whole : List ℕ) → 
 end_on_ok (Ok x) line new whole is goes = is ∙ goes
 end_on_ok (Err x) line new whole is goes = tt
 
--- a text, where there was room for it
-pub text_on_ok : {A E : Type 0} (r : Result A E) (line text new whole : List ℕ) → new ≡ (if is_ok r then line ++ text else line) → text ≡ whole → OnOk r (new ≡ line ++ whole)
-text_on_ok (Ok x) line text new whole is goes = is ∙ ap (λ x. line ++ x) goes
-text_on_ok (Err x) line text new whole is goes = tt
-
 -- a word, words and words make one line
 in_steps : (old w : List ℕ) (vs ws : List (List ℕ)) → ((old ++ (w ++ behind vs)) ++ behind ws) ++ 10 ∷ [] ≡ old ++ line (w ∷ (vs ++ ws))
 in_steps old w vs ws =
@@ -38,9 +33,8 @@ in_steps old w vs ws =
     ∙ ap (λ x. old ++ x) (append_assoc w (behind (vs ++ ws)) (10 ∷ []) ∙ sym (line-behind w (vs ++ ws)))
 
 -- the line of an entry: its number and pass, what was done, and the end
-pub entry_in_steps : (n : ℕ) (e : Entry) (old place did : List ℕ) → place ≡ old ++ (decimal n ++ behind (pass_words e.by)) → did ≡ place ++ behind (did_words e.did) → did ++ 10 ∷ [] ≡ old ++ entry_line n e
-entry_in_steps n e old place did p d =
-    ap (λ x. x ++ 10 ∷ []) (d ∙ ap (λ x. x ++ behind (did_words e.did)) p) ∙ in_steps old (decimal n) (pass_words e.by) (did_words e.did)
+pub entry_in_parts : (n : ℕ) (e : Entry) → entry_line n e ≡ (decimal n ++ behind (pass_words e.by)) ++ (behind (did_words e.did) ++ 10 ∷ [])
+entry_in_parts n e = sym (in_steps [] (decimal n) (pass_words e.by) (did_words e.did)) ∙ append_assoc (decimal n ++ behind (pass_words e.by)) (behind (did_words e.did)) (10 ∷ [])
 
 -- the counters in three steps, and the end
 pub counts_in_steps : (c : Counts) (old ran lost all : List ℕ) → ran ≡ old ++ (codes "counts" ++ behind (ran_counters c)) → lost ≡ ran ++ behind (lost_counters c) → all ≡ lost ++ behind (worker_counters c) → all ++ 10 ∷ [] ≡ old ++ counts_line c

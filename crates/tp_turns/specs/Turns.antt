@@ -21,13 +21,13 @@ Outcome = Result ℤ ℕ
 
 -- the deed of a `begin`
 abbrev pub told : {J : Type 0} → Begun J → Deed
-told (begun.Run t job) = deed.Began t
+told (begun.Run t job flag) = deed.Began t
 told (begun.Skip t) = deed.Skipped t
 told begun.Refused = deed.Unbegun
 
 -- who begins a job owes what the job promises
 abbrev pub IsOwed : {J : Type 0} → (J → Promise) → (Promise → Type 0) → Begun J → Type 0
-IsOwed promised owes (begun.Run t job) = owes (promised job)
+IsOwed promised owes (begun.Run t job flag) = owes (promised job)
 IsOwed promised owes _ = ⊤
 
 -- these deeds lead from the one moment to the other, the first of them first

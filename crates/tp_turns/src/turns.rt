@@ -5,6 +5,8 @@ ghost use Rattle.tp_turns.specs.declared.deeds.Deed.TheVariants as deed;
 ghost use Rattle.tp_turns.specs.Turns.{told, IsOwed, Does, deeds_of, running, departure, GoesOn};
 
 use crate::deeds::{Deed, Departed, Ended, Taken};
+use std::sync::Wait;
+use tp_callbacks::flags::CancelFlag;
 use tp_callbacks::gates::Point;
 use tp_callbacks::jobs::Job;
 use tp_types::ids::{SlotId, TaskId};
@@ -13,8 +15,8 @@ use tp_types::tasks::Outcome;
 /// What came of a worker's `begin`, with the job that it hands out.
 #[derive(Drop)]
 pub enum Begun<J> {
-    /// This task, with its job.
-    Run(TaskId, J),
+    /// This task, with its job and the flag by which that hears of its cancelling.
+    Run(TaskId, J, CancelFlag),
     /// Nothing: this task was cancelled, and is gone.
     Skip(TaskId),
     /// Nothing: the pool did not take it.
@@ -22,7 +24,7 @@ pub enum Begun<J> {
 }
 
 /// Where a worker works: its pool, as it steps there, and the pool's users. Each call is one deed.
-pub trait Workplace<J: Job> {
+pub trait Workplace<J: Job, R: Wait> {
     ghost use Rattle.tp_types.specs.declared.tasks.Promise.{Promise};
     ghost use Rattle.tp_turns.specs.declared.deeds.Deed.{Deed};
 
@@ -38,45 +40,45 @@ pub trait Workplace<J: Job> {
         ensures owes { (p : Promise) → owes self.old p → owes self.new p };
 
     /// Asks for the next task, and sleeps as long as there is none.
-    fn take(&mut self) -> Taken
+    fn take(&mut self, rt: &R) -> Taken
         ensures done { did self.old (deed.Took result) self.new };
 
     /// Begins the task that it took.
-    fn begin(&mut self) -> Begun<J>
+    fn begin(&mut self, rt: &R) -> Begun<J>
         ensures done { did self.old (told result) self.new }
         ensures owes { IsOwed J.promised (owes self.new) result };
 
     /// Calls the hook before a task.
-    fn before(&mut self, t: TaskId)
+    fn before(&mut self, rt: &R, t: TaskId)
         ensures done { did self.old (deed.Before t) self.new }
         ensures owes { (p : Promise) → owes self.old p → owes self.new p };
 
     /// Runs a body.
-    fn run(&mut self, job: J) -> Outcome
+    fn run(&mut self, job: J, flag: CancelFlag) -> Outcome
         ensures done { did self.old (deed.Ran result) self.new }
         ensures outcome { FitsPromise (J.promised job) result }
         ensures owes { (p : Promise) → owes self.old p → owes self.new p };
 
     /// Calls the hook after a task.
-    fn after(&mut self, t: TaskId, outcome: Option<Outcome>)
+    fn after(&mut self, rt: &R, t: TaskId, outcome: Option<Outcome>)
         ensures done { did self.old (deed.After t outcome) self.new }
         ensures owes { (p : Promise) → owes self.old p → owes self.new p };
 
     /// Tells the outcome of its task, which is as its job promised.
-    fn end(&mut self, outcome: Outcome) -> Ended
+    fn end(&mut self, rt: &R, outcome: Outcome) -> Ended
         requires promised { (p : Promise) × owes self.old p × FitsPromise p outcome }
         ensures done { did self.old (deed.Ended outcome result) self.new };
 
     /// Leaves, after a fault of its plain task.
-    fn leave(&mut self) -> Departed
+    fn leave(&mut self, rt: &R) -> Departed
         ensures done { did self.old (deed.Left result) self.new };
 
     /// Has a worker made for the slot that is reserved in its place.
-    fn replace(&mut self, w: SlotId)
+    fn replace(&mut self, rt: &R, w: SlotId)
         ensures done { did self.old (deed.Replaced w) self.new };
 
     /// Ends the pool, where the pool can end.
-    fn tidy(&mut self)
+    fn tidy(&mut self, rt: &R)
         ensures done { did self.old deed.Tidied self.new };
 }
 
@@ -116,26 +118,26 @@ impl Turn {
 }
 
 /// One turn of a worker, from the gate before its first `take` on.
-pub fn one_turn<J: Job, W: Workplace<J>>(work: &mut W) -> Turn
+pub fn one_turn<J: Job, R: Wait, W: Workplace<J, R>>(rt: &R, work: &mut W) -> Turn
     ensures { Does W.did work.old (deeds_of result) work.new }
 {
     work.pass(Point::Take);
-    match work.take() {
+    match work.take(rt) {
         Taken::Task => {}
         Taken::Left => {
-            work.tidy();
+            work.tidy(rt);
             return Turn::Left;
         }
         Taken::Refused => return Turn::Refused,
     }
-    match work.begin() {
-        Begun::Run(t, job) => {
-            let (outcome, closing) = run_task(work, t, job);
+    match work.begin(rt) {
+        Begun::Run(t, job, flag) => {
+            let (outcome, closing) = run_task(rt, work, t, job, flag);
             Turn::Ran(t, outcome, closing)
         }
         Begun::Skip(t) => {
-            work.before(t);
-            work.after(t, None);
+            work.before(rt, t);
+            work.after(rt, t, None);
             Turn::Skipped(t)
         }
         Begun::Refused => Turn::Unbegun,
@@ -143,33 +145,39 @@ pub fn one_turn<J: Job, W: Workplace<J>>(work: &mut W) -> Turn
 }
 
 // The task that was begun, from its hook to its end.
-fn run_task<J: Job, W: Workplace<J>>(work: &mut W, t: TaskId, job: J) -> (Outcome, Closing)
+fn run_task<J: Job, R: Wait, W: Workplace<J, R>>(
+    rt: &R,
+    work: &mut W,
+    t: TaskId,
+    job: J,
+    flag: CancelFlag,
+) -> (Outcome, Closing)
     requires owed { W.owes work.old (J.promised job) }
     ensures deeds { Does W.did work.old (running t result.0 result.1) work.new }
 {
-    work.before(t);
+    work.before(rt, t);
     work.pass(Point::Body);
-    let outcome = work.run(job);
-    work.after(t, Some(outcome));
+    let outcome = work.run(job, flag);
+    work.after(rt, t, Some(outcome));
     work.pass(Point::End);
-    let closing = match work.end(outcome) {
+    let closing = match work.end(rt, outcome) {
         Ended::Live => Closing::Live,
-        Ended::Dying => Closing::Died(depart(work)),
+        Ended::Dying => Closing::Died(depart(rt, work)),
         Ended::Refused => Closing::Refused,
     };
     (outcome, closing)
 }
 
 // Leaves, with another worker in its place where the pool wants one.
-fn depart<J: Job, W: Workplace<J>>(work: &mut W) -> Departed
+fn depart<J: Job, R: Wait, W: Workplace<J, R>>(rt: &R, work: &mut W) -> Departed
     ensures { Does W.did work.old (departure result) work.new }
 {
-    let departed = work.leave();
+    let departed = work.leave(rt);
     match departed {
-        Departed::Alone => work.tidy(),
+        Departed::Alone => work.tidy(rt),
         Departed::Replaced(w) => {
-            work.replace(w);
-            work.tidy();
+            work.replace(rt, w);
+            work.tidy(rt);
         }
         Departed::Refused => {}
     }

@@ -75,7 +75,7 @@ impl Waking {
     {
         self.call_for(did);
         self.call_leaving(leaving);
-        self.settle(counts.queued > 0);
+        self.settle(counts.queued);
         if self.awaited && changes_end(ask, state, counts) {
             self.awaited = false;
             self.calls.waiters = true;
@@ -93,7 +93,7 @@ impl Waking {
         ensures same { (self.new.awaited ≡ self.old.awaited) × (self.new.calls.waiters ≡ self.old.calls.waiters) }
     {
         self.rest(w, idle);
-        self.settle(queued > 0);
+        self.settle(queued);
     }
 
     // The search of slot `w`'s worker is over, and where it is idle it sleeps.
@@ -155,13 +155,13 @@ impl Waking {
         self.calls.everyone = true;
     }
 
-    // Wakes one worker that sleeps, where a task waits and nobody looks for one.
-    fn settle(&mut self, waits: bool)
-        ensures settled { IsSettled waits self.new.sleepers }
+    /// Where so many tasks are queued: wakes one worker that sleeps, where a task waits and nobody looks for one.
+    pub fn settle(&mut self, queued: u32)
+        ensures settled { IsSettled (nat_lt 0 queued) self.new.sleepers }
         ensures told { IsTold self.old self.new }
         ensures same { (self.new.awaited ≡ self.old.awaited) × (self.new.calls.waiters ≡ self.old.calls.waiters) }
     {
-        if let Some(w) = self.sleepers.settle(waits) {
+        if let Some(w) = self.sleepers.settle(queued > 0) {
             self.calls.add(w);
         }
     }

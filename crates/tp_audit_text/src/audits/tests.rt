@@ -229,12 +229,7 @@ fn written_again(alloc: Global, text: &[u8]) -> Result<Option<Vec<u8>>, PoolErro
     match read_record(alloc, text) {
         Ok(record) => {
             let mut written = Vec::new(alloc);
-            write_record(
-                alloc,
-                &mut written,
-                &record.config,
-                record.entries.as_slice(),
-            )?;
+            write_record(&mut written, &record.config, record.entries.as_slice())?;
             Ok(Some(written))
         }
         Err(PoolError::NoMemory) => Err(PoolError::NoMemory),

@@ -3,12 +3,14 @@ ghost use Rattle.std.specs.Prelude.{◌≡◌, ◌↔◌, ◌<◌, ◌≤◌, le
 ghost use Rattle.tp_types.specs.RunState.{state_rank};
 ghost use Rattle.tp_record.specs.State.{counts as counts_of, task_at, slot_at, fate_of};
 ghost use Rattle.tp_machine.specs.Seen.{task_of_row, promise};
-ghost use Rattle.tp_machine.specs.Readings.{IsPromised, HasOpen, value_in, outcome_given};
-ghost use Rattle.tp_book.specs.BookView.{entries, state_of};
+ghost use Rattle.tp_slots.specs.Table.{first_slot};
+ghost use Rattle.tp_parts.specs.Steps.{IsFitting};
+ghost use Rattle.tp_machine.specs.Readings.{IsDyingAt, IsPromised, HasOpen, value_in, outcome_given};
+ghost use Rattle.tp_book.specs.BookView.{config, entries, state_of};
 
 use super::Book;
 use tp_glance::glance::Naming;
-use tp_record::entries::Entry;
+use tp_record::entries::{Ask, Did, Entry, Took};
 use tp_types::ids::{SlotId, TaskId};
 use tp_types::refusals::PoolError;
 use tp_types::states::{Counts, RunState};
@@ -75,6 +77,23 @@ impl<G: Naming, P> Book<G, P> {
     {
         self.machine.stands();
         self.machine.task_in(w)
+    }
+
+    /// Whether the worker of this slot is to leave, since its plain task faulted.
+    pub fn is_dying(&self, w: SlotId) -> bool
+        ensures { IsTrue result ↔ IsDyingAt (state_of self.now) w.0 }
+    {
+        self.machine.stands();
+        self.machine.is_dying(w)
+    }
+
+    /// The worker that is idle longest, where its `take` would leave now.
+    pub fn leaving(&self) -> Option<SlotId>
+        ensures leaves { IfSome result (λ w. IsFitting (config self.now) (state_of self.now) (Ask.Take w) (Did.Take w Took.Leave)) }
+        ensures longest { IfSome result (λ w. first_slot (state_of self.now).idling ≡ Some w) }
+    {
+        self.machine.stands();
+        self.machine.leaving()
     }
 
     /// Where the task is. UnknownTask (6).

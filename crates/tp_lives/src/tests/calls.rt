@@ -2,6 +2,7 @@
 
 use std::process::Abort;
 use std::sync::Wait;
+use std::thread::Threads;
 use tp_book::passes::Pass;
 use tp_pool::names::PoolNaming;
 use tp_pool::pool::Pool;
@@ -28,14 +29,14 @@ pub enum Call {
 pub type Line = (usize, Call, Result<(), PoolError>);
 
 // Makes the call. A pool without tasks gives back nothing.
-pub fn make<G: PoolNaming, R: Wait>(
+pub fn make<G: PoolNaming + Send + Sync + 'static, R: Threads + Wait + Copy + Send + 'static>(
     rt: &R,
     pool: &Pool<G>,
     call: Call,
     pass: &mut Pass<G>,
 ) -> Result<(), PoolError> {
     match call {
-        Call::Core(core) => pool.set_core(rt, core, pass),
+        Call::Core(core) => pool.set_core(*rt, core, pass),
         Call::Maximum(maximum) => pool.set_maximum(rt, maximum, pass),
         Call::Keep(keep) => pool.set_keep(rt, keep, pass),
         Call::CoreTimeout(on) => pool.allow_core_timeout(rt, on, pass),
@@ -50,12 +51,10 @@ pub fn make<G: PoolNaming, R: Wait>(
 }
 
 // Makes the calls, each with the pass of its caller.
-pub fn play<G: PoolNaming, R: Abort + Wait>(
-    rt: &R,
-    pool: &Pool<G>,
-    lines: &[Line],
-    passes: &mut Vec<Pass<G>>,
-) {
+pub fn play<
+    G: PoolNaming + Send + Sync + 'static,
+    R: Abort + Threads + Wait + Copy + Send + 'static,
+>(rt: &R, pool: &Pool<G>, lines: &[Line], passes: &mut Vec<Pass<G>>) {
     for &(caller, call, answer) in lines {
         let Some(pass) = passes.get_mut(caller) else {
             panic!(rt; "no caller {caller}");

@@ -7,6 +7,7 @@ use std::process::Abort;
 use std::sync::atomic::{AtomicU64, Ordering};
 use std::sync::{Arc, Wait};
 use std::test::Fail;
+use std::thread::Threads;
 use tp_book::passes::Pass;
 use tp_pool::hooks::{Hooks, NoHooks};
 use tp_pool::names::PoolNaming;
@@ -39,12 +40,10 @@ const BEGINNING: [Line; 3] = [
 ];
 
 // Two callers in one thread.
-pub fn two_callers<G: PoolNaming, R: Abort + Wait + Copy>(
-    rt: R,
-    alloc: Global,
-    pool: Pool<G>,
-    first: Pass<G>,
-) -> Result<(), PoolError> {
+pub fn two_callers<
+    G: PoolNaming + Send + Sync + 'static,
+    R: Abort + Threads + Wait + Copy + Send + 'static,
+>(rt: R, alloc: Global, pool: Pool<G>, first: Pass<G>) -> Result<(), PoolError> {
     let mut first = first;
     let second = pool.split_pass(&rt, &mut first)?;
     assert_eq!(rt; (first.number(), second.number()), (0, 1));
@@ -74,12 +73,10 @@ const RECORD_OF_THREE: [Row; 3] = [
 ];
 
 // Three callers, of whom one is late.
-pub fn three_callers<G: PoolNaming, R: Abort + Wait + Copy>(
-    rt: R,
-    alloc: Global,
-    pool: Pool<G>,
-    first: Pass<G>,
-) -> Result<(), PoolError> {
+pub fn three_callers<
+    G: PoolNaming + Send + Sync + 'static,
+    R: Abort + Threads + Wait + Copy + Send + 'static,
+>(rt: R, alloc: Global, pool: Pool<G>, first: Pass<G>) -> Result<(), PoolError> {
     let mut first = first;
     let mut second = pool.split_pass(&rt, &mut first)?;
     let third = pool.split_pass(&rt, &mut second)?;

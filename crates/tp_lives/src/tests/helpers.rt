@@ -59,13 +59,10 @@ pub enum Life {
     Waiting(Call, Result<(), PoolError>),
 }
 
-fn live<G: PoolNaming + Send + Sync, R: Abort + Threads + Wait + Copy + Send + Sync>(
-    rt: R,
-    alloc: Global,
-    pool: Pool<G>,
-    first: Pass<G>,
-    life: Life,
-) -> Result<(), PoolError> {
+fn live<
+    G: PoolNaming + Send + Sync + 'static,
+    R: Abort + Threads + Wait + Copy + Send + Sync + 'static,
+>(rt: R, alloc: Global, pool: Pool<G>, first: Pass<G>, life: Life) -> Result<(), PoolError> {
     match life {
         Life::TwoCallers => two_callers(rt, alloc, pool, first),
         Life::ThreeCallers => three_callers(rt, alloc, pool, first),
@@ -77,7 +74,10 @@ fn live<G: PoolNaming + Send + Sync, R: Abort + Threads + Wait + Copy + Send + S
 }
 
 // Opens a pool under its name.
-fn open<G: PoolNaming + Send + Sync, R: Abort + Threads + Wait + Copy + Send + Sync>(
+fn open<
+    G: PoolNaming + Send + Sync + 'static,
+    R: Abort + Threads + Wait + Copy + Send + Sync + 'static,
+>(
     rt: R,
     alloc: Global,
     unopened: Unopened,
@@ -97,7 +97,7 @@ fn open<G: PoolNaming + Send + Sync, R: Abort + Threads + Wait + Copy + Send + S
 }
 
 // Lets a pool with these hooks live.
-pub fn lives<R: Abort + Threads + Wait + Copy + Send + Sync>(
+pub fn lives<R: Abort + Threads + Wait + Copy + Send + Sync + 'static>(
     rt: R,
     alloc: Global,
     hooks: Box<dyn Hooks>,
@@ -190,11 +190,10 @@ const RECORD_OF_TWO: [Row; 5] = [
 
 // Ends a pool with the first of two passes, after a tick by the first and a new keep-alive by the
 // second, and closes it with both.
-pub fn end_of_two<G: PoolNaming, R: Abort + Wait>(
-    rt: &R,
-    pool: Pool<G>,
-    passes: Vec<Pass<G>>,
-) -> Result<(), PoolError> {
+pub fn end_of_two<
+    G: PoolNaming + Send + Sync + 'static,
+    R: Abort + Threads + Wait + Copy + Send + 'static,
+>(rt: &R, pool: Pool<G>, passes: Vec<Pass<G>>) -> Result<(), PoolError> {
     let (pool, mut passes) = refused(rt, pool.close(rt, passes), PoolError::NotTerminated);
     play(rt, &pool, &SHUTDOWN, &mut passes);
     for pass in passes.iter_mut() {

@@ -5,6 +5,7 @@ use super::helpers::{Life, lives};
 use std::process::Abort;
 use std::sync::Wait;
 use std::test::Fail;
+use std::thread::Threads;
 use tp_book::passes::Pass;
 use tp_pool::hooks::NoHooks;
 use tp_pool::names::PoolNaming;
@@ -30,7 +31,7 @@ const CALLS: [(Call, Result<(), PoolError>, usize); 11] = [
 ];
 
 // Makes the call. Where it wants memory it has changed nothing, and is made once more.
-fn made<G: PoolNaming, R: Abort + Wait>(
+fn made<G: PoolNaming + Send + Sync + 'static, R: Abort + Threads + Wait + Copy + Send + 'static>(
     rt: &R,
     pool: &Pool<G>,
     call: Call,
@@ -47,11 +48,10 @@ fn made<G: PoolNaming, R: Abort + Wait>(
 }
 
 // One caller, who makes each call.
-pub fn each_call<G: PoolNaming, R: Abort + Wait + Copy>(
-    rt: R,
-    pool: Pool<G>,
-    first: Pass<G>,
-) -> Result<(), PoolError> {
+pub fn each_call<
+    G: PoolNaming + Send + Sync + 'static,
+    R: Abort + Threads + Wait + Copy + Send + 'static,
+>(rt: R, pool: Pool<G>, first: Pass<G>) -> Result<(), PoolError> {
     let mut pass = first;
     let mut receipts = 0usize;
     for (call, answer, added) in CALLS {

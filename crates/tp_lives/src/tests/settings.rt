@@ -6,6 +6,7 @@ use std::alloc::Global;
 use std::process::Abort;
 use std::sync::Wait;
 use std::test::Fail;
+use std::thread::Threads;
 use tp_book::passes::Pass;
 use tp_pool::hooks::NoHooks;
 use tp_pool::names::PoolNaming;
@@ -41,12 +42,10 @@ const RECORD: [Row; 7] = [
 ];
 
 // One caller, who changes the settings and stops the pool.
-pub fn settings_change<G: PoolNaming, R: Abort + Wait + Copy>(
-    rt: R,
-    alloc: Global,
-    pool: Pool<G>,
-    first: Pass<G>,
-) -> Result<(), PoolError> {
+pub fn settings_change<
+    G: PoolNaming + Send + Sync + 'static,
+    R: Abort + Threads + Wait + Copy + Send + 'static,
+>(rt: R, alloc: Global, pool: Pool<G>, first: Pass<G>) -> Result<(), PoolError> {
     let mut passes = listed(alloc, first, None)?;
     play(&rt, &pool, &LINES, &mut passes);
     assert_eq!(rt; pool.counts(&rt), Counts::default());

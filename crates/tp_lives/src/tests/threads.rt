@@ -40,12 +40,10 @@ fn keeps<G: PoolNaming, R: Wait>(
     Ok(pass)
 }
 
-pub fn two_threads<G: PoolNaming + Send + Sync, R: Abort + Threads + Wait + Copy + Send + Sync>(
-    rt: R,
-    alloc: Global,
-    pool: Pool<G>,
-    first: Pass<G>,
-) -> Result<(), PoolError> {
+pub fn two_threads<
+    G: PoolNaming + Send + Sync + 'static,
+    R: Abort + Threads + Wait + Copy + Send + Sync + 'static,
+>(rt: R, alloc: Global, pool: Pool<G>, first: Pass<G>) -> Result<(), PoolError> {
     let mut first = first;
     let second = pool.split_pass(&rt, &mut first)?;
     let word = AtomicU64::new(0);

@@ -44,7 +44,7 @@ fn awaits<G: PoolNaming, R: Wait>(
 }
 
 // Makes the step, when the other has had time to fall asleep.
-fn wakes<G: PoolNaming, R: Wait>(
+fn wakes<G: PoolNaming + Send + Sync + 'static, R: Threads + Wait + Copy + Send + 'static>(
     rt: &R,
     pool: &Pool<G>,
     waker: Call,
@@ -66,7 +66,37 @@ const WAKERS: [(Call, Result<(), PoolError>); 3] = [
 
 const END: [Line; 2] = [(1, Call::Shutdown, Ok(())), (0, Call::Await(0), Ok(()))];
 
-pub fn waits_for<G: PoolNaming + Send + Sync, R: Abort + Threads + Wait + Copy + Send + Sync>(
+// One waits for the end, and the other makes the step: by itself, where little else is known, since the check
+// shows here that the pool may be shared.
+fn beside<
+    G: PoolNaming + Send + Sync + 'static,
+    R: Abort + Threads + Wait + Copy + Send + Sync + 'static,
+>(
+    rt: R,
+    pool: &Pool<G>,
+    waker: Call,
+    first: Pass<G>,
+    second: Pass<G>,
+) -> (
+    (Result<(), PoolError>, Pass<G>),
+    (Result<(), PoolError>, Pass<G>),
+) {
+    let word = AtomicU64::new(0);
+    let stage = &word;
+    in_two(
+        &rt,
+        pool,
+        first,
+        second,
+        &move |pool: &Pool<G>, pass: Pass<G>| { awaits(&rt, pool, stage, pass) },
+        &move |pool: &Pool<G>, pass: Pass<G>| { wakes(&rt, pool, waker, stage, pass) },
+    )
+}
+
+pub fn waits_for<
+    G: PoolNaming + Send + Sync + 'static,
+    R: Abort + Threads + Wait + Copy + Send + Sync + 'static,
+>(
     rt: R,
     alloc: Global,
     pool: Pool<G>,
@@ -76,16 +106,7 @@ pub fn waits_for<G: PoolNaming + Send + Sync, R: Abort + Threads + Wait + Copy +
 ) -> Result<(), PoolError> {
     let mut first = first;
     let second = pool.split_pass(&rt, &mut first)?;
-    let word = AtomicU64::new(0);
-    let stage = &word;
-    let ((awaited, first), (stepped, second)) = in_two(
-        &rt,
-        &pool,
-        first,
-        second,
-        &move |pool: &Pool<G>, pass: Pass<G>| { awaits(&rt, pool, stage, pass) },
-        &move |pool: &Pool<G>, pass: Pass<G>| { wakes(&rt, pool, waker, stage, pass) },
-    );
+    let ((awaited, first), (stepped, second)) = beside(rt, &pool, waker, first, second);
     assert_eq!(rt; (awaited, stepped), (answer, Ok(())), "at {waker:?}");
     let mut passes = pair(alloc, first, second)?;
     play(&rt, &pool, &END, &mut passes);

@@ -3,16 +3,21 @@
 ghost use Rattle.std.specs.Prelude.{◌≡◌, ◌↔◌, ◌<◌, ◌≤◌, length, Some, None, IsTrue, IfOk, IfErr, IfSome, OnOk, OnErr};
 ghost use Rattle.tp_types.specs.RunState.{state_rank};
 ghost use Rattle.tp_record.specs.State.{counts as counts_of, task_at, slot_at, fate_of};
-ghost use Rattle.tp_machine.specs.Seen.{task_of_row, task_in, place, promise, FitsThere, FitsAtCaller};
-ghost use Rattle.tp_machine.specs.Readings.{EachState, IsPromised, HasOpen, value_in, outcome_given};
+ghost use Rattle.tp_slots.specs.Table.{first_slot};
+ghost use Rattle.tp_parts.specs.Steps.{IsFitting};
+ghost use Rattle.tp_machine.specs.Seen.{config_of, task_of_row, task_in, place, promise, FitsThere, FitsAtCaller};
+ghost use Rattle.tp_machine.specs.Readings.{EachState, IsDyingAt, IsPromised, HasOpen, value_in, outcome_given};
 
 use super::Machine;
 use tp_queue::work::WorkQueue;
+use tp_record::entries::{Ask, Did, Took};
 use tp_record::recorders::Recorder;
+use tp_record::rows::Stage;
 use tp_types::ids::{SlotId, TaskId};
 use tp_types::refusals::PoolError;
 use tp_types::states::{Counts, RunState};
 use tp_types::tasks::{Fate, Kind, Outcome, Place, Promise};
+use tp_workers::take;
 
 impl<P, R: Recorder> Machine<P, R> {
     /// The twelve counters.
@@ -65,6 +70,28 @@ impl<P, R: Recorder> Machine<P, R> {
         match self.parts.slots.get(w) {
             Some(slot) => slot.task,
             None => None,
+        }
+    }
+
+    /// Whether the worker of this slot is to leave, since its plain task faulted.
+    pub fn is_dying(&self, w: SlotId) -> bool
+        ensures { EachState R.tells self.now (λ s. IsTrue result ↔ IsDyingAt s w.0) }
+    {
+        match self.parts.slots.get(w) {
+            Some(slot) => slot.stage == Stage::Dying,
+            None => false,
+        }
+    }
+
+    /// The worker that is idle longest, where its `take` would leave now.
+    pub fn leaving(&self) -> Option<SlotId>
+        ensures leaves { IfSome result (λ w. EachState R.tells self.now (λ s. IsFitting (config_of self.now) s (Ask.Take w) (Did.Take w Took.Leave))) }
+        ensures longest { IfSome result (λ w. EachState R.tells self.now (λ s. first_slot s.idling ≡ Some w)) }
+    {
+        let w = self.parts.slots.longest_idle()?;
+        match take::answer(&self.parts, w) {
+            Ok(Took::Leave) => Some(w),
+            _ => None,
         }
     }
 

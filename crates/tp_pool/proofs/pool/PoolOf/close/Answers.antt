@@ -1,5 +1,6 @@
 use Rattle.std.proofs.Common.{◌≡◌, IfOk, IfErr, subst}
-use Rattle.tp_pool.specs.Closing.{Reports, KeepsOpen}
+use Rattle.tp_locked.specs.Closing.{KeepsOpen}
+use Rattle.tp_pool.specs.Closing.{Reports}
 use Rattle.tp_pool.proofs.pool.PoolOf.close.Goals as goal
 
 pub returns-clause-report : goal.returns-clause-report

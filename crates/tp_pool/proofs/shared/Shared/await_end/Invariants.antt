@@ -1,4 +1,4 @@
-use Rattle.tp_pool.specs.Passes.{LooksOnly}
+use Rattle.tp_locked.specs.Passes.{LooksOnly}
 use Rattle.tp_pool.proofs.shared.Shared.await_end.Given as goal
 
 abbrev pub invariant-loop : goal.invariant-loop

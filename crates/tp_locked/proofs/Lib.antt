@@ -1,0 +1,3 @@
+pub mod Moments
+pub mod Refusals
+pub mod Stops

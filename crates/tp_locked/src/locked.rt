@@ -1,0 +1,203 @@
+//! The value under a pool's lock.
+ghost use Rattle.std.specs.Prelude.{◌≡◌, ◌⊎◌, ◌+◌, ◌<◌, ◌≤◌, All, Some, IfOk, IfErr, OnOk, OnErr, option_map};
+ghost use Rattle.tp_types.specs.Config.{IsConfig};
+ghost use Rattle.tp_types.specs.RunState.{state_rank};
+ghost use Rattle.tp_record.specs.Effects.{reaches};
+ghost use Rattle.tp_record.specs.State.{counts as counts_of};
+ghost use Rattle.tp_record.specs.Step.{Gives};
+ghost use Rattle.tp_sleepers.specs.Rests.{IsSettled};
+ghost use Rattle.tp_machine.specs.Stepped.{IsAnswer, IsPaid, IsSubmission, did_of};
+ghost use Rattle.tp_book.specs.BookView.{config, state_of};
+ghost use Rattle.tp_locked.specs.Passes.{AddsStep, IsRefusal};
+ghost use Rattle.tp_locked.specs.Records.{AtSome, BookAtSome};
+ghost use Rattle.tp_locked.specs.Waits.{waits, HasNoOutcome};
+
+use self::controllers::mark;
+use crate::flags::Flags;
+use crate::names::PoolNaming;
+use crate::roster::Roster;
+use crate::tasks::Task;
+use std::alloc::Global;
+use std::marker::Model;
+use tp_book::book::{Book, Stepped};
+use tp_book::passes::{Pass, WorkerPass};
+use tp_glance::glance::Glance;
+use tp_record::entries::{Ask, Did};
+use tp_types::limits::MAX_WORKERS;
+use tp_types::refusals::PoolError;
+use tp_types::states::{Counts, RunState};
+use tp_types::tasks::Promise;
+use tp_waking::calls::Calls;
+use tp_waking::waking::Waking;
+
+/// The pool's book, which is of the settings that its name says, and what the pool keeps beside it. While
+/// nobody holds the lock, no task is queued where a worker sleeps and nobody looks for a task.
+#[derive(Drop)]
+pub struct Core<G: PoolNaming, J> {
+    book: Book<G, Task<J>>,
+    flags: Flags,
+    waking: Waking,
+    roster: Roster<G>,
+}
+
+impl<G: PoolNaming, J> Model for Core<G, J> {
+    ghost use Rattle.std.specs.Prelude.{◌≡◌};
+    ghost use Rattle.tp_types.specs.Config.{IsConfig};
+    ghost use Rattle.tp_sleepers.specs.Rests.{IsSettled};
+    ghost use Rattle.tp_book.specs.BookView.{config};
+    ghost use Rattle.tp_locked.specs.Waits.{waits};
+
+    ghost Value = { Unit {0} };
+
+    ghost view = { λ _. tt };
+
+    ghost invariant = { λ c. (config c.book ≡ G.config) × IsConfig G.config × IsSettled (waits c.book) c.waking.sleepers };
+}
+
+// Makes the step of this ask with a caller's pass that has room for its receipt. What the step reaches
+// the pass has then seen, also where another had reached it before.
+fn step_of<G: PoolNaming, J: Drop>(
+    book: &mut Book<G, Task<J>>,
+    ask: Ask,
+    submitted: Option<(Promise, Task<J>)>,
+    glance: &Glance<G>,
+    pass: &mut Pass<G>,
+) -> Result<Stepped<Task<J>>, (PoolError, Option<Task<J>>)>
+    requires settings { config book.old ≡ G.config }
+    requires paid { IsPaid ask submitted }
+    requires room { 0 < pass.old.room }
+    ensures answer { IfOk result (λ s. IsAnswer ask s) }
+    ensures gives { IfOk result (λ s. Gives G.config (state_of book.old) ask (did_of ask s)) }
+    ensures step { IfOk result (λ s. AddsStep pass.old ask (did_of ask s) pass.new) }
+    ensures seen { IfOk result (λ s. reaches (did_of ask s) ≤ pass.new.seen) }
+    ensures left { OnOk result (pass.old.room ≤ pass.new.room + 1) }
+    ensures refused { IfErr result (λ r. HasNoOutcome ask → IsRefusal G.config ask r.0) }
+    ensures returned { IfErr result (λ r. r.1 ≡ option_map (λ x. x.1) submitted) }
+    ensures unchanged { OnErr result (pass.new ≡ pass.old) }
+    ensures settings { config book.new ≡ G.config }
+{
+    book.is_balanced();
+    match book.step(ask, submitted, glance, pass) {
+        Ok(stepped) => {
+            book.is_balanced();
+            book.show(glance, pass);
+            Ok(stepped)
+        }
+        Err(refused) => Err(refused),
+    }
+}
+
+// Whom an accepted step concerns: who sleeps, and who waits.
+fn rouse<G: PoolNaming, J>(book: &Book<G, Task<J>>, waking: &mut Waking, ask: &Ask, did: &Did)
+    ensures { IsSettled (waits book.now) waking.new.sleepers }
+{
+    let counts = book.counts();
+    waking.follow(ask, did, book.state(), &counts, book.leaving());
+}
+
+// What an accepted step is to those who sleep or wait, and to the flags of tasks.
+fn noted<G: PoolNaming, J>(
+    book: &Book<G, Task<J>>,
+    flags: &mut Flags,
+    waking: &mut Waking,
+    ask: &Ask,
+    stepped: &Stepped<Task<J>>,
+)
+    requires { IsAnswer ask.now stepped.now }
+    ensures { IsSettled (waits book.now) waking.new.sleepers }
+{
+    rouse(book, waking, ask, &stepped.did(ask));
+    mark(book, flags, ask, stepped);
+}
+
+// After a refused ask nobody is to be woken, but for a worker whose search it ends.
+fn settle<G: PoolNaming, J>(book: &Book<G, Task<J>>, waking: &mut Waking)
+    ensures { IsSettled (waits book.now) waking.new.sleepers }
+{
+    waking.settle(book.counts().queued);
+}
+
+mod closing;
+mod controllers;
+mod submitters;
+mod workers;
+
+pub use closing::{Beside, all_seen_is_published};
+pub use controllers::Look;
+pub use workers::Taking;
+
+impl<G: PoolNaming, J: Drop> Core<G, J> {
+    /// A new pool's book, of a pool in which nobody sleeps or waits. NoMemory (4).
+    pub fn new(alloc: Global, book: Book<G, Task<J>>) -> Result<Core<G, J>, PoolError>
+        requires settings { config book ≡ G.config }
+        requires good { IsConfig G.config }
+        ensures { IfErr result (λ e. e ≡ PoolError.NoMemory) }
+    {
+        let slots = MAX_WORKERS as usize;
+        let (Ok(waking), Ok(roster)) = (Waking::new(alloc, slots), Roster::new(alloc, slots)) else {
+            return Err(PoolError::NoMemory);
+        };
+        Ok(Core {
+            book,
+            flags: Flags::new(alloc),
+            waking,
+            roster,
+        })
+    }
+
+    /// Makes the step of this ask, which brings no task, with a caller's pass that has room for its
+    /// receipt; what the step reaches the pass has then seen.
+    pub fn step(
+        &mut self,
+        ask: Ask,
+        glance: &Glance<G>,
+        pass: &mut Pass<G>,
+    ) -> Result<Stepped<Task<J>>, PoolError>
+        requires unpaid { ¬ IsSubmission ask }
+        requires room { 0 < pass.old.room }
+        ensures answer { IfOk result (λ s. IsAnswer ask s) }
+        ensures step { IfOk result (λ s. AddsStep pass.old ask (did_of ask s) pass.new) }
+        ensures seen { IfOk result (λ s. reaches (did_of ask s) ≤ pass.new.seen) }
+        ensures left { OnOk result (pass.old.room ≤ pass.new.room + 1) }
+        ensures refused { IfErr result (λ e. HasNoOutcome ask → IsRefusal G.config ask e) }
+        ensures unchanged { OnErr result (pass.new ≡ pass.old) }
+    {
+        let Core {
+            book,
+            flags,
+            waking,
+            roster: _,
+        } = self;
+        match step_of(book, ask, None, glance, pass) {
+            Ok(stepped) => {
+                noted(book, flags, waking, &ask, &stepped);
+                Ok(stepped)
+            }
+            Err((error, _)) => {
+                settle(book, waking);
+                Err(error)
+            }
+        }
+    }
+
+    /// The run state.
+    pub fn state(&self) -> RunState
+        ensures { AtSome G.config (λ s. state_rank result ≡ s.rank) }
+    {
+        self.book.is_balanced();
+        self.book.state()
+    }
+
+    /// The twelve counters.
+    pub fn counts(&self) -> Counts
+        ensures { AtSome G.config (λ s. result ≡ counts_of s) }
+    {
+        self.book.is_balanced();
+        self.book.counts()
+    }
+
+    /// Who is to be woken once the lock is let go.
+    pub fn release(&mut self) -> Calls {
+        self.waking.release()
+    }
+}

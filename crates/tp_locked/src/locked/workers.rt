@@ -1,0 +1,203 @@
+//! What workers do in one hold of the lock.
+ghost use Rattle.std.specs.Prelude.{◌≡◌, ◌≢◌, ◌⊎◌, IfOk, IfErr, OnOk, OnErr};
+ghost use Rattle.tp_machine.specs.Stepped.{IsAnswer, IsSubmission};
+ghost use Rattle.tp_locked.specs.Begins.{IsBegun};
+ghost use Rattle.tp_locked.specs.Passes.{Works, opening as opening_of};
+
+use super::{Core, noted, settle};
+use crate::names::PoolNaming;
+use crate::roster::Start;
+use crate::tasks::Task;
+use tp_book::book::Stepped;
+use tp_book::passes::WorkerPass;
+use tp_glance::glance::Glance;
+use tp_machine::answers::Begun as Started;
+use tp_record::entries::{Ask, Did, Opened, Took};
+use tp_sleepers::sleepers::Rest;
+use tp_turns::deeds::{Departed, Ended};
+use tp_turns::turns::Begun;
+use tp_types::ids::SlotId;
+use tp_types::refusals::PoolError;
+use tp_types::tasks::Outcome;
+
+/// What a worker's `take` came to, in one hold.
+#[derive(Clone, Copy, Debug, PartialEq, Eq)]
+pub enum Taking {
+    /// It has a task to begin.
+    Task,
+    /// It left.
+    Left,
+    /// There is no such slot.
+    Refused,
+    /// It sleeps from now on, until it is woken.
+    Sleeps,
+}
+
+// How who had a worker made for a slot says whether one was.
+pub(super) fn opening(w: SlotId, staffed: bool) -> Ask
+    ensures { result ≡ opening_of w staffed }
+{
+    if staffed { Ask::Open(w) } else { Ask::Fail(w) }
+}
+
+// What the thread of a slot is told after that.
+pub(super) fn start_of(opened: &Result<Did, PoolError>) -> Start {
+    match opened {
+        Ok(Did::Open(_, Opened::Live)) => Start::Live,
+        _ => Start::GivenUp,
+    }
+}
+
+impl<G: PoolNaming, J: Drop> Core<G, J> {
+    /// Makes the step of this ask with a worker's pass.
+    pub fn work(
+        &mut self,
+        ask: Ask,
+        glance: &Glance<G>,
+        pass: &mut WorkerPass<G>,
+    ) -> Result<Stepped<Task<J>>, PoolError>
+        requires unpaid { ¬ IsSubmission ask }
+        ensures answer { IfOk result (λ s. IsAnswer ask s) }
+        ensures works { OnOk result (Works pass.old pass.new) }
+        ensures unchanged { OnErr result (pass.new ≡ pass.old) }
+    {
+        let Core {
+            book,
+            flags,
+            waking,
+            roster: _,
+        } = self;
+        match book.step_worker(ask, None, glance, pass) {
+            Ok(stepped) => {
+                noted(book, flags, waking, &ask, &stepped);
+                Ok(stepped)
+            }
+            Err((error, _)) => {
+                settle(book, waking);
+                Err(error)
+            }
+        }
+    }
+
+    /// The worker of slot `w` asks for its next task; where it finds none, it is listed among those who
+    /// sleep.
+    pub fn take(&mut self, w: SlotId, glance: &Glance<G>, pass: &mut WorkerPass<G>) -> Taking
+        ensures works { result ≡ Taking.Task → Works pass.old pass.new }
+        ensures left { result ≡ Taking.Left → Works pass.old pass.new }
+    {
+        let taking = match self.work(Ask::Take(w), glance, pass) {
+            Ok(Stepped::Take(Did::Take(_, took))) => match took {
+                Took::Held(_) | Took::Head(_) => Taking::Task,
+                Took::Leave => Taking::Left,
+                Took::Idle => Taking::Sleeps,
+            },
+            // A worker that is idle already stays so.
+            Err(PoolError::NotThere) => Taking::Sleeps,
+            _ => Taking::Refused,
+        };
+        let queued = self.book.counts().queued;
+        self.waking.took(w, taking == Taking::Sleeps, queued);
+        taking
+    }
+
+    /// The worker begins the task that it took.
+    pub fn begin(&mut self, w: SlotId, glance: &Glance<G>, pass: &mut WorkerPass<G>) -> Begun<J>
+        ensures works { IsBegun result (Works pass.old pass.new) (pass.new ≡ pass.old) }
+    {
+        match self.work(Ask::Begin(w), glance, pass) {
+            Ok(Stepped::Begin(Started::Run(t, Task { job, flag }))) => Begun::Run(t, job, flag),
+            Ok(Stepped::Begin(Started::Skip(t))) => Begun::Skip(t),
+            _ => Begun::Refused,
+        }
+    }
+
+    /// The worker tells its task's outcome.
+    pub fn end(
+        &mut self,
+        w: SlotId,
+        outcome: Outcome,
+        glance: &Glance<G>,
+        pass: &mut WorkerPass<G>,
+    ) -> Ended
+        ensures works { result ≢ Ended.Refused → Works pass.old pass.new }
+        ensures refused { result ≡ Ended.Refused → pass.new ≡ pass.old }
+    {
+        if self.work(Ask::End(w, outcome), glance, pass).is_err() {
+            return Ended::Refused;
+        }
+        if self.book.is_dying(w) {
+            Ended::Dying
+        } else {
+            Ended::Live
+        }
+    }
+
+    /// A worker whose plain task faulted leaves.
+    pub fn leave(&mut self, w: SlotId, glance: &Glance<G>, pass: &mut WorkerPass<G>) -> Departed
+        ensures works { result ≢ Departed.Refused → Works pass.old pass.new }
+        ensures refused { result ≡ Departed.Refused → pass.new ≡ pass.old }
+    {
+        match self.work(Ask::Leave(w), glance, pass) {
+            Ok(Stepped::Leave(Did::Leave(_, Some(next)))) => Departed::Replaced(next),
+            Ok(_) => Departed::Alone,
+            Err(_) => Departed::Refused,
+        }
+    }
+
+    /// The worker tells whether another was made for this slot, which was reserved in its place, and the
+    /// thread of that slot hears what became of it.
+    pub fn open_as_worker(
+        &mut self,
+        w: SlotId,
+        staffed: bool,
+        glance: &Glance<G>,
+        pass: &mut WorkerPass<G>,
+    ) {
+        let ask = opening(w, staffed);
+        let opened = match self.work(ask, glance, pass) {
+            Ok(stepped) => Ok(stepped.did(&ask)),
+            Err(error) => Err(error),
+        };
+        if staffed {
+            self.tell(w, start_of(&opened));
+        }
+    }
+
+    /// A pass for the worker of a slot that is reserved, whose thread waits to be told. NoMemory (4) or
+    /// BookFull (5).
+    pub fn enlist(&mut self, w: SlotId, glance: &Glance<G>) -> Result<WorkerPass<G>, PoolError>
+        ensures unused { IfOk result (λ p. p.amount ≡ 0) }
+        ensures refused { IfErr result (λ e. (e ≡ PoolError.NoMemory) ⊎ (e ≡ PoolError.BookFull)) }
+    {
+        if let Err(error) = self.roster.reserve(w) {
+            return Err(error);
+        }
+        match self.book.new_worker_pass(glance) {
+            Ok(pass) => {
+                self.roster.add(w, pass.number());
+                Ok(pass)
+            }
+            Err(error) => Err(error),
+        }
+    }
+
+    /// What the thread of this slot and pass was told.
+    pub fn told(&self, w: SlotId, pass: &WorkerPass<G>) -> Start {
+        self.roster.told(w, pass.number())
+    }
+
+    /// Whether the worker of this slot sleeps.
+    pub fn is_asleep(&self, w: SlotId) -> bool {
+        self.waking.sleepers.rest(w) == Rest::Listed
+    }
+
+    /// Takes back the pass of a thread that ends.
+    pub fn hand_in(&mut self, pass: WorkerPass<G>) {
+        self.roster.take_back(pass);
+    }
+
+    /// How many threads have not handed in their passes.
+    pub fn running(&self) -> usize {
+        self.roster.running()
+    }
+}

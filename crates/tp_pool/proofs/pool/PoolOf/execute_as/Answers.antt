@@ -1,0 +1,6 @@
+use Rattle.tp_pool.proofs.Submissions.{refuses_behind}
+use Rattle.tp_pool.proofs.pool.PoolOf.execute_as.Goals as goal
+
+pub returns-in-Ok-clause-refused : goal.returns-in-Ok-clause-refused
+returns-in-Ok-clause-refused g c =
+    refuses_behind g.G.PoolNaming.config c.args.kind c.args.job c.args.pass.now c.reserve.new.pass c.submit.new.pass c.submit.result c.reserve.ensures.same c.submit.ensures.refused

@@ -1,0 +1,153 @@
+//! Workers that are started before there is a task for them.
+ghost use Rattle.std.specs.Prelude.{ℕ, ◌≡◌, ◌+◌, ◌*◌, ◌≤◌, [], ◌∷◌, IfOk, IfErr, OnOk, OnErr};
+ghost use Rattle.tp_locked.specs.Passes.{AddsNone, IsRefusal, Refuses, entry_of};
+ghost use Rattle.tp_pool.specs.Prestarts.{is_live as is_live_opening, AddsPrestart, AddsStarts};
+
+use crate::edges::Edge;
+use crate::pool::PoolOf;
+use std::sync::Wait;
+use std::thread::Threads;
+use tp_book::book::Stepped;
+use tp_book::passes::Pass;
+use tp_callbacks::jobs::Job;
+use tp_locked::names::PoolNaming;
+use tp_record::entries::{Ask, Did, Opened};
+use tp_types::ids::SlotId;
+use tp_types::limits::MAX_WORKERS;
+use tp_types::refusals::PoolError;
+
+// Whether the worker that was made for this slot, if one was, lives after this opening.
+fn is_live(w: SlotId, staffed: bool, opened: &Did) -> bool
+    ensures { result ≡ is_live_opening w staffed opened.now }
+{
+    match *opened {
+        Did::Open(v, Opened::Live) => staffed && v == w,
+        _ => false,
+    }
+}
+
+impl<
+    G: PoolNaming + Send + Sync + 'static,
+    J: Job + 'static,
+    E: Edge + Send + Sync + 'static,
+> PoolOf<G, J, E> {
+    /// Sets the core size in workers, as `setCorePoolSize`. A larger one starts a worker for each task that
+    /// waits, at most as many as the size grew; that stops at the first worker that is not made or not opened
+    /// live, at an empty queue, or at a refusal, which is not answered. NoMemory (4) for its receipts, else
+    /// BadSizes (1) or BookFull (5).
+    pub fn set_core<R: Threads + Wait + Copy + Send + 'static>(
+        &self,
+        rt: R,
+        core: u32,
+        pass: &mut Pass<G>,
+    ) -> Result<(), PoolError>
+        ensures steps { OnOk result ((added live : ℕ) × AddsStarts added (entry_of pass.old.number (Ask.Core core) (Did.Core core added) ∷ []) pass.old live pass.new) }
+        ensures refused { IfErr result (λ e. Refuses G.config (Ask.Core core) e) }
+        ensures unchanged { OnErr result (AddsNone pass.old pass.new) }
+    {
+        let most = core.min(MAX_WORKERS);
+        if let Err(error) = pass.reserve(1 + 2 * most as usize) {
+            return Err(error);
+        }
+        let added = match self.shared().step(&rt, Ask::Core(core), pass) {
+            Ok(Stepped::Core(added)) => added,
+            Ok(_) => unreachable!(),
+            Err(error) => return Err(error),
+        };
+        // A size does not grow by more than itself, nor than there may be workers.
+        let starts = added.min(most);
+        self.prestart_some(rt, starts, pass);
+        Ok(())
+    }
+
+    // Starts a worker for each of so many tasks that wait, as far as it goes.
+    fn prestart_some<R: Threads + Wait + Copy + Send + 'static>(
+        &self,
+        rt: R,
+        most: u32,
+        pass: &mut Pass<G>,
+    )
+        requires room { 2 * most ≤ pass.old.room }
+        ensures { (live : ℕ) × AddsStarts most [] pass.old live pass.new }
+    {
+        for _ in 0..most {
+            if self.shared().hold(&rt).counts().queued == 0 {
+                return;
+            }
+            match self.prestart(rt, pass) {
+                Ok(true) => {}
+                Ok(false) => return,
+                Err(_) => return,
+            }
+        }
+    }
+
+    /// Starts a core worker, as `prestartCoreThread`, where there are fewer slots than the core size; true
+    /// exactly where its slot was opened live. NoMemory (4) for its receipts, else BookFull (5).
+    pub fn prestart_core<R: Threads + Wait + Copy + Send + 'static>(
+        &self,
+        rt: R,
+        pass: &mut Pass<G>,
+    ) -> Result<bool, PoolError>
+        ensures steps { IfOk result (λ live. AddsPrestart pass.old live pass.new) }
+        ensures refused { IfErr result (λ e. Refuses G.config Ask.Prestart e) }
+        ensures unchanged { OnErr result (AddsNone pass.old pass.new) }
+    {
+        if let Err(error) = pass.reserve(2) {
+            return Err(error);
+        }
+        self.prestart(rt, pass)
+    }
+
+    /// Starts core workers until there are as many slots as the core size, as `prestartAllCoreThreads`, and
+    /// says how many were opened live. It stops after 1,024 reservations, or at the first whose worker is
+    /// not made or not opened. NoMemory (4) for its receipts, else BookFull (5); a refusal after its first
+    /// reservation ends it and is not answered.
+    pub fn prestart_all<R: Threads + Wait + Copy + Send + 'static>(
+        &self,
+        rt: R,
+        pass: &mut Pass<G>,
+    ) -> Result<u32, PoolError>
+        ensures steps { IfOk result (λ live. AddsStarts 1024 [] pass.old live pass.new) }
+        ensures refused { IfErr result (λ e. Refuses G.config Ask.Prestart e) }
+        ensures unchanged { OnErr result (AddsNone pass.old pass.new) }
+    {
+        if let Err(error) = pass.reserve(2 * MAX_WORKERS as usize) {
+            return Err(error);
+        }
+        for live in 0..MAX_WORKERS {
+            match self.prestart(rt, pass) {
+                Ok(true) => {}
+                Ok(false) => return Ok(live),
+                Err(error) if live == 0 => return Err(error),
+                Err(_) => return Ok(live),
+            }
+        }
+        Ok(MAX_WORKERS)
+    }
+
+    // One prestart, with the opening of the slot that it reserved: whether a worker lives.
+    fn prestart<R: Threads + Wait + Copy + Send + 'static>(
+        &self,
+        rt: R,
+        pass: &mut Pass<G>,
+    ) -> Result<bool, PoolError>
+        requires room { 2 ≤ pass.old.room }
+        ensures steps { IfOk result (λ live. AddsPrestart pass.old live pass.new) }
+        ensures left { OnOk result (pass.old.room ≤ pass.new.room + 2) }
+        ensures refused { IfErr result (λ e. IsRefusal G.config Ask.Prestart e) }
+        ensures unchanged { OnErr result (pass.new ≡ pass.old) }
+    {
+        let w = match self.shared().step(&rt, Ask::Prestart, pass) {
+            Ok(Stepped::Prestart(Some(w))) => w,
+            Ok(Stepped::Prestart(None)) => return Ok(false),
+            Ok(_) => unreachable!(),
+            Err(error) => return Err(error),
+        };
+        let staffed = self.staffed(rt, w);
+        match self.shared().open(&rt, w, staffed, pass) {
+            Ok(did) => Ok(is_live(w, staffed, &did)),
+            Err(_) => Ok(false),
+        }
+    }
+}

@@ -1,0 +1,109 @@
+//! Threads for slots that are reserved.
+ghost use Rattle.std.specs.Thread.{IsSend, IsSync};
+
+use crate::edges::Edge;
+use crate::shared::Shared;
+use crate::working::Post;
+use std::sync::{Arc, Wait};
+use std::thread::{Builder, Promise, Threads};
+use tp_book::passes::WorkerPass;
+use tp_callbacks::jobs::Job;
+use tp_locked::names::PoolNaming;
+use tp_locked::roster::Start;
+use tp_types::ids::SlotId;
+
+// Any result will do.
+#[derive(Drop)]
+struct Free;
+
+impl Promise<()> for Free {
+    ghost kept_by = { λ _ _. Unit {0} };
+}
+
+/// Has a worker made for this slot: the factory is asked, and where it consents a pass and a thread are
+/// made, which waits to be told of its slot. Whether all of them were made. No lock is held meanwhile.
+pub fn staff<
+    G: PoolNaming + Send + Sync + 'static,
+    J: Job + 'static,
+    E: Edge + Send + Sync + 'static,
+    R: Threads + Wait + Copy + Send + 'static,
+>(rt: R, shared: &Arc<Shared<G, J, E>>, w: SlotId) -> bool {
+    staff_heir(rt, shared, w, u64::MAX)
+}
+
+/// As `staff`, for a worker whose line of heirs is to be shorter than this; none is made at 0.
+#[cycle(staffing)]
+pub fn staff_heir<
+    G: PoolNaming + Send + Sync + 'static,
+    J: Job + 'static,
+    E: Edge + Send + Sync + 'static,
+    R: Threads + Wait + Copy + Send + 'static,
+>(rt: R, shared: &Arc<Shared<G, J, E>>, w: SlotId, heirs: u64) -> bool {
+    let Some(heirs) = heirs.checked_sub(1) else {
+        return false;
+    };
+    if !shared.edge.allow(&rt, w) {
+        return false;
+    }
+    let Ok(theirs) = Arc::try_clone(shared) else {
+        return false;
+    };
+    let enlisted = shared.hold(&rt).enlist(w, &shared.glance);
+    match enlisted {
+        Ok(pass) => launch(rt, shared, theirs, w, pass, heirs),
+        Err(_) => false,
+    }
+}
+
+// Starts the thread. Where none can be made, its work is done here: told that its slot is given up, it
+// only hands its pass in. A function of its own, where little else is known: the check shows there that
+// the pool may cross to a thread.
+#[cycle(staffing)]
+fn launch<
+    G: PoolNaming + Send + Sync + 'static,
+    J: Job + 'static,
+    E: Edge + Send + Sync + 'static,
+    R: Threads + Wait + Copy + Send + 'static,
+>(
+    rt: R,
+    shared: &Arc<Shared<G, J, E>>,
+    theirs: Arc<Shared<G, J, E>>,
+    w: SlotId,
+    pass: WorkerPass<G>,
+    heirs: u64,
+) -> bool {
+    let work = move ||
+        requires { IsSend R.row × IsSend G.row × IsSync G.row × IsSend E.row × IsSync E.row }
+    { run_worker(rt, theirs, w, pass, heirs) };
+    let builder = Builder::new().stack_size(shared.edge.stack());
+    match builder.spawn_with(&rt, Free, work) {
+        Ok(handle) => {
+            drop(handle);
+            true
+        }
+        Err(refused) => {
+            shared.tell(&rt, w, Start::GivenUp);
+            let run = refused.value;
+            run();
+            false
+        }
+    }
+}
+
+// What a worker's thread does: its turns once its slot is live, then it has a worker made in its place
+// where one is wanted, and at last it hands in its pass and lets go of the pool. Its line of heirs, of
+// whom each is made by the one before, is shorter than this.
+#[cycle(staffing)]
+fn run_worker<
+    G: PoolNaming + Send + Sync + 'static,
+    J: Job + 'static,
+    E: Edge + Send + Sync + 'static,
+    R: Threads + Wait + Copy + Send + 'static,
+>(rt: R, shared: Arc<Shared<G, J, E>>, w: SlotId, pass: WorkerPass<G>, heirs: u64) {
+    let mut post = Post::new(shared, w, pass);
+    if let Some(heir) = post.work(&rt) {
+        let staffed = staff_heir(rt, &post.shared, heir, heirs);
+        post.hand_over(&rt, heir, staffed);
+    }
+    post.finish(&rt);
+}

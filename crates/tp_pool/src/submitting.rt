@@ -1,0 +1,285 @@
+//! Submissions: a task's path from its first step to its end, each step in a hold of its own.
+ghost use Rattle.std.specs.Prelude.{◌≡◌, ◌⊎◌, ◌+◌, ◌<◌, ◌≤◌, Some, IfSome, IfNone, IfOk, IfErr, OnSome, OnOk, OnErr};
+ghost use Rattle.tp_record.specs.Effects.{submits};
+ghost use Rattle.tp_record.specs.Paths.{Astray};
+ghost use Rattle.tp_record.specs.declared.entries.Ask.{Ask as AskOf};
+ghost use Rattle.tp_paths.specs.Fronts.{admission_of, follow_of};
+ghost use Rattle.tp_locked.specs.Passes.{AddsStep, AddsNone, IsRefusal, Refuses, opening};
+ghost use Rattle.tp_pool.specs.Admissions.{task_of, end_of, AddsPath, IsTurnedAway};
+
+use crate::boxes::Boxed;
+use crate::edges::{Boxes, Edge};
+use crate::pool::{Hold, PoolOf};
+use crate::shared::Shared;
+use crate::staffing::staff;
+use std::sync::{Arc, Wait};
+use std::thread::Threads;
+use tp_book::book::Stepped;
+use tp_book::passes::Pass;
+use tp_callbacks::flags::CancelFlag;
+use tp_callbacks::jobs::Job;
+use tp_locked::answers::{Admitted, Refused};
+use tp_locked::names::PoolNaming;
+use tp_locked::tasks::Task;
+use tp_paths::laws::fronts_are_paths;
+use tp_paths::paths::{Ending, Next, follows};
+use tp_record::entries::{Ask, Did};
+use tp_types::configs::{Policy, Verdict};
+use tp_types::ids::{SlotId, TaskId};
+use tp_types::refusals::PoolError;
+use tp_types::tasks::{Kind, Outcome};
+
+/// The most steps of one submission: its receipts are reserved before its first. The longest path is
+/// shorter.
+pub const MOST_STEPS: usize = 512;
+
+// What a submission comes to whose steps the book does not take as they should be, or that does not end.
+fn torn<J>() -> Refused<J>
+    ensures { result.error ≡ PoolError.TornRecord }
+{
+    Refused {
+        error: PoolError::TornRecord,
+        job: None,
+    }
+}
+
+// What a submission answers that has ended so.
+fn answer<J: Drop>(t: TaskId, ending: Ending, held: Option<Task<J>>) -> Result<Admitted, Refused<J>>
+    ensures admitted { IfOk result (λ a. (task_of a ≡ t) × (end_of a ≡ admission_of ending)) }
+    ensures rejected { IfErr result (λ r. (r.error ≡ PoolError.Rejected t) × (ending ≡ Ending.Rejected)) }
+{
+    match ending {
+        Ending::Accepted => Ok(Admitted::Accepted(t)),
+        Ending::RanHere(outcome) => Ok(Admitted::RanHere(t, outcome)),
+        Ending::Discarded => Ok(Admitted::Discarded(t)),
+        Ending::Rejected => Err(Refused {
+            error: PoolError::Rejected(t),
+            job: held.map(Task::into_job),
+        }),
+    }
+}
+
+// Runs a task on its submitter's thread, where it is to be run.
+fn run_here<J: Job>(held: Option<Task<J>>) -> Option<Outcome> {
+    let Task { job, flag } = held?;
+    let mut job = job;
+    Some(job.call(&flag))
+}
+
+impl<
+    G: PoolNaming + Send + Sync + 'static,
+    J: Job + 'static,
+    E: Edge + Send + Sync + 'static,
+> PoolOf<G, J, E> {
+    /// Submits a task of this kind, as `execute`, and follows it to the end of its submission. Accepted,
+    /// where the pool has the task; RanHere and Discarded by the pool's policy. NoMemory (4) or BookFull
+    /// (5), with the job and with nothing done; Rejected (12), with the job where it was not cancelled;
+    /// TornRecord (22), which does not come as long as the pool's book is sound.
+    pub fn execute_as<R: Threads + Wait + Copy + Send + 'static>(
+        &self,
+        rt: R,
+        kind: Kind,
+        job: J,
+        pass: &mut Pass<G>,
+    ) -> Result<Admitted, Refused<J>>
+        ensures admitted { IfOk result (λ a. AddsPath (task_of a) (end_of a) pass.old pass.new) }
+        ensures refused { IfErr result (λ r. IsTurnedAway G.config kind job pass.old pass.new r) }
+    {
+        match self.reserve(pass) {
+            Ok((kept, flag)) => self.submit(rt, kind, Task { job, flag }, kept, pass),
+            Err(error) => Err(Refused {
+                error,
+                job: Some(job),
+            }),
+        }
+    }
+
+    // The memory of a submission: room for its receipts, and two holds of its task's flag.
+    fn reserve(&self, pass: &mut Pass<G>) -> Result<(CancelFlag, CancelFlag), PoolError>
+        ensures room { OnOk result (512 ≤ pass.new.room) }
+        ensures same { AddsNone pass.old pass.new }
+        ensures refused { IfErr result (λ e. e ≡ PoolError.NoMemory) }
+    {
+        if let Err(error) = pass.reserve(MOST_STEPS) {
+            return Err(error);
+        }
+        let flag = match CancelFlag::new(self.shared().alloc) {
+            Ok(flag) => flag,
+            Err(error) => return Err(error),
+        };
+        match flag.share() {
+            Ok(kept) => Ok((kept, flag)),
+            Err(error) => Err(error),
+        }
+    }
+
+    // The steps of a submission.
+    fn submit<R: Threads + Wait + Copy + Send + 'static>(
+        &self,
+        rt: R,
+        kind: Kind,
+        task: Task<J>,
+        kept: CancelFlag,
+        pass: &mut Pass<G>,
+    ) -> Result<Admitted, Refused<J>>
+        requires room { 512 ≤ pass.old.room }
+        ensures admitted { IfOk result (λ a. AddsPath (task_of a) (end_of a) pass.old pass.new) }
+        ensures refused { IfErr result (λ r. IsTurnedAway G.config kind task.job pass.old pass.new r) }
+    {
+        let (t, did) = match self.shared().submit(&rt, kind, task, kept, pass) {
+            Ok(submitted) => submitted,
+            Err((error, task)) => {
+                return Err(Refused {
+                    error,
+                    job: Some(task.into_job()),
+                });
+            }
+        };
+        fronts_are_paths();
+        let mut next = follows(t, &did);
+        let mut held = None;
+        for _ in 1..MOST_STEPS {
+            if let Next::End(ending) = next {
+                return answer(t, ending, held);
+            }
+            let Some(did) = self.advance(rt, t, next, &mut held, pass) else {
+                return Err(torn());
+            };
+            next = next.after(t, &did);
+        }
+        match next {
+            Next::End(ending) => answer(t, ending, held),
+            _ => Err(torn()),
+        }
+    }
+
+    // One further step of a submission, None where the book does not take it.
+    fn advance<R: Threads + Wait + Copy + Send + 'static>(
+        &self,
+        rt: R,
+        t: TaskId,
+        next: Next,
+        held: &mut Option<Task<J>>,
+        pass: &mut Pass<G>,
+    ) -> Option<Did>
+        requires room { 0 < pass.old.room }
+        ensures step { IfSome result (λ d. (ask : AskOf) × AddsStep pass.old ask d pass.new) }
+        ensures left { OnSome result (pass.old.room ≤ pass.new.room + 1) }
+        ensures on_path { OnSome result (¬ (follow_of t.0 next ≡ Astray)) }
+        ensures unchanged { IfNone result (pass.new ≡ pass.old) }
+    {
+        let ask = match next {
+            Next::Look => Ask::Look(t),
+            Next::Offer => Ask::Offer(t),
+            Next::Second => Ask::Second(t),
+            Next::Grow => Ask::Grow(t),
+            Next::Judge => Ask::Verdict(t, self.verdict(&rt, t)),
+            Next::RunHere => Ask::CallerEnd(t, run_here(held.take())?),
+            Next::Staff(w) => {
+                let staffed = self.staffed(rt, w);
+                return self.shared().open(&rt, w, staffed, pass).ok();
+            }
+            Next::End(_) | Next::Astray => return None,
+        };
+        match self.shared().step(&rt, ask, pass) {
+            Ok(Stepped::Verdict(judged)) => {
+                let did = judged.did;
+                *held = judged.payload;
+                Some(did)
+            }
+            Ok(stepped) => Some(stepped.did(&ask)),
+            Err(_) => None,
+        }
+    }
+
+    // What the policy, or the handler, says of a refused task.
+    fn verdict<R: Wait>(&self, rt: &R, t: TaskId) -> Verdict {
+        let shared = self.shared();
+        match shared.policy {
+            Policy::Abort => Verdict::Abort,
+            Policy::CallerRuns => Verdict::CallerRuns,
+            Policy::Discard => Verdict::Discard,
+            Policy::DiscardOldest => Verdict::DiscardOldest,
+            Policy::Own => {
+                let state = shared.hold(rt).state();
+                shared.edge.verdict(rt, t, state)
+            }
+        }
+    }
+
+    // Has a worker made for this slot: whether one was.
+    pub(crate) fn staffed<R: Threads + Wait + Copy + Send + 'static>(
+        &self,
+        rt: R,
+        w: SlotId,
+    ) -> bool {
+        match &self.hold {
+            Hold::Many(shared) => staff(rt, shared, w),
+            Hold::One(_) => false,
+        }
+    }
+}
+
+impl<G: PoolNaming + Send + Sync + 'static> PoolOf<G, Boxed, Boxes> {
+    /// Submits a plain task, as `execute`. Accepted, where the pool has the task; RanHere and Discarded by the
+    /// pool's policy. NoMemory (4) or BookFull (5), with the job and with nothing done; Rejected (12), with
+    /// the job; TornRecord (22), which does not come as long as the pool's book is sound.
+    pub fn execute<R: Threads + Wait + Copy + Send + 'static>(
+        &self,
+        rt: R,
+        job: Box<dyn Job>,
+        pass: &mut Pass<G>,
+    ) -> Result<Admitted, Refused<Boxed>>
+        ensures admitted { IfOk result (λ a. AddsPath (task_of a) (end_of a) pass.old pass.new) }
+        ensures refused { IfErr result (λ r. IsTurnedAway G.config Kind.Plain (record { job = job }) pass.old pass.new r) }
+    {
+        self.execute_as(rt, Kind::Plain, Boxed { job }, pass)
+    }
+}
+
+impl<G: PoolNaming, J: Job, E: Edge> Shared<G, J, E> {
+    // The first step of a submission, in a hold of its own. NoMemory (4) or BookFull (5), with the task.
+    fn submit<R: Wait>(
+        &self,
+        rt: &R,
+        kind: Kind,
+        task: Task<J>,
+        kept: CancelFlag,
+        pass: &mut Pass<G>,
+    ) -> Result<(TaskId, Did), (PoolError, Task<J>)>
+        requires room { 0 < pass.old.room }
+        ensures step { IfOk result (λ r. AddsStep pass.old (Ask.Submit kind) r.1 pass.new) }
+        ensures number { IfOk result (λ r. submits r.1 ≡ Some r.0.0) }
+        ensures left { OnOk result (pass.old.room ≤ pass.new.room + 1) }
+        ensures refused { IfErr result (λ r. Refuses G.config (Ask.Submit kind) r.0) }
+        ensures returned { IfErr result (λ r. r.1 ≡ task) }
+        ensures unchanged { OnErr result (pass.new ≡ pass.old) }
+    {
+        let promise = task.job.promise();
+        let mut core = self.hold(rt);
+        let submitted = core.submit(kind, promise, task, kept, &self.glance, pass);
+        self.release(core);
+        submitted
+    }
+
+    /// Tells, in a hold of its own, whether a worker was made for this slot.
+    pub fn open<R: Wait>(
+        &self,
+        rt: &R,
+        w: SlotId,
+        staffed: bool,
+        pass: &mut Pass<G>,
+    ) -> Result<Did, PoolError>
+        requires room { 0 < pass.old.room }
+        ensures step { IfOk result (λ d. AddsStep pass.old (opening w staffed) d pass.new) }
+        ensures left { OnOk result (pass.old.room ≤ pass.new.room + 1) }
+        ensures refused { IfErr result (λ e. IsRefusal G.config (opening w staffed) e) }
+        ensures unchanged { OnErr result (pass.new ≡ pass.old) }
+    {
+        let mut core = self.hold(rt);
+        let opened = core.open(w, staffed, &self.glance, pass);
+        self.release(core);
+        self.begun.notify_all();
+        opened
+    }
+}

@@ -1,0 +1,231 @@
+//! A worker's thread: its turns, and its end.
+ghost use Rattle.std.specs.Prelude.{◌≡◌, IfOk, OnOk, OnErr};
+ghost use Rattle.tp_machine.specs.Stepped.{IsAnswer, IsSubmission};
+ghost use Rattle.tp_locked.specs.Passes.{Works};
+
+use crate::edges::Edge;
+use crate::shared::Shared;
+use std::sync::{Arc, Wait};
+use std::thread::Threads;
+use tp_book::book::Stepped;
+use tp_book::passes::WorkerPass;
+use tp_callbacks::flags::CancelFlag;
+use tp_callbacks::gates::Point;
+use tp_callbacks::jobs::Job;
+use tp_locked::locked::Taking;
+use tp_locked::names::PoolNaming;
+use tp_locked::roster::Start;
+use tp_locked::tasks::Task;
+use tp_record::entries::Ask;
+use tp_turns::deeds::{Departed, Ended, Taken};
+use tp_turns::turns::{Begun, Workplace, one_turn};
+use tp_types::ids::{SlotId, TaskId};
+use tp_types::refusals::PoolError;
+use tp_types::tasks::Outcome;
+
+/// A worker at its slot.
+#[derive(Drop)]
+pub struct Post<G: PoolNaming, J, E> {
+    /// Its pool.
+    pub shared: Arc<Shared<G, J, E>>,
+    w: SlotId,
+    pass: WorkerPass<G>,
+    // The slot that is reserved in its place, once it has left.
+    heir: Option<SlotId>,
+}
+
+impl<
+    G: PoolNaming + Send + Sync + 'static,
+    J: Job + 'static,
+    E: Edge + Send + Sync + 'static,
+    R: Threads + Wait + Copy + Send + 'static,
+> Workplace<J, R> for Post<G, J, E> {
+    ghost did = { λ _ _ _. Unit {0} };
+
+    ghost owes = { λ _ _. Unit {0} };
+
+    fn pass(&mut self, p: Point) {
+        self.shared.edge.pass(p, self.w);
+    }
+
+    fn take(&mut self, rt: &R) -> Taken {
+        for _ in rt.forever() {
+            match self.shared.take(rt, self.w, &mut self.pass) {
+                Taking::Task => return Taken::Task,
+                Taking::Left => return Taken::Left,
+                Taking::Refused => return Taken::Refused,
+                Taking::Sleeps => self.shared.sleep(rt, self.w),
+            }
+        }
+        unreachable!()
+    }
+
+    fn begin(&mut self, rt: &R) -> Begun<J> {
+        let shared = &self.shared;
+        let mut core = shared.hold(rt);
+        let begun = core.begin(self.w, &shared.glance, &mut self.pass);
+        shared.release(core);
+        begun
+    }
+
+    fn before(&mut self, rt: &R, t: TaskId) {
+        self.shared.edge.before(rt, self.w, t);
+    }
+
+    fn run(&mut self, job: J, flag: CancelFlag) -> Outcome {
+        let mut job = job;
+        job.call(&flag)
+    }
+
+    fn after(&mut self, rt: &R, t: TaskId, outcome: Option<Outcome>) {
+        self.shared.edge.after(rt, self.w, t, outcome.as_ref());
+    }
+
+    fn end(&mut self, rt: &R, outcome: Outcome) -> Ended {
+        let shared = &self.shared;
+        let mut core = shared.hold(rt);
+        let ended = core.end(self.w, outcome, &shared.glance, &mut self.pass);
+        shared.release(core);
+        ended
+    }
+
+    fn leave(&mut self, rt: &R) -> Departed {
+        let shared = &self.shared;
+        let mut core = shared.hold(rt);
+        let departed = core.leave(self.w, &shared.glance, &mut self.pass);
+        shared.release(core);
+        departed
+    }
+
+    // The turn ends here: its thread has the other worker made right after it, and then ends the pool, so
+    // that no turn starts a thread that makes turns.
+    fn replace(&mut self, _rt: &R, w: SlotId) {
+        self.heir = Some(w);
+    }
+
+    fn tidy(&mut self, rt: &R) {
+        if self.heir.is_none() {
+            self.shared.try_end_as_worker(rt, &mut self.pass);
+        }
+    }
+}
+
+impl<G: PoolNaming + Send + Sync + 'static, J: Job + 'static, E: Edge + Send + Sync + 'static> Post<
+    G,
+    J,
+    E,
+> {
+    /// A worker that is yet to hear of its slot.
+    pub fn new(shared: Arc<Shared<G, J, E>>, w: SlotId, pass: WorkerPass<G>) -> Post<G, J, E> {
+        Post {
+            shared,
+            w,
+            pass,
+            heir: None,
+        }
+    }
+
+    /// Its turns, once its slot is live, and the slot that is reserved in its place where one is.
+    pub fn work<R: Threads + Wait + Copy + Send + 'static>(&mut self, rt: &R) -> Option<SlotId> {
+        if !self.shared.await_start(rt, self.w, &self.pass) {
+            return None;
+        }
+        for _ in rt.forever() {
+            if !one_turn(rt, self).goes_on() {
+                return self.heir;
+            }
+        }
+        unreachable!()
+    }
+
+    /// Tells whether a worker was made in its place, and ends the pool, where it can end now.
+    pub fn hand_over<R: Wait>(&mut self, rt: &R, w: SlotId, staffed: bool) {
+        let shared = &self.shared;
+        let mut core = shared.hold(rt);
+        core.open_as_worker(w, staffed, &shared.glance, &mut self.pass);
+        shared.release(core);
+        shared.begun.notify_all();
+        shared.try_end_as_worker(rt, &mut self.pass);
+    }
+
+    /// Hands in its pass, and lets go of the pool.
+    pub fn finish<R: Wait>(self, rt: &R) {
+        let Post {
+            shared,
+            w: _,
+            pass,
+            heir: _,
+        } = self;
+        shared.hand_in(rt, pass);
+        drop(shared);
+    }
+}
+
+impl<G: PoolNaming, J: Drop, E: Edge> Shared<G, J, E> {
+    // One hold of a worker that asks for its next task.
+    fn take<R: Wait>(&self, rt: &R, w: SlotId, pass: &mut WorkerPass<G>) -> Taking
+        ensures works { result ≡ Taking.Task → Works pass.old pass.new }
+        ensures left { result ≡ Taking.Left → Works pass.old pass.new }
+    {
+        let mut core = self.hold(rt);
+        let taking = core.take(w, &self.glance, pass);
+        self.release(core);
+        taking
+    }
+
+    // Sleeps until somebody took the worker off the list of those who sleep.
+    fn sleep<R: Wait>(&self, rt: &R, w: SlotId) {
+        for _ in rt.forever() {
+            if !self.hold(rt).is_asleep(w) {
+                return;
+            }
+            self.park(rt, w);
+        }
+        unreachable!()
+    }
+
+    // Makes the step of this ask in a hold of its own, with a worker's pass.
+    fn work<R: Wait>(
+        &self,
+        rt: &R,
+        ask: Ask,
+        pass: &mut WorkerPass<G>,
+    ) -> Result<Stepped<Task<J>>, PoolError>
+        requires unpaid { ¬ IsSubmission ask }
+        ensures answer { IfOk result (λ s. IsAnswer ask s) }
+        ensures works { OnOk result (Works pass.old pass.new) }
+        ensures unchanged { OnErr result (pass.new ≡ pass.old) }
+    {
+        let mut core = self.hold(rt);
+        let stepped = core.work(ask, &self.glance, pass);
+        self.release(core);
+        stepped
+    }
+
+    // Ends the pool, where it can end now, by a worker's steps.
+    fn try_end_as_worker<R: Wait>(&self, rt: &R, pass: &mut WorkerPass<G>) {
+        if self.work(rt, Ask::Tidy, pass).is_ok() {
+            self.edge.terminated(rt);
+            let _ = self.work(rt, Ask::Ended, pass);
+        }
+    }
+
+    // Waits until the thread of this slot and pass is told what became of it: whether it is live.
+    fn await_start<R: Wait>(&self, rt: &R, w: SlotId, pass: &WorkerPass<G>) -> bool {
+        let mut core = self.hold(rt);
+        for _ in rt.forever() {
+            match core.told(w, pass) {
+                Start::Live => return true,
+                Start::GivenUp => return false,
+                Start::Waits => core = self.begun.wait(rt, core),
+            }
+        }
+        unreachable!()
+    }
+
+    // Takes back the pass of a thread that ends.
+    fn hand_in<R: Wait>(&self, rt: &R, pass: WorkerPass<G>) {
+        self.hold(rt).hand_in(pass);
+        self.gone.notify_all();
+    }
+}
