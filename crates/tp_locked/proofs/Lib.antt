@@ -1,3 +1,4 @@
 pub mod Moments
 pub mod Refusals
 pub mod Stops
+pub mod Waits

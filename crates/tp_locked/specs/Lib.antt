@@ -4,5 +4,6 @@ pub mod Closing
 pub mod Drains
 pub mod Names
 pub mod Passes
+pub mod Readings
 pub mod Records
 pub mod Waits

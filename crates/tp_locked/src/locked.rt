@@ -1,16 +1,14 @@
 //! The value under a pool's lock.
-ghost use Rattle.std.specs.Prelude.{◌≡◌, ◌⊎◌, ◌+◌, ◌<◌, ◌≤◌, All, Some, IfOk, IfErr, OnOk, OnErr, option_map};
+ghost use Rattle.std.specs.Prelude.{◌≡◌, ◌+◌, ◌<◌, ◌≤◌, reverse, Ok, Err, Option, IfOk, IfErr, OnOk, OnErr, option_map};
 ghost use Rattle.tp_types.specs.Config.{IsConfig};
-ghost use Rattle.tp_types.specs.RunState.{state_rank};
 ghost use Rattle.tp_record.specs.Effects.{reaches};
-ghost use Rattle.tp_record.specs.State.{counts as counts_of};
-ghost use Rattle.tp_record.specs.Step.{Gives};
+ghost use Rattle.tp_record.specs.Step.{Gives, IsRefused, Legal};
 ghost use Rattle.tp_sleepers.specs.Rests.{IsSettled};
 ghost use Rattle.tp_machine.specs.Stepped.{IsAnswer, IsPaid, IsSubmission, did_of};
-ghost use Rattle.tp_book.specs.BookView.{config, state_of};
+ghost use Rattle.tp_book.specs.BookView.{config, entries, state_of};
 ghost use Rattle.tp_locked.specs.Passes.{AddsStep, IsRefusal};
-ghost use Rattle.tp_locked.specs.Records.{AtSome, BookAtSome};
 ghost use Rattle.tp_locked.specs.Waits.{waits, HasNoOutcome};
+ghost use Rattle.tp_locked.specs.declared.tasks.Task.{Task as TaskOf};
 
 use self::controllers::mark;
 use crate::flags::Flags;
@@ -25,7 +23,6 @@ use tp_glance::glance::Glance;
 use tp_record::entries::{Ask, Did};
 use tp_types::limits::MAX_WORKERS;
 use tp_types::refusals::PoolError;
-use tp_types::states::{Counts, RunState};
 use tp_types::tasks::Promise;
 use tp_waking::calls::Calls;
 use tp_waking::waking::Waking;
@@ -71,7 +68,8 @@ fn step_of<G: PoolNaming, J: Drop>(
     ensures step { IfOk result (λ s. AddsStep pass.old ask (did_of ask s) pass.new) }
     ensures seen { IfOk result (λ s. reaches (did_of ask s) ≤ pass.new.seen) }
     ensures left { OnOk result (pass.old.room ≤ pass.new.room + 1) }
-    ensures refused { IfErr result (λ r. HasNoOutcome ask → IsRefusal G.config ask r.0) }
+    ensures legal { Legal G.config (reverse (entries book.old)) }
+    ensures refused { IfErr result (λ r. HasNoOutcome ask → IsRefused G.config (state_of book.old) ask r.0) }
     ensures returned { IfErr result (λ r. r.1 ≡ option_map (λ x. x.1) submitted) }
     ensures unchanged { OnErr result (pass.new ≡ pass.old) }
     ensures settings { config book.new ≡ G.config }
@@ -110,6 +108,31 @@ fn noted<G: PoolNaming, J>(
     mark(book, flags, ask, stepped);
 }
 
+// What the answer to an ask is to those who sleep or wait, and to the flags of tasks.
+fn concluded<G: PoolNaming, J: Drop>(
+    book: &Book<G, Task<J>>,
+    flags: &mut Flags,
+    waking: &mut Waking,
+    ask: &Ask,
+    stepped: Result<Stepped<Task<J>>, (PoolError, Option<Task<J>>)>,
+) -> Result<Stepped<Task<J>>, PoolError>
+    requires answer { IfOk stepped (λ s. IsAnswer ask.now s) }
+    ensures settled { IsSettled (waits book.now) waking.new.sleepers }
+    ensures accepted { IfOk result (λ s. stepped ≡ Ok s) }
+    ensures refused { IfErr result (λ e. (task : Option (TaskOf J)) × (stepped ≡ Err (e, task))) }
+{
+    match stepped {
+        Ok(stepped) => {
+            noted(book, flags, waking, ask, &stepped);
+            Ok(stepped)
+        }
+        Err((error, _)) => {
+            settle(book, waking);
+            Err(error)
+        }
+    }
+}
+
 // After a refused ask nobody is to be woken, but for a worker whose search it ends.
 fn settle<G: PoolNaming, J>(book: &Book<G, Task<J>>, waking: &mut Waking)
     ensures { IsSettled (waits book.now) waking.new.sleepers }
@@ -119,6 +142,7 @@ fn settle<G: PoolNaming, J>(book: &Book<G, Task<J>>, waking: &mut Waking)
 
 mod closing;
 mod controllers;
+mod readings;
 mod submitters;
 mod workers;
 
@@ -168,32 +192,8 @@ impl<G: PoolNaming, J: Drop> Core<G, J> {
             waking,
             roster: _,
         } = self;
-        match step_of(book, ask, None, glance, pass) {
-            Ok(stepped) => {
-                noted(book, flags, waking, &ask, &stepped);
-                Ok(stepped)
-            }
-            Err((error, _)) => {
-                settle(book, waking);
-                Err(error)
-            }
-        }
-    }
-
-    /// The run state.
-    pub fn state(&self) -> RunState
-        ensures { AtSome G.config (λ s. state_rank result ≡ s.rank) }
-    {
-        self.book.is_balanced();
-        self.book.state()
-    }
-
-    /// The twelve counters.
-    pub fn counts(&self) -> Counts
-        ensures { AtSome G.config (λ s. result ≡ counts_of s) }
-    {
-        self.book.is_balanced();
-        self.book.counts()
+        let stepped = step_of(book, ask, None, glance, pass);
+        concluded(book, flags, waking, &ask, stepped)
     }
 
     /// Who is to be woken once the lock is let go.

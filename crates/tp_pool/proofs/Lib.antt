@@ -1,3 +1,4 @@
+pub mod Got
 pub mod Receipts
 pub mod Starts
 pub mod Submissions

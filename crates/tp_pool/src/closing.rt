@@ -81,9 +81,7 @@ impl<G: PoolNaming, J: Job, E: Edge> Shared<G, J, E> {
     {
         let Shared {
             core,
-            end,
-            gone,
-            begun,
+            conditions,
             parkers,
             glance,
             edge,
@@ -108,9 +106,7 @@ impl<G: PoolNaming, J: Job, E: Edge> Shared<G, J, E> {
                 } = unclosed;
                 let shared = Shared {
                     core: Mutex::new(Core::again(alloc, book, workers, beside)),
-                    end,
-                    gone,
-                    begun,
+                    conditions,
                     parkers,
                     glance,
                     edge,

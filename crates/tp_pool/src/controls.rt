@@ -18,20 +18,9 @@ use tp_record::entries::{Ask, Did};
 use tp_types::ids::TaskId;
 use tp_types::refusals::PoolError;
 
-// What a call answers whose step is answered so.
-macro_rules! answered {
-    ($stepped:expr, $($answer:pat => $value:expr),+) => {
-        match $stepped {
-            $(Ok($answer) => Ok($value),)+
-            Ok(_) => unreachable!(),
-            Err(error) => Err(error),
-        }
-    };
-}
-
 impl<G: PoolNaming, J: Job, E: Edge> PoolOf<G, J, E> {
     // Makes the step of this ask, for whose receipt it takes the memory first.
-    fn control<R: Wait>(
+    pub(crate) fn control<R: Wait>(
         &self,
         rt: &R,
         ask: Ask,

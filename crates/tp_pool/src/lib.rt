@@ -5,14 +5,27 @@
 //! its counters and its steps; the pages of the traits say what would wait for ever.
 #![tactic(auto)]
 
+// What a call answers whose step is answered so.
+macro_rules! answered {
+    ($stepped:expr, $($answer:pat => $value:expr),+) => {
+        match $stepped {
+            $(Ok($answer) => Ok($value),)+
+            Ok(_) => unreachable!(),
+            Err(error) => Err(error),
+        }
+    };
+}
+
 pub mod boxes;
 pub mod closing;
 pub mod controls;
 pub mod edges;
 pub mod endings;
+pub mod futures;
 pub mod lock;
 pub mod pool;
 mod prestarts;
+pub mod readings;
 mod shared;
 mod staffing;
 mod submitting;

@@ -2,15 +2,14 @@
 ghost use Rattle.std.specs.Prelude.{◌≡◌, ◌⊎◌, ◌≤◌, [], IfOk, IfErr, OnOk, Err};
 ghost use Rattle.tp_types.specs.Config.{IsConfig, checked};
 ghost use Rattle.tp_types.specs.RunState.{state_rank};
-ghost use Rattle.tp_record.specs.State.{counts as counts_of};
-ghost use Rattle.tp_locked.specs.Records.{AtSome, BookAtSome};
+ghost use Rattle.tp_locked.specs.Records.{BookAtSome};
 ghost use Rattle.tp_locked.specs.declared.tasks.Task.{Task};
 
 use crate::boxes::Boxed;
 use crate::edges::{Boxes, Edge};
-use crate::shared::Shared;
+use crate::shared::{Conditions, Shared};
 use std::alloc::{AllocError, Global};
-use std::sync::{Arc, Condvar, Mutex, Wait};
+use std::sync::{Arc, Mutex, Wait};
 use std::thread::Parker;
 use tp_book::book::Book;
 use tp_book::opening::Unopened;
@@ -25,7 +24,7 @@ use tp_locked::names::PoolNaming;
 use tp_types::configs::Config;
 use tp_types::limits::MAX_WORKERS;
 use tp_types::refusals::PoolError;
-use tp_types::states::{Counts, RunState};
+use tp_types::states::RunState;
 
 /// A pool of threads, as a `ThreadPoolExecutor`, over any jobs and any caller's objects. Its calls take
 /// `&self`, so that many threads may share it; those that make steps take a pass of their caller's.
@@ -109,9 +108,7 @@ impl<G: PoolNaming, J: Job, E: Edge> PoolOf<G, J, E> {
         };
         let shared = Shared {
             core: Mutex::new(core),
-            end: Condvar::new(),
-            gone: Condvar::new(),
-            begun: Condvar::new(),
+            conditions: Conditions::new(),
             parkers,
             glance,
             edge,
@@ -149,20 +146,6 @@ impl<G: PoolNaming, J: Job, E: Edge> PoolOf<G, J, E> {
         ensures seen { pass.new ≡ record pass.old { seen = state_rank result } }
     {
         pass.glance(&self.shared().glance)
-    }
-
-    /// The run state, as the record has it.
-    pub fn state<R: Wait>(&self, rt: &R) -> RunState
-        ensures { AtSome G.config (λ s. state_rank result ≡ s.rank) }
-    {
-        self.shared().hold(rt).state()
-    }
-
-    /// The twelve counters, as `getTaskCount` and its like, all of one moment.
-    pub fn counts<R: Wait>(&self, rt: &R) -> Counts
-        ensures { AtSome G.config (λ s. result ≡ counts_of s) }
-    {
-        self.shared().hold(rt).counts()
     }
 }
 

@@ -17,25 +17,61 @@ use tp_glance::glance::Glance;
 use tp_locked::answers::Drained;
 use tp_locked::locked::{Core, Look};
 use tp_locked::names::PoolNaming;
-use tp_locked::roster::Start;
 use tp_locked::tasks::Task;
 use tp_record::entries::{Ask, Did};
 use tp_types::configs::Policy;
 use tp_types::ids::SlotId;
 use tp_types::refusals::PoolError;
-use tp_waking::calls::Calls;
+use tp_waking::calls::{Calls, Waiters};
+
+/// Where those sleep who wait, each kind on a condition of its own.
+#[derive(Drop)]
+pub struct Conditions {
+    /// Who waits in `await_termination`.
+    pub end: Condvar,
+    /// Who waits for a future.
+    pub results: Condvar,
+    /// Who waits in `wait_step`.
+    pub steps: Condvar,
+    /// Who waits in `close` for the workers' passes.
+    pub gone: Condvar,
+    /// Threads of workers that are to be told of their slots.
+    pub begun: Condvar,
+}
+
+impl Conditions {
+    /// Nobody sleeps.
+    pub fn new() -> Conditions {
+        Conditions {
+            end: Condvar::new(),
+            results: Condvar::new(),
+            steps: Condvar::new(),
+            gone: Condvar::new(),
+            begun: Condvar::new(),
+        }
+    }
+
+    // Wakes these.
+    fn call(&self, waiters: Waiters) {
+        if waiters.end {
+            self.end.notify_all();
+        }
+        if waiters.results {
+            self.results.notify_all();
+        }
+        if waiters.steps {
+            self.steps.notify_all();
+        }
+    }
+}
 
 /// The one lock, what lies beside it, and the caller's objects.
 #[derive(Drop)]
 pub struct Shared<G: PoolNaming, J, E> {
     /// The value under the lock.
     pub core: Mutex<Core<G, J>>,
-    /// Who waits in `await_termination` sleeps here.
-    pub end: Condvar,
-    /// Who waits in `close` for the workers' passes sleeps here.
-    pub gone: Condvar,
-    /// Threads of workers that are to be told of their slots sleep here.
-    pub begun: Condvar,
+    /// Where those sleep who wait.
+    pub conditions: Conditions,
     /// Each worker sleeps at its slot's place.
     pub parkers: Vec<Parker>,
     /// The word of the run state, which is read with no lock held.
@@ -71,9 +107,7 @@ impl<G: PoolNaming, J: Drop, E: Edge> Shared<G, J, E> {
                 parker.unpark();
             }
         }
-        if calls.waiters {
-            self.end.notify_all();
-        }
+        self.conditions.call(calls.waiters);
     }
 
     fn unpark(&self, w: SlotId) {
@@ -82,10 +116,10 @@ impl<G: PoolNaming, J: Drop, E: Edge> Shared<G, J, E> {
         }
     }
 
-    /// Tells the thread of this slot what became of it.
-    pub fn tell<R: Wait>(&self, rt: &R, w: SlotId, start: Start) {
-        self.hold(rt).tell(w, start);
-        self.begun.notify_all();
+    /// Tells the thread that was made for this slot that it is given up.
+    pub fn give_up<R: Wait>(&self, rt: &R, w: SlotId) {
+        self.hold(rt).give_up(w);
+        self.conditions.begun.notify_all();
     }
 
     /// Sleeps at this slot's place until somebody wakes it, or for no reason.
@@ -183,7 +217,7 @@ impl<G: PoolNaming, J: Drop, E: Edge> Shared<G, J, E> {
                     self.release(core);
                     return self.terminate(rt, pass);
                 }
-                Look::Waits => core = self.end.wait(rt, core),
+                Look::Waits => core = self.conditions.end.wait(rt, core),
             }
         }
         unreachable!()
@@ -196,7 +230,7 @@ impl<G: PoolNaming, J: Drop, E: Edge> Shared<G, J, E> {
             if core.running() == 0 {
                 return;
             }
-            core = self.gone.wait(rt, core);
+            core = self.conditions.gone.wait(rt, core);
         }
     }
 }

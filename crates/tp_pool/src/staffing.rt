@@ -9,7 +9,6 @@ use std::thread::{Builder, Promise, Threads};
 use tp_book::passes::WorkerPass;
 use tp_callbacks::jobs::Job;
 use tp_locked::names::PoolNaming;
-use tp_locked::roster::Start;
 use tp_types::ids::SlotId;
 
 // Any result will do.
@@ -82,7 +81,7 @@ fn launch<
             true
         }
         Err(refused) => {
-            shared.tell(&rt, w, Start::GivenUp);
+            shared.give_up(&rt, w);
             let run = refused.value;
             run();
             false

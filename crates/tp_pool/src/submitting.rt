@@ -279,7 +279,9 @@ impl<G: PoolNaming, J: Job, E: Edge> Shared<G, J, E> {
         let mut core = self.hold(rt);
         let opened = core.open(w, staffed, &self.glance, pass);
         self.release(core);
-        self.begun.notify_all();
+        if staffed {
+            self.conditions.begun.notify_all();
+        }
         opened
     }
 }

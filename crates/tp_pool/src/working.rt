@@ -144,7 +144,9 @@ impl<G: PoolNaming + Send + Sync + 'static, J: Job + 'static, E: Edge + Send + S
         let mut core = shared.hold(rt);
         core.open_as_worker(w, staffed, &shared.glance, &mut self.pass);
         shared.release(core);
-        shared.begun.notify_all();
+        if staffed {
+            shared.conditions.begun.notify_all();
+        }
         shared.try_end_as_worker(rt, &mut self.pass);
     }
 
@@ -217,7 +219,7 @@ impl<G: PoolNaming, J: Drop, E: Edge> Shared<G, J, E> {
             match core.told(w, pass) {
                 Start::Live => return true,
                 Start::GivenUp => return false,
-                Start::Waits => core = self.begun.wait(rt, core),
+                Start::Waits => core = self.conditions.begun.wait(rt, core),
             }
         }
         unreachable!()
@@ -226,6 +228,6 @@ impl<G: PoolNaming, J: Drop, E: Edge> Shared<G, J, E> {
     // Takes back the pass of a thread that ends.
     fn hand_in<R: Wait>(&self, rt: &R, pass: WorkerPass<G>) {
         self.hold(rt).hand_in(pass);
-        self.gone.notify_all();
+        self.conditions.gone.notify_all();
     }
 }

@@ -2,10 +2,11 @@
 
 use std::alloc::Global;
 use std::process::Abort;
-use tp_record::entries::{Ask, Did, Offered};
+use tp_record::entries::{Ask, Did, Offered, Ruled};
+use tp_types::configs::Verdict;
 use tp_types::ids::{SlotId, TaskId};
 use tp_types::states::{Counts, RunState};
-use tp_waking::calls::{Calls, NOBODY};
+use tp_waking::calls::{Calls, NO_WAITERS, NOBODY, Waiters};
 use tp_waking::waking::Waking;
 
 const TASK: TaskId = TaskId(0);
@@ -81,7 +82,7 @@ fn wakes_who_is_to_leave(rt: HostRuntime) {
         0,
     );
     assert!(rt; all.everyone);
-    assert!(rt; !all.waiters);
+    assert_eq!(rt; all.waiters, NO_WAITERS);
 }
 
 #[test]
@@ -92,7 +93,48 @@ fn wakes_who_waits_for_the_end(rt: HostRuntime) {
     let purge = step(&mut waking, Ask::Purge, Did::Purge(0), running, 0);
     assert_eq!(rt; purge, NOBODY);
     let tick = step(&mut waking, Ask::Tick(1), Did::Tick(1), running, 0);
-    assert!(rt; tick.waiters);
+    assert!(rt; tick.waiters.end);
     let again = step(&mut waking, Ask::Tick(2), Did::Tick(2), running, 0);
+    assert_eq!(rt; again, NOBODY);
+}
+
+// What this step wakes where somebody waits for a future.
+fn answered(waking: &mut Waking, ask: Ask, did: Did) -> bool {
+    waking.await_result();
+    let calls = step(waking, ask, did, RunState::Running, 0);
+    calls.waiters.results
+}
+
+#[test]
+fn wakes_who_waits_for_a_future(rt: HostRuntime) {
+    let mut waking = asleep(&rt, rt.alloc());
+    let (w, t) = (SlotId(0), TASK);
+    let abort = Verdict::Abort;
+    let end = Did::End(w, t, Ok(3));
+    assert!(rt; answered(&mut waking, Ask::End(w, Ok(3)), end));
+    let cancel = Did::Cancel(t, false, true);
+    assert!(rt; answered(&mut waking, Ask::Cancel(t, false), cancel));
+    let removed = Did::Remove(t, true);
+    assert!(rt; answered(&mut waking, Ask::Remove(t), removed));
+    let rejected = Did::Verdict(t, abort, Ruled::Rejected);
+    assert!(rt; answered(&mut waking, Ask::Verdict(t, abort), rejected));
+    assert!(rt; answered(&mut waking, Ask::Tick(4), Did::Tick(4)));
+    let late = Did::Cancel(t, true, false);
+    assert!(rt; !answered(&mut waking, Ask::Cancel(t, true), late));
+    assert!(rt; !answered(&mut waking, Ask::Purge, Did::Purge(1)));
+}
+
+#[test]
+fn wakes_who_waits_for_a_step(rt: HostRuntime) {
+    let mut waking = asleep(&rt, rt.alloc());
+    let running = RunState::Running;
+    waking.await_step();
+    let purge = step(&mut waking, Ask::Purge, Did::Purge(0), running, 0);
+    let steps = Waiters {
+        steps: true,
+        ..NO_WAITERS
+    };
+    assert_eq!(rt; purge.waiters, steps);
+    let again = step(&mut waking, Ask::Purge, Did::Purge(0), running, 0);
     assert_eq!(rt; again, NOBODY);
 }

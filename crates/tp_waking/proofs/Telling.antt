@@ -1,5 +1,5 @@
 -- Who was told of one change is told of two.
-use Rattle.std.proofs.Common.{◌≡◌, ◌≢◌, ◌⊎◌, Bool, inl, inr, refl}
+use Rattle.std.proofs.Common.{◌≡◌, ◌≢◌, ◌⊎◌, inl, inr, refl}
 use Rattle.tp_sleepers.specs.declared.sleepers.Rest.{Rest}
 use Rattle.tp_sleepers.specs.declared.sleepers.Rest.TheVariants as rests
 use Rattle.tp_sleepers.specs.Rests.{rest_at}
@@ -21,7 +21,3 @@ told-trans a b c first next = record {
   kept = λ v is. next.kept v (first.kept v is);
   awake = λ v is. next.awake v (first.awake v is);
 }
-
--- who waits for the end is of no concern to workers
-pub told-waiters : (old new : Waking) (awaited waiters : Bool) → IsTold old new → IsTold old (record new { awaited = awaited; calls = record new.calls { waiters = waiters } })
-told-waiters old new awaited waiters is = record { told = is.told; kept = is.kept; awake = is.awake }

@@ -1,3 +1,5 @@
 pub mod Calls
 pub mod Ends
+pub mod Heard
+pub mod Results
 pub mod Told

@@ -4,6 +4,24 @@ ghost use Rattle.tp_waking.specs.Calls.{IsCalled};
 
 use tp_types::ids::SlotId;
 
+/// Who waits for what, apart from workers. Each kind sleeps on a condition of its own.
+#[derive(Clone, Copy, Debug, PartialEq, Eq)]
+pub struct Waiters {
+    /// Those in `await_termination`.
+    pub end: bool,
+    /// Those who wait for futures, in `await_result` and `await_done`.
+    pub results: bool,
+    /// Those in `wait_step`.
+    pub steps: bool,
+}
+
+/// Nobody waits.
+pub const NO_WAITERS: Waiters = Waiters {
+    end: false,
+    results: false,
+    steps: false,
+};
+
 /// Who is to be woken. Two workers have places of their own; a third makes it all of them, since a
 /// worker that is woken in vain sleeps again.
 #[derive(Clone, Copy, Debug, PartialEq, Eq)]
@@ -14,8 +32,8 @@ pub struct Calls {
     pub second: Option<SlotId>,
     /// All workers.
     pub everyone: bool,
-    /// All who wait in `await_termination`.
-    pub waiters: bool,
+    /// All who wait for these.
+    pub waiters: Waiters,
 }
 
 /// Nobody.
@@ -23,7 +41,7 @@ pub const NOBODY: Calls = Calls {
     first: None,
     second: None,
     everyone: false,
-    waiters: false,
+    waiters: NO_WAITERS,
 };
 
 impl Calls {

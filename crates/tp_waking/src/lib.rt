@@ -3,4 +3,5 @@
 
 pub mod calls;
 pub mod ends;
+pub mod results;
 pub mod waking;

@@ -1,14 +1,15 @@
 //! Who sleeps, who waits, and who is to be woken, as it lies under a pool's lock.
-ghost use Rattle.std.specs.Prelude.{ℕ, ◌≡◌, ◌≢◌, ◌⊎◌, ◌<◌, Some, length, replicate, IfOk, IsTrue, true, nat_lt};
+ghost use Rattle.std.specs.Prelude.{ℕ, ◌≡◌, ◌≢◌, ◌⊎◌, ◌<◌, Some, length, replicate, IfOk, IsTrue, true, nat_lt, ⊤};
 ghost use Rattle.tp_types.specs.declared.ids.SlotId.{SlotId};
 ghost use Rattle.tp_types.specs.declared.ids.TaskId.{TaskId};
 ghost use Rattle.tp_sleepers.specs.Rests.{rest_at, IsSettled};
 ghost use Rattle.tp_waking.specs.Calls.{IsCalled};
-ghost use Rattle.tp_waking.specs.Ends.{ChangesEnd};
+ghost use Rattle.tp_waking.specs.Heard.{IsHeard, IsHeardBy};
 ghost use Rattle.tp_waking.specs.Told.{IsTold, EndsIdling};
 
-use crate::calls::{Calls, NOBODY};
+use crate::calls::{Calls, NO_WAITERS, NOBODY, Waiters};
 use crate::ends::changes_end;
+use crate::results::changes_results;
 use std::alloc::{AllocError, Global};
 use tp_record::entries::{Ask, Did, Offered};
 use tp_sleepers::sleepers::{Rest, Sleepers};
@@ -20,8 +21,8 @@ use tp_types::states::{Counts, RunState};
 pub struct Waking {
     /// The workers that sleep, or were woken.
     pub sleepers: Sleepers,
-    /// Somebody may wait in `await_termination`.
-    pub awaited: bool,
+    /// Somebody may wait for these.
+    pub awaited: Waiters,
     /// Who is to be woken once the lock is let go.
     pub calls: Calls,
 }
@@ -33,16 +34,30 @@ impl Waking {
     {
         Ok(Waking {
             sleepers: Sleepers::new(alloc, slots)?,
-            awaited: false,
+            awaited: NO_WAITERS,
             calls: NOBODY,
         })
     }
 
     /// Somebody waits in `await_termination`.
     pub fn await_end(&mut self)
-        ensures { (self.new.awaited ≡ true) × (self.new.sleepers ≡ self.old.sleepers) × (self.new.calls ≡ self.old.calls) }
+        ensures { self.new ≡ record self.old { awaited = record self.old.awaited { end = true } } }
     {
-        self.awaited = true;
+        self.awaited.end = true;
+    }
+
+    /// Somebody waits for a future.
+    pub fn await_result(&mut self)
+        ensures { self.new ≡ record self.old { awaited = record self.old.awaited { results = true } } }
+    {
+        self.awaited.results = true;
+    }
+
+    /// Somebody waits in `wait_step`.
+    pub fn await_step(&mut self)
+        ensures { self.new ≡ record self.old { awaited = record self.old.awaited { steps = true } } }
+    {
+        self.awaited.steps = true;
     }
 
     /// Who is to be woken; the caller wakes them once it has let go of the lock.
@@ -70,15 +85,34 @@ impl Waking {
         ensures hand { (t : TaskId) (w : SlotId) → did.now ≡ Did.Offer t (Offered.Hand w) → rest_at self.new.sleepers w.0 ≢ Rest.Listed }
         ensures leaving { (w : SlotId) → leaving ≡ Some w → rest_at self.new.sleepers w.0 ≢ Rest.Listed }
         ensures all { EndsIdling did.now → (v : ℕ) → rest_at self.new.sleepers v ≢ Rest.Listed }
-        ensures waiters { IsTrue self.old.awaited → ChangesEnd ask.now state counts.now → IsTrue self.new.calls.waiters }
-        ensures awaited { IsTrue self.old.awaited → IsTrue self.new.awaited ⊎ IsTrue self.new.calls.waiters }
+        ensures heard { IsHeard self.old self.new ask.now did.now state counts.now }
     {
         self.call_for(did);
         self.call_leaving(leaving);
         self.settle(counts.queued);
-        if self.awaited && changes_end(ask, state, counts) {
-            self.awaited = false;
-            self.calls.waiters = true;
+        self.hear(changes_end(ask, state, counts), changes_results(did));
+    }
+
+    // Wakes those who wait: for the end and for futures where this step may change what they find, and for
+    // steps always.
+    fn hear(&mut self, end: bool, results: bool)
+        ensures end { IsHeardBy (λ w. IsTrue w.end) (IsTrue end) self.old self.new }
+        ensures results { IsHeardBy (λ w. IsTrue w.results) (IsTrue results) self.old self.new }
+        ensures steps { IsHeardBy (λ w. IsTrue w.steps) ⊤ self.old self.new }
+        ensures told { IsTold self.old self.new }
+        ensures sleepers { self.new.sleepers ≡ self.old.sleepers }
+    {
+        if self.awaited.end && end {
+            self.awaited.end = false;
+            self.calls.waiters.end = true;
+        }
+        if self.awaited.results && results {
+            self.awaited.results = false;
+            self.calls.waiters.results = true;
+        }
+        if self.awaited.steps {
+            self.awaited.steps = false;
+            self.calls.waiters.steps = true;
         }
     }
 

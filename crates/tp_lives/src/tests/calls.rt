@@ -23,10 +23,24 @@ pub enum Call {
     Shutdown,
     Stop,
     Await(u64),
+    TakeDone(u32),
+    AwaitDone(u32),
+    Result(TaskId),
+    AwaitResult(TaskId, u64),
+    WaitStep(u64),
 }
 
 // Which of the callers asks it, and what the pool answers.
 pub type Line = (usize, Call, Result<(), PoolError>);
+
+// Whether the record is longer than this.
+fn long_enough(steps: u64, seen: u64) -> Result<(), PoolError> {
+    if steps > seen {
+        Ok(())
+    } else {
+        Err(PoolError::TornRecord)
+    }
+}
 
 // Makes the call. A pool without tasks gives back nothing.
 pub fn make<G: PoolNaming + Send + Sync + 'static, R: Threads + Wait + Copy + Send + 'static>(
@@ -45,6 +59,11 @@ pub fn make<G: PoolNaming + Send + Sync + 'static, R: Threads + Wait + Copy + Se
         Call::Remove(t) => pool.remove(rt, t, pass).map(|_| ()),
         Call::Cancel(t) => pool.cancel(rt, t, true, pass).map(|_| ()),
         Call::Shutdown => pool.shutdown(rt, pass),
+        Call::TakeDone(group) => pool.take_done(rt, group, pass).map(|_| ()),
+        Call::AwaitDone(group) => pool.await_done(rt, group, pass).map(|_| ()),
+        Call::Result(t) => pool.result(rt, t).map(|_| ()),
+        Call::AwaitResult(t, deadline) => pool.await_result(rt, t, Some(deadline)).map(|_| ()),
+        Call::WaitStep(seen) => long_enough(pool.wait_step(rt, seen), seen),
         Call::Stop => pool.shutdown_now(rt, pass).map(|_| ()),
         Call::Await(deadline) => pool.await_termination(rt, deadline, pass),
     }

@@ -56,7 +56,7 @@ pub enum Life {
     TwoThreads,
     Settings,
     EachCall,
-    Waiting(Call, Result<(), PoolError>),
+    Waiting(Call, Call, Result<(), PoolError>),
 }
 
 fn live<
@@ -69,7 +69,9 @@ fn live<
         Life::TwoThreads => two_threads(rt, alloc, pool, first),
         Life::Settings => settings_change(rt, alloc, pool, first),
         Life::EachCall => each_call(rt, pool, first),
-        Life::Waiting(waker, answer) => waits_for(rt, alloc, pool, first, waker, answer),
+        Life::Waiting(waiting, waker, answer) => {
+            waits_for(rt, alloc, pool, first, waiting, waker, answer)
+        }
     }
 }
 

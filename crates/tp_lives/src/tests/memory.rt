@@ -16,7 +16,7 @@ use tp_types::states::RunState;
 
 // Each call, what it answers with ample memory on a pool without tasks, and how many receipts it adds
 // then.
-const CALLS: [(Call, Result<(), PoolError>, usize); 11] = [
+const CALLS: [(Call, Result<(), PoolError>, usize); 16] = [
     (Call::Core(2), Ok(()), 1),
     (Call::Maximum(64), Ok(()), 1),
     (Call::Keep(8), Ok(()), 1),
@@ -25,6 +25,15 @@ const CALLS: [(Call, Result<(), PoolError>, usize); 11] = [
     (Call::Purge, Ok(()), 1),
     (Call::Remove(TaskId(0)), Err(PoolError::UnknownTask), 0),
     (Call::Cancel(TaskId(0)), Err(PoolError::UnknownTask), 0),
+    (Call::TakeDone(4), Err(PoolError::NotThere), 0),
+    (Call::AwaitDone(4), Err(PoolError::NothingOpen), 0),
+    (Call::Result(TaskId(0)), Err(PoolError::UnknownTask), 0),
+    (
+        Call::AwaitResult(TaskId(0), 0),
+        Err(PoolError::UnknownTask),
+        0,
+    ),
+    (Call::WaitStep(5), Ok(()), 0),
     (Call::Shutdown, Ok(()), 3),
     (Call::Stop, Ok(()), 1),
     (Call::Await(0), Ok(()), 0),
@@ -58,7 +67,9 @@ pub fn each_call<
         assert_eq!(rt; made(&rt, &pool, call, &mut pass), answer, "at {call:?}");
         receipts = receipts.saturating_add(added);
         assert_eq!(rt; pass.receipts().len(), receipts);
+        assert_eq!(rt; pool.steps(&rt), receipts as u64);
     }
+    assert_eq!(rt; pool.now(&rt), 3);
     assert_eq!(rt; pool.glance(&mut pass), RunState::Terminated);
     Ok(())
 }

@@ -31,15 +31,16 @@ impl Hooks for Lingering {
     }
 }
 
-// Waits for the end until tick 9.
-fn awaits<G: PoolNaming, R: Wait>(
+// Makes the call that waits.
+fn awaits<G: PoolNaming + Send + Sync + 'static, R: Threads + Wait + Copy + Send + 'static>(
     rt: &R,
     pool: &Pool<G>,
+    waiting: Call,
     stage: &AtomicU64,
     mut pass: Pass<G>,
 ) -> (Result<(), PoolError>, Pass<G>) {
     stage.store(1, Ordering::SeqCst);
-    let awaited = pool.await_termination(rt, 9, &mut pass);
+    let awaited = make(rt, pool, waiting, &mut pass);
     (awaited, pass)
 }
 
@@ -57,11 +58,13 @@ fn wakes<G: PoolNaming + Send + Sync + 'static, R: Threads + Wait + Copy + Send 
     (stepped, pass)
 }
 
-// The steps that wake who waits, and what the wait answers then.
-const WAKERS: [(Call, Result<(), PoolError>); 3] = [
-    (Call::Tick(9), Err(PoolError::TimedOut)),
-    (Call::Shutdown, Ok(())),
-    (Call::Stop, Ok(())),
+// Who waits, the step that wakes it, and what the wait answers then.
+const WAITS: [(Call, Call, Result<(), PoolError>); 5] = [
+    (Call::Await(9), Call::Tick(9), Err(PoolError::TimedOut)),
+    (Call::Await(9), Call::Shutdown, Ok(())),
+    (Call::Await(9), Call::Stop, Ok(())),
+    (Call::WaitStep(0), Call::Purge, Ok(())),
+    (Call::WaitStep(0), Call::Tick(1), Ok(())),
 ];
 
 const END: [Line; 2] = [(1, Call::Shutdown, Ok(())), (0, Call::Await(0), Ok(()))];
@@ -74,6 +77,7 @@ fn beside<
 >(
     rt: R,
     pool: &Pool<G>,
+    waiting: Call,
     waker: Call,
     first: Pass<G>,
     second: Pass<G>,
@@ -88,7 +92,7 @@ fn beside<
         pool,
         first,
         second,
-        &move |pool: &Pool<G>, pass: Pass<G>| { awaits(&rt, pool, stage, pass) },
+        &move |pool: &Pool<G>, pass: Pass<G>| { awaits(&rt, pool, waiting, stage, pass) },
         &move |pool: &Pool<G>, pass: Pass<G>| { wakes(&rt, pool, waker, stage, pass) },
     )
 }
@@ -101,13 +105,18 @@ pub fn waits_for<
     alloc: Global,
     pool: Pool<G>,
     first: Pass<G>,
+    waiting: Call,
     waker: Call,
     answer: Result<(), PoolError>,
 ) -> Result<(), PoolError> {
     let mut first = first;
     let second = pool.split_pass(&rt, &mut first)?;
-    let ((awaited, first), (stepped, second)) = beside(rt, &pool, waker, first, second);
-    assert_eq!(rt; (awaited, stepped), (answer, Ok(())), "at {waker:?}");
+    let ((awaited, first), (stepped, second)) = beside(rt, &pool, waiting, waker, first, second);
+    assert_eq!(rt;
+        (awaited, stepped),
+        (answer, Ok(())),
+        "{waiting:?} at {waker:?}"
+    );
     let mut passes = pair(alloc, first, second)?;
     play(&rt, &pool, &END, &mut passes);
     assert!(rt; pool.close(&rt, passes).is_ok());
@@ -116,9 +125,9 @@ pub fn waits_for<
 
 #[test]
 fn wakes_who_waits(rt: HostRuntime) -> Result<(), Fail> {
-    for (waker, answer) in WAKERS {
+    for (waiting, waker, answer) in WAITS {
         let hooks = Box::new(rt.alloc(), Lingering)?;
-        lives(rt, rt.alloc(), hooks, Life::Waiting(waker, answer))?;
+        lives(rt, rt.alloc(), hooks, Life::Waiting(waiting, waker, answer))?;
     }
     Ok(())
 }

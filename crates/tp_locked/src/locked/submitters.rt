@@ -3,7 +3,7 @@ ghost use Rattle.std.specs.Prelude.{◌≡◌, ◌+◌, ◌<◌, ◌≤◌, Some
 ghost use Rattle.tp_record.specs.Effects.{submits};
 ghost use Rattle.tp_locked.specs.Passes.{AddsStep, IsRefusal, Refuses, opening as opening_of};
 
-use super::workers::{opening, start_of};
+use super::workers::opening;
 use super::{Core, rouse, settle, step_of};
 use crate::names::PoolNaming;
 use crate::roster::Start;
@@ -78,18 +78,12 @@ impl<G: PoolNaming, J: Drop> Core<G, J> {
         ensures unchanged { OnErr result (pass.new ≡ pass.old) }
     {
         let ask = opening(w, staffed);
-        let opened = match self.step(ask, glance, pass) {
-            Ok(stepped) => Ok(stepped.did(&ask)),
-            Err(error) => Err(error),
-        };
-        if staffed {
-            self.tell(w, start_of(&opened));
-        }
-        opened
+        let stepped = self.step(ask, glance, pass);
+        self.heard(w, &ask, stepped)
     }
 
-    /// Tells the thread that was made for this slot what became of it.
-    pub fn tell(&mut self, w: SlotId, start: Start) {
-        self.roster.tell(w, start);
+    /// Tells the thread that was made for this slot that it is given up: none could be started.
+    pub fn give_up(&mut self, w: SlotId) {
+        self.roster.tell(w, Start::GivenUp);
     }
 }

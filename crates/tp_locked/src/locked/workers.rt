@@ -1,10 +1,12 @@
 //! What workers do in one hold of the lock.
-ghost use Rattle.std.specs.Prelude.{◌≡◌, ◌≢◌, ◌⊎◌, IfOk, IfErr, OnOk, OnErr};
-ghost use Rattle.tp_machine.specs.Stepped.{IsAnswer, IsSubmission};
+ghost use Rattle.std.specs.Prelude.{◌≡◌, ◌≢◌, ◌⊎◌, Ok, Err, IfOk, IfErr, OnOk, OnErr};
+ghost use Rattle.tp_machine.specs.Stepped.{IsAnswer, IsSubmission, did_of};
+ghost use Rattle.tp_machine.specs.declared.steps.Stepped.{Stepped as SteppedOf};
+ghost use Rattle.tp_locked.specs.declared.tasks.Task.{Task as TaskOf};
 ghost use Rattle.tp_locked.specs.Begins.{IsBegun};
 ghost use Rattle.tp_locked.specs.Passes.{Works, opening as opening_of};
 
-use super::{Core, noted, settle};
+use super::{Core, concluded};
 use crate::names::PoolNaming;
 use crate::roster::Start;
 use crate::tasks::Task;
@@ -67,16 +69,8 @@ impl<G: PoolNaming, J: Drop> Core<G, J> {
             waking,
             roster: _,
         } = self;
-        match book.step_worker(ask, None, glance, pass) {
-            Ok(stepped) => {
-                noted(book, flags, waking, &ask, &stepped);
-                Ok(stepped)
-            }
-            Err((error, _)) => {
-                settle(book, waking);
-                Err(error)
-            }
-        }
+        let stepped = book.step_worker(ask, None, glance, pass);
+        concluded(book, flags, waking, &ask, stepped)
     }
 
     /// The worker of slot `w` asks for its next task; where it finds none, it is listed among those who
@@ -154,13 +148,30 @@ impl<G: PoolNaming, J: Drop> Core<G, J> {
         pass: &mut WorkerPass<G>,
     ) {
         let ask = opening(w, staffed);
-        let opened = match self.work(ask, glance, pass) {
-            Ok(stepped) => Ok(stepped.did(&ask)),
+        let stepped = self.work(ask, glance, pass);
+        let _ = self.heard(w, &ask, stepped);
+    }
+
+    // What became of a slot after this `open` or `fail`: the thread that was made for it, where one was, hears
+    // of it.
+    pub(super) fn heard(
+        &mut self,
+        w: SlotId,
+        ask: &Ask,
+        stepped: Result<Stepped<Task<J>>, PoolError>,
+    ) -> Result<Did, PoolError>
+        requires answer { IfOk stepped (λ s. IsAnswer ask.now s) }
+        ensures accepted { IfOk result (λ d. (s : SteppedOf (TaskOf J)) × (stepped ≡ Ok s) × (d ≡ did_of ask.now s)) }
+        ensures refused { IfErr result (λ e. stepped ≡ Err e) }
+    {
+        let opened = match stepped {
+            Ok(stepped) => Ok(stepped.did(ask)),
             Err(error) => Err(error),
         };
-        if staffed {
-            self.tell(w, start_of(&opened));
+        if matches!(ask, Ask::Open(_)) {
+            self.roster.tell(w, start_of(&opened));
         }
+        opened
     }
 
     /// A pass for the worker of a slot that is reserved, whose thread waits to be told. NoMemory (4) or

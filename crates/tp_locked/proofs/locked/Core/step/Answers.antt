@@ -1,0 +1,14 @@
+use Rattle.std.proofs.lemmas.Result.{IfErr-weaker}
+use Rattle.tp_record.specs.Step.{IsRefused}
+use Rattle.tp_locked.specs.Passes.{IsRefusal}
+use Rattle.tp_locked.specs.Waits.{HasNoOutcome}
+use Rattle.tp_locked.proofs.Moments.{at_state, untasked}
+use Rattle.tp_locked.proofs.locked.Core.step.Goals as goal
+
+pub returns-clause-refused : goal.returns-clause-refused
+returns-clause-refused g c =
+    let config = g.G.PoolNaming.config in
+    let ask = c.args.ask in
+    untasked c.step_of-stepped.result c.concluded.result (λ e. HasNoOutcome ask → IsRefusal config ask e)
+    (IfErr-weaker c.step_of-stepped.result _ _ (λ r is. λ none. at_state c.self.inside.book config c.self.invariant.0 c.step_of-stepped.ensures.legal (λ s. IsRefused config s ask r.0) (is none)) c.step_of-stepped.ensures.refused)
+    c.concluded.ensures.refused

@@ -1,0 +1,124 @@
+//! Waits for futures, for done tasks of a group, and for steps. Whoever waits does so with the guard of the hold in
+//! which its look failed.
+ghost use Rattle.std.specs.Prelude.{◌≡◌, ◌⊎◌, ◌<◌, length, IfOk, IfErr, OnErr};
+ghost use Rattle.tp_book.specs.BookView.{entries};
+ghost use Rattle.tp_locked.specs.Passes.{AddsStep, AddsNone, Refuses};
+ghost use Rattle.tp_locked.specs.Readings.{got, IsFound, IsUndone};
+ghost use Rattle.tp_locked.specs.Records.{BookAtSome};
+ghost use Rattle.tp_locked.specs.declared.tasks.Task.{Task};
+
+use crate::edges::Edge;
+use crate::pool::PoolOf;
+use crate::shared::Shared;
+use std::sync::Wait;
+use tp_book::book::Stepped;
+use tp_book::passes::Pass;
+use tp_callbacks::jobs::Job;
+use tp_locked::names::PoolNaming;
+use tp_record::entries::{Ask, Did};
+use tp_types::ids::TaskId;
+use tp_types::refusals::PoolError;
+
+impl<G: PoolNaming, J: Job, E: Edge> PoolOf<G, J, E> {
+    /// Waits until the task's future is not open any more, as `Future.get`, and answers its value, as `result`.
+    /// With a deadline, in ticks, TimedOut (16) where now has reached it while the future is open. Else
+    /// UnknownTask (6), NotFuture (9), CancelledTask (13), Faulted (14) or Lost (15).
+    pub fn await_result<R: Wait>(
+        &self,
+        rt: &R,
+        t: TaskId,
+        deadline: Option<u64>,
+    ) -> Result<i64, PoolError>
+        ensures { BookAtSome (Task J) G.config (λ b. IsFound b t.0 deadline (got result)) }
+    {
+        let shared = self.shared();
+        let mut core = shared.hold(rt);
+        for _ in rt.forever() {
+            if let Some(answer) = core.await_result(t, deadline).transpose() {
+                return answer;
+            }
+            core = shared.conditions.results.wait(rt, core);
+        }
+        unreachable!()
+    }
+
+    /// Takes the task of this group that was done first and was not taken yet, as
+    /// `ExecutorCompletionService.poll`. NoMemory (4) for its receipt, else NotThere (8) where none is done, or
+    /// BookFull (5).
+    pub fn take_done<R: Wait>(
+        &self,
+        rt: &R,
+        group: u32,
+        pass: &mut Pass<G>,
+    ) -> Result<TaskId, PoolError>
+        ensures step { IfOk result (λ t. AddsStep pass.old (Ask.TakeDone group) (Did.TakeDone group t) pass.new) }
+        ensures refused { IfErr result (λ e. Refuses G.config (Ask.TakeDone group) e) }
+        ensures unchanged { OnErr result (AddsNone pass.old pass.new) }
+    {
+        answered!(self.control(rt, Ask::TakeDone(group), pass), Stepped::TakeDone(t) => t)
+    }
+
+    /// As `take_done`, but it waits while none is done and one is open, as `ExecutorCompletionService.take`.
+    /// NoMemory (4) for its receipt, else NothingOpen (19) where none is done and none is open, or BookFull (5).
+    pub fn await_done<R: Wait>(
+        &self,
+        rt: &R,
+        group: u32,
+        pass: &mut Pass<G>,
+    ) -> Result<TaskId, PoolError>
+        ensures step { IfOk result (λ t. AddsStep pass.old (Ask.TakeDone group) (Did.TakeDone group t) pass.new) }
+        ensures refused { IfErr result (λ e. (e ≡ PoolError.NoMemory) ⊎ IsUndone G.config group e) }
+        ensures unchanged { OnErr result (AddsNone pass.old pass.new) }
+    {
+        if let Err(error) = pass.reserve(1) {
+            return Err(error);
+        }
+        self.shared().await_done(rt, group, pass)
+    }
+
+    /// Waits until the record is longer than this, in entries, and answers its length.
+    pub fn wait_step<R: Wait>(&self, rt: &R, seen: u64) -> u64
+        ensures { (seen < result) × BookAtSome (Task J) G.config (λ b. result ≡ length (entries b)) }
+    {
+        let shared = self.shared();
+        let mut core = shared.hold(rt);
+        for _ in rt.forever() {
+            match core.await_step(seen) {
+                Some(steps) => return steps,
+                None => core = shared.conditions.steps.wait(rt, core),
+            }
+        }
+        unreachable!()
+    }
+}
+
+impl<G: PoolNaming, J: Job, E: Edge> Shared<G, J, E> {
+    // The looks of `await_done`, with a pass that has room for the receipt.
+    fn await_done<R: Wait>(
+        &self,
+        rt: &R,
+        group: u32,
+        pass: &mut Pass<G>,
+    ) -> Result<TaskId, PoolError>
+        requires room { 0 < pass.old.room }
+        ensures step { IfOk result (λ t. AddsStep pass.old (Ask.TakeDone group) (Did.TakeDone group t) pass.new) }
+        ensures refused { IfErr result (λ e. IsUndone G.config group e) }
+        ensures unchanged { OnErr result (pass.new ≡ pass.old) }
+    {
+        let mut core = self.hold(rt);
+        for _ in rt.forever() {
+            match core.await_done(group, &self.glance, pass) {
+                Ok(Some(t)) => {
+                    self.release(core);
+                    return Ok(t);
+                }
+                Ok(None) => core = self.conditions.results.wait(rt, core),
+                Err(error) => {
+                    self.release(core);
+                    return Err(error);
+                }
+            }
+        }
+        unreachable!()
+    }
+}

@@ -1,0 +1,94 @@
+//! What is read of a pool, each in one hold of its lock. No reading makes a step.
+ghost use Rattle.std.specs.Prelude.{◌≡◌, ◌↔◌, length, IsTrue};
+ghost use Rattle.tp_types.specs.RunState.{state_rank};
+ghost use Rattle.tp_record.specs.State.{counts as counts_of, fate_of, slot_at};
+ghost use Rattle.tp_machine.specs.Readings.{HasOpen};
+ghost use Rattle.tp_machine.specs.Seen.{task_of_row};
+ghost use Rattle.tp_book.specs.BookView.{entries};
+ghost use Rattle.tp_locked.specs.Readings.{known, IsPromiseOf, IsResult};
+ghost use Rattle.tp_locked.specs.Records.{AtSome, BookAtSome};
+ghost use Rattle.tp_locked.specs.declared.tasks.Task.{Task};
+
+use crate::edges::Edge;
+use crate::pool::PoolOf;
+use std::sync::Wait;
+use tp_callbacks::jobs::Job;
+use tp_locked::names::PoolNaming;
+use tp_types::ids::{SlotId, TaskId};
+use tp_types::refusals::PoolError;
+use tp_types::states::{Counts, RunState};
+use tp_types::tasks::{Fate, Place, Promise};
+
+impl<G: PoolNaming, J: Job, E: Edge> PoolOf<G, J, E> {
+    /// The run state, as the record has it.
+    pub fn state<R: Wait>(&self, rt: &R) -> RunState
+        ensures { AtSome G.config (λ s. state_rank result ≡ s.rank) }
+    {
+        self.shared().hold(rt).state()
+    }
+
+    /// The twelve counters, as `getTaskCount` and its like, all of one moment.
+    pub fn counts<R: Wait>(&self, rt: &R) -> Counts
+        ensures { AtSome G.config (λ s. result ≡ counts_of s) }
+    {
+        self.shared().hold(rt).counts()
+    }
+
+    /// The moment, in ticks.
+    pub fn now<R: Wait>(&self, rt: &R) -> u64
+        ensures { AtSome G.config (λ s. result ≡ s.now) }
+    {
+        self.shared().hold(rt).now()
+    }
+
+    /// Whether a task of the group has no fate yet.
+    pub fn group_open<R: Wait>(&self, rt: &R, g: u32) -> bool
+        ensures { AtSome G.config (λ s. IsTrue result ↔ HasOpen g s) }
+    {
+        self.shared().hold(rt).group_open(g)
+    }
+
+    /// The task in the slot of this number, None where it has none or there is no such slot.
+    pub fn task_in<R: Wait>(&self, rt: &R, w: SlotId) -> Option<TaskId>
+        ensures { AtSome G.config (λ s. result ≡ task_of_row (slot_at s.slots w.0)) }
+    {
+        self.shared().hold(rt).task_in(w)
+    }
+
+    /// Where the task is. UnknownTask (6).
+    pub fn place<R: Wait>(&self, rt: &R, t: TaskId) -> Result<Place, PoolError>
+        ensures { AtSome G.config (λ s. result ≡ known s t.0 (λ r. r.place)) }
+    {
+        self.shared().hold(rt).place(t)
+    }
+
+    /// What the task's job promises. UnknownTask (6).
+    pub fn promise<R: Wait>(&self, rt: &R, t: TaskId) -> Result<Promise, PoolError>
+        ensures { BookAtSome (Task J) G.config (λ b. IsPromiseOf b t.0 result) }
+    {
+        self.shared().hold(rt).promise(t)
+    }
+
+    /// What became of the task, None while it is open. UnknownTask (6).
+    pub fn fate<R: Wait>(&self, rt: &R, t: TaskId) -> Result<Option<Fate>, PoolError>
+        ensures { AtSome G.config (λ s. result ≡ known s t.0 fate_of) }
+    {
+        self.shared().hold(rt).fate(t)
+    }
+
+    /// What the task's future answers, as `Future.get`: None while the task is open, else its value, which is as
+    /// its job promised. UnknownTask (6), NotFuture (9) for a plain task, CancelledTask (13), Faulted (14) with
+    /// its fault, or Lost (15) with the fate that it came to instead.
+    pub fn result<R: Wait>(&self, rt: &R, t: TaskId) -> Result<Option<i64>, PoolError>
+        ensures { BookAtSome (Task J) G.config (λ b. IsResult b t.0 result) }
+    {
+        self.shared().hold(rt).result(t)
+    }
+
+    /// How many entries the record has.
+    pub fn steps<R: Wait>(&self, rt: &R) -> u64
+        ensures { BookAtSome (Task J) G.config (λ b. result ≡ length (entries b)) }
+    {
+        self.shared().hold(rt).steps()
+    }
+}
