@@ -1,6 +1,6 @@
 //! The worked rows: records with what the step gives at each front, computed by the checker in `proofs/`, and tests of
 //! the plain programs on some of them. Beside them the tests of runs of asks and of the auditor, and of the texts: each form
-//! of line, and whole runs of scenarios, from bytes to bytes.
+//! of line, whole runs of scenarios from bytes to bytes, and files of jobs.
 #![tactic(auto)]
 
 #[cfg(test)]

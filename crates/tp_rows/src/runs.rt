@@ -1,9 +1,10 @@
-//! Worked rows from bytes to bytes, and readers and writers that fail.
+//! Worked rows from bytes to bytes, files of jobs, and readers and writers that fail.
 
 mod cancelling;
 mod ending;
 mod growing;
 mod hostile;
+mod jobs;
 mod long;
 mod refusing;
 mod working;

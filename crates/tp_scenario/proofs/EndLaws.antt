@@ -1,5 +1,5 @@
 -- What stands at the end of a run, line by line.
-use Rattle.std.proofs.Common.{◌≡◌, ℕ, suc, ◌+◌, ◌<◌, List, [], ◌∷◌, ◌++◌, length, take, Option, Result, Ok, Err, OnOk, OnErr, refl, sym, ◌∙◌, ap, arith, append_assoc}
+use Rattle.std.proofs.Common.{◌≡◌, ℕ, suc, ◌+◌, ◌<◌, List, ◌++◌, length, take, Option, Result, Ok, Err, OnOk, OnErr, refl, sym, ◌∙◌, ap, arith, append_assoc}
 use Rattle.tp_types.specs.declared.states.Counts.{Counts}
 use Rattle.tp_types.specs.declared.states.RunState.{RunState}
 use Rattle.tp_types.specs.declared.tasks.Fate.{Fate}

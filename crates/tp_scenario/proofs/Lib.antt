@@ -9,3 +9,5 @@ pub mod PlayLaws
 pub mod EndLaws
 pub mod Endings
 pub mod OneText
+pub mod OneScenario
+pub mod JobLaws

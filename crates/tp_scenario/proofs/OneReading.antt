@@ -30,7 +30,7 @@ same_number m n x y e = decimal_injective m n (omega (arith, x)) (omega (arith, 
 value_or_fault : (z : ℤ) (n : ℕ) → FitsOutcome (Ok z) → signed_decimal z ≡ 33 ∷ decimal n → ⊥
 value_or_fault z n fits e = marked (signed_decimal z) (decimal n) e z fits refl
 
-outcome_text-injective : (o p : Outcome) → FitsOutcome o → FitsOutcome p → outcome_text o ≡ outcome_text p → o ≡ p
+pub outcome_text-injective : (o p : Outcome) → FitsOutcome o → FitsOutcome p → outcome_text o ≡ outcome_text p → o ≡ p
 outcome_text-injective (Ok z) (Ok y) x w e = ap Ok (signed_decimal_injective z y (omega (arith, x)) (omega (arith, w)) e)
 outcome_text-injective (Ok z) (Err n) x w e = absurd (value_or_fault z n x e)
 outcome_text-injective (Err m) (Ok y) x w e = absurd (value_or_fault y m w (sym e))

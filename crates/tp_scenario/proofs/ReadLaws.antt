@@ -1,14 +1,12 @@
--- A scenario is read line by line.
+-- A text is read line by line.
 use Rattle.std.proofs.Common.{◌≡◌, ◌≢◌, ℕ, zero, suc, ◌+◌, ◌<◌, ◌≤◌, inl, inr, List, [], ◌∷◌, ◌++◌, length, Option, Some, None, Ok, Err, refl, sym, ◌∙◌, ap, subst, arith, append_assoc, append-nil}
 use Rattle.std.specs.List.{flat_map}
 use Rattle.std.proofs.lemmas.Bool.{cases_eq}
-use Rattle.tp_scenario.specs.declared.lines.ScenarioLine.{ScenarioLine}
 use Rattle.tp_text.specs.declared.pools.PoolLine.{PoolLine}
-use Rattle.tp_scenario.specs.declared.lines.LineRead.TheVariants as read
-use Rattle.tp_scenario.specs.declared.lines.PoolRead.TheVariants as head
+use Rattle.tp_scenario.specs.declared.forms.LineRead.TheVariants as read
+use Rattle.tp_scenario.specs.declared.forms.PoolRead.TheVariants as head
 use Rattle.tp_text.specs.Lines.{HasNoLineFeed, IsLines, ended}
-use Rattle.tp_scenario.specs.Scenario.{ReadsLine, ReadsPoolLine, Asked, Said}
-use Rattle.tp_scenario.specs.Answered.{AsksFrom, SaysFrom}
+use Rattle.tp_scenario.specs.PoolText.{LinesSaid, LinesSayFrom, ReadsLine, ReadsPoolLine, TextSaid, TextSaysFrom}
 
 -- a byte before a text without a line feed
 before_byte : (b : ℕ) (bs : List ℕ) → b ≢ 10 → HasNoLineFeed bs → HasNoLineFeed (b ∷ bs)
@@ -70,34 +68,7 @@ lines_on text line behind rest lines cut are = record {
   last = are.last;
 }
 
--- behind a line that asks for nothing
-pub asks_skip : (k : ℕ) (text line behind : List ℕ) (asked : Asked) → Cut text line behind → ReadsLine line read.Skipped → AsksFrom (suc k) behind asked → AsksFrom k text asked
-asks_skip k text line behind asked cut reads asks = (line ∷ asks.0, asks.1, lines_on text line behind asks.1 asks.0 cut asks.2, (read.Skipped, reads, asks.3))
-
--- behind a line that asks for a step
-pub asks_step : (k : ℕ) (text line behind : List ℕ) (l : ScenarioLine) (steps : List ScenarioLine) (bad : Option ℕ) → Cut text line behind → ReadsLine line (read.Step l) → AsksFrom (suc k) behind (steps, bad) → AsksFrom k text (l ∷ steps, bad)
-asks_step k text line behind l steps bad cut reads asks = (line ∷ asks.0, asks.1, lines_on text line behind asks.1 asks.0 cut asks.2, (read.Step l, reads, (refl, asks.3)))
-
--- at a bad line
-pub asks_bad : (k : ℕ) (text line behind : List ℕ) → Cut text line behind → ReadsLine line read.Bad → AsksFrom k text ([], Some k)
-asks_bad k text line behind cut reads =
-    let more = all_lines behind in (line ∷ more.0, more.1, lines_on text line behind more.1 more.0 cut more.2, (read.Bad, reads, refl))
-
--- at the end of a text whose last line is ended
-pub asks_none : (k : ℕ) (text : List ℕ) → length text ≡ 0 → AsksFrom k text ([], None)
-asks_none k [] empty = ([], [], record { whole = refl; each = tt; last = λ i within. absurd (omega arith) }, refl)
-asks_none k (b ∷ bs) empty = absurd (omega arith)
-
--- at a last line without its end
-pub asks_rest : (k : ℕ) (text : List ℕ) → 0 < length text → HasNoLineFeed text → AsksFrom k text ([], Some k)
-asks_rest k [] some none = absurd (omega arith)
-asks_rest k (b ∷ bs) some none = ([], b ∷ bs, record { whole = refl; each = tt; last = none }, refl)
-
--- how far lines are read: what is left of the text comes behind the steps so far
-pub record Asking (first : ℕ) (text : List ℕ) (k : ℕ) (rest : List ℕ) (steps : List ScenarioLine) : Type 0 where
-  pub counted : k + length rest ≤ first + length text
-  pub on : (asked : Asked) → AsksFrom k rest asked → AsksFrom first text (steps ++ asked.0, asked.1)
-
+-- what stands behind a line is shorter
 shorter : (k j : ℕ) (text line behind : List ℕ) → Cut text line behind → j ≡ k + 1 → j + length behind ≤ k + length text
 shorter k j text line behind cut next = omega (arith, ap length cut.whole, length-line line behind)
   where
@@ -105,45 +76,74 @@ shorter k j text line behind cut next = omega (arith, ap length cut.whole, lengt
     length-line [] behind = omega arith
     length-line (b ∷ bs) behind = omega (arith, length-line bs behind)
 
-pub asking_skip : (first : ℕ) (text : List ℕ) (k j : ℕ) (rest line behind : List ℕ) (steps : List ScenarioLine) → Asking first text k rest steps → Cut rest line behind → ReadsLine line read.Skipped → j ≡ k + 1 → Asking first text j behind steps
-asking_skip first text k j rest line behind steps so_far cut reads next = record {
-  counted = omega (arith, so_far.counted, shorter k j rest line behind cut next);
-  on = λ asked asks. so_far.on asked (asks_skip k rest line behind asked cut reads (subst (λ n. AsksFrom n behind asked) (omega arith) asks));
-}
+module _ {L : Type 0} (text_of : L → List ℕ) (fits : L → Type 0) where
+  -- behind a line that is skipped
+  pub lines_skip : (k : ℕ) (text line behind : List ℕ) (said : LinesSaid L) → Cut text line behind → ReadsLine text_of fits line read.Skipped → LinesSayFrom text_of fits (suc k) behind said → LinesSayFrom text_of fits k text said
+  lines_skip k text line behind said cut reads say = (line ∷ say.0, say.1, lines_on text line behind say.1 say.0 cut say.2, (read.Skipped, reads, say.3))
 
-pub asking_step : (first : ℕ) (text : List ℕ) (k j : ℕ) (rest line behind : List ℕ) (steps : List ScenarioLine) (l : ScenarioLine) → Asking first text k rest steps → Cut rest line behind → ReadsLine line (read.Step l) → j ≡ k + 1 → Asking first text j behind (steps ++ l ∷ [])
-asking_step first text k j rest line behind steps l so_far cut reads next = record {
-  counted = omega (arith, so_far.counted, shorter k j rest line behind cut next);
-  on = λ asked asks. subst (λ x. AsksFrom first text (x, asked.1)) (sym (append_assoc steps (l ∷ []) asked.0))
-      (so_far.on (l ∷ asked.0, asked.1) (asks_step k rest line behind l asked.0 asked.1 cut reads (subst (λ n. AsksFrom n behind asked) (omega arith) asks)));
-}
+  -- behind a line that says something
+  pub lines_line : (k : ℕ) (text line behind : List ℕ) (l : L) (before : List L) (bad : Option ℕ) → Cut text line behind → ReadsLine text_of fits line (read.Says l) → LinesSayFrom text_of fits (suc k) behind (before, bad) → LinesSayFrom text_of fits k text (l ∷ before, bad)
+  lines_line k text line behind l before bad cut reads say = (line ∷ say.0, say.1, lines_on text line behind say.1 say.0 cut say.2, (read.Says l, reads, (refl, say.3)))
 
--- the steps so far are all where no more come
-pub asked_all : (first : ℕ) (text : List ℕ) (k : ℕ) (rest : List ℕ) (steps : List ScenarioLine) (bad : Option ℕ) → Asking first text k rest steps → AsksFrom k rest ([], bad) → AsksFrom first text (steps, bad)
-asked_all first text k rest steps bad so_far asks = subst (λ x. AsksFrom first text (x, bad)) (append-nil steps) (so_far.on ([], bad) asks)
+  -- at a bad line
+  pub lines_bad : (k : ℕ) (text line behind : List ℕ) → Cut text line behind → ReadsLine text_of fits line read.Bad → LinesSayFrom text_of fits k text ([], Some k)
+  lines_bad k text line behind cut reads =
+      let more = all_lines behind in (line ∷ more.0, more.1, lines_on text line behind more.1 more.0 cut more.2, (read.Bad, reads, refl))
 
--- up to the pool line
+  -- at the end of a text whose last line is ended
+  pub lines_none : (k : ℕ) (text : List ℕ) → length text ≡ 0 → LinesSayFrom text_of fits k text ([], None)
+  lines_none k [] empty = ([], [], record { whole = refl; each = tt; last = λ i within. absurd (omega arith) }, refl)
+  lines_none k (b ∷ bs) empty = absurd (omega arith)
 
-pub says_skip : (k : ℕ) (text line behind : List ℕ) (s : Said) → Cut text line behind → ReadsPoolLine line head.Skipped → SaysFrom (suc k) behind s → SaysFrom k text s
-says_skip k text line behind s cut reads says = (line ∷ says.0, says.1, lines_on text line behind says.1 says.0 cut says.2, (head.Skipped, reads, says.3))
+  -- at a last line without its end
+  pub lines_rest : (k : ℕ) (text : List ℕ) → 0 < length text → HasNoLineFeed text → LinesSayFrom text_of fits k text ([], Some k)
+  lines_rest k [] some none = absurd (omega arith)
+  lines_rest k (b ∷ bs) some none = ([], b ∷ bs, record { whole = refl; each = tt; last = none }, refl)
 
-pub says_pool : (k : ℕ) (text line behind : List ℕ) (p : PoolLine) (asked : Asked) → Cut text line behind → ReadsPoolLine line (head.Pool p) → AsksFrom (suc k) behind asked → SaysFrom k text (Ok (p, asked))
-says_pool k text line behind p asked cut reads asks = (line ∷ asks.0, asks.1, lines_on text line behind asks.1 asks.0 cut asks.2, (head.Pool p, reads, (refl, asks.3)))
+  -- how far lines are read: what the rest of the text says comes behind what was said so far
+  pub record Reading (first : ℕ) (text : List ℕ) (k : ℕ) (rest : List ℕ) (before : List L) : Type 0 where
+    pub counted : k + length rest ≤ first + length text
+    pub on : (said : LinesSaid L) → LinesSayFrom text_of fits k rest said → LinesSayFrom text_of fits first text (before ++ said.0, said.1)
 
-pub says_bad : (k : ℕ) (text line behind : List ℕ) → Cut text line behind → ReadsPoolLine line head.Bad → SaysFrom k text (Err k)
-says_bad k text line behind cut reads =
-    let more = all_lines behind in (line ∷ more.0, more.1, lines_on text line behind more.1 more.0 cut more.2, (head.Bad, reads, refl))
+  pub reading_skip : (first : ℕ) (text : List ℕ) (k j : ℕ) (rest line behind : List ℕ) (before : List L) → Reading first text k rest before → Cut rest line behind → ReadsLine text_of fits line read.Skipped → j ≡ k + 1 → Reading first text j behind before
+  reading_skip first text k j rest line behind before so_far cut reads next = record {
+    counted = omega (arith, so_far.counted, shorter k j rest line behind cut next);
+    on = λ said say. so_far.on said (lines_skip k rest line behind said cut reads (subst (λ n. LinesSayFrom text_of fits n behind said) (omega arith) say));
+  }
 
-pub says_none : (k : ℕ) (text : List ℕ) → HasNoLineFeed text → SaysFrom k text (Err k)
-says_none k text none = ([], text, record { whole = refl; each = tt; last = none }, refl)
+  pub reading_line : (first : ℕ) (text : List ℕ) (k j : ℕ) (rest line behind : List ℕ) (before : List L) (l : L) → Reading first text k rest before → Cut rest line behind → ReadsLine text_of fits line (read.Says l) → j ≡ k + 1 → Reading first text j behind (before ++ l ∷ [])
+  reading_line first text k j rest line behind before l so_far cut reads next = record {
+    counted = omega (arith, so_far.counted, shorter k j rest line behind cut next);
+    on = λ said say. subst (λ x. LinesSayFrom text_of fits first text (x, said.1)) (sym (append_assoc before (l ∷ []) said.0))
+        (so_far.on (l ∷ said.0, said.1) (lines_line k rest line behind l said.0 said.1 cut reads (subst (λ n. LinesSayFrom text_of fits n behind said) (omega arith) say)));
+  }
 
--- how far a text is read up to its pool line
-pub record Saying (text : List ℕ) (k : ℕ) (rest : List ℕ) : Type 0 where
-  pub counted : k + length rest ≤ 1 + length text
-  pub on : (s : Said) → SaysFrom k rest s → SaysFrom 1 text s
+  -- what was said so far is all where no more comes
+  pub lines_all : (first : ℕ) (text : List ℕ) (k : ℕ) (rest : List ℕ) (before : List L) (bad : Option ℕ) → Reading first text k rest before → LinesSayFrom text_of fits k rest ([], bad) → LinesSayFrom text_of fits first text (before, bad)
+  lines_all first text k rest before bad so_far say = subst (λ x. LinesSayFrom text_of fits first text (x, bad)) (append-nil before) (so_far.on ([], bad) say)
 
-pub saying_skip : (text : List ℕ) (k j : ℕ) (rest line behind : List ℕ) → Saying text k rest → Cut rest line behind → ReadsPoolLine line head.Skipped → j ≡ k + 1 → Saying text j behind
-saying_skip text k j rest line behind so_far cut reads next = record {
-  counted = omega (arith, so_far.counted, shorter k j rest line behind cut next);
-  on = λ s says. so_far.on s (says_skip k rest line behind s cut reads (subst (λ n. SaysFrom n behind s) (omega arith) says));
-}
+  -- up to the pool line
+
+  pub text_skip : (k : ℕ) (text line behind : List ℕ) (s : TextSaid L) → Cut text line behind → ReadsPoolLine line head.Skipped → TextSaysFrom text_of fits (suc k) behind s → TextSaysFrom text_of fits k text s
+  text_skip k text line behind s cut reads says = (line ∷ says.0, says.1, lines_on text line behind says.1 says.0 cut says.2, (head.Skipped, reads, says.3))
+
+  pub text_pool : (k : ℕ) (text line behind : List ℕ) (p : PoolLine) (said : LinesSaid L) → Cut text line behind → ReadsPoolLine line (head.Pool p) → LinesSayFrom text_of fits (suc k) behind said → TextSaysFrom text_of fits k text (Ok (p, said))
+  text_pool k text line behind p said cut reads say = (line ∷ say.0, say.1, lines_on text line behind say.1 say.0 cut say.2, (head.Pool p, reads, (refl, say.3)))
+
+  pub text_bad : (k : ℕ) (text line behind : List ℕ) → Cut text line behind → ReadsPoolLine line head.Bad → TextSaysFrom text_of fits k text (Err k)
+  text_bad k text line behind cut reads =
+      let more = all_lines behind in (line ∷ more.0, more.1, lines_on text line behind more.1 more.0 cut more.2, (head.Bad, reads, refl))
+
+  pub text_none : (k : ℕ) (text : List ℕ) → HasNoLineFeed text → TextSaysFrom text_of fits k text (Err k)
+  text_none k text none = ([], text, record { whole = refl; each = tt; last = none }, refl)
+
+  -- how far a text is read up to its pool line
+  pub record Opening (text : List ℕ) (k : ℕ) (rest : List ℕ) : Type 0 where
+    pub counted : k + length rest ≤ 1 + length text
+    pub on : (s : TextSaid L) → TextSaysFrom text_of fits k rest s → TextSaysFrom text_of fits 1 text s
+
+  pub opening_skip : (text : List ℕ) (k j : ℕ) (rest line behind : List ℕ) → Opening text k rest → Cut rest line behind → ReadsPoolLine line head.Skipped → j ≡ k + 1 → Opening text j behind
+  opening_skip text k j rest line behind so_far cut reads next = record {
+    counted = omega (arith, so_far.counted, shorter k j rest line behind cut next);
+    on = λ s says. so_far.on s (text_skip k rest line behind s cut reads (subst (λ n. TextSaysFrom text_of fits n behind s) (omega arith) says));
+  }

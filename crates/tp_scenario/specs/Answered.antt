@@ -13,26 +13,7 @@ use Rattle.tp_machine.specs.declared.steps.Stepped.TheVariants as stepped
 use Rattle.tp_machine.specs.Seen.{Seen, promise}
 use Rattle.tp_text.specs.RunText.{Answer, after, after_all, run_lines}
 use Rattle.tp_scenario.specs.declared.lines.ScenarioLine.{ScenarioLine}
-use Rattle.tp_scenario.specs.declared.scenarios.Scenario.{Scenario}
-use Rattle.tp_scenario.specs.Scenario.{Asked, Said, AskFor, Says}
-use Rattle.tp_text.specs.Lines.{IsLines}
 use Rattle.tp_scenario.specs.Played.{Outcomes, ask_of, outcomes_after}
-
--- a text, the first line of which is line k, asks for these steps
-abbrev pub AsksFrom : ℕ → List ℕ → Asked → Type 0
-AsksFrom k text asked = (lines : List (List ℕ)) × (rest : List ℕ) × IsLines text lines rest × AskFor k lines rest asked
-
--- it says this
-abbrev pub SaysFrom : ℕ → List ℕ → Said → Type 0
-SaysFrom k text s = (lines : List (List ℕ)) × (rest : List ℕ) × IsLines text lines rest × Says k lines rest s
-
-abbrev pub asked_of : Scenario → Asked
-asked_of s = (s.steps.items, s.bad)
-
--- what a scenario that was read says
-abbrev pub said_by : Result Scenario ℕ → Said
-said_by (Ok s) = Ok (s.pool, asked_of s)
-said_by (Err k) = Err k
 
 -- a pool's settings and its record, latest entry first, and how its tasks end
 pub record Playing : Type 0 where

@@ -1,8 +1,10 @@
 //! Scenarios: their texts, read line by line, and the runner that plays them on a pool and writes
-//! what comes of each line. Beside them the audit of a record's text.
+//! what comes of each line. Beside them files of jobs, which are read, and the audit of a record's text.
 #![tactic(auto)]
 
 pub mod asks;
+pub mod forms;
+pub mod jobs;
 pub mod lines;
 pub mod play;
 pub mod reading;
@@ -11,4 +13,5 @@ pub mod scenarios;
 pub mod step;
 pub mod texts;
 
+pub use crate::jobs::read_jobs;
 pub use tp_audit_text::audits::audit_text;

@@ -1,7 +1,6 @@
 //! What the lines of a scenario say.
 
 use tp_text::commands::{PoolVerb, SizeVerb, SlotVerb, TaskVerb, TickVerb};
-use tp_text::pools::PoolLine;
 use tp_types::configs::Verdict;
 use tp_types::ids::{SlotId, TaskId};
 use tp_types::tasks::{Kind, Outcome};
@@ -27,26 +26,4 @@ pub enum ScenarioLine {
     OfTicks(TickVerb, u64),
     /// Core workers time out, or don't.
     CoreTimeout(bool),
-}
-
-/// What a line is, behind the pool line.
-#[derive(Clone, Copy, Debug, PartialEq, Eq)]
-pub enum LineRead {
-    /// Empty, or a comment: it is counted and nothing else.
-    Skipped,
-    /// It asks for a step.
-    Step(ScenarioLine),
-    /// None of these.
-    Bad,
-}
-
-/// What a line is, up to the pool line.
-#[derive(Clone, Copy, Debug, PartialEq, Eq)]
-pub enum PoolRead {
-    /// Empty, or a comment: it is counted and nothing else.
-    Skipped,
-    /// The pool line.
-    Pool(PoolLine),
-    /// None of these.
-    Bad,
 }

@@ -4,8 +4,9 @@ ghost use Rattle.std.specs.Prelude.{◌≡◌, ◌⊎◌, ◌≤◌, ◌++◌, �
 ghost use Rattle.tp_record.specs.declared.entries.Entry.{Entry};
 ghost use Rattle.tp_record.specs.State.{state};
 ghost use Rattle.tp_text.specs.RunText.{Answer, answer_lines, drained, fate_lines, end_lines, IsFront};
-ghost use Rattle.tp_scenario.specs.Answered.{Stands, Breaks, answer_of, asked_of, handed_back};
+ghost use Rattle.tp_scenario.specs.Answered.{Stands, Breaks, answer_of, handed_back};
 ghost use Rattle.tp_text.specs.Pools.{config_of};
+ghost use Rattle.tp_scenario.specs.Read.{lines_said};
 ghost use Rattle.tp_scenario.specs.Played.{IsPlayed, ComesOf, BreaksOff};
 
 use crate::lines::ScenarioLine;
@@ -132,8 +133,8 @@ fn write_ends(runner: &Runner, output: &mut Output) -> Result<(), PoolError>
 /// Plays a scenario that was read.
 fn play_scenario(alloc: Global, scenario: &Scenario, output: &mut Output) -> Result<(), PoolError>
     requires empty { output.old.written.items ≡ [] }
-    ensures { (ComesOf (Ok (scenario.now.pool, asked_of scenario.now)) output.new.written.items result)
-        ⊎ ((result ≡ Err PoolError.NoMemory) × BreaksOff (Ok (scenario.now.pool, asked_of scenario.now)) output.new.written.items) }
+    ensures { (ComesOf (Ok (scenario.now.pool, lines_said scenario.now)) output.new.written.items result)
+        ⊎ ((result ≡ Err PoolError.NoMemory) × BreaksOff (Ok (scenario.now.pool, lines_said scenario.now)) output.new.written.items) }
 {
     let config = scenario.pool.config();
     if let Err(error) = config.check() {
@@ -143,7 +144,7 @@ fn play_scenario(alloc: Global, scenario: &Scenario, output: &mut Output) -> Res
         Ok(runner) => runner,
         Err(error) => return Err(error),
     };
-    if let Err(error) = play_steps(alloc, &mut runner, scenario.steps.as_slice(), output) {
+    if let Err(error) = play_steps(alloc, &mut runner, scenario.lines.as_slice(), output) {
         return Err(error);
     }
     if let Some(line) = scenario.bad {

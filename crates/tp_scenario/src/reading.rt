@@ -7,6 +7,7 @@ ghost use Rattle.tp_text.specs.Reads.{Any, ReadsAs, spaced};
 ghost use Rattle.tp_text.specs.Fits.{Fits32, FitsOutcome};
 ghost use Rattle.tp_scenario.specs.Lines.{FitsLine, FitsSubmission, arguments, command_of, line_text, outcome_text, ruling_text, cancel_text, submission_text, ReadsAfter};
 
+use crate::forms::LineForm;
 use crate::lines::ScenarioLine;
 use tp_text::commands::Command;
 use tp_text::numbers::{index, long_number, number, value};
@@ -16,7 +17,7 @@ use tp_types::ids::{SlotId, TaskId};
 use tp_types::tasks::{Kind, Outcome};
 
 /// What a task's end gives: a value, or a fault's code after an exclamation mark.
-fn outcome(text: &str) -> Option<Outcome>
+pub fn outcome(text: &str) -> Option<Outcome>
     ensures { ReadsAs outcome_text FitsOutcome text.now result }
 {
     match text.strip_prefix('!') {
@@ -114,4 +115,14 @@ pub fn step_of(text: &str) -> Option<ScenarioLine>
 {
     let (word, rest) = first_word(text);
     after_command(command(word)?, rest)
+}
+
+impl LineForm for ScenarioLine {
+    ghost text_of = { line_text };
+
+    ghost fits = { FitsLine };
+
+    fn of_text(text: &str) -> Option<ScenarioLine> {
+        step_of(text)
+    }
 }

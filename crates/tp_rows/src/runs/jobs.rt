@@ -1,0 +1,363 @@
+//! Files of jobs, read from bytes: worked and hostile texts, and readers that fail.
+
+use super::{Comments, FailsOnce};
+use std::alloc::{AllocError, Global};
+use std::io;
+use std::test::Fail;
+use tp_scenario::jobs::{JobLine, Jobs};
+use tp_scenario::read_jobs;
+use tp_types::configs::{Config, Policy, QueueKind};
+use tp_types::limits::MAX_TEXT_BYTES;
+use tp_types::refusals::PoolError;
+use tp_types::tasks::Outcome;
+
+const POOL: &[u8] = b"pool 1 1 unbounded keep 0 abort\n";
+
+/// A file with each thing that a line can be.
+const WORKED: &[u8] = b"# a comment, and an empty line before the pool\n\
+\n\
+pool 2 4 bounded 8 keep 5 callerruns limit 1048576\n\
+execute 5\n\
+#\n\
+submit 6\n\
+\n\
+execute !7\n\
+submit !0\n\
+submit -9223372036854775808\n";
+
+const WORKED_CONFIG: Config = Config {
+    core: 2,
+    maximum: 4,
+    queue: QueueKind::Bounded(8),
+    keep: 5,
+    core_timeout: false,
+    policy: Policy::CallerRuns,
+    record_limit: 1_048_576,
+};
+
+const fn executed(outcome: Outcome) -> JobLine {
+    JobLine {
+        future: false,
+        outcome,
+    }
+}
+
+const fn submitted(outcome: Outcome) -> JobLine {
+    JobLine {
+        future: true,
+        outcome,
+    }
+}
+
+/// What a text is read as.
+fn read(alloc: Global, text: &[u8]) -> Result<Jobs, PoolError> {
+    let mut reader = text;
+    read_jobs(alloc, &mut reader)
+}
+
+/// The refusal of a text.
+fn refusal_of(alloc: Global, text: &[u8]) -> Option<PoolError> {
+    read(alloc, text).err()
+}
+
+/// Whether these are the jobs of the worked file.
+fn is_worked(jobs: &Jobs) -> bool {
+    let expected = [
+        executed(Ok(5)),
+        submitted(Ok(6)),
+        executed(Err(7)),
+        submitted(Err(0)),
+        submitted(Ok(i64::MIN)),
+    ];
+    jobs.config == WORKED_CONFIG && jobs.jobs.as_slice() == expected.as_slice()
+}
+
+#[test]
+fn reads_a_worked_file(rt: HostRuntime) -> Result<(), Fail> {
+    let jobs = read(rt.alloc(), WORKED)?;
+    assert!(rt; is_worked(&jobs));
+    Ok(())
+}
+
+/// A pool with no jobs, and one whose last line is a comment.
+#[test]
+fn reads_files_without_jobs(rt: HostRuntime) -> Result<(), Fail> {
+    for text in [POOL, b"pool 1 1 unbounded keep 0 abort\n\n# none\n"] {
+        let jobs = read(rt.alloc(), text)?;
+        assert!(rt; jobs.jobs.is_empty());
+        assert_eq!(rt; jobs.config.record_limit, 4_096);
+    }
+    Ok(())
+}
+
+/// The pool line and then this line.
+fn text_with(alloc: Global, line: &[u8]) -> Result<Vec<u8>, AllocError> {
+    let mut text = Vec::new(alloc);
+    text.extend_from_slice(POOL)?;
+    text.extend_from_slice(line)?;
+    text.push(b'\n')?;
+    Ok(text)
+}
+
+const BAD_LINES: [&[u8]; 34] = [
+    b"execute",
+    b"submit",
+    b"execute ",
+    b" execute 5",
+    b"execute  5",
+    b"execute 5 ",
+    b"execute 5 6",
+    b"execute\t5",
+    b"execute 5\r",
+    b"execute 5\0",
+    b"execute +5",
+    b"execute 05",
+    b"execute -0",
+    b"execute -",
+    b"execute !",
+    b"execute !-1",
+    b"execute !!1",
+    b"execute ! 1",
+    b"execute 1.0",
+    b"execute five",
+    b"execute5",
+    b"Execute 5",
+    b"EXECUTE 5",
+    b"executes 5",
+    b"submit plain 5",
+    b"submit future 5",
+    b"submit group 1 5",
+    b"pool 1 1 unbounded keep 0 abort",
+    b"shutdown",
+    b"tprecord 1",
+    b"end 0",
+    b"# ",
+    b"\xEF\xBB\xBFexecute 5",
+    b"ex\xC3\xA9cute 5",
+];
+
+#[test]
+fn refuses_bad_lines(rt: HostRuntime) -> Result<(), Fail> {
+    for line in &BAD_LINES {
+        let text = text_with(rt.alloc(), line)?;
+        let given = refusal_of(rt.alloc(), text.as_slice());
+        assert_eq!(rt; given, Some(PoolError::BadLine(2)), "{line:?}");
+    }
+    Ok(())
+}
+
+const LAST_AND_PAST: [(&[u8], Outcome, &[u8]); 3] = [
+    (
+        b"execute 9223372036854775807",
+        Ok(i64::MAX),
+        b"execute 9223372036854775808",
+    ),
+    (
+        b"execute -9223372036854775808",
+        Ok(i64::MIN),
+        b"execute -9223372036854775809",
+    ),
+    (
+        b"execute !4294967295",
+        Err(u32::MAX),
+        b"execute !4294967296",
+    ),
+];
+
+#[test]
+fn reads_outcomes_to_the_ends_of_their_types(rt: HostRuntime) -> Result<(), Fail> {
+    for (last, outcome, past) in &LAST_AND_PAST {
+        let good = text_with(rt.alloc(), last)?;
+        let jobs = read(rt.alloc(), good.as_slice())?;
+        assert_eq!(rt; jobs.jobs.as_slice(), [executed(*outcome)].as_slice());
+        let bad = text_with(rt.alloc(), past)?;
+        let given = refusal_of(rt.alloc(), bad.as_slice());
+        assert_eq!(rt; given, Some(PoolError::BadLine(2)), "{past:?}");
+    }
+    Ok(())
+}
+
+/// A line of 200 bytes is good, and one of 201 is not; comments too.
+#[test]
+fn reads_lines_of_200_bytes(rt: HostRuntime) -> Result<(), Fail> {
+    for (length, answer) in [(200usize, None), (201, Some(PoolError::BadLine(2)))] {
+        let comment = vec![in rt.alloc(); b'#'; length]?;
+        let text = text_with(rt.alloc(), comment.as_slice())?;
+        assert_eq!(rt;
+            refusal_of(rt.alloc(), text.as_slice()),
+            answer,
+            "{length} bytes"
+        );
+    }
+    Ok(())
+}
+
+/// Which refusal comes first: a bad line up to the pool line, then a pool that can't be, then a bad line
+/// behind it.
+const REFUSED: [(&[u8], PoolError); 12] = [
+    (b"", PoolError::BadLine(1)),
+    (b"\n# no pool\n\n", PoolError::BadLine(4)),
+    (b"# no end", PoolError::BadLine(1)),
+    (b"execute 5\n", PoolError::BadLine(1)),
+    (
+        b"execute 5\npool 3 2 unbounded keep 0 abort\n",
+        PoolError::BadLine(1),
+    ),
+    (
+        b"pool 3 2 unbounded keep 0 abort\nnonsense\n",
+        PoolError::BadSizes,
+    ),
+    (
+        b"pool 1 1 bounded 0 keep 0 abort\nexecute 1",
+        PoolError::BadCapacity,
+    ),
+    (
+        b"pool 1 1 unbounded keep 0 abort limit 63\n",
+        PoolError::BadLimit,
+    ),
+    (
+        b"pool 1 1 unbounded keep 0 abort coretimeout\nexecute 1\n",
+        PoolError::KeepZero,
+    ),
+    (
+        b"pool 1 1 unbounded keep 0 abort\nexecute 1\nexecute\nsubmit\n",
+        PoolError::BadLine(3),
+    ),
+    (
+        b"pool 1 1 unbounded keep 0 abort\n\n# two\nexecute x\n",
+        PoolError::BadLine(4),
+    ),
+    (
+        b"pool 1 1 unbounded keep 0 abort\nexecute 1\nsubmit 2",
+        PoolError::BadLine(3),
+    ),
+];
+
+#[test]
+fn refuses_in_order(rt: HostRuntime) {
+    for (text, refusal) in &REFUSED {
+        assert_eq!(rt; refusal_of(rt.alloc(), text), Some(*refusal), "{text:?}");
+    }
+}
+
+/// A pool line, and three lines.
+const SHORT: &[u8] = b"pool 1 1 unbounded keep 0 abort\nexecute 5\n# six\nsubmit !6\n";
+
+/// How many lines of a text are ended.
+fn ended_lines(text: &[u8]) -> u32 {
+    let mut count = 0u32;
+    for byte in text {
+        if *byte == b'\n' {
+            count = count.wrapping_add(1);
+        }
+    }
+    count
+}
+
+/// A file that is cut behind a line is good where the pool line is left. Cut anywhere else its last line
+/// is bad.
+#[test]
+fn cut_files_end_at_the_cut_line(rt: HostRuntime) {
+    for end in 0..SHORT.len() {
+        let text = &SHORT[..end];
+        let answer = if text.last() == Some(&b'\n') {
+            None
+        } else {
+            Some(PoolError::BadLine(ended_lines(text).wrapping_add(1)))
+        };
+        assert_eq!(rt;
+            refusal_of(rt.alloc(), text),
+            answer,
+            "the first {end} bytes"
+        );
+    }
+}
+
+#[test]
+fn refuses_a_reader_that_fails(rt: HostRuntime) {
+    for error in [io::ErrorKind::Other, io::ErrorKind::Interrupted] {
+        for before in 0..WORKED.len() + 1 {
+            let mut reader = FailsOnce {
+                rest: WORKED,
+                before,
+                error,
+            };
+            let given = read_jobs(rt.alloc(), &mut reader).err();
+            assert_eq!(rt; given, Some(PoolError::ReadFailed), "after {before} calls");
+        }
+    }
+}
+
+/// A reader that gives one byte a call.
+#[test]
+fn reads_byte_by_byte(rt: HostRuntime) -> Result<(), Fail> {
+    let mut reader = FailsOnce {
+        rest: WORKED,
+        before: usize::MAX,
+        error: io::ErrorKind::Other,
+    };
+    let jobs = read_jobs(rt.alloc(), &mut reader)?;
+    assert!(rt; is_worked(&jobs));
+    Ok(())
+}
+
+#[test]
+fn reads_a_long_file_and_no_longer_one(rt: HostRuntime) {
+    for (end, answer) in [
+        (MAX_TEXT_BYTES, None),
+        (MAX_TEXT_BYTES - 1, Some(PoolError::BadLine(524_273))),
+        (MAX_TEXT_BYTES + 1, Some(PoolError::ReadFailed)),
+        (usize::MAX, Some(PoolError::ReadFailed)),
+    ] {
+        let mut reader = Comments { given: 0, end };
+        let given = read_jobs(rt.alloc(), &mut reader).err();
+        assert_eq!(rt; given, answer, "a text of {end} bytes");
+    }
+}
+
+/// So many jobs, each third of which faults, and each second of which has a future.
+fn many_jobs(alloc: Global, count: u32) -> Result<String, AllocError> {
+    let mut text = String::from_str(alloc, "pool 8 8 unbounded keep 0 abort limit 1048576\n")?;
+    for job in 0..count {
+        let word = if job % 2 == 0 { "execute" } else { "submit" };
+        let mark = if job % 3 == 0 { "!" } else { "" };
+        write!(text, "{word} {mark}{job}\n")?;
+    }
+    Ok(text)
+}
+
+fn is_job(job: &JobLine, number: u32) -> bool {
+    let outcome: Outcome = if number % 3 == 0 {
+        Err(number)
+    } else {
+        Ok(i64::from(number))
+    };
+    *job == JobLine {
+        future: number % 2 == 1,
+        outcome,
+    }
+}
+
+#[test]
+fn reads_many_jobs(rt: HostRuntime) -> Result<(), Fail> {
+    for count in [2_000u32, 60_000] {
+        let text = many_jobs(rt.alloc(), count)?;
+        let jobs = read(rt.alloc(), text.as_bytes())?;
+        assert_eq!(rt; jobs.jobs.len(), count as usize);
+        let mut number = 0;
+        for job in &jobs.jobs {
+            assert!(rt; is_job(job, number), "job {number}");
+            number = number.wrapping_add(1);
+        }
+    }
+    Ok(())
+}
+
+/// Where any one allocation fails, the answer is 4; with ample memory it is all the jobs.
+#[test]
+fn want_of_memory_is_refused(rt: HostRuntime) {
+    match read(rt.alloc(), WORKED) {
+        Ok(jobs) => assert!(rt; is_worked(&jobs)),
+        Err(error) => assert_eq!(rt; error, PoolError::NoMemory),
+    }
+}

@@ -1,0 +1,59 @@
+-- Which texts are those of jobs, and that a text says one job.
+use Rattle.std.proofs.Common.{◌≡◌, ◌≢◌, ◌⊎◌, inl, inr, ℕ, ◌<◌, List, [], Option, Some, Err, Bool, true, false, get_or, unwrap_or, refl, sym, ◌∙◌, ap, subst, arith, codes}
+use Rattle.std.proofs.lemmas.Option.{same_Some}
+use Rattle.tp_types.specs.declared.refusals.PoolError.{PoolError}
+use Rattle.tp_types.specs.declared.refusals.PoolError.TheVariants.{NoMemory, ReadFailed}
+use Rattle.tp_text.specs.Reads.{FirstWord, IsWord}
+use Rattle.tp_text.proofs.Outputs.{known_or}
+use Rattle.tp_text.proofs.WordSplits.{differ, same_words, word_from_test}
+use Rattle.tp_scenario.specs.declared.jobs.JobLine.{JobLine}
+use Rattle.tp_scenario.specs.Lines.{outcome_text}
+use Rattle.tp_scenario.specs.Jobs.{FitsJob, IsJobsText, IsRead, JobsSaid, job_text, job_word}
+use Rattle.tp_scenario.specs.PoolText.{IsSkipped}
+use Rattle.tp_scenario.proofs.OneReading.{outcome_text-injective}
+use Rattle.tp_scenario.proofs.OneText.{followed_first, letter_not_skipped, one_said}
+
+job_is_word : (future : Bool) → IsWord (job_word future)
+job_is_word false = word_from_test (codes "execute") refl
+job_is_word true = word_from_test (codes "submit") refl
+
+-- a text is that of a job only by its first word and what follows
+pub no_job : (bs w : List ℕ) (r : Option (List ℕ)) → FirstWord bs w r → ((j : JobLine) → FitsJob j → w ≡ job_word j.future → r ≢ Some (outcome_text j.outcome)) → (j : JobLine) → FitsJob j → bs ≢ job_text j
+no_job bs w r first none j fits same =
+    let p = first.only (job_word j.future) (Some (outcome_text j.outcome)) (job_is_word j.future) same in none j fits p.0 p.1
+
+-- no other word begins a job's line
+pub no_job_word : (w : List ℕ) → w ≢ codes "execute" → w ≢ codes "submit" → (future : Bool) → w ≢ job_word future
+no_job_word w execute submit false e = execute e
+no_job_word w execute submit true e = submit e
+
+-- a text that was not read
+pub unread : (input : Option (List ℕ)) (e : PoolError) → (e ≡ ReadFailed) ⊎ (e ≡ NoMemory) → IsRead input (Err e)
+unread input e (inl is) = inl (ap Err is)
+unread input e (inr is) = inr (unwrap_or input [], known_or input, inl (ap Err is))
+
+same_word : (a b : Bool) → job_word a ≡ job_word b → a ≡ b
+same_word false false e = refl
+same_word false true e = absurd (differ (codes "execute") (codes "submit") refl e)
+same_word true false e = absurd (differ (codes "submit") (codes "execute") refl e)
+same_word true true e = refl
+
+-- no text is that of two jobs
+pub job_text-injective : (j k : JobLine) → FitsJob j → FitsJob k → job_text j ≡ job_text k → j ≡ k
+job_text-injective j k f h e =
+    let p = same_words (job_word j.future) (job_word k.future) (Some (outcome_text j.outcome)) (Some (outcome_text k.outcome)) (job_is_word j.future) (job_is_word k.future) e in
+    ap (λ x. record { future = x; outcome = j.outcome }) (same_word j.future k.future p.0)
+    ∙ ap (λ x. record { future = k.future; outcome = x }) (outcome_text-injective j.outcome k.outcome f h (same_Some _ _ p.1))
+
+letter_first : (future : Bool) → 96 < get_or (job_word future) 0 0
+letter_first false = omega arith
+letter_first true = omega arith
+
+job_not_skipped : (bytes : List ℕ) (j : JobLine) → bytes ≡ job_text j → IsSkipped bytes → ⊥
+job_not_skipped bytes j is skipped =
+    let P : List ℕ → Type 0 = λ x. 96 < get_or x 0 0 in
+    letter_not_skipped bytes (subst P (sym is) (followed_first (job_word j.future) (Some (outcome_text j.outcome)) (letter_first j.future))) skipped
+
+-- a text of jobs says one thing
+pub one_file : (text : List ℕ) (s t : JobsSaid) → IsJobsText text s → IsJobsText text t → s ≡ t
+one_file = one_said job_text FitsJob job_not_skipped job_text-injective

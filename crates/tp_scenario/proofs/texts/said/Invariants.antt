@@ -1,0 +1,9 @@
+use Rattle.std.proofs.Common.{length}
+use Rattle.tp_scenario.proofs.ReadLaws.{Reading}
+use Rattle.tp_scenario.proofs.texts.said.Given as goal
+
+abbrev pub invariant-loop-line : goal.invariant-loop-line
+invariant-loop-line g l = Reading g.L.LineForm.text_of g.L.LineForm.fits l.first l.text l.number l.rest l.lines.items
+
+abbrev pub decreases-loop-line : goal.decreases-loop-line
+decreases-loop-line g l = length l.rest
