@@ -1,12 +1,23 @@
-//! `poolbench`: runs each measure once on a small structure and prints what is left in it.
+//! `poolbench`: runs each measure once on a small structure and prints what is left in it; then the pool and
+//! a textbook's run a few tasks.
 //! `poolbench time [TURNS]`: times so many turns, a million where no number is given, at each size.
+//! `poolbench cost [RUNS [COURSE]]`: compares the pool with a textbook's in so many runs of each, 7 where no
+//! number is given, in all courses or in the one of this number, from 0.
 //!
-//! The status is 2 for any other command line.
+//! The status is 1 where a pool did not run its tasks, and 2 for any other command line.
 #![tactic(auto)]
 
+mod comparisons;
+mod courses;
+mod errands;
 mod measures;
+mod recorded;
 mod reports;
+mod textbook;
+mod textbooks;
+mod unmeasured;
 
+use comparisons::{compared, rehearse_pools};
 use reports::{rehearse, time};
 use std::process::ExitCode;
 use std::{env, io};
@@ -14,36 +25,59 @@ use std::{env, io};
 /// The turns that are timed where the command line gives no number.
 const USUAL_TURNS: u32 = 1_000_000;
 
+/// The runs of each pool where the command line gives no number.
+const USUAL_RUNS: u32 = 7;
+
 /// What the words of a command line ask for.
 enum Choice {
     Rehearse,
     Time(u32),
+    Cost(u32, Option<u32>),
     Usage,
+}
+
+// The number that a word gives.
+fn number(word: Option<&String>) -> Option<u32> {
+    match word?.as_str().parse::<u32>() {
+        Ok(number) => Some(number),
+        Err(_) => None,
+    }
 }
 
 /// The choice of these words, the program's own name first.
 fn chosen(words: &[String]) -> Choice {
-    let is_time = words.get(1).is_some_and(|word| word.as_str() == "time");
-    match words.get(2) {
-        None if words.len() < 2 => Choice::Rehearse,
-        None if is_time => Choice::Time(USUAL_TURNS),
-        Some(turns) if is_time && words.len() == 3 => match turns.as_str().parse::<u32>() {
-            Ok(turns) => Choice::Time(turns),
-            Err(_) => Choice::Usage,
-        },
+    let Some(command) = words.get(1) else {
+        return Choice::Rehearse;
+    };
+    let first = number(words.get(2));
+    let second = number(words.get(3));
+    match (command.as_str(), words.len(), first, second) {
+        ("time", 2, None, None) => Choice::Time(USUAL_TURNS),
+        ("time", 3, Some(turns), None) => Choice::Time(turns),
+        ("cost", 2, None, None) => Choice::Cost(USUAL_RUNS, None),
+        ("cost", 3, Some(runs), None) => Choice::Cost(runs, None),
+        ("cost", 4, Some(runs), Some(course)) => Choice::Cost(runs, Some(course)),
         _ => Choice::Usage,
     }
 }
 
 fn main(rt: HostRuntime) -> io::Result<ExitCode> {
-    let words = env::args(&rt)?.collect::<Vec<String>>(rt.alloc())?;
-    match chosen(words.as_slice()) {
-        Choice::Rehearse => rehearse(&rt)?,
-        Choice::Time(turns) => time(&rt, turns)?,
+    let alloc = rt.alloc();
+    let words = env::args(&rt)?.collect::<Vec<String>>(alloc)?;
+    let well = match chosen(words.as_slice()) {
+        Choice::Rehearse => {
+            rehearse(&rt)?;
+            rehearse_pools(rt, alloc)?
+        }
+        Choice::Time(turns) => {
+            time(&rt, turns)?;
+            true
+        }
+        Choice::Cost(runs, only) => compared(rt, alloc, runs, only)?,
         Choice::Usage => {
-            eprintln!(&rt; "usage: poolbench [time [TURNS]]")?;
+            eprintln!(&rt; "usage: poolbench [time [TURNS] | cost [RUNS [COURSE]]]")?;
             return Ok(ExitCode::from(2));
         }
-    }
-    Ok(ExitCode::from(0))
+    };
+    Ok(ExitCode::from(if well { 0 } else { 1 }))
 }

@@ -1,0 +1,168 @@
+//! What is printed of the pool beside a textbook's.
+
+use crate::courses::{Course, Crowd, median};
+use crate::recorded::recorded;
+use crate::textbooks::textbook;
+use crate::unmeasured::Unmeasured;
+use std::alloc::Global;
+use std::io;
+use std::rt::Clock;
+use std::sync::Wait;
+use std::thread::Threads;
+use std::time::Duration;
+
+/// What is compared, with the aim: the textbook's time by the pool's, in hundredths.
+const COURSES: [(Course, u64); 6] = [
+    (
+        Course::Through(Crowd {
+            workers: 1,
+            submitters: 1,
+            tasks: 100_000,
+        }),
+        100,
+    ),
+    (
+        Course::Through(Crowd {
+            workers: 2,
+            submitters: 1,
+            tasks: 100_000,
+        }),
+        130,
+    ),
+    (
+        Course::Through(Crowd {
+            workers: 4,
+            submitters: 1,
+            tasks: 100_000,
+        }),
+        400,
+    ),
+    (
+        Course::Through(Crowd {
+            workers: 4,
+            submitters: 2,
+            tasks: 50_000,
+        }),
+        180,
+    ),
+    (Course::Start(1), 100),
+    (Course::Start(4), 100),
+];
+
+// A few tasks.
+const FEW: Course = Course::Through(Crowd {
+    workers: 2,
+    submitters: 2,
+    tasks: 50,
+});
+
+/// Lets both pools run a few tasks, and says so: the same text each time.
+pub fn rehearse_pools<R: Threads + Wait + Clock + Print + Copy + Send + Sync + 'static>(
+    rt: R,
+    alloc: Global,
+) -> io::Result<bool> {
+    if let Err(unmeasured) = medians(rt, alloc, FEW, 1) {
+        println!(&rt; "{unmeasured}")?;
+        return Ok(false);
+    }
+    println!(&rt; "100 empty tasks: run by the pool and by a textbook's")?;
+    Ok(true)
+}
+
+/// Compares the pool with the textbook's, by so many runs of each, by turns, in each course or in the one
+/// of this number, from 0; whether all went well.
+pub fn compared<R: Threads + Wait + Clock + Print + Copy + Send + Sync + 'static>(
+    rt: R,
+    alloc: Global,
+    runs: u32,
+    only: Option<u32>,
+) -> io::Result<bool> {
+    for (number, (course, aim)) in (0u32..).zip(COURSES) {
+        if only.is_some_and(|only| only != number) {
+            continue;
+        }
+        match medians(rt, alloc, course, runs) {
+            Ok((textbook, recorded)) => tell(&rt, course, aim, textbook, recorded)?,
+            Err(unmeasured) => {
+                println!(&rt; "{unmeasured}")?;
+                return Ok(false);
+            }
+        }
+    }
+    Ok(true)
+}
+
+// Prints the medians, and their ratio beside the aim.
+fn tell<R: Print>(
+    rt: &R,
+    course: Course,
+    aim: u64,
+    textbook: Duration,
+    recorded: Duration,
+) -> io::Result<()> {
+    match course {
+        Course::Through(crowd) => tell_through(rt, crowd, textbook, recorded)?,
+        Course::Start(workers) => tell_start(rt, workers, textbook, recorded)?,
+    }
+    let ratio = nanoseconds(textbook).saturating_mul(100) / nanoseconds(recorded).max(1);
+    println!(rt;
+        "  {}.{:02} times, the aim is {}.{:02}",
+        ratio / 100,
+        ratio % 100,
+        aim / 100,
+        aim % 100
+    )
+}
+
+fn tell_through<R: Print>(
+    rt: &R,
+    crowd: Crowd,
+    textbook: Duration,
+    recorded: Duration,
+) -> io::Result<()> {
+    println!(rt;
+        "{} workers, {} submitters: {} thousand tasks a second, the textbook's {}",
+        crowd.workers,
+        crowd.submitters,
+        thousands(crowd, recorded),
+        thousands(crowd, textbook)
+    )
+}
+
+fn tell_start<R: Print>(
+    rt: &R,
+    workers: u32,
+    textbook: Duration,
+    recorded: Duration,
+) -> io::Result<()> {
+    println!(rt;
+        "{workers} idle workers: a task begins after {} ns, the textbook's after {}",
+        nanoseconds(recorded),
+        nanoseconds(textbook)
+    )
+}
+
+fn nanoseconds(time: Duration) -> u64 {
+    u64::try_from(time.as_nanos()).unwrap_or(u64::MAX)
+}
+
+// Thousand tasks a second.
+fn thousands(crowd: Crowd, time: Duration) -> u64 {
+    u64::from(crowd.all_tasks()).saturating_mul(1_000_000) / nanoseconds(time).max(1)
+}
+
+// The median times of the textbook's pool and of this one, in so many runs of each, by turns.
+fn medians<R: Threads + Wait + Clock + Copy + Send + Sync + 'static>(
+    rt: R,
+    alloc: Global,
+    course: Course,
+    runs: u32,
+) -> Result<(Duration, Duration), Unmeasured> {
+    let mut theirs = Vec::new(alloc);
+    let mut ours = Vec::new(alloc);
+    for _ in 0..runs {
+        theirs.push(textbook(rt, alloc, course)?)?;
+        ours.push(recorded(rt, alloc, course)?)?;
+    }
+    Ok((median(&mut theirs)?, median(&mut ours)?))
+}

@@ -1,0 +1,48 @@
+//! What is timed of a pool.
+
+use crate::unmeasured::Unmeasured;
+use std::thread;
+use std::time::{Clock, Duration};
+
+/// Who works, who submits, and how much.
+#[derive(Clone, Copy)]
+pub struct Crowd {
+    /// The workers.
+    pub workers: u32,
+    /// The submitters, 1 or 2.
+    pub submitters: u32,
+    /// The empty tasks that each of them submits.
+    pub tasks: u32,
+}
+
+/// What is timed of a pool.
+#[derive(Clone, Copy)]
+pub enum Course {
+    /// From the first submission until the last task has run and the workers have ended.
+    Through(Crowd),
+    /// From the submission of a task to an idle pool of so many workers until its body begins: the
+    /// median of many.
+    Start(u32),
+}
+
+impl Crowd {
+    /// The tasks of all submitters together.
+    pub fn all_tasks(&self) -> u32 {
+        self.tasks.saturating_mul(self.submitters)
+    }
+}
+
+/// The starts of a run.
+pub const STARTS: u32 = 200;
+
+/// Lets the workers fall asleep.
+pub fn settle<R: Clock>(rt: &R) {
+    thread::sleep(rt, Duration::from_micros(300));
+}
+
+/// The median of these times, or 0 of none.
+pub fn median(times: &mut Vec<Duration>) -> Result<Duration, Unmeasured> {
+    times.sort()?;
+    let middle = times.get(times.len() / 2).copied();
+    Ok(middle.unwrap_or(Duration::ZERO))
+}

@@ -1,0 +1,235 @@
+//! The runs of the recording pool that are timed.
+ghost use Rattle.std.specs.Prelude.{◌≡◌};
+
+use crate::courses::{Course, Crowd, STARTS, median, settle};
+use crate::errands::{Parcel, await_mark};
+use crate::unmeasured::Unmeasured;
+use std::alloc::Global;
+use std::marker::Brand;
+use std::sync::atomic::AtomicU64;
+use std::sync::{Arc, Wait};
+use std::thread;
+use std::thread::{JoinHandle, Threads};
+use std::time::{Clock, Duration, Instant};
+use tp_book::opening::Unopened;
+use tp_book::passes::Pass;
+use tp_callbacks::gates::Point;
+use tp_pool::edges::Edge;
+use tp_pool::names::PoolNaming;
+use tp_pool::pool::PoolOf;
+use tp_types::configs::{Config, Policy, QueueKind, Verdict};
+use tp_types::ids::{SlotId, TaskId};
+use tp_types::limits::MAX_RECORD_LIMIT;
+use tp_types::states::RunState;
+use tp_types::tasks::{Kind, Outcome};
+
+/// Consents to all, and does nothing.
+#[derive(Drop)]
+pub struct Bare;
+
+impl Edge for Bare {
+    fn stack(&self) -> usize {
+        1_048_576
+    }
+
+    fn allow<R: Wait>(&self, _rt: &R, _w: SlotId) -> bool {
+        true
+    }
+
+    fn verdict<R: Wait>(&self, _rt: &R, _t: TaskId, _state: RunState) -> Verdict {
+        Verdict::Abort
+    }
+
+    fn before<R: Wait>(&self, _rt: &R, _w: SlotId, _t: TaskId) {}
+
+    fn after<R: Wait>(&self, _rt: &R, _w: SlotId, _t: TaskId, _outcome: Option<&Outcome>) {}
+
+    fn terminated<R: Wait>(&self, _rt: &R) {}
+
+    fn pass(&self, _p: Point, _w: SlotId) {}
+}
+
+type Recorded<G> = PoolOf<G, Parcel, Bare>;
+
+// So many workers, and a queue that takes any number of tasks.
+fn settings_of(workers: u32) -> Config {
+    Config {
+        core: workers,
+        maximum: workers,
+        queue: QueueKind::Unbounded,
+        keep: 1,
+        core_timeout: false,
+        policy: Policy::Abort,
+        record_limit: MAX_RECORD_LIMIT,
+    }
+}
+
+/// Times the recording pool.
+pub fn recorded<R: Threads + Wait + Clock + Copy + Send + Sync + 'static>(
+    rt: R,
+    alloc: Global,
+    course: Course,
+) -> Result<Duration, Unmeasured> {
+    let workers = match course {
+        Course::Through(crowd) => crowd.workers,
+        Course::Start(workers) => workers,
+    };
+    let unopened = Unopened::new(alloc)?;
+    open::<Brand, R>(rt, alloc, unopened, settings_of(workers), course)
+}
+
+// Opens a pool under its name, and lets its workers fall asleep.
+fn open<
+    G: PoolNaming + Send + Sync + 'static,
+    R: Threads + Wait + Clock + Copy + Send + Sync + 'static,
+>(
+    rt: R,
+    alloc: Global,
+    unopened: Unopened,
+    settings: Config,
+    course: Course,
+) -> Result<Duration, Unmeasured>
+    requires named { unopened ≡ record { ledger = G.name; parts = G.parts; table = G.table } }
+    requires settings { settings ≡ G.config }
+{
+    let (pool, first) = Recorded::<G>::over(alloc, unopened, settings, Bare)?;
+    let mut pass = first;
+    pool.prestart_all(rt, &mut pass)?;
+    settle(&rt);
+    match course {
+        Course::Through(crowd) => through(rt, alloc, Arc::new(alloc, pool)?, pass, crowd),
+        Course::Start(_) => start(rt, alloc, &pool, pass),
+    }
+}
+
+fn submits<G: PoolNaming + Send + Sync + 'static, R: Threads + Wait + Copy + Send + 'static>(
+    rt: R,
+    alloc: Global,
+    pool: &Recorded<G>,
+    pass: &mut Pass<G>,
+    tasks: u32,
+) -> Result<(), Unmeasured> {
+    for _ in 0..tasks {
+        let job = Parcel::new(alloc, None)?;
+        if let Err(refused) = pool.execute_as(rt, Kind::Plain, job, pass) {
+            return Err(Unmeasured::Refused(refused.error));
+        }
+    }
+    Ok(())
+}
+
+fn submits_alone<G: PoolNaming + Send + Sync + 'static, R: Threads + Wait + Copy + Send + 'static>(
+    rt: R,
+    alloc: Global,
+    pool: Arc<Recorded<G>>,
+    pass: Pass<G>,
+    tasks: u32,
+) -> Result<(), Unmeasured> {
+    let mut pass = pass;
+    submits(rt, alloc, &pool, &mut pass, tasks)
+}
+
+fn other<G: PoolNaming + Send + Sync + 'static, R: Threads + Wait + Copy + Send + Sync + 'static>(
+    rt: R,
+    alloc: Global,
+    pool: &Arc<Recorded<G>>,
+    pass: Pass<G>,
+    tasks: u32,
+) -> Result<JoinHandle<Result<(), Unmeasured>>, Unmeasured> {
+    let theirs = Arc::try_clone(pool)?;
+    match thread::spawn(&rt, move || submits_alone(rt, alloc, theirs, pass, tasks)) {
+        Ok(other) => Ok(other),
+        Err(_) => Err(Unmeasured::NoThread),
+    }
+}
+
+fn all_submit<
+    G: PoolNaming + Send + Sync + 'static,
+    R: Threads + Wait + Copy + Send + Sync + 'static,
+>(
+    rt: R,
+    alloc: Global,
+    pool: &Arc<Recorded<G>>,
+    pass: &mut Pass<G>,
+    second: Pass<G>,
+    crowd: Crowd,
+) -> Result<(), Unmeasured> {
+    if crowd.submitters > 1 {
+        let other = other(rt, alloc, pool, second, crowd.tasks)?;
+        submits(rt, alloc, pool, pass, crowd.tasks)?;
+        other.join(&rt)
+    } else {
+        submits(rt, alloc, pool, pass, crowd.tasks)
+    }
+}
+
+// Receipts are reserved before the clock starts.
+fn through<
+    G: PoolNaming + Send + Sync + 'static,
+    R: Threads + Wait + Clock + Copy + Send + Sync + 'static,
+>(
+    rt: R,
+    alloc: Global,
+    pool: Arc<Recorded<G>>,
+    pass: Pass<G>,
+    crowd: Crowd,
+) -> Result<Duration, Unmeasured> {
+    let mut pass = pass;
+    let mut second = pool.split_pass(&rt, &mut pass)?;
+    pass.reserve(receipts(crowd.tasks))?;
+    second.reserve(receipts(crowd.tasks))?;
+    let start = Instant::now(&rt)?;
+    all_submit(rt, alloc, &pool, &mut pass, second, crowd)?;
+    end(&rt, &pool, &mut pass)?;
+    let time = start.elapsed(&rt)?;
+    if pool.counts(&rt).run != crowd.all_tasks() {
+        return Err(Unmeasured::Differs);
+    }
+    Ok(time)
+}
+
+// The receipts of so many submissions, and some more.
+fn receipts(tasks: u32) -> usize {
+    (tasks as usize).saturating_mul(3).saturating_add(4_096)
+}
+
+// Shuts the pool down, and waits for its end.
+fn end<G: PoolNaming, R: Wait>(
+    rt: &R,
+    pool: &Recorded<G>,
+    pass: &mut Pass<G>,
+) -> Result<(), Unmeasured> {
+    pool.shutdown(rt, pass)?;
+    pool.await_termination(rt, u64::MAX, pass)?;
+    Ok(())
+}
+
+fn start<
+    G: PoolNaming + Send + Sync + 'static,
+    R: Threads + Wait + Clock + Copy + Send + Sync + 'static,
+>(rt: R, alloc: Global, pool: &Recorded<G>, pass: Pass<G>) -> Result<Duration, Unmeasured> {
+    let mut pass = pass;
+    let mut times = Vec::new(alloc);
+    pass.reserve(receipts(STARTS))?;
+    for _ in 0..STARTS {
+        settle(&rt);
+        times.push(one_start(rt, alloc, pool, &mut pass)?)?;
+    }
+    end(&rt, pool, &mut pass)?;
+    median(&mut times)
+}
+
+// From a submission until its body begins.
+fn one_start<
+    G: PoolNaming + Send + Sync + 'static,
+    R: Threads + Wait + Clock + Copy + Send + Sync + 'static,
+>(rt: R, alloc: Global, pool: &Recorded<G>, pass: &mut Pass<G>) -> Result<Duration, Unmeasured> {
+    let mark = Arc::new(alloc, AtomicU64::new(0))?;
+    let job = Parcel::new(alloc, Some(Arc::try_clone(&mark)?))?;
+    let start = Instant::now(&rt)?;
+    if let Err(refused) = pool.execute_as(rt, Kind::Plain, job, pass) {
+        return Err(Unmeasured::Refused(refused.error));
+    }
+    await_mark(&mark);
+    Ok(start.elapsed(&rt)?)
+}

@@ -1,0 +1,130 @@
+//! A pool as textbooks have it, for comparison alone: one lock, one condition and a queue of boxes. It
+//! keeps no record.
+
+use crate::errands::Parcel;
+use std::alloc::{AllocError, Global};
+use std::collections::VecDeque;
+use std::sync::{Arc, Condvar, Mutex, Wait};
+use std::thread;
+use std::thread::{JoinHandle, Threads};
+use tp_callbacks::flags::CancelFlag;
+use tp_callbacks::jobs::Job;
+use tp_types::refusals::PoolError;
+
+// What lies under the lock.
+#[derive(Drop)]
+struct Waiting {
+    queue: VecDeque<Parcel>,
+    closed: bool,
+}
+
+/// What the threads share.
+#[derive(Drop)]
+pub struct Counter {
+    waiting: Mutex<Waiting>,
+    changed: Condvar,
+}
+
+impl Counter {
+    /// Queues a job.
+    pub fn execute<R: Wait>(&self, rt: &R, job: Parcel) -> Result<(), AllocError> {
+        let mut waiting = self.waiting.lock(rt);
+        waiting.queue.push_back(job)?;
+        drop(waiting);
+        self.changed.notify_one();
+        Ok(())
+    }
+
+    fn next<R: Wait>(&self, rt: &R) -> Option<Parcel> {
+        let mut waiting = self.waiting.lock(rt);
+        for _ in rt.forever() {
+            if let Some(job) = waiting.queue.pop_front() {
+                return Some(job);
+            }
+            if waiting.closed {
+                return None;
+            }
+            waiting = self.changed.wait(rt, waiting);
+        }
+        unreachable!()
+    }
+
+    // Runs jobs until the pool is closed; how many it ran.
+    fn work<R: Wait>(&self, rt: &R, flag: &CancelFlag) -> u64 {
+        let mut count = 0u64;
+        for _ in rt.forever() {
+            let Some(mut job) = self.next(rt) else {
+                return count;
+            };
+            let _ = job.call(flag);
+            count = count.saturating_add(1);
+        }
+        unreachable!()
+    }
+}
+
+/// The pool, with its workers.
+#[derive(Drop)]
+pub struct Textbook {
+    /// What the threads share.
+    pub counter: Arc<Counter>,
+    workers: Vec<JoinHandle<u64>>,
+}
+
+fn hire<R: Threads + Wait + Copy + Send + 'static>(
+    rt: R,
+    counter: &Arc<Counter>,
+    flag: CancelFlag,
+) -> Result<JoinHandle<u64>, PoolError> {
+    let Ok(theirs) = Arc::try_clone(counter) else {
+        return Err(PoolError::NoMemory);
+    };
+    match thread::spawn(&rt, move || theirs.work(&rt, &flag)) {
+        Ok(worker) => Ok(worker),
+        Err(_) => Err(PoolError::NoMemory),
+    }
+}
+
+impl Textbook {
+    /// A pool of so many workers. NoMemory (4), also where a thread is not made.
+    pub fn new<R: Threads + Wait + Copy + Send + 'static>(
+        rt: R,
+        alloc: Global,
+        workers: u32,
+    ) -> Result<Textbook, PoolError> {
+        let waiting = Waiting {
+            queue: VecDeque::new(alloc),
+            closed: false,
+        };
+        let counter = Counter {
+            waiting: Mutex::new(waiting),
+            changed: Condvar::new(),
+        };
+        let Ok(counter) = Arc::new(alloc, counter) else {
+            return Err(PoolError::NoMemory);
+        };
+        let mut threads = Vec::new(alloc);
+        for _ in 0..workers {
+            let worker = hire(rt, &counter, CancelFlag::new(alloc)?)?;
+            if threads.push(worker).is_err() {
+                return Err(PoolError::NoMemory);
+            }
+        }
+        Ok(Textbook {
+            counter,
+            workers: threads,
+        })
+    }
+
+    /// Closes the pool and waits until all jobs were run; how many there were.
+    pub fn join<R: Threads + Wait>(self, rt: &R) -> u64 {
+        let Textbook { counter, workers } = self;
+        counter.waiting.lock(rt).closed = true;
+        counter.changed.notify_all();
+        let mut count = 0u64;
+        for worker in workers {
+            count = count.saturating_add(worker.join(rt));
+        }
+        count
+    }
+}

@@ -1,0 +1,76 @@
+//! `poolstress rehearse SEED`: lets a few pools live by chance, and a few whose jobs run all at once, and
+//! prints what is the same each time.
+//! `poolstress stress POOLS [SEED]`: lets so many pools live by chance, 1 being the usual seed, and prints
+//! what became of their jobs.
+//! `poolstress reuse POOLS`: lets so many pools give up a slot that is reserved anew at once.
+//!
+//! The status is 1 where a pool came to what it must not come to, and 2 for any other command line.
+#![tactic(auto)]
+
+mod accounts;
+mod callers;
+mod chores;
+mod endings;
+mod lives;
+mod luck;
+mod meetings;
+mod mishaps;
+mod plans;
+mod reports;
+mod reuse;
+mod totals;
+mod whims;
+
+use reports::{rehearsed, reused, stressed};
+use std::process::ExitCode;
+use std::{env, io};
+
+/// The seed of the first pool where the command line gives none.
+const USUAL_SEED: u32 = 1;
+
+/// What the words of a command line ask for.
+enum Choice {
+    Rehearse(u32),
+    Stress(u32, u32),
+    Reuse(u32),
+    Usage,
+}
+
+// The number that a word gives.
+fn number(word: Option<&String>) -> Option<u32> {
+    match word?.as_str().parse::<u32>() {
+        Ok(number) => Some(number),
+        Err(_) => None,
+    }
+}
+
+/// The choice of these words, the program's own name first.
+fn chosen(words: &[String]) -> Choice {
+    let Some(command) = words.get(1) else {
+        return Choice::Usage;
+    };
+    let first = number(words.get(2));
+    let second = number(words.get(3));
+    match (command.as_str(), words.len(), first, second) {
+        ("rehearse", 3, Some(seed), None) => Choice::Rehearse(seed),
+        ("stress", 3, Some(pools), None) => Choice::Stress(pools, USUAL_SEED),
+        ("stress", 4, Some(pools), Some(seed)) => Choice::Stress(pools, seed),
+        ("reuse", 3, Some(pools), None) => Choice::Reuse(pools),
+        _ => Choice::Usage,
+    }
+}
+
+fn main(rt: HostRuntime) -> io::Result<ExitCode> {
+    let alloc = rt.alloc();
+    let words = env::args(&rt)?.collect::<Vec<String>>(alloc)?;
+    let well = match chosen(words.as_slice()) {
+        Choice::Rehearse(seed) => rehearsed(rt, alloc, u64::from(seed))?,
+        Choice::Stress(pools, seed) => stressed(rt, alloc, u64::from(seed), pools)?,
+        Choice::Reuse(pools) => reused(rt, alloc, pools)?,
+        Choice::Usage => {
+            eprintln!(&rt; "usage: poolstress rehearse SEED | stress POOLS [SEED] | reuse POOLS")?;
+            return Ok(ExitCode::from(2));
+        }
+    };
+    Ok(ExitCode::from(if well { 0 } else { 1 }))
+}

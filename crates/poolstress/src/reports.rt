@@ -1,0 +1,86 @@
+//! What is printed of the pools.
+
+use crate::lives::stress;
+use crate::meetings::all_meet;
+use crate::mishaps::Mishap;
+use crate::reuse::all_reuse;
+use crate::totals::Totals;
+use std::alloc::Global;
+use std::io;
+use std::rt::Clock;
+use std::sync::Wait;
+use std::thread::Threads;
+
+/// The pools of a rehearsal that live by chance.
+const REHEARSED: u32 = 8;
+
+/// The pools of a rehearsal whose jobs run all at once.
+const MEETINGS: u32 = 4;
+
+/// Lets a few pools live by chance, and a few whose jobs run all at once, and prints what is the same
+/// each time; whether all went well.
+pub fn rehearsed<R: Threads + Wait + Clock + Print + Copy + Send + Sync + 'static>(
+    rt: R,
+    alloc: Global,
+    seed: u64,
+) -> io::Result<bool> {
+    let totals = match stress(rt, alloc, seed, REHEARSED) {
+        Ok(totals) => totals,
+        Err((seed, mishap)) => return misses(&rt, seed, &mishap),
+    };
+    if let Err(mishap) = all_meet(rt, alloc, MEETINGS) {
+        return misses(&rt, 0, &mishap);
+    }
+    let pools = totals.pools;
+    println!(&rt; "{pools} pools closed, each record legal, every job accounted for")?;
+    println!(&rt; "{MEETINGS} pools closed, whose jobs ran all at once")?;
+    Ok(true)
+}
+
+// Tells what went wrong.
+fn misses<R: Print>(rt: &R, seed: u64, mishap: &Mishap) -> io::Result<bool> {
+    println!(rt; "the pool of seed {seed}: {mishap}")?;
+    Ok(false)
+}
+
+/// Lets so many pools live by chance, and prints what became of their jobs; whether all went well.
+pub fn stressed<R: Threads + Wait + Clock + Print + Copy + Send + Sync + 'static>(
+    rt: R,
+    alloc: Global,
+    seed: u64,
+    pools: u32,
+) -> io::Result<bool> {
+    match stress(rt, alloc, seed, pools) {
+        Ok(totals) => {
+            tell(&rt, &totals)?;
+            Ok(true)
+        }
+        Err((seed, mishap)) => misses(&rt, seed, &mishap),
+    }
+}
+
+// Tells what became of the jobs.
+fn tell<R: Print>(rt: &R, totals: &Totals) -> io::Result<()> {
+    println!(rt;
+        "{} pools closed, {} entries legal",
+        totals.pools, totals.entries
+    )?;
+    println!(rt;
+        "{} jobs accounted for: {} run, {} run by their submitters, {} back, {} discarded, {} cancelled",
+        totals.jobs, totals.ran, totals.caller, totals.back, totals.discarded, totals.cancelled
+    )?;
+    println!(rt; "{} pools left tasks to nobody", totals.stranded)
+}
+
+/// Lets so many pools give up a slot that is reserved anew at once; whether all went well.
+pub fn reused<R: Threads + Wait + Print + Copy + Send + Sync + 'static>(
+    rt: R,
+    alloc: Global,
+    pools: u32,
+) -> io::Result<bool> {
+    if let Err(mishap) = all_reuse(rt, alloc, pools) {
+        return misses(&rt, 0, &mishap);
+    }
+    println!(&rt; "{pools} pools closed, in which a slot was reserved anew")?;
+    Ok(true)
+}

@@ -1,0 +1,60 @@
+//! What the pools of a run came to, added up.
+
+use crate::plans::Plan;
+use tp_types::states::Counts;
+
+/// What the pools of a run came to.
+#[derive(Clone, Copy, Default)]
+pub struct Totals {
+    /// Pools that were closed, each with a legal record and all its jobs accounted for.
+    pub pools: u32,
+    /// Jobs that were submitted, or refused for want of room in the record.
+    pub jobs: u64,
+    /// Jobs that workers ran.
+    pub ran: u64,
+    /// Jobs that their submitters ran.
+    pub caller: u64,
+    /// Jobs that were rejected, removed or handed back.
+    pub back: u64,
+    /// Jobs that were discarded.
+    pub discarded: u64,
+    /// Jobs that were cancelled.
+    pub cancelled: u64,
+    /// Pools that were stopped since tasks were left to nobody.
+    pub stranded: u32,
+    /// Entries of all records.
+    pub entries: u64,
+}
+
+/// What a pool came to.
+#[derive(Clone, Copy)]
+pub struct Account {
+    /// The counters of its record.
+    pub counts: Counts,
+    /// Whether it was stopped since tasks were left to nobody.
+    pub stranded: bool,
+    /// The entries of its record.
+    pub entries: usize,
+}
+
+impl Totals {
+    /// Adds what a pool of this plan came to.
+    pub fn add(&mut self, plan: &Plan, account: &Account) {
+        self.pools = self.pools.saturating_add(1);
+        self.jobs = self.jobs.saturating_add(u64::from(plan.all_jobs()));
+        self.stranded = self.stranded.saturating_add(u32::from(account.stranded));
+        self.entries = self.entries.saturating_add(account.entries as u64);
+        self.add_fates(&account.counts);
+    }
+
+    fn add_fates(&mut self, counts: &Counts) {
+        let back = u64::from(counts.rejected)
+            .saturating_add(u64::from(counts.removed))
+            .saturating_add(u64::from(counts.handedback));
+        self.ran = self.ran.saturating_add(u64::from(counts.run));
+        self.caller = self.caller.saturating_add(u64::from(counts.caller));
+        self.back = self.back.saturating_add(back);
+        self.discarded = self.discarded.saturating_add(u64::from(counts.discarded));
+        self.cancelled = self.cancelled.saturating_add(u64::from(counts.cancelled));
+    }
+}
