@@ -1,0 +1,199 @@
+// What a test and its pool's threads tell each other.
+
+use std::alloc::Global;
+use std::sync::Arc;
+use std::sync::atomic::{AtomicU64, Ordering};
+use std::thread;
+use tp_types::ids::TaskId;
+use tp_types::refusals::PoolError;
+
+// A count that all threads of a test share.
+#[derive(Clone, Copy)]
+pub enum Signal {
+    // Workers that are held before bodies may go on once it is 1.
+    Open,
+    // Jobs that wait have begun, and may go on.
+    Begun,
+    Told,
+    // Jobs that meet others.
+    Met,
+    // Workers that came to a gate before takes, those that passed it, and how many may.
+    Came,
+    Passed,
+    Limit,
+    // Readings that callbacks asked for, up to which of them one was made, and those that were not made.
+    Asked,
+    Answered,
+    Missed,
+    // Calls of the hook before a task, and after one that was skipped or ran: a byte for each of the tasks 0
+    // to 7, the lowest for task 0.
+    Before,
+    Skipped,
+    Ran,
+    // Calls of the hook of the pool's end.
+    Ends,
+    // Asks of the factory.
+    Wanted,
+    // Tasks that were handed in.
+    Handed,
+    // A caller is about to wait, or has done what it does.
+    Waits,
+    Over,
+    // The moment, in ticks.
+    Moment,
+    // Rounds of a script that were played, and those that could tell.
+    Rounds,
+    Telling,
+}
+
+#[derive(Drop)]
+pub struct Board {
+    open: AtomicU64,
+    begun: AtomicU64,
+    told: AtomicU64,
+    met: AtomicU64,
+    came: AtomicU64,
+    passed: AtomicU64,
+    limit: AtomicU64,
+    asked: AtomicU64,
+    answered: AtomicU64,
+    missed: AtomicU64,
+    before: AtomicU64,
+    skipped: AtomicU64,
+    ran: AtomicU64,
+    ends: AtomicU64,
+    wanted: AtomicU64,
+    handed: AtomicU64,
+    waits: AtomicU64,
+    over: AtomicU64,
+    moment: AtomicU64,
+    rounds: AtomicU64,
+    telling: AtomicU64,
+}
+
+fn zero() -> AtomicU64 {
+    AtomicU64::new(0)
+}
+
+fn blank() -> Board {
+    Board {
+        open: zero(),
+        begun: zero(),
+        told: zero(),
+        met: zero(),
+        came: zero(),
+        passed: zero(),
+        limit: zero(),
+        asked: zero(),
+        answered: zero(),
+        missed: zero(),
+        before: zero(),
+        skipped: zero(),
+        ran: zero(),
+        ends: zero(),
+        wanted: zero(),
+        handed: zero(),
+        waits: zero(),
+        over: zero(),
+        moment: zero(),
+        rounds: zero(),
+        telling: zero(),
+    }
+}
+
+impl Board {
+    pub fn new(alloc: Global) -> Result<Arc<Board>, PoolError> {
+        match Arc::new(alloc, blank()) {
+            Ok(board) => Ok(board),
+            Err(_) => Err(PoolError::NoMemory),
+        }
+    }
+
+    fn at(&self, signal: Signal) -> &AtomicU64 {
+        match signal {
+            Signal::Open => &self.open,
+            Signal::Begun => &self.begun,
+            Signal::Told => &self.told,
+            Signal::Met => &self.met,
+            Signal::Came => &self.came,
+            Signal::Passed => &self.passed,
+            Signal::Limit => &self.limit,
+            Signal::Asked => &self.asked,
+            Signal::Answered => &self.answered,
+            Signal::Missed => &self.missed,
+            Signal::Before => &self.before,
+            Signal::Skipped => &self.skipped,
+            Signal::Ran => &self.ran,
+            Signal::Ends => &self.ends,
+            Signal::Wanted => &self.wanted,
+            Signal::Handed => &self.handed,
+            Signal::Waits => &self.waits,
+            Signal::Over => &self.over,
+            Signal::Moment => &self.moment,
+            Signal::Rounds => &self.rounds,
+            Signal::Telling => &self.telling,
+        }
+    }
+
+    pub fn read(&self, signal: Signal) -> u64 {
+        self.at(signal).load(Ordering::SeqCst)
+    }
+
+    pub fn put(&self, signal: Signal, to: u64) {
+        self.at(signal).store(to, Ordering::SeqCst);
+    }
+
+    // Adds 1, and says how many there were.
+    pub fn raise(&self, signal: Signal) -> u64 {
+        self.at(signal).fetch_add(1, Ordering::SeqCst)
+    }
+
+    // Notes a call for this task, by adding 1 to the task's byte.
+    pub fn note(&self, signal: Signal, t: TaskId) {
+        let mut one = 1u64;
+        for _ in 0..t.0.min(7) {
+            one = one.saturating_mul(256);
+        }
+        self.at(signal).fetch_add(one, Ordering::SeqCst);
+    }
+
+    // Yields until the count is so high, or for long; whether it came to be.
+    pub fn reaches(&self, signal: Signal, to: u64) -> bool {
+        for _ in 0..1_000_000u32 {
+            if self.read(signal) >= to {
+                return true;
+            }
+            thread::yield_now();
+        }
+        false
+    }
+
+    // Waits until the pool was read after this call began.
+    pub fn talk(&self) {
+        let mine = self.raise(Signal::Asked).saturating_add(1);
+        if !self.reaches(Signal::Answered, mine) {
+            self.raise(Signal::Missed);
+        }
+    }
+
+    // The n-th who comes waits until n may pass, or for long.
+    pub fn enter(&self) {
+        let mine = self.raise(Signal::Came).saturating_add(1);
+        self.reaches(Signal::Limit, mine);
+        self.raise(Signal::Passed);
+    }
+
+    // Waits until so many more have come that their number is a multiple of the group's size, or for long.
+    pub fn meet(&self, size: u64) -> bool {
+        let before = self.raise(Signal::Met);
+        let missing = size.saturating_sub(before % size.max(1));
+        self.reaches(Signal::Met, before.saturating_add(missing))
+    }
+}
+
+pub fn shared(board: &Arc<Board>) -> Result<Arc<Board>, PoolError> {
+    match Arc::try_clone(board) {
+        Ok(board) => Ok(board),
+        Err(_) => Err(PoolError::NoMemory),
+    }
+}

@@ -1,0 +1,178 @@
+// A pool of boxes: a caller's boxed jobs, factory, handler, hooks and gate.
+ghost use Rattle.std.specs.Prelude.{◌≡◌};
+
+use super::boards::{Board, Signal, shared};
+use super::findings::{Finding, finds};
+use super::lives::SETTINGS;
+use std::alloc::Global;
+use std::marker::Brand;
+use std::process::Abort;
+use std::sync::{Arc, Wait};
+use std::test::Fail;
+use std::thread::Threads;
+use tp_book::opening::Unopened;
+use tp_callbacks::flags::CancelFlag;
+use tp_pool::answers::{Admitted, Refused};
+use tp_pool::closing::Report;
+use tp_pool::factories::ThreadFactory;
+use tp_pool::gates::{Gate, Point};
+use tp_pool::handlers::RejectionHandler;
+use tp_pool::hooks::Hooks;
+use tp_pool::jobs::{Boxed, Job};
+use tp_pool::names::PoolNaming;
+use tp_pool::pool::Pool;
+use tp_types::configs::{Config, Policy, QueueKind, Verdict};
+use tp_types::ids::{SlotId, TaskId};
+use tp_types::refusals::PoolError;
+use tp_types::states::RunState;
+use tp_types::tasks::{Outcome, Promise};
+
+// Answers 1 where its flag is set, else 0.
+#[derive(Drop)]
+struct Looking;
+
+impl Job for Looking {
+    ghost use Rattle.std.specs.Prelude.{false, pos};
+    ghost use Rattle.tp_types.specs.declared.tasks.Promise.{Promise};
+
+    ghost promised = { λ j. record { low = pos 0; high = pos 1; may_fault = false } };
+
+    fn promise(&self) -> Promise {
+        Promise {
+            low: 0,
+            high: 1,
+            may_fault: false,
+        }
+    }
+
+    fn call(&mut self, cancel: &CancelFlag) -> Outcome {
+        Ok(i64::from(cancel.is_set()))
+    }
+}
+
+// Is asked, told and passed, and counts how often.
+#[derive(Drop)]
+struct Counting {
+    board: Arc<Board>,
+}
+
+impl ThreadFactory for Counting {
+    fn allow(&mut self, _w: SlotId) -> bool {
+        self.board.raise(Signal::Wanted);
+        true
+    }
+}
+
+impl RejectionHandler for Counting {
+    fn verdict(&mut self, _t: TaskId, _state: RunState) -> Verdict {
+        self.board.raise(Signal::Asked);
+        Verdict::Abort
+    }
+}
+
+impl Hooks for Counting {
+    fn before(&mut self, _w: SlotId, t: TaskId) {
+        self.board.note(Signal::Before, t);
+    }
+
+    fn after(&mut self, _w: SlotId, t: TaskId, _outcome: Option<&Outcome>) {
+        self.board.note(Signal::Ran, t);
+    }
+
+    fn terminated(&mut self) {
+        self.board.raise(Signal::Ends);
+    }
+}
+
+impl Gate for Counting {
+    fn before(&self, p: Point, _w: SlotId) {
+        if p == Point::Body {
+            self.board.reaches(Signal::Open, 1);
+        }
+    }
+}
+
+fn counts_at(board: &Arc<Board>) -> Result<Counting, PoolError> {
+    let board = shared(board)?;
+    Ok(Counting { board })
+}
+
+// The first job is accepted, and the second refused with 12 and with its box.
+fn is_answer(answer: &Result<Admitted, Refused<Boxed>>, number: u32) -> bool {
+    match answer {
+        Ok(admitted) => number == 0 && *admitted == Admitted::Accepted(TaskId(0)),
+        Err(refused) => {
+            number == 1 && refused.error == PoolError::Rejected(TaskId(1)) && refused.job.is_some()
+        }
+    }
+}
+
+// One worker, which is held before its body, meanwhile a second job, and the end.
+fn life<G: PoolNaming + Send + Sync + 'static, R: Abort + Threads + Wait + Copy + Send + 'static>(
+    rt: R,
+    alloc: Global,
+    unopened: Unopened,
+    settings: Config,
+    board: &Arc<Board>,
+) -> Result<Report, PoolError>
+    requires named { unopened ≡ record { ledger = G.name; parts = G.parts; table = G.table } }
+    requires settings { settings ≡ G.config }
+{
+    let factory = Box::new(alloc, counts_at(board)?).or(Err(PoolError::NoMemory))?;
+    let handler = Box::new(alloc, counts_at(board)?).or(Err(PoolError::NoMemory))?;
+    let hooks = Box::new(alloc, counts_at(board)?).or(Err(PoolError::NoMemory))?;
+    let gate = Box::new(alloc, counts_at(board)?).or(Err(PoolError::NoMemory))?;
+    let (pool, mut pass) = Pool::<G>::new(
+        alloc, unopened, settings, factory, handler, hooks, gate,
+    )?;
+    for number in 0..2 {
+        let job = Box::new(alloc, Looking).or(Err(PoolError::NoMemory))?;
+        let answer = pool.execute(rt, job, &mut pass);
+        assert!(&rt; is_answer(&answer, number), "job {number}");
+    }
+    pool.shutdown(&rt, &mut pass)?;
+    board.put(Signal::Open, 1);
+    pool.await_termination(&rt, 1, &mut pass)?;
+    let mut passes = Vec::new(alloc);
+    passes.push(pass).or(Err(PoolError::NoMemory))?;
+    match pool.close(&rt, passes) {
+        Ok(report) => Ok(report),
+        Err(fault) => Err(fault.error),
+    }
+}
+
+const SETTINGS_OF_ONE: Config = Config {
+    core: 1,
+    maximum: 1,
+    queue: QueueKind::Handoff,
+    policy: Policy::Own,
+    ..SETTINGS
+};
+
+fn lived<R: Abort + Threads + Wait + Copy + Send + 'static>(
+    rt: R,
+    alloc: Global,
+    settings: Config,
+) -> Result<(), PoolError> {
+    let board = Board::new(alloc)?;
+    let unopened = Unopened::new(alloc)?;
+    let report = life::<Brand, R>(rt, alloc, unopened, settings, &board)?;
+    let findings = [
+        Finding::Ended(0, Ok(0)),
+        Finding::Run(1),
+        Finding::Rejected(1),
+        Finding::Noted(Signal::Wanted, 1),
+        Finding::Noted(Signal::Asked, 1),
+        Finding::Noted(Signal::Before, 1),
+        Finding::Noted(Signal::Ran, 1),
+        Finding::Noted(Signal::Ends, 1),
+    ];
+    finds(&rt, &report, &board, &findings);
+    Ok(())
+}
+
+#[test]
+fn pool_of_boxes_asks_them(rt: HostRuntime) -> Result<(), Fail> {
+    lived(rt, rt.alloc(), SETTINGS_OF_ONE)?;
+    Ok(())
+}
