@@ -77,7 +77,7 @@ pub fn each_call<
 /// With ample memory each call succeeds; where any one allocation of a call fails, it answers 4, has
 /// changed nothing, and succeeds when it is called again.
 #[test]
-fn want_of_memory_changes_nothing(rt: HostRuntime) -> Result<(), Fail> {
+fn ample_memory_succeeds(rt: HostRuntime) -> Result<(), Fail> {
     lives(
         rt,
         rt.alloc(),

@@ -7,6 +7,14 @@ use std::thread;
 use tp_types::ids::TaskId;
 use tp_types::refusals::PoolError;
 
+// The hook before a task, and the one after a task that was skipped, or ran.
+#[derive(Clone, Copy)]
+pub enum Hook {
+    Before,
+    Skipped,
+    Ran,
+}
+
 // A count that all threads of a test share.
 #[derive(Clone, Copy)]
 pub enum Signal {
@@ -25,11 +33,8 @@ pub enum Signal {
     Asked,
     Answered,
     Missed,
-    // Calls of the hook before a task, and after one that was skipped or ran: a byte for each of the tasks 0
-    // to 7, the lowest for task 0.
-    Before,
-    Skipped,
-    Ran,
+    // Calls of a hook for this task; those for tasks from 2 on are counted together.
+    Hooked(Hook, TaskId),
     // Calls of the hook of the pool's end.
     Ends,
     // Asks of the factory.
@@ -46,6 +51,32 @@ pub enum Signal {
     Telling,
 }
 
+// How often the hooks of a task were called.
+#[derive(Drop)]
+struct HookCalls {
+    before: AtomicU64,
+    skipped: AtomicU64,
+    ran: AtomicU64,
+}
+
+impl HookCalls {
+    fn new() -> HookCalls {
+        HookCalls {
+            before: zero(),
+            skipped: zero(),
+            ran: zero(),
+        }
+    }
+
+    fn of(&self, hook: Hook) -> &AtomicU64 {
+        match hook {
+            Hook::Before => &self.before,
+            Hook::Skipped => &self.skipped,
+            Hook::Ran => &self.ran,
+        }
+    }
+}
+
 #[derive(Drop)]
 pub struct Board {
     open: AtomicU64,
@@ -58,9 +89,9 @@ pub struct Board {
     asked: AtomicU64,
     answered: AtomicU64,
     missed: AtomicU64,
-    before: AtomicU64,
-    skipped: AtomicU64,
-    ran: AtomicU64,
+    first: HookCalls,
+    second: HookCalls,
+    others: HookCalls,
     ends: AtomicU64,
     wanted: AtomicU64,
     handed: AtomicU64,
@@ -87,9 +118,9 @@ fn blank() -> Board {
         asked: zero(),
         answered: zero(),
         missed: zero(),
-        before: zero(),
-        skipped: zero(),
-        ran: zero(),
+        first: HookCalls::new(),
+        second: HookCalls::new(),
+        others: HookCalls::new(),
         ends: zero(),
         wanted: zero(),
         handed: zero(),
@@ -121,9 +152,9 @@ impl Board {
             Signal::Asked => &self.asked,
             Signal::Answered => &self.answered,
             Signal::Missed => &self.missed,
-            Signal::Before => &self.before,
-            Signal::Skipped => &self.skipped,
-            Signal::Ran => &self.ran,
+            Signal::Hooked(hook, TaskId(0)) => self.first.of(hook),
+            Signal::Hooked(hook, TaskId(1)) => self.second.of(hook),
+            Signal::Hooked(hook, _) => self.others.of(hook),
             Signal::Ends => &self.ends,
             Signal::Wanted => &self.wanted,
             Signal::Handed => &self.handed,
@@ -146,15 +177,6 @@ impl Board {
     // Adds 1, and says how many there were.
     pub fn raise(&self, signal: Signal) -> u64 {
         self.at(signal).fetch_add(1, Ordering::SeqCst)
-    }
-
-    // Notes a call for this task, by adding 1 to the task's byte.
-    pub fn note(&self, signal: Signal, t: TaskId) {
-        let mut one = 1u64;
-        for _ in 0..t.0.min(7) {
-            one = one.saturating_mul(256);
-        }
-        self.at(signal).fetch_add(one, Ordering::SeqCst);
     }
 
     // Yields until the count is so high, or for long; whether it came to be.

@@ -1,7 +1,7 @@
 // A pool of boxes: a caller's boxed jobs, factory, handler, hooks and gate.
 ghost use Rattle.std.specs.Prelude.{◌≡◌};
 
-use super::boards::{Board, Signal, shared};
+use super::boards::{Board, Hook, Signal, shared};
 use super::findings::{Finding, finds};
 use super::lives::SETTINGS;
 use std::alloc::Global;
@@ -72,11 +72,11 @@ impl RejectionHandler for Counting {
 
 impl Hooks for Counting {
     fn before(&mut self, _w: SlotId, t: TaskId) {
-        self.board.note(Signal::Before, t);
+        self.board.raise(Signal::Hooked(Hook::Before, t));
     }
 
     fn after(&mut self, _w: SlotId, t: TaskId, _outcome: Option<&Outcome>) {
-        self.board.note(Signal::Ran, t);
+        self.board.raise(Signal::Hooked(Hook::Ran, t));
     }
 
     fn terminated(&mut self) {
@@ -163,8 +163,8 @@ fn lived<R: Abort + Threads + Wait + Copy + Send + 'static>(
         Finding::Rejected(1),
         Finding::Noted(Signal::Wanted, 1),
         Finding::Noted(Signal::Asked, 1),
-        Finding::Noted(Signal::Before, 1),
-        Finding::Noted(Signal::Ran, 1),
+        Finding::Noted(Signal::Hooked(Hook::Before, TaskId(0)), 1),
+        Finding::Noted(Signal::Hooked(Hook::Ran, TaskId(0)), 1),
         Finding::Noted(Signal::Ends, 1),
     ];
     finds(&rt, &report, &board, &findings);

@@ -1,6 +1,6 @@
 // Futures that are cancelled.
 
-use super::boards::Signal;
+use super::boards::{Hook, Signal};
 use super::chores::Deed;
 use super::findings::Finding;
 use super::lives::{MANNER, SETTINGS, lives_twice};
@@ -43,9 +43,12 @@ fn cancelled_future_is_skipped(rt: HostRuntime) -> Result<(), Fail> {
             Finding::Run(1),
             Finding::Cancelled(1),
             Finding::Completed(2),
-            Finding::Noted(Signal::Before, 0x0101),
-            Finding::Noted(Signal::Ran, 0x0001),
-            Finding::Noted(Signal::Skipped, 0x0100),
+            Finding::Noted(Signal::Hooked(Hook::Before, TaskId(0)), 1),
+            Finding::Noted(Signal::Hooked(Hook::Before, TaskId(1)), 1),
+            Finding::Noted(Signal::Hooked(Hook::Ran, TaskId(0)), 1),
+            Finding::Noted(Signal::Hooked(Hook::Ran, TaskId(1)), 0),
+            Finding::Noted(Signal::Hooked(Hook::Skipped, TaskId(0)), 0),
+            Finding::Noted(Signal::Hooked(Hook::Skipped, TaskId(1)), 1),
             Finding::Noted(Signal::Ends, 1),
         ];
         lives_twice(rt, rt.alloc(), ONE, manner, alone(&steps), &findings)?;
@@ -69,7 +72,7 @@ fn future_that_runs_sees_the_flag_of_a_cancel(rt: HostRuntime) -> Result<(), Fai
             Finding::Run(0),
             Finding::Cancelled(1),
             Finding::Completed(1),
-            Finding::Noted(Signal::Ran, 1),
+            Finding::Noted(Signal::Hooked(Hook::Ran, TaskId(0)), 1),
         ];
         lives_twice(rt, rt.alloc(), ONE, MANNER, alone(&steps), &findings)?;
     }

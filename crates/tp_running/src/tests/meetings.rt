@@ -14,25 +14,17 @@ fn meets(number: u8, all: u64) -> Step {
     Step::Hand(Kind::Plain, Deed::Meet(number, all), Answer::Accepted)
 }
 
+// Each of so many jobs goes on once all of them are in their bodies.
 #[test]
-fn runs_two_at_once(rt: HostRuntime) -> Result<(), Fail> {
-    let steps = [meets(0, 2), meets(1, 2), SHUTS_DOWN];
-    let findings = [
-        Finding::Noted(Signal::Met, 2),
-        Finding::Ended(0, Ok(0)),
-        Finding::Ended(1, Ok(1)),
-        Finding::Run(2),
-    ];
-    lives_twice(rt, rt.alloc(), SETTINGS, MANNER, alone(&steps), &findings)
-}
-
-#[test]
-fn runs_four_at_once(rt: HostRuntime) -> Result<(), Fail> {
-    let settings = Config {
+fn bodies_run_at_once(rt: HostRuntime) -> Result<(), Fail> {
+    let four = Config {
         core: 4,
         maximum: 4,
         ..SETTINGS
     };
+    let steps = [meets(0, 2), meets(1, 2), SHUTS_DOWN];
+    let findings = [Finding::Noted(Signal::Met, 2), Finding::Run(2)];
+    lives_twice(rt, rt.alloc(), SETTINGS, MANNER, alone(&steps), &findings)?;
     let steps = [
         meets(0, 4),
         meets(1, 4),
@@ -40,13 +32,28 @@ fn runs_four_at_once(rt: HostRuntime) -> Result<(), Fail> {
         meets(3, 4),
         SHUTS_DOWN,
     ];
-    let findings = [
-        Finding::Noted(Signal::Met, 4),
-        Finding::Ended(0, Ok(0)),
-        Finding::Ended(1, Ok(1)),
-        Finding::Ended(2, Ok(2)),
-        Finding::Ended(3, Ok(3)),
-        Finding::Run(4),
+    let findings = [Finding::Noted(Signal::Met, 4), Finding::Run(4)];
+    lives_twice(rt, rt.alloc(), four, MANNER, alone(&steps), &findings)
+}
+
+// The closed record gives each task the answer of the job that was handed in with its number, though two run at once.
+#[test]
+fn outcome_is_the_jobs(rt: HostRuntime) -> Result<(), Fail> {
+    let steps = [
+        meets(5, 2),
+        meets(3, 2),
+        Step::Hand(Kind::Future, Deed::Fault(7), Answer::Accepted),
+        meets(4, 2),
+        meets(9, 2),
+        SHUTS_DOWN,
     ];
-    lives_twice(rt, rt.alloc(), settings, MANNER, alone(&steps), &findings)
+    let findings = [
+        Finding::Ended(0, Ok(5)),
+        Finding::Ended(1, Ok(3)),
+        Finding::Ended(2, Err(7)),
+        Finding::Ended(3, Ok(4)),
+        Finding::Ended(4, Ok(9)),
+        Finding::Run(5),
+    ];
+    lives_twice(rt, rt.alloc(), SETTINGS, MANNER, alone(&steps), &findings)
 }

@@ -46,7 +46,7 @@ fn lives_again<R: Abort + Threads + Wait + Clock + Copy + Send + Sync + 'static>
 // With ample memory each call succeeds. Where any one allocation of a call fails, it answers 4, with the job and
 // with nothing changed, or it says by the step `fail` that a worker was not made.
 #[test]
-fn want_of_memory_loses_no_job(rt: HostRuntime) -> Result<(), Fail> {
+fn ample_memory_succeeds(rt: HostRuntime) -> Result<(), Fail> {
     let steps = [
         TASK,
         ALL_DONE,

@@ -1,6 +1,6 @@
 // A pool's factory, handler, hooks and gate, as tests have them.
 
-use super::boards::{Board, Signal, shared};
+use super::boards::{Board, Hook, Signal, shared};
 use std::sync::{Arc, Wait};
 use std::thread;
 use tp_pool::edges::Edge;
@@ -70,17 +70,17 @@ impl Edge for Users {
     }
 
     fn before<R: Wait>(&self, _rt: &R, _w: SlotId, t: TaskId) {
-        self.board.note(Signal::Before, t);
+        self.board.raise(Signal::Hooked(Hook::Before, t));
         self.talk();
     }
 
     fn after<R: Wait>(&self, _rt: &R, _w: SlotId, t: TaskId, outcome: Option<&Outcome>) {
-        let signal = if outcome.is_some() {
-            Signal::Ran
+        let hook = if outcome.is_some() {
+            Hook::Ran
         } else {
-            Signal::Skipped
+            Hook::Skipped
         };
-        self.board.note(signal, t);
+        self.board.raise(Signal::Hooked(hook, t));
         self.talk();
     }
 
