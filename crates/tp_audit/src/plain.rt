@@ -36,7 +36,8 @@ fn has_free_number(state: &Snapshot, did: Did) -> bool
     }
 }
 
-fn are_same(did: Did, other: Did) -> bool
+/// Whether two entries did the same.
+pub fn are_same(did: Did, other: Did) -> bool
     ensures { IsTrue result ↔ did ≡ other }
 {
     did == other
@@ -69,7 +70,7 @@ fn is_given(
 }
 
 /// What became of each task, by the rows of a table.
-fn fates_of(alloc: Global, tasks: &[TaskRow]) -> Result<Vec<Option<Fate>>, PoolError>
+pub fn fates_of(alloc: Global, tasks: &[TaskRow]) -> Result<Vec<Option<Fate>>, PoolError>
     ensures fates { IfOk result (λ v. v.items ≡ map states.fate_of tasks.now) }
     ensures refused { IsOkUnless result PoolError.NoMemory }
 {

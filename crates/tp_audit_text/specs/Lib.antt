@@ -1,1 +1,2 @@
 pub mod AuditText
+pub mod Judging

@@ -1,13 +1,16 @@
 //! The judgment of a record, and its lines.
-ghost use Rattle.std.specs.Prelude.{◌≡◌, ◌≤◌, ◌++◌, length, string_bytes, IfOk, IsOkUnless};
-ghost use Rattle.tp_types.specs.Config.{IsConfig};
+ghost use Rattle.std.specs.Prelude.{◌≡◌, ◌≤◌, ◌++◌, List, length, reverse, string_bytes, IfOk, IsOkUnless};
+ghost use Rattle.tp_record.specs.declared.entries.Entry.{Entry as Told};
+ghost use Rattle.tp_auditor.specs.Audited.{settings, Judged, IsJudging};
 ghost use Rattle.tp_text.specs.EndLines.{counts_line, state_line};
 ghost use Rattle.tp_audit_text.specs.AuditText.{IsJudged, JudgesText, flaw_line, legal_line};
+ghost use Rattle.tp_audit_text.specs.Judging.{IsToldBy};
 
+use crate::judging::Judging;
 use std::alloc::{AllocError, Global};
-use tp_audit::plain::audit_plain;
-use tp_audit::summary::{Flaw, Summary};
-use tp_record_text::records::{Record, read_record};
+use tp_audit::summary::Summary;
+use tp_auditor::auditor::Auditor;
+use tp_record_text::records::{read_entries, read_head};
 use tp_text::ends::{write_counts, write_state};
 use tp_types::refusals::PoolError;
 
@@ -56,33 +59,52 @@ fn legal(alloc: Global, entries: usize, summary: &Summary) -> Result<Vec<u8>, Po
     Ok(lines.into_bytes())
 }
 
-/// The judgment of a record whose configuration passes its check; only want of memory is refused.
-pub fn judge(alloc: Global, record: &Record) -> Result<Judgment, PoolError>
-    requires { IsConfig «record».now.config }
-    ensures judged { IfOk result (λ j. IsJudged «record».now.config «record».now.entries.items j.legal j.lines.items) }
+/// The judgment of a legal record of so many entries, which the auditor was told.
+fn legal_judgment(alloc: Global, auditor: &Auditor, entries: u32) -> Result<Judgment, PoolError>
+    requires { IsJudging auditor.now }
+    ensures judged { IfOk result (λ j. (es : List Told) → Judged auditor.now (reverse es) → entries ≡ length es
+        → IsJudged (settings auditor.now) es j.legal j.lines.items) }
     ensures only_memory { IsOkUnless result PoolError.NoMemory }
 {
-    match audit_plain(alloc, &record.config, record.entries.as_slice()) {
+    match auditor.finish() {
         Ok(summary) => Ok(Judgment {
             legal: true,
-            lines: legal(alloc, record.entries.len(), &summary)?,
+            lines: legal(alloc, entries as usize, &summary)?,
         }),
-        Err(Flaw::At(entry)) => Ok(Judgment {
-            legal: false,
-            lines: flawed(alloc, entry)?,
-        }),
-        Err(Flaw::NoMemory) => Err(PoolError::NoMemory),
+        Err(_) => Err(PoolError::NoMemory),
     }
 }
 
-/// The judgment of the record that a text is the text of. Else the refusal of the text, as
-/// `read_record` tells it.
+/// The judgment of a record of so many entries, which were told.
+pub fn judge(alloc: Global, judging: &Judging, entries: u32) -> Result<Judgment, PoolError>
+    requires { (es : List Told) × IsToldBy judging.now.auditor judging.now.flaw es }
+    ensures judged { IfOk result (λ j. (es : List Told) → IsToldBy judging.now.auditor judging.now.flaw es → entries ≡ length es
+        → IsJudged (settings judging.now.auditor) es j.legal j.lines.items) }
+    ensures only_memory { IsOkUnless result PoolError.NoMemory }
+{
+    match judging.flaw {
+        Some(entry) => Ok(Judgment {
+            legal: false,
+            lines: flawed(alloc, entry)?,
+        }),
+        None => legal_judgment(alloc, &judging.auditor, entries),
+    }
+}
+
+/// The judgment of the record that a text is the text of, whose entries are judged as they are read. Else the refusal of the
+/// text, as `read_record` tells it.
 pub fn judge_text(alloc: Global, text: &[u8]) -> Result<Judgment, PoolError>
     requires { length text.now ≤ 1048576 }
     ensures { JudgesText text.now result }
 {
-    match read_record(alloc, text) {
-        Ok(record) => judge(alloc, &record),
-        Err(refusal) => Err(refusal),
+    let (config, body) = read_head(text)?;
+    if let Err(refusal) = config.check() {
+        return Err(refusal);
     }
+    let mut judging = Judging::new(alloc, &config)?;
+    let entries = match read_entries(body, &mut judging) {
+        Ok(entries) => entries,
+        Err(refusal) => return Err(refusal),
+    };
+    judge(alloc, &judging, entries)
 }

@@ -2,4 +2,5 @@
 #![tactic(auto)]
 
 pub mod audits;
+pub mod judging;
 pub mod judgments;

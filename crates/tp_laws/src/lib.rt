@@ -6,7 +6,8 @@
 //! history: `later ++ h` is a record whose front is `h`. A law that is said of every legal `h` holds
 //! at every front of every legal record.
 //!
-//! Whether a record is legal is told by the auditor of `tp_audit`, which stands here under a second name.
+//! Whether a record is legal is told by the auditors, which stand here under a second name: `audit_plain` of `tp_audit`, and
+//! `audit` and `Auditor` of `tp_auditor`.
 #![tactic(auto)]
 
 pub mod lawful;
@@ -20,3 +21,5 @@ pub mod workers;
 
 pub use tp_audit::plain::audit_plain;
 pub use tp_audit::summary::{Flaw, Summary};
+pub use tp_auditor::auditor::Auditor;
+pub use tp_auditor::audits::audit;

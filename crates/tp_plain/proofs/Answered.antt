@@ -1,9 +1,19 @@
 -- When a program's answer is the step's.
-use Rattle.std.proofs.Common.{◌≡◌, Option, Some, None, Ok, Err, inl, refl, sym, subst}
+use Rattle.std.proofs.Common.{◌≡◌, ℕ, List, length, Option, Some, None, Ok, Err, inl, refl, sym, ap, subst}
+use Rattle.std.specs.Prelude.{nat_lt, if◌then◌else◌}
 use Rattle.std.specs.Option.{ok_or}
-use Rattle.tp_types.specs.declared.refusals.PoolError.TheVariants.{UnknownSlot}
+use Rattle.tp_types.specs.declared.refusals.PoolError.TheVariants.{UnknownSlot, UnknownTask}
+use Rattle.tp_types.specs.declared.configs.Config.{Config}
+use Rattle.tp_types.specs.declared.configs.QueueKind.{QueueKind}
+use Rattle.tp_types.specs.declared.configs.QueueKind.TheVariants.{Handoff, Unbounded, Bounded}
+use Rattle.tp_types.specs.declared.ids.TaskId.{TaskId}
+use Rattle.tp_types.specs.declared.tasks.Place.{Place}
+use Rattle.tp_types.specs.declared.tasks.Place.TheVariants as at
+use Rattle.tp_record.specs.declared.entries.Ask.{Ask}
+use Rattle.tp_record.specs.declared.entries.Ask.TheVariants as ask
 use Rattle.tp_record.specs.declared.rows.SlotRow.{SlotRow}
-use Rattle.tp_record.specs.Step.{Answer, of_row}
+use Rattle.tp_record.specs.State.{State, task_at}
+use Rattle.tp_record.specs.Step.{Answer, of_row, fitting, offer_to, offer_answer}
 use Rattle.tp_plain.specs.Snapshot.{IsAnswer}
 
 IsAnswer-self : (a : Answer) → IsAnswer a a
@@ -18,3 +28,43 @@ IsAnswer-same x a e = subst (λ (y : Answer). IsAnswer y a) (sym e) (IsAnswer-se
 pub of_row-found : (o : Option SlotRow) (r : SlotRow) (f : SlotRow → Answer) → ok_or o UnknownSlot ≡ Ok r → of_row o f ≡ f r
 of_row-found None r f e = cc
 of_row-found (Some q) r f e = cc
+
+offer_to_same : (q : QueueKind) (s : State) (done : List ℕ) (t : TaskId) → offer_to q (record s { done = done }) t ≡ offer_to q s t
+offer_to_same Handoff s done t = refl
+offer_to_same Unbounded s done t = refl
+offer_to_same (Bounded n) s done t = refl
+
+offer_same : (c : Config) (s : State) (done : List ℕ) (t : TaskId) (p : Place) → offer_answer c (record s { done = done }) t p ≡ offer_answer c s t p
+offer_same c s done t at.ToOffer = offer_to_same c.queue s done t
+offer_same c s done t _ = refl
+
+-- an ask for something else than a completed task is answered without a look at what is done
+pub other_fitting : (c : Config) (s : State) (done : List ℕ) (w : ℕ) (a : Ask) → ((g : ℕ) → a ≡ ask.TakeDone g → ⊥) → fitting c (record s { done = done }) w a ≡ fitting c s w a
+other_fitting c s done w (ask.Submit k) other = refl
+other_fitting c s done w (ask.Look t) other = refl
+other_fitting c s done w (ask.Offer t) other =
+    ap (λ x. if nat_lt t.0 (length s.tasks) then x else Err UnknownTask) (offer_same c s done t (task_at s t.0).place)
+other_fitting c s done w (ask.Second t) other = refl
+other_fitting c s done w (ask.Grow t) other = refl
+other_fitting c s done w (ask.Verdict t v) other = refl
+other_fitting c s done w (ask.CallerEnd t o) other = refl
+other_fitting c s done w (ask.Open v) other = refl
+other_fitting c s done w (ask.Fail v) other = refl
+other_fitting c s done w (ask.Take v) other = refl
+other_fitting c s done w (ask.Begin v) other = refl
+other_fitting c s done w (ask.End v o) other = refl
+other_fitting c s done w (ask.Leave v) other = refl
+other_fitting c s done w ask.Shutdown other = refl
+other_fitting c s done w ask.Stop other = refl
+other_fitting c s done w ask.Tidy other = refl
+other_fitting c s done w ask.Ended other = refl
+other_fitting c s done w (ask.Remove t) other = refl
+other_fitting c s done w ask.Purge other = refl
+other_fitting c s done w (ask.Cancel t flag) other = refl
+other_fitting c s done w (ask.Core n) other = refl
+other_fitting c s done w (ask.Maximum n) other = refl
+other_fitting c s done w (ask.Keep n) other = refl
+other_fitting c s done w (ask.CoreTimeout on) other = refl
+other_fitting c s done w (ask.Tick n) other = refl
+other_fitting c s done w ask.Prestart other = refl
+other_fitting c s done w (ask.TakeDone g) other = absurd (other g refl)

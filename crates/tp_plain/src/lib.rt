@@ -10,6 +10,7 @@ pub mod lists;
 pub mod next;
 pub mod pool;
 pub mod queues;
+pub mod readings;
 pub mod results;
 pub mod slots;
 pub mod snapshot;

@@ -1,12 +1,13 @@
-//! The answers to asks, over a snapshot.
+//! The answers to asks, over what is read of a pool.
 
-ghost use Rattle.std.specs.Prelude.{◌≡◌, ◌+◌, count_by, length, nat_le, nat_lt, Ok, Err, IfOk, IsOkUnless, if◌then◌else◌};
+ghost use Rattle.std.specs.Prelude.{ℕ, ◌≡◌, ◌+◌, List, count_by, length, nat_le, nat_lt, slice_get, Ok, Err, IfOk, IsOkUnless, if◌then◌else◌};
 ghost use Rattle.std.specs.Option.{ok_or};
 ghost use Rattle.tp_record.specs.State as states;
 ghost use Rattle.tp_record.specs.Step as steps;
-ghost use Rattle.tp_plain.specs.Snapshot.{shown, IsAnswer, IsSmall};
+ghost use Rattle.tp_plain.specs.Snapshot.{shown, HasRow, IsAnswer, IsFirstDone, IsRefusedTask, IsSmall};
 
-use crate::next::{next, slot_of, task_at};
+use crate::next::next;
+use crate::readings::{Readings, first_of_group};
 use crate::snapshot::Snapshot;
 use crate::weights::due;
 use std::alloc::Global;
@@ -19,24 +20,11 @@ use tp_types::ids::{SlotId, TaskId};
 use tp_types::refusals::PoolError;
 use tp_types::tasks::{Kind, Outcome, Place};
 
-/// Reserved and live slots together.
-pub fn slot_count(state: &Snapshot) -> usize
-    ensures { result ≡ steps.slot_count (shown state.now) }
-{
-    let mut count = 0;
-    for slot in &state.slots {
-        if slot.is_some() {
-            count += 1;
-        }
-    }
-    count
-}
-
 /// Whether the pool wants a worker: it runs, or is shut down with tasks in its queue.
-pub fn wants_worker(state: &Snapshot) -> bool
-    ensures { result ≡ steps.wants_worker (shown state.now) }
+pub fn wants_worker<S: Readings>(state: &S) -> bool
+    ensures { result ≡ steps.wants_worker (S.shown state.now) }
 {
-    state.rank == 0 || (state.rank == 1 && !state.queue.is_empty())
+    state.rank() == 0 || (state.rank() == 1 && state.queued() > 0)
 }
 
 /// Whether there is room for what is owed.
@@ -63,32 +51,32 @@ pub fn leaves_room(
 }
 
 /// The row of task `t`, where it was submitted.
-pub fn row_of(state: &Snapshot, t: TaskId) -> Result<TaskRow, PoolError>
+pub fn row_of<S: Readings>(state: &S, t: TaskId) -> Result<TaskRow, PoolError>
     ensures { result
-        ≡ (if nat_lt t.0 (length state.now.tasks.items) then Ok (states.task_at (shown state.now) t.0)
+        ≡ (if nat_lt t.0 (length (S.shown state.now).tasks) then Ok (states.task_at (S.shown state.now) t.0)
         else Err PoolError.UnknownTask) }
 {
-    if (t.0 as usize) < state.tasks.len() {
-        Ok(task_at(state, t))
+    if (t.0 as usize) < state.submitted() {
+        Ok(state.task(t))
     } else {
         Err(PoolError::UnknownTask)
     }
 }
 
 /// The row of slot `v`, where it is a slot.
-pub fn seat_of(state: &Snapshot, v: SlotId) -> Result<SlotRow, PoolError>
-    ensures { result ≡ ok_or (states.slot_at state.now.slots.items v.0) PoolError.UnknownSlot }
+pub fn seat_of<S: Readings>(state: &S, v: SlotId) -> Result<SlotRow, PoolError>
+    ensures { result ≡ ok_or (states.slot_at (S.shown state.now).slots v.0) PoolError.UnknownSlot }
 {
-    slot_of(state, v).ok_or(PoolError::UnknownSlot)
+    state.slot(v).ok_or(PoolError::UnknownSlot)
 }
 
 /// A look: refused above running, a core slot below the core size, else to be offered.
-pub fn look(state: &Snapshot, w: SlotId) -> Looked
-    ensures { result ≡ steps.look (shown state.now) w.0 }
+pub fn look<S: Readings>(state: &S, w: SlotId) -> Looked
+    ensures { result ≡ steps.look (S.shown state.now) w.0 }
 {
-    if state.rank > 0 {
+    if state.rank() > 0 {
         Looked::Refuse
-    } else if slot_count(state) < state.core as usize {
+    } else if state.slot_count() < state.core() as usize {
         Looked::Reserve(w)
     } else {
         Looked::Queue
@@ -96,10 +84,10 @@ pub fn look(state: &Snapshot, w: SlotId) -> Looked
 }
 
 /// The answer to a submission.
-pub fn submit_answer(state: &Snapshot, w: SlotId, kind: Kind) -> Result<Did, PoolError>
-    ensures { result ≡ steps.submit_answer (shown state.now) w.0 kind }
+pub fn submit_answer<S: Readings>(state: &S, w: SlotId, kind: Kind) -> Result<Did, PoolError>
+    ensures { result ≡ steps.submit_answer (S.shown state.now) w.0 kind }
 {
-    let count = state.tasks.len();
+    let count = state.submitted();
     if count < 4_294_967_295 {
         Ok(Did::Submit(TaskId(count as u32), kind, look(state, w)))
     } else {
@@ -108,8 +96,13 @@ pub fn submit_answer(state: &Snapshot, w: SlotId, kind: Kind) -> Result<Did, Poo
 }
 
 /// The answer to a look after a retry.
-pub fn look_answer(state: &Snapshot, w: SlotId, t: TaskId, place: Place) -> Result<Did, PoolError>
-    ensures { result ≡ steps.look_answer (shown state.now) w.0 t place }
+pub fn look_answer<S: Readings>(
+    state: &S,
+    w: SlotId,
+    t: TaskId,
+    place: Place,
+) -> Result<Did, PoolError>
+    ensures { result ≡ steps.look_answer (S.shown state.now) w.0 t place }
 {
     match place {
         Place::Looking => Ok(Did::Look(t, look(state, w))),
@@ -118,16 +111,16 @@ pub fn look_answer(state: &Snapshot, w: SlotId, t: TaskId, place: Place) -> Resu
 }
 
 /// Where an offered task goes.
-pub fn offer_to(queue: QueueKind, state: &Snapshot, t: TaskId) -> Result<Did, PoolError>
-    ensures { result ≡ steps.offer_to queue (shown state.now) t }
+pub fn offer_to<S: Readings>(queue: QueueKind, state: &S, t: TaskId) -> Result<Did, PoolError>
+    ensures { result ≡ steps.offer_to queue (S.shown state.now) t }
 {
     match queue {
-        QueueKind::Handoff => match state.idling.first() {
-            Some(w) => Ok(Did::Offer(t, Offered::Hand(SlotId(*w)))),
+        QueueKind::Handoff => match state.longest_idle() {
+            Some(w) => Ok(Did::Offer(t, Offered::Hand(SlotId(w)))),
             None => Ok(Did::Offer(t, Offered::Full)),
         },
         QueueKind::Unbounded => Ok(Did::Offer(t, Offered::Queued)),
-        QueueKind::Bounded(capacity) if state.queue.len() < capacity as usize => Ok(Did::Offer(
+        QueueKind::Bounded(capacity) if state.queued() < capacity as usize => Ok(Did::Offer(
             t,
             Offered::Queued,
         )),
@@ -136,13 +129,13 @@ pub fn offer_to(queue: QueueKind, state: &Snapshot, t: TaskId) -> Result<Did, Po
 }
 
 /// The answer to an offer.
-pub fn offer_answer(
+pub fn offer_answer<S: Readings>(
     config: &Config,
-    state: &Snapshot,
+    state: &S,
     t: TaskId,
     place: Place,
 ) -> Result<Did, PoolError>
-    ensures { result ≡ steps.offer_answer config.now (shown state.now) t place }
+    ensures { result ≡ steps.offer_answer config.now (S.shown state.now) t place }
 {
     match place {
         Place::ToOffer => offer_to(config.queue, state, t),
@@ -151,14 +144,19 @@ pub fn offer_answer(
 }
 
 /// The answer to a second look.
-pub fn second_answer(state: &Snapshot, w: SlotId, t: TaskId, row: TaskRow) -> Result<Did, PoolError>
-    ensures { result ≡ steps.second_answer (shown state.now) w.0 t row }
+pub fn second_answer<S: Readings>(
+    state: &S,
+    w: SlotId,
+    t: TaskId,
+    row: TaskRow,
+) -> Result<Did, PoolError>
+    ensures { result ≡ steps.second_answer (S.shown state.now) w.0 t row }
 {
     if !row.second {
         Err(PoolError::NotThere)
-    } else if state.rank > 0 && row.place == Place::Queued {
+    } else if state.rank() > 0 && row.place == Place::Queued {
         Ok(Did::Second(t, Seconded::Back))
-    } else if slot_count(state) == 0 && wants_worker(state) {
+    } else if state.slot_count() == 0 && wants_worker(state) {
         Ok(Did::Second(t, Seconded::StayReserve(w)))
     } else {
         Ok(Did::Second(t, Seconded::Stay))
@@ -166,12 +164,17 @@ pub fn second_answer(state: &Snapshot, w: SlotId, t: TaskId, row: TaskRow) -> Re
 }
 
 /// The answer to an attempt to grow.
-pub fn grow_answer(state: &Snapshot, w: SlotId, t: TaskId, place: Place) -> Result<Did, PoolError>
-    ensures { result ≡ steps.grow_answer (shown state.now) w.0 t place }
+pub fn grow_answer<S: Readings>(
+    state: &S,
+    w: SlotId,
+    t: TaskId,
+    place: Place,
+) -> Result<Did, PoolError>
+    ensures { result ≡ steps.grow_answer (S.shown state.now) w.0 t place }
 {
     match place {
         Place::ToGrow => {
-            if state.rank == 0 && slot_count(state) < state.maximum as usize {
+            if state.rank() == 0 && state.slot_count() < state.maximum() as usize {
                 Ok(Did::Grow(t, Grown::Reserve(w)))
             } else {
                 Ok(Did::Grow(t, Grown::Refuse))
@@ -196,77 +199,74 @@ pub fn allows(policy: Policy, verdict: Verdict) -> bool
 }
 
 /// A retry drops the queue's head, where there is one.
-pub fn retry_of(state: &Snapshot) -> Ruled
-    ensures { result ≡ steps.retry_of state.now.queue.items }
+pub fn retry_of(head: Option<u32>) -> Ruled
+    ensures { (queue : List ℕ) → head ≡ slice_get queue 0 → result ≡ steps.retry_of queue }
 {
-    match state.queue.first() {
-        Some(t) => Ruled::RetryDrop(TaskId(*t)),
+    match head {
+        Some(t) => Ruled::RetryDrop(TaskId(t)),
         None => Ruled::Retry,
     }
 }
 
-/// A retry where the pool runs, after fewer than 64 retries, and with room for it.
-pub fn retried(
+/// A retry of a refused task where the pool runs, after fewer than 64 retries, and with room for it.
+pub fn retried<S: Readings>(
     alloc: Global,
     config: &Config,
-    state: &Snapshot,
+    state: &S,
     t: TaskId,
     row: TaskRow,
 ) -> Result<Ruled, PoolError>
-    requires { IsSmall 1048576 (shown state.now) }
-    ensures ruled { IfOk result (λ r. r ≡ steps.retried config.now (shown state.now) t row) }
-    ensures refused { IsOkUnless result PoolError.NoMemory }
+    requires stands { S.stands state.now config.now }
+    requires refused { IsRefusedTask (S.shown state.now) t.0 row }
+    ensures ruled { IfOk result (λ r. r ≡ steps.retried config.now (S.shown state.now) t row) }
+    ensures memory { IsOkUnless result PoolError.NoMemory }
 {
-    if state.rank > 0 || row.retries >= 64 {
+    if state.rank() > 0 || row.retries >= 64 {
         return Ok(Ruled::Discarded);
     }
-    let retry = retry_of(state);
-    if leaves_room(
-        alloc,
-        config,
-        state,
-        Did::Verdict(t, Verdict::DiscardOldest, retry),
-    )? {
-        Ok(retry)
+    if state.may_retry(alloc, config, t)? {
+        Ok(retry_of(state.head()))
     } else {
         Ok(Ruled::Discarded)
     }
 }
 
 /// What a verdict makes of a refused task.
-pub fn rule(
+pub fn rule<S: Readings>(
     alloc: Global,
     config: &Config,
-    state: &Snapshot,
+    state: &S,
     t: TaskId,
     row: TaskRow,
     verdict: Verdict,
 ) -> Result<Ruled, PoolError>
-    requires { IsSmall 1048576 (shown state.now) }
-    ensures ruled { IfOk result (λ r. r ≡ steps.rule config.now (shown state.now) t row verdict) }
-    ensures refused { IsOkUnless result PoolError.NoMemory }
+    requires stands { S.stands state.now config.now }
+    requires refused { IsRefusedTask (S.shown state.now) t.0 row }
+    ensures ruled { IfOk result (λ r. r ≡ steps.rule config.now (S.shown state.now) t row verdict) }
+    ensures memory { IsOkUnless result PoolError.NoMemory }
 {
     match verdict {
         Verdict::Abort => Ok(Ruled::Rejected),
         Verdict::Discard => Ok(Ruled::Discarded),
-        Verdict::CallerRuns if state.rank > 0 => Ok(Ruled::Discarded),
+        Verdict::CallerRuns if state.rank() > 0 => Ok(Ruled::Discarded),
         Verdict::CallerRuns if row.cancelled => Ok(Ruled::Skip),
         Verdict::CallerRuns => Ok(Ruled::Caller),
         Verdict::DiscardOldest => retried(alloc, config, state, t, row),
     }
 }
 
-/// The answer to a verdict.
-pub fn verdict_answer(
+/// The answer to a verdict on task `t`, which has this row.
+pub fn verdict_answer<S: Readings>(
     alloc: Global,
     config: &Config,
-    state: &Snapshot,
+    state: &S,
     t: TaskId,
     verdict: Verdict,
     row: TaskRow,
 ) -> Result<Did, PoolError>
-    requires { IsSmall 1048576 (shown state.now) }
-    ensures { IsAnswer result (steps.verdict_answer config.now (shown state.now) t verdict row) }
+    requires stands { S.stands state.now config.now }
+    requires known { HasRow (S.shown state.now) t.0 row }
+    ensures { IsAnswer result (steps.verdict_answer config.now (S.shown state.now) t verdict row) }
 {
     if row.place == Place::Refused && allows(config.policy, verdict) {
         match rule(alloc, config, state, t, row, verdict) {
@@ -301,12 +301,12 @@ pub fn cancel_answer(t: TaskId, flag: bool, row: TaskRow) -> Result<Did, PoolErr
 
 /// The answer to a worker that the factory made: it is live while the pool runs, and for a bare slot while it is shut
 /// down.
-pub fn open_answer(state: &Snapshot, v: SlotId, row: SlotRow) -> Result<Did, PoolError>
-    ensures { result ≡ steps.open_answer (shown state.now) v row }
+pub fn open_answer<S: Readings>(state: &S, v: SlotId, row: SlotRow) -> Result<Did, PoolError>
+    ensures { result ≡ steps.open_answer (S.shown state.now) v row }
 {
     if !row.stage.is_reserved() {
         Err(PoolError::NotThere)
-    } else if state.rank == 0 || (state.rank == 1 && row.task.is_none()) {
+    } else if state.rank() == 0 || (state.rank() == 1 && row.task.is_none()) {
         Ok(Did::Open(v, Opened::Live))
     } else {
         match row.task {
@@ -317,19 +317,19 @@ pub fn open_answer(state: &Snapshot, v: SlotId, row: SlotRow) -> Result<Did, Poo
 }
 
 /// Where a first task goes that gets no worker.
-pub fn failed_task(state: &Snapshot, stage: Stage, task: Option<TaskId>) -> Failed
-    ensures { result ≡ steps.failed_task (shown state.now) stage task }
+pub fn failed_task<S: Readings>(state: &S, stage: Stage, task: Option<TaskId>) -> Failed
+    ensures { result ≡ steps.failed_task (S.shown state.now) stage task }
 {
     match task {
         None => Failed::Nothing,
-        Some(t) if stage.is_for_core() && state.rank == 0 => Failed::Offer(t),
+        Some(t) if stage.is_for_core() && state.rank() == 0 => Failed::Offer(t),
         Some(t) => Failed::Refuse(t),
     }
 }
 
 /// The answer where the factory made no worker.
-pub fn fail_answer(state: &Snapshot, v: SlotId, row: SlotRow) -> Result<Did, PoolError>
-    ensures { result ≡ steps.fail_answer (shown state.now) v row }
+pub fn fail_answer<S: Readings>(state: &S, v: SlotId, row: SlotRow) -> Result<Did, PoolError>
+    ensures { result ≡ steps.fail_answer (S.shown state.now) v row }
 {
     if row.stage.is_reserved() {
         Ok(Did::Fail(v, failed_task(state, row.stage, row.task)))
@@ -339,29 +339,29 @@ pub fn fail_answer(state: &Snapshot, v: SlotId, row: SlotRow) -> Result<Did, Poo
 }
 
 /// Since when a worker waits: since its entry where it is idle, else since now.
-pub fn since(state: &Snapshot, stage: Stage) -> u64
-    ensures { result ≡ steps.since (shown state.now) stage }
+pub fn since<S: Readings>(state: &S, stage: Stage) -> u64
+    ensures { result ≡ steps.since (S.shown state.now) stage }
 {
     match stage {
         Stage::Idle(moment) => moment,
-        _ => state.moment,
+        _ => state.moment(),
     }
 }
 
 /// Whether a worker may time out and has waited its keep-alive.
-pub fn timed_out(state: &Snapshot, stage: Stage) -> bool
-    ensures { result ≡ steps.timed_out (shown state.now) stage }
+pub fn timed_out<S: Readings>(state: &S, stage: Stage) -> bool
+    ensures { result ≡ steps.timed_out (S.shown state.now) stage }
 {
-    let may = (state.core as usize) < slot_count(state) || state.core_timeout;
-    may && state.keep <= state.moment.saturating_sub(since(state, stage))
+    let may = (state.core() as usize) < state.slot_count() || state.core_timeout();
+    may && state.keep() <= state.moment().saturating_sub(since(state, stage))
 }
 
 /// What a worker takes of the queue: its head, or else to leave timed out, or to be idle.
-pub fn next_of_queue(state: &Snapshot, v: SlotId, stage: Stage) -> Result<Did, PoolError>
-    ensures { result ≡ steps.next_of_queue (shown state.now) v stage state.now.queue.items }
+pub fn next_of_queue<S: Readings>(state: &S, v: SlotId, stage: Stage) -> Result<Did, PoolError>
+    ensures { result ≡ steps.next_of_queue (S.shown state.now) v stage (S.shown state.now).queue }
 {
-    match state.queue.first() {
-        Some(t) => Ok(Did::Take(v, Took::Head(TaskId(*t)))),
+    match state.head() {
+        Some(t) => Ok(Did::Take(v, Took::Head(TaskId(t)))),
         None if timed_out(state, stage) => Ok(Did::Take(v, Took::Leave)),
         None => match stage {
             Stage::Idle(_) => Err(PoolError::NotThere),
@@ -371,14 +371,14 @@ pub fn next_of_queue(state: &Snapshot, v: SlotId, stage: Stage) -> Result<Did, P
 }
 
 /// What a worker takes whose slot holds no task.
-pub fn take_next(state: &Snapshot, v: SlotId, stage: Stage) -> Result<Did, PoolError>
-    ensures { result ≡ steps.take_next (shown state.now) v stage }
+pub fn take_next<S: Readings>(state: &S, v: SlotId, stage: Stage) -> Result<Did, PoolError>
+    ensures { result ≡ steps.take_next (S.shown state.now) v stage }
 {
-    let count = slot_count(state);
-    let empty = state.queue.is_empty();
-    if state.rank >= 2 || (state.rank == 1 && empty) {
+    let count = state.slot_count();
+    let empty = state.queued() == 0;
+    if state.rank() >= 2 || (state.rank() == 1 && empty) {
         Ok(Did::Take(v, Took::Leave))
-    } else if (state.maximum as usize) < count && (count > 1 || empty) {
+    } else if (state.maximum() as usize) < count && (count > 1 || empty) {
         Ok(Did::Take(v, Took::Leave))
     } else {
         next_of_queue(state, v, stage)
@@ -386,16 +386,16 @@ pub fn take_next(state: &Snapshot, v: SlotId, stage: Stage) -> Result<Did, PoolE
 }
 
 /// The answer to a worker that asks for its next task: the one that its slot holds, before all else.
-pub fn take_answer(
-    state: &Snapshot,
+pub fn take_answer<S: Readings>(
+    state: &S,
     v: SlotId,
     stage: Stage,
     task: Option<TaskId>,
 ) -> Result<Did, PoolError>
-    ensures { result ≡ steps.take_answer (shown state.now) v stage task }
+    ensures { result ≡ steps.take_answer (S.shown state.now) v stage task }
 {
     match (stage, task) {
-        (Stage::Working, Some(t)) => match task_at(state, t).place {
+        (Stage::Working, Some(t)) => match state.task(t).place {
             Place::Held(_) => Ok(Did::Take(v, Took::Held(t))),
             _ => Err(PoolError::NotThere),
         },
@@ -405,17 +405,17 @@ pub fn take_answer(
 }
 
 /// The answer to a worker that begins the task that it took.
-pub fn begin_answer(
-    state: &Snapshot,
+pub fn begin_answer<S: Readings>(
+    state: &S,
     v: SlotId,
     stage: Stage,
     task: Option<TaskId>,
 ) -> Result<Did, PoolError>
-    ensures { result ≡ steps.begin_answer (shown state.now) v stage task }
+    ensures { result ≡ steps.begin_answer (S.shown state.now) v stage task }
 {
     match (stage, task) {
         (Stage::Working, Some(t)) => {
-            let row = task_at(state, t);
+            let row = state.task(t);
             match row.place {
                 Place::Taken(_) if row.cancelled => Ok(Did::Begin(v, Started::Skip(t))),
                 Place::Taken(_) => Ok(Did::Begin(v, Started::Run(t))),
@@ -427,17 +427,17 @@ pub fn begin_answer(
 }
 
 /// The answer to a worker that has run its task.
-pub fn end_answer(
-    state: &Snapshot,
+pub fn end_answer<S: Readings>(
+    state: &S,
     v: SlotId,
     outcome: Outcome,
     stage: Stage,
     task: Option<TaskId>,
 ) -> Result<Did, PoolError>
-    ensures { result ≡ steps.end_answer (shown state.now) v outcome stage task }
+    ensures { result ≡ steps.end_answer (S.shown state.now) v outcome stage task }
 {
     match (stage, task) {
-        (Stage::Working, Some(t)) => match task_at(state, t).place {
+        (Stage::Working, Some(t)) => match state.task(t).place {
             Place::Running(_) => Ok(Did::End(v, t, outcome)),
             _ => Err(PoolError::NotThere),
         },
@@ -447,12 +447,19 @@ pub fn end_answer(
 
 /// The answer to a dying worker that leaves; a bare slot is reserved in its place where the pool wants a worker and the
 /// slots that are left are below the maximum.
-pub fn leave_answer(state: &Snapshot, w: SlotId, v: SlotId, stage: Stage) -> Result<Did, PoolError>
-    ensures { result ≡ steps.leave_answer (shown state.now) w.0 v stage }
+pub fn leave_answer<S: Readings>(
+    state: &S,
+    w: SlotId,
+    v: SlotId,
+    stage: Stage,
+) -> Result<Did, PoolError>
+    ensures { result ≡ steps.leave_answer (S.shown state.now) w.0 v stage }
 {
     match stage {
         Stage::Dying => {
-            if wants_worker(state) && slot_count(state).saturating_sub(1) < state.maximum as usize {
+            if wants_worker(state)
+                && state.slot_count().saturating_sub(1) < state.maximum() as usize
+            {
                 Ok(Did::Leave(v, Some(w)))
             } else {
                 Ok(Did::Leave(v, None))
@@ -463,81 +470,78 @@ pub fn leave_answer(state: &Snapshot, w: SlotId, v: SlotId, stage: Stage) -> Res
 }
 
 /// The answer to a pool without slots that goes on to the terminated hook.
-pub fn tidy_answer(state: &Snapshot) -> Result<Did, PoolError>
-    ensures { result ≡ steps.tidy_answer (shown state.now) }
+pub fn tidy_answer<S: Readings>(state: &S) -> Result<Did, PoolError>
+    ensures { result ≡ steps.tidy_answer (S.shown state.now) }
 {
-    if slot_count(state) == 0 && (state.rank == 2 || (state.rank == 1 && state.queue.is_empty())) {
+    if state.slot_count() == 0
+        && (state.rank() == 2 || (state.rank() == 1 && state.queued() == 0))
+    {
         Ok(Did::Tidy)
     } else {
         Err(PoolError::NotThere)
     }
 }
 
-/// Whether a kind is that of this group.
-pub fn is_of_group(group: u32, kind: Kind) -> bool
-    ensures { result ≡ steps.is_of_group group kind }
-{
-    match kind {
-        Kind::Group(number) => number == group,
-        _ => false,
-    }
-}
-
-/// The answer to an ask for a group's next completed task.
-pub fn done_answer(state: &Snapshot, group: u32) -> Result<Did, PoolError>
-    ensures { result ≡ steps.first_done group (steps.done_of (shown state.now) group) }
-{
-    for t in &state.done {
-        if is_of_group(group, task_at(state, TaskId(*t)).kind) {
-            return Ok(Did::TakeDone(group, TaskId(*t)));
-        }
-    }
-    Err(PoolError::NotThere)
-}
-
-/// How many of the queued tasks are cancelled.
-pub fn cancelled_count(state: &Snapshot) -> u32
-    requires { IsSmall 1048576 (shown state.now) }
-    ensures { result ≡ count_by (λ t. (states.task_at (shown state.now) t).cancelled) state.now.queue.items }
-{
-    let mut count = 0;
-    for t in &state.queue {
-        if task_at(state, TaskId(*t)).cancelled {
-            count += 1;
-        }
-    }
-    count
-}
-
 /// How many prestarts a larger core size asks for: its increase, or as many as tasks are queued.
-pub fn added(state: &Snapshot, size: u32) -> u32
-    ensures { result ≡ steps.added (shown state.now) size }
+pub fn added<S: Readings>(state: &S, size: u32) -> u32
+    ensures { result ≡ steps.added (S.shown state.now) size }
 {
-    let increase = size.saturating_sub(state.core);
-    (increase as usize).min(state.queue.len()) as u32
+    let increase = size.saturating_sub(state.core());
+    (increase as usize).min(state.queued()) as u32
 }
 
 /// The answer to a prestart.
-pub fn prestart_answer(state: &Snapshot, w: SlotId) -> Did
-    ensures { Ok result ≡ steps.prestart_answer (shown state.now) w.0 }
+pub fn prestart_answer<S: Readings>(state: &S, w: SlotId) -> Did
+    ensures { Ok result ≡ steps.prestart_answer (S.shown state.now) w.0 }
 {
-    if slot_count(state) < state.core as usize && wants_worker(state) {
+    if state.slot_count() < state.core() as usize && wants_worker(state) {
         Did::Prestart(Some(w))
     } else {
         Did::Prestart(None)
     }
 }
 
-/// The answer where the step fits, without a look at the room; a slot that is made gets the number `w`.
-pub fn fitting(
+/// The answer to an ask for a group's next completed task, which is the first of these.
+pub fn take_done_answer(first: Option<u32>, group: u32) -> Result<Did, PoolError>
+    ensures { (tasks : List ℕ) → first ≡ slice_get tasks 0 → result ≡ steps.first_done group tasks }
+{
+    match first {
+        Some(t) => Ok(Did::TakeDone(group, TaskId(t))),
+        None => Err(PoolError::NotThere),
+    }
+}
+
+/// The answer where the step fits, without a look at the room; a slot that is made gets the number `w`. `first` is the
+/// first completed task of the group that the ask names.
+pub fn fitting<S: Readings>(
     alloc: Global,
     config: &Config,
-    state: &Snapshot,
+    state: &S,
+    w: SlotId,
+    ask: Ask,
+    first: Option<u32>,
+) -> Result<Did, PoolError>
+    requires { S.stands state.now config.now }
+    ensures { (done : List ℕ) → IsFirstDone (record (S.shown state.now) { done = done }) ask first
+        → IsAnswer result (steps.fitting config.now (record (S.shown state.now) { done = done }) w.0 ask) }
+{
+    match ask {
+        Ask::TakeDone(group) => take_done_answer(first, group),
+        _ => fitting_other(alloc, config, state, w, ask),
+    }
+}
+
+/// The answer where the step fits, to an ask for something else than a completed task.
+fn fitting_other<S: Readings>(
+    alloc: Global,
+    config: &Config,
+    state: &S,
     w: SlotId,
     ask: Ask,
 ) -> Result<Did, PoolError>
-    requires { IsSmall 1048576 (shown state.now) }
-    ensures { IsAnswer result (steps.fitting config.now (shown state.now) w.0 ask) }
+    requires stands { S.stands state.now config.now }
+    requires other { (g : ℕ) → ask ≡ Ask.TakeDone g → ⊥ }
+    ensures { IsAnswer result (steps.fitting config.now (S.shown state.now) w.0 ask) }
 {
     match ask {
         Ask::Submit(kind) => submit_answer(state, w, kind),
@@ -570,30 +574,43 @@ pub fn fitting(
         }
         Ask::Leave(v) => leave_answer(state, w, v, seat_of(state, v)?.stage),
         Ask::Shutdown => Ok(Did::Shutdown),
-        Ask::Stop => Ok(Did::Stop(state.queue.len() as u32)),
+        Ask::Stop => {
+            state.few_wait(config);
+            Ok(Did::Stop(state.queued() as u32))
+        }
         Ask::Tidy => tidy_answer(state),
-        Ask::Ended => if state.rank == 3 {
+        Ask::Ended => if state.rank() == 3 {
             Ok(Did::Ended)
         } else {
             Err(PoolError::NotThere)
         },
         Ask::Remove(t) => Ok(Did::Remove(t, row_of(state, t)?.place == Place::Queued)),
-        Ask::Purge => Ok(Did::Purge(cancelled_count(state))),
+        Ask::Purge => Ok(Did::Purge(state.cancelled_count(config))),
         Ask::Cancel(t, flag) => cancel_answer(t, flag, row_of(state, t)?),
-        Ask::TakeDone(group) => done_answer(state, group),
-        Ask::Core(size) if size <= state.maximum => Ok(Did::Core(size, added(state, size))),
+        Ask::TakeDone(_) => unreachable!(),
+        Ask::Core(size) if size <= state.maximum() => Ok(Did::Core(size, added(state, size))),
         Ask::Core(_) => Err(PoolError::BadSizes),
-        Ask::Maximum(size) if size >= 1 && size <= 1024 && state.core <= size => Ok(Did::Maximum(
+        Ask::Maximum(size) if size >= 1 && size <= 1024 && state.core() <= size => Ok(Did::Maximum(
             size,
         )),
         Ask::Maximum(_) => Err(PoolError::BadSizes),
-        Ask::Keep(ticks) if ticks == 0 && state.core_timeout => Err(PoolError::KeepZero),
+        Ask::Keep(ticks) if ticks == 0 && state.core_timeout() => Err(PoolError::KeepZero),
         Ask::Keep(ticks) => Ok(Did::Keep(ticks)),
-        Ask::CoreTimeout(on) if on && state.keep == 0 => Err(PoolError::KeepZero),
+        Ask::CoreTimeout(on) if on && state.keep() == 0 => Err(PoolError::KeepZero),
         Ask::CoreTimeout(on) => Ok(Did::CoreTimeout(on)),
-        Ask::Tick(ticks) if state.moment <= ticks => Ok(Did::Tick(ticks)),
+        Ask::Tick(ticks) if state.moment() <= ticks => Ok(Did::Tick(ticks)),
         Ask::Tick(_) => Err(PoolError::ClockBack),
         Ask::Prestart => Ok(prestart_answer(state, w)),
+    }
+}
+
+/// The first completed task of the group that an ask names.
+fn first_asked(state: &Snapshot, ask: Ask) -> Option<u32>
+    ensures { IsFirstDone (shown state.now) ask result }
+{
+    match ask {
+        Ask::TakeDone(group) => first_of_group(state, group),
+        _ => None,
     }
 }
 
@@ -608,7 +625,7 @@ pub fn step(
     requires { IsSmall 1048576 (shown state.now) }
     ensures { IsAnswer result (steps.step config.now (shown state.now) w.0 ask) }
 {
-    let did = match fitting(alloc, config, state, w, ask) {
+    let did = match fitting(alloc, config, state, w, ask, first_asked(state, ask)) {
         Ok(did) => did,
         Err(error) => return Err(error),
     };

@@ -1,7 +1,8 @@
 //! Record texts: the configuration of a pool and the entries of its record, read line by line.
-ghost use Rattle.std.specs.Prelude.{◌≡◌, ◌↔◌, ◌≢◌, ◌≤◌, ◌<◌, ◌+◌, ◌^◌, ◌++◌, List, ℕ, length, Some, None, Ok, IsTrue, MatchResult};
-ghost use Rattle.tp_types.specs.declared.configs.Config.{Config};
+ghost use Rattle.std.specs.Prelude.{◌≡◌, ◌↔◌, ◌≢◌, ◌≤◌, ◌<◌, ◌+◌, ◌^◌, ◌++◌, List, ℕ, [], length, Some, None, Ok, IsTrue, MatchResult};
+ghost use Rattle.tp_types.specs.declared.configs.Config.{Config as Settings};
 ghost use Rattle.tp_types.specs.Config.{checked};
+ghost use Rattle.tp_record.specs.declared.entries.Entry.{Entry as Told};
 ghost use Rattle.tp_text.specs.Fits.{Fits32};
 ghost use Rattle.tp_text.specs.Reads.{ReadsAs};
 ghost use Rattle.tp_record_text.specs.RecordText.{FitsConfig, end_line, header, pool_line};
@@ -88,9 +89,42 @@ pub fn read_body_line(line: &[u8], before: u32) -> Option<BodyLine>
     (read_end_line(line)? == before).then_some(BodyLine::End)
 }
 
+/// What takes the entries of a record text, each as it is read.
+pub trait Taker {
+    ghost use Rattle.std.specs.Prelude.{◌≡◌, List, [], ◌∷◌, ◌++◌, OnOk, IsOkUnless};
+    ghost use Rattle.tp_types.specs.declared.configs.Config.{Config as Settings};
+    ghost use Rattle.tp_record.specs.declared.entries.Entry.{Entry as Told};
+
+    /// The configuration with which the pool was made.
+    ghost about: { Self → Settings };
+
+    /// It took these entries, the oldest first.
+    ghost took: { Self → List Told → Type 0 };
+
+    /// Takes the next entry. Want of memory is NoMemory (4).
+    fn take(&mut self, entry: &Entry) -> Result<(), PoolError>
+        requires { (es : List Told) × took self.old es }
+        ensures took { OnOk result ((es : List Told) → took self.old es → took self.new (es ++ entry.now ∷ [])) }
+        ensures about { about self.new ≡ about self.old }
+        ensures refused { IsOkUnless result PoolError.NoMemory };
+}
+
+impl Taker for Record {
+    ghost about = { λ r. r.config };
+
+    ghost took = { λ r es. r.entries.items ≡ es };
+
+    fn take(&mut self, entry: &Entry) -> Result<(), PoolError> {
+        match self.entries.push(*entry) {
+            Ok(()) => Ok(()),
+            Err(_) => Err(PoolError::NoMemory),
+        }
+    }
+}
+
 /// The configuration that the first two lines of a record text say, and what stands behind them; 24
-/// with the number of the first wrong line.
-fn read_head(text: &[u8]) -> Result<(Config, &[u8]), PoolError>
+/// with the number of the first wrong line. Its settings may be some that no pool can have.
+pub fn read_head(text: &[u8]) -> Result<(Config, &[u8]), PoolError>
     ensures { MatchResult result (λ p. FitsConfig p.0 × (text.now ≡ head p.0 ++ p.1.now)) (λ e. IsWrongAt text.now e) }
 {
     let Some((line, rest)) = next_line(text) else {
@@ -108,26 +142,23 @@ fn read_head(text: &[u8]) -> Result<(Config, &[u8]), PoolError>
     }
 }
 
-/// The entries that the lines behind the pool line say; 24 with the number of the first wrong line,
-/// counted from the text's first.
-fn read_entries(alloc: Global, body: &[u8]) -> Result<Vec<Entry>, PoolError>
-    requires { length body.now ≤ 1048576 }
-    ensures { (c : Config) → FitsConfig c → checked c ≡ Ok tt
-        → MatchResult result (λ v. IsBody c body.now v.items) (IsNoBody c body.now) }
+/// Has a taker that took none take the entries that the lines behind the pool line say, and tells how many they are; 24 with
+/// the number of the first wrong line, counted from the text's first, or 4 where the taker finds no memory.
+pub fn read_entries<T: Taker>(body: &[u8], taker: &mut T) -> Result<u32, PoolError>
+    requires short { length body.now ≤ 1048576 }
+    requires none { T.took taker.old [] }
+    ensures read { (c : Settings) → FitsConfig c → checked c ≡ Ok tt
+        → MatchResult result (λ n. (es : List Told) × IsBody c body.now es × (n ≡ length es) × T.took taker.new es) (IsNoBody c body.now) }
+    ensures about { T.about taker.new ≡ T.about taker.old }
 {
-    let mut entries = Vec::new(alloc);
     let mut rest = body;
     let mut count = 0;
     while let Some((line, behind)) = next_line(rest) {
         match read_body_line(line, count) {
-            Some(BodyLine::Entry(entry)) => {
-                if entries.push(entry).is_err() {
-                    return Err(PoolError::NoMemory);
-                }
-            }
+            Some(BodyLine::Entry(entry)) => taker.take(&entry)?,
             Some(BodyLine::End) => {
                 if behind.is_empty() {
-                    return Ok(entries);
+                    return Ok(count);
                 }
                 return Err(PoolError::BadEntry(count + 4));
             }
@@ -152,8 +183,12 @@ pub fn read_record(alloc: Global, text: &[u8]) -> Result<Record, PoolError>
     if let Err(refusal) = config.check() {
         return Err(refusal);
     }
-    match read_entries(alloc, body) {
-        Ok(entries) => Ok(Record { config, entries }),
+    let mut record = Record {
+        config,
+        entries: Vec::new(alloc),
+    };
+    match read_entries(body, &mut record) {
+        Ok(_) => Ok(record),
         Err(refusal) => Err(refusal),
     }
 }

@@ -2,8 +2,8 @@
 
 use crate::judged::LONE;
 use std::test::Fail;
-use tp_laws::audit_plain;
 use tp_laws::runs::run_asks;
+use tp_laws::{Flaw, audit_plain};
 use tp_record::entries::{Ask, Did, Looked, Opened, Started, Took};
 use tp_types::ids::{SlotId, TaskId};
 use tp_types::refusals::PoolError;
@@ -36,4 +36,38 @@ fn runs_the_shortest_life(rt: HostRuntime) -> Result<(), Fail> {
     let summary = audit_plain(rt.alloc(), &LONE, &run.entries)?;
     assert_eq!(rt; summary.counts.run, 1);
     Ok(())
+}
+
+/// Where any one allocation fails, the run is refused with 4, or 4 is the answer of one ask, which adds no entry, and the
+/// run goes on; with ample memory each ask is accepted.
+#[test]
+fn run_goes_on_where_memory_is_wanted(rt: HostRuntime) {
+    let asks = [
+        (0, Ask::Submit(Kind::Plain)),
+        (1, Ask::Submit(Kind::Future)),
+        (2, Ask::Maximum(3)),
+        (2, Ask::Stop),
+        (2, Ask::Tick(5)),
+    ];
+    let run = match run_asks(rt.alloc(), LONE, &asks) {
+        Ok(run) => run,
+        Err(error) => {
+            assert_eq!(rt; error, PoolError::NoMemory);
+            return;
+        }
+    };
+    let mut wanted = 0usize;
+    for answer in &run.answers {
+        if *answer == Err(PoolError::NoMemory) {
+            wanted = wanted.saturating_add(1);
+        }
+    }
+    assert!(rt; wanted <= 1, "{wanted} asks were answered with 4");
+    assert_eq!(rt; run.answers.len(), asks.len());
+    assert_eq!(rt; run.entries.len().saturating_add(wanted), asks.len());
+    assert!(rt; run.answers.last() == Some(&Ok(Did::Tick(5))));
+    match audit_plain(rt.alloc(), &LONE, &run.entries) {
+        Ok(summary) => assert_eq!(rt; summary.counts.run, 0),
+        Err(flaw) => assert_eq!(rt; flaw, Flaw::NoMemory),
+    }
 }

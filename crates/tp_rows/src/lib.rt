@@ -10,6 +10,8 @@ mod judged;
 #[cfg(test)]
 mod lines;
 #[cfg(test)]
+mod neighbours;
+#[cfg(test)]
 mod runs;
 #[cfg(test)]
 mod tests;

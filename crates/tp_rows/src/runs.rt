@@ -5,6 +5,7 @@ mod ending;
 mod growing;
 mod hostile;
 mod jobs;
+mod judging;
 mod long;
 mod refusing;
 mod working;

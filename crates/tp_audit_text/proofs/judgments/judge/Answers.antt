@@ -1,11 +1,23 @@
-use Rattle.std.proofs.Common.{◌≡◌, length, reverse, rules, subst, arith}
-use Rattle.tp_audit.specs.Audit.{IsSummary}
-use Rattle.tp_audit_text.proofs.Written.{lines_of_summary}
+use Rattle.std.proofs.Common.{◌≡◌, List, length, reverse, sym, subst}
+use Rattle.std.specs.Prelude.{IfOk}
+use Rattle.tp_record.specs.declared.entries.Entry.{Entry}
+use Rattle.tp_auditor.specs.Audited.{settings}
+use Rattle.tp_audit_text.specs.AuditText.{IsJudged}
+use Rattle.tp_audit_text.specs.Judging.{IsToldBy}
 use Rattle.tp_audit_text.proofs.judgments.judge.Goals as goal
 
-pub returns-in_ok-legal-in-Ok-clause-judged : goal.returns-in_ok-legal-in-Ok-clause-judged
-returns-in_ok-legal-in-Ok-clause-judged c =
-    let r = c.args.record.now in
-    let summary = subst (λ es. IsSummary r.config (reverse es) c.in-Ok.summary) c.as_slice.ensures.value c.in-Ok.ensures.summary in
-    let counted : c.len.result ≡ length r.entries.items = omega (arith, c.len.ensures, r.entries.ok.0) in
-    (search rules, lines_of_summary r.config r.entries.items c.in-Ok.summary c.len.result c.in_ok-legal-in-Ok.field-0.items summary counted c.in_ok-legal-in-Ok.ensures.text)
+pub legal_judgment-requires : goal.legal_judgment-requires
+legal_judgment-requires c =
+    let j = c.args.judging.now in
+    (reverse c.requires.0, subst (λ o. IsToldBy j.auditor o c.requires.0) c.in-None.is c.requires.1)
+
+pub returns-in-None-clause-judged : goal.returns-in-None-clause-judged
+returns-in-None-clause-judged c =
+    let a = c.args.judging.now.auditor in
+    subst (λ o. IfOk c.legal_judgment.result (λ j. (es : List Entry) → IsToldBy a o es → c.args.entries ≡ length es → IsJudged (settings a) es j.legal j.lines.items))
+    (sym c.in-None.is) c.legal_judgment.ensures.judged
+
+pub returns-in_ok-flawed-in-Some-clause-judged : goal.returns-in_ok-flawed-in-Some-clause-judged
+returns-in_ok-flawed-in-Some-clause-judged c = λ es told counted.
+    let j = c.args.judging.now in
+    (c.in-Some.entry, subst (λ o. IsToldBy j.auditor o es) c.in-Some.is told, c.in_ok-flawed-in-Some.ensures.text)

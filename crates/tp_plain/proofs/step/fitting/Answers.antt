@@ -1,26 +1,10 @@
-use Rattle.std.proofs.Common.{◌≡◌, ◌∙◌, Ok, sym}
-use Rattle.std.specs.Option.{ok_or}
-use Rattle.tp_types.specs.declared.refusals.PoolError.TheVariants.{UnknownSlot}
-use Rattle.tp_record.specs.State.{slot_at}
-use Rattle.tp_record.specs.Step.{open_answer, take_answer}
-use Rattle.tp_plain.specs.Snapshot.{shown}
-use Rattle.tp_plain.proofs.Answered.{IsAnswer-same, of_row-found}
+use Rattle.std.proofs.Common.{sym, subst}
+use Rattle.tp_record.specs.Step.{fitting}
+use Rattle.tp_plain.specs.Snapshot.{IsAnswer}
+use Rattle.tp_plain.proofs.Answered.{other_fitting}
 use Rattle.tp_plain.proofs.step.fitting.Goals as goal
 
-pub returns-in_ok-seat_of-in-Open : goal.returns-in_ok-seat_of-in-Open
-returns-in_ok-seat_of-in-Open c =
-    let s = shown c.args.state.now in
-    let v = c.in-Open.v in
-    let row = c.in_ok-seat_of-in-Open.field-0 in
-    let found : ok_or (slot_at s.slots v.0) UnknownSlot ≡ Ok row = sym c.seat_of.ensures ∙ c.in_ok-seat_of-in-Open.was in
-    let same = of_row-found (slot_at s.slots v.0) row (open_answer s v) found in
-    rw c.in-Open.is (IsAnswer-same c.open_answer.result _ (c.open_answer.ensures ∙ sym same))
-
-pub returns-in_ok-row-in-Take : goal.returns-in_ok-row-in-Take
-returns-in_ok-row-in-Take c =
-    let s = shown c.args.state.now in
-    let v = c.in-Take.v in
-    let row = c.in_ok-row-in-Take.row in
-    let found : ok_or (slot_at s.slots v.0) UnknownSlot ≡ Ok row = sym c.seat_of-in-Take.ensures ∙ c.in_ok-row-in-Take.was in
-    let same = of_row-found (slot_at s.slots v.0) row (λ r. take_answer s v r.stage r.task) found in
-    rw c.in-Take.is (IsAnswer-same c.take_answer.result _ (c.take_answer.ensures ∙ sym same))
+pub returns-in_default : goal.returns-in_default
+returns-in_default g c = λ done first.
+    let s = g.S.Readings.shown c.args.state.now in
+    subst (IsAnswer c.fitting_other.result) (sym (other_fitting c.args.config.now s done c.args.w.0 c.args.ask c.in_default.not-TakeDone)) c.fitting_other.ensures

@@ -1,0 +1,24 @@
+use Rattle.std.proofs.Common.{ℕ, ◌≡◌, ◌<◌, ◌-◌, ◌^◌, true, false, not, length}
+use Rattle.std.specs.Prelude.{vec_len, filter}
+use Rattle.tp_record.specs.Lists.{is_it}
+use Rattle.tp_record.specs.State.{row_after, row_at, no_row}
+use Rattle.tp_model.proofs.Queues.{is_among, IsOnce}
+use Rattle.tp_auditor.specs.Orders.{from_on}
+use Rattle.tp_auditor.proofs.Sweeping.{Swept}
+use Rattle.tp_auditor.proofs.wide.purge.Given as goal
+
+abbrev pub invariant-loop-next : goal.invariant-loop-next
+invariant-loop-next l =
+    record {
+      number : vec_len l.tasks < 2 ^ 32;
+      few : (t : ℕ) → (row_at l.tasks.items t).retries < 2 ^ 32 - 1;
+      cancelled : (t : ℕ) → (row_at l.tasks.items t).cancelled ≡ (row_at l.fn.tasks.items t).cancelled;
+      swept : Swept (row_after l.did) no_row l.fn.tasks.items l.fn.queue (from_on l.next l.queue) l.tasks.items;
+      once : IsOnce l.queue;
+      there : (t : ℕ) → is_it l.next t ≡ true → is_among t l.queue ≡ true;
+      kept : filter (λ t. not (row_at l.fn.tasks.items t).cancelled) l.queue ≡ filter (λ t. not (row_at l.fn.tasks.items t).cancelled) l.fn.queue;
+      past : (t : ℕ) → is_among t l.queue ≡ true → is_among t (from_on l.next l.queue) ≡ false → not (row_at l.fn.tasks.items t).cancelled ≡ true;
+    }
+
+abbrev pub decreases-loop-next : goal.decreases-loop-next
+decreases-loop-next l = length (from_on l.next l.queue)

@@ -1,0 +1,9 @@
+pub mod Audited
+pub mod Changed
+pub mod Done
+pub mod Named
+pub mod Orders
+pub mod Owed
+pub mod Readings
+pub mod Seats
+pub mod Tables

@@ -1,0 +1,210 @@
+//! The auditor that judges a record one entry at a time.
+
+ghost use Rattle.std.specs.Prelude.{ℕ, ◌≡◌, ◌↔◌, ◌≤◌, ◌∷◌, [], List, Err, suc, true, count_by, length, slice_get, unwrap_or, Ok, IsTrue, IfOk, IfSome, IsOkUnless, OnOk, OnErr};
+ghost use Rattle.tp_types.specs.Config.{IsConfig};
+ghost use Rattle.tp_record.specs.declared.entries.Entry.{Entry as Told};
+ghost use Rattle.tp_record.specs.Effects.{reserves};
+ghost use Rattle.tp_record.specs.Fields.{is_live};
+ghost use Rattle.tp_record.specs.State as states;
+ghost use Rattle.tp_record.specs.Step as steps;
+ghost use Rattle.tp_audit.specs.Audit.{IsSummary};
+ghost use Rattle.tp_auditor.specs.Done.{done_in};
+ghost use Rattle.tp_auditor.specs.Tables.{shown};
+
+use crate::done::Done;
+use crate::orders::Order;
+use crate::queue::Queue;
+use crate::seats::Seats;
+use crate::tables::Tables;
+use std::alloc::Global;
+use tp_audit::plain::{are_same, fates_of};
+use tp_audit::summary::{Flaw, Summary};
+use tp_plain::counts::fated;
+use tp_plain::effects::{freed_by, reserved_by};
+use tp_plain::step::fitting;
+use tp_record::entries::{Ask, Did, Entry};
+use tp_types::configs::Config;
+use tp_types::ids::SlotId;
+use tp_types::refusals::PoolError;
+use tp_types::states::{Counts, RunState};
+use tp_types::tasks::Fate;
+
+/// Judges the record of a pool, one entry at a time. Each entry costs what it changes: the first `shutdown` and a `stop` as
+/// many slots and tasks as they wake and hand back, a `purge` as the queue is long, all others the same or by the logarithm of
+/// what is kept. The memory goes by the numbers of tasks and slots.
+#[derive(Drop)]
+pub struct Auditor {
+    alloc: Global,
+    config: Config,
+    tables: Tables,
+}
+
+impl Auditor {
+    ghost use Rattle.tp_auditor.specs.Audited.{settings, Judged, IsJudging};
+
+    /// An auditor of a pool that is made with `config`, before the first entry. Want of memory is NoMemory (4).
+    pub fn new(alloc: Global, config: &Config) -> Result<Auditor, Flaw>
+        requires { IsConfig config.now }
+        ensures settings { IfOk result (λ a. settings a ≡ config.now) }
+        ensures judged { IfOk result (λ a. Judged a []) }
+        ensures refused { IsOkUnless result Flaw.NoMemory }
+    {
+        match no_entries(alloc, config) {
+            Ok(tables) => Ok(Auditor {
+                alloc,
+                config: *config,
+                tables,
+            }),
+            Err(_) => Err(Flaw::NoMemory),
+        }
+    }
+
+    /// Tells the auditor the next entry: Ok exactly where the step gives it after those told before, memory aside; else its
+    /// number, counted from 1, as a flaw. After a flaw, and where there is no memory (4), the auditor is as it was. The pass
+    /// that the entry names is free, and so is the number of a new slot, if it is no slot then.
+    pub fn push(&mut self, entry: &Entry) -> Result<(), Flaw>
+        requires { IsJudging self.old }
+        ensures given { OnOk result ((h : List Told) → Judged self.old h → steps.Gives (settings self.old) (states.state (settings self.old) h) entry.now.ask entry.now.did) }
+        ensures told { OnOk result ((h : List Told) → Judged self.old h → Judged self.new (entry.now ∷ h)) }
+        ensures flaw { (n : ℕ) → result ≡ Err (Flaw.At n) → (h : List Told) → Judged self.old h
+            → (n ≡ suc (length h)) × (steps.Gives (settings self.old) (states.state (settings self.old) h) entry.now.ask entry.now.did → ⊥) }
+        ensures same { OnErr result ((h : List Told) → Judged self.old h → Judged self.new h) }
+        ensures judging { IsJudging self.new }
+        ensures settings { settings self.new ≡ settings self.old }
+    {
+        match self.is_given(entry.ask, entry.did) {
+            Ok(true) => {}
+            Ok(false) => return Err(Flaw::At(self.tables.steps as usize + 1)),
+            Err(_) => return Err(Flaw::NoMemory),
+        }
+        match self.tables.note(entry.did) {
+            Ok(()) => Ok(()),
+            Err(_) => Err(Flaw::NoMemory),
+        }
+    }
+
+    /// What the entries told so far say at their end. Want of memory is NoMemory (4).
+    pub fn finish(&self) -> Result<Summary, Flaw>
+        requires { IsJudging self.now }
+        ensures summary { IfOk result (λ s. (h : List Told) → Judged self.now h → IsSummary (settings self.now) h s) }
+        ensures refused { IsOkUnless result Flaw.NoMemory }
+    {
+        match fates_of(self.alloc, &self.tables.tasks) {
+            Ok(fates) => Ok(Summary {
+                counts: self.tables.counts(),
+                state: RunState::from_rank(self.tables.rank),
+                fates,
+            }),
+            Err(_) => Err(Flaw::NoMemory),
+        }
+    }
+
+    /// Whether the step gives this entry after those told before.
+    fn is_given(&self, ask: Ask, did: Did) -> Result<bool, PoolError>
+        requires { IsJudging self.now }
+        ensures given { IfOk result (λ b. (h : List Told) → Judged self.now h
+            → IsTrue b ↔ steps.Gives (settings self.now) (states.state (settings self.now) h) ask did) }
+        ensures refused { IsOkUnless result PoolError.NoMemory }
+    {
+        match self.fits(ask, did) {
+            Ok(true) => Ok(self.has_free_number(did) && self.tables.has_room(&self.config, did)),
+            Ok(false) => Ok(false),
+            Err(error) => Err(error),
+        }
+    }
+
+    /// Whether the ask is answered so, without a look at the room.
+    fn fits(&self, ask: Ask, did: Did) -> Result<bool, PoolError>
+        requires { IsJudging self.now }
+        ensures fits { IfOk result (λ b. (h : List Told) → Judged self.now h
+            → IsTrue b ↔ (steps.fitting (settings self.now) (states.state (settings self.now) h) (unwrap_or (reserves did) 0) ask ≡ Ok did)) }
+        ensures refused { IsOkUnless result PoolError.NoMemory }
+    {
+        let made = SlotId(reserved_by(did).unwrap_or(0));
+        let first = self.first_asked(ask);
+        match fitting(self.alloc, &self.config, &self.tables, made, ask, first) {
+            Ok(answer) => Ok(are_same(answer, did)),
+            Err(PoolError::NoMemory) => Err(PoolError::NoMemory),
+            Err(_) => Ok(false),
+        }
+    }
+
+    /// The first completed task of the group that an ask names.
+    fn first_asked(&self, ask: Ask) -> Option<u32>
+        ensures { (g : ℕ) → ask ≡ Ask.TakeDone g → result ≡ slice_get (done_in self.now.tables.done g) 0 }
+    {
+        match ask {
+            Ask::TakeDone(group) => self.tables.done.first(group),
+            _ => None,
+        }
+    }
+
+    /// Whether the slot that an entry makes, if it makes one, has a number that is no slot before it, or that of the slot
+    /// which it frees.
+    fn has_free_number(&self, did: Did) -> bool
+        ensures { IsTrue result ↔ IfSome (reserves did) (λ w. steps.is_free_for (shown self.now.tables) did w ≡ true) }
+    {
+        match reserved_by(did) {
+            None => true,
+            Some(w) => self.tables.slots.get(SlotId(w)).is_none() || freed_by(did) == Some(w),
+        }
+    }
+}
+
+/// The tables before the first entry.
+fn no_entries(alloc: Global, config: &Config) -> Result<Tables, PoolError>
+    ensures kept { IfOk result (λ t. shown t ≡ states.state config.now []) }
+    ensures done { IfOk result (λ t. (g : ℕ) → done_in t.done g ≡ []) }
+    ensures due { IfOk result (λ t. t.due ≡ 4) }
+    ensures refused { IsOkUnless result PoolError.NoMemory }
+{
+    let Ok(queue) = Queue::new(alloc) else {
+        return Err(PoolError::NoMemory);
+    };
+    let Ok(idling) = Order::new(alloc) else {
+        return Err(PoolError::NoMemory);
+    };
+    Ok(Tables {
+        steps: 0,
+        rank: 0,
+        core: config.core,
+        maximum: config.maximum,
+        keep: config.keep,
+        core_timeout: config.core_timeout,
+        moment: 0,
+        tasks: Vec::new(alloc),
+        queue,
+        slots: Seats::new(alloc),
+        idling,
+        done: Done::new(alloc),
+        completions: 0,
+        largest: 0,
+        due: 4,
+    })
+}
+
+impl Tables {
+    /// The twelve counters.
+    fn counts(&self) -> Counts
+        requires tasks { length (shown self.now).tasks ≤ 1048577 }
+        requires queue { length (shown self.now).queue ≤ 1048577 }
+        requires live { count_by is_live (shown self.now).slots ≤ 1048577 }
+        requires largest { (shown self.now).largest ≤ 1048577 }
+        ensures { result ≡ states.counts (shown self.now) }
+    {
+        Counts {
+            submitted: self.tasks.len() as u32,
+            run: fated(Fate::Run, &self.tasks),
+            caller: fated(Fate::RunByCaller, &self.tasks),
+            rejected: fated(Fate::Rejected, &self.tasks),
+            discarded: fated(Fate::Discarded, &self.tasks),
+            handedback: fated(Fate::HandedBack, &self.tasks),
+            removed: fated(Fate::Removed, &self.tasks),
+            cancelled: fated(Fate::Cancelled, &self.tasks),
+            completed: self.completions,
+            queued: self.queue.len() as u32,
+            live: self.slots.live() as u32,
+            largest: self.largest as u32,
+        }
+    }
+}

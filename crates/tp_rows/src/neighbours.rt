@@ -1,0 +1,338 @@
+//! Records with one entry wrong: both auditors answer the same of each.
+
+ghost use Rattle.tp_types.specs.Config.{IsConfig};
+ghost use Rattle.tp_auditor.specs.Audited.{IsJudging};
+
+use crate::judged::LONE;
+use std::alloc::{AllocError, Global};
+use std::test::Fail;
+use tp_laws::runs::run_asks;
+use tp_laws::{Auditor, Flaw, audit, audit_plain};
+use tp_record::entries::{
+    Ask, Did, Entry, Failed, Grown, Looked, Offered, Opened, Seconded, Started, Took,
+};
+use tp_types::configs::{Config, Policy, QueueKind, Verdict};
+use tp_types::ids::{SlotId, TaskId};
+use tp_types::tasks::Kind;
+
+/// What is wrong with an entry.
+#[derive(Clone, Copy, Debug, PartialEq, Eq)]
+enum Wrong {
+    LeftOut,
+    Doubled,
+    Exchanged,
+    Task,
+    Slot,
+    Answer,
+}
+
+const WRONGS: [Wrong; 6] = [
+    Wrong::LeftOut,
+    Wrong::Doubled,
+    Wrong::Exchanged,
+    Wrong::Task,
+    Wrong::Slot,
+    Wrong::Answer,
+];
+
+/// Another task.
+fn other_task(t: TaskId) -> TaskId {
+    if t.0 == 0 { TaskId(1) } else { TaskId(0) }
+}
+
+/// Another slot.
+fn other_slot(w: SlotId) -> SlotId {
+    if w.0 == 0 { SlotId(1) } else { SlotId(0) }
+}
+
+/// The entry of another task, if it names one first.
+fn with_other_task(did: Did) -> Did {
+    match did {
+        Did::Submit(t, kind, looked) => Did::Submit(other_task(t), kind, looked),
+        Did::Look(t, looked) => Did::Look(other_task(t), looked),
+        Did::Offer(t, offered) => Did::Offer(other_task(t), offered),
+        Did::Second(t, seconded) => Did::Second(other_task(t), seconded),
+        Did::Grow(t, grown) => Did::Grow(other_task(t), grown),
+        Did::Verdict(t, verdict, ruled) => Did::Verdict(other_task(t), verdict, ruled),
+        Did::CallerEnd(t, outcome) => Did::CallerEnd(other_task(t), outcome),
+        Did::Take(w, Took::Held(t)) => Did::Take(w, Took::Held(other_task(t))),
+        Did::Take(w, Took::Head(t)) => Did::Take(w, Took::Head(other_task(t))),
+        Did::Begin(w, Started::Run(t)) => Did::Begin(w, Started::Run(other_task(t))),
+        Did::End(w, t, outcome) => Did::End(w, other_task(t), outcome),
+        Did::Remove(t, gone) => Did::Remove(other_task(t), gone),
+        Did::Cancel(t, flag, done) => Did::Cancel(other_task(t), flag, done),
+        Did::TakeDone(group, t) => Did::TakeDone(group, other_task(t)),
+        _ => did,
+    }
+}
+
+/// The entry of another slot, if it names one.
+fn with_other_slot(did: Did) -> Did {
+    match did {
+        Did::Submit(t, kind, Looked::Reserve(w)) => Did::Submit(
+            t,
+            kind,
+            Looked::Reserve(other_slot(w)),
+        ),
+        Did::Offer(t, Offered::Hand(w)) => Did::Offer(t, Offered::Hand(other_slot(w))),
+        Did::Grow(t, Grown::Reserve(w)) => Did::Grow(t, Grown::Reserve(other_slot(w))),
+        Did::Open(w, opened) => Did::Open(other_slot(w), opened),
+        Did::Fail(w, failed) => Did::Fail(other_slot(w), failed),
+        Did::Take(w, took) => Did::Take(other_slot(w), took),
+        Did::Begin(w, started) => Did::Begin(other_slot(w), started),
+        Did::End(w, t, outcome) => Did::End(other_slot(w), t, outcome),
+        Did::Leave(w, made) => Did::Leave(other_slot(w), made),
+        _ => did,
+    }
+}
+
+/// The entry with another answer to the same ask, where there is one.
+fn with_other_answer(did: Did) -> Did {
+    match did {
+        Did::Submit(t, kind, Looked::Queue) => Did::Submit(t, kind, Looked::Refuse),
+        Did::Submit(t, kind, _) => Did::Submit(t, kind, Looked::Queue),
+        Did::Offer(t, Offered::Queued) => Did::Offer(t, Offered::Full),
+        Did::Offer(t, _) => Did::Offer(t, Offered::Queued),
+        Did::Second(t, Seconded::Back) => Did::Second(t, Seconded::Stay),
+        Did::Second(t, _) => Did::Second(t, Seconded::Back),
+        Did::Grow(t, _) => Did::Grow(t, Grown::Refuse),
+        Did::Open(w, Opened::Live) => Did::Open(w, Opened::GivenUp),
+        Did::Open(w, _) => Did::Open(w, Opened::Live),
+        Did::Fail(w, _) => Did::Fail(w, Failed::Nothing),
+        Did::Take(w, Took::Idle) => Did::Take(w, Took::Leave),
+        Did::Take(w, _) => Did::Take(w, Took::Idle),
+        Did::Begin(w, Started::Run(t)) => Did::Begin(w, Started::Skip(t)),
+        Did::Begin(w, Started::Skip(t)) => Did::Begin(w, Started::Run(t)),
+        Did::End(w, t, _) => Did::End(w, t, Err(7)),
+        Did::Stop(0) => Did::Stop(1),
+        Did::Stop(_) => Did::Stop(0),
+        Did::Purge(0) => Did::Purge(1),
+        Did::Purge(_) => Did::Purge(0),
+        Did::Remove(t, gone) => Did::Remove(t, !gone),
+        Did::Cancel(t, flag, done) => Did::Cancel(t, flag, !done),
+        _ => did,
+    }
+}
+
+/// The entry, wrong in this way.
+fn wrong_entry(entry: Entry, wrong: Wrong) -> Entry {
+    let did = match wrong {
+        Wrong::Task => with_other_task(entry.did),
+        Wrong::Slot => with_other_slot(entry.did),
+        Wrong::Answer => with_other_answer(entry.did),
+        _ => entry.did,
+    };
+    Entry { did, ..entry }
+}
+
+/// The record with one entry wrong in this way.
+fn wrong_record(
+    alloc: Global,
+    entries: &[Entry],
+    at: usize,
+    wrong: Wrong,
+) -> Result<Vec<Entry>, AllocError> {
+    let mut record = Vec::new(alloc);
+    for (i, entry) in entries.iter().enumerate() {
+        let here = i == at;
+        if here && wrong == Wrong::Exchanged {
+            if let Some(next) = entries.get(i + 1) {
+                record.push(*next)?;
+            }
+        }
+        if here && wrong == Wrong::Doubled {
+            record.push(*entry)?;
+        }
+        let after = wrong == Wrong::Exchanged && i > 0 && i - 1 == at;
+        if !after && !(here && wrong == Wrong::LeftOut) {
+            record.push(if here {
+                wrong_entry(*entry, wrong)
+            } else {
+                *entry
+            })?;
+        }
+    }
+    Ok(record)
+}
+
+/// Whether both auditors call the record of these asks legal, and answer the same of each record that has one entry wrong.
+pub fn neighbours_agree(alloc: Global, config: &Config, asks: &[(u32, Ask)]) -> Result<bool, Fail>
+    requires { IsConfig config.now }
+{
+    let run = run_asks(alloc, *config, asks)?;
+    if audit(alloc, config, &run.entries).is_err()
+        || audit_plain(alloc, config, &run.entries).is_err()
+    {
+        return Ok(false);
+    }
+    for at in 0..run.entries.len() {
+        for wrong in WRONGS {
+            let record = wrong_record(alloc, &run.entries, at, wrong)?;
+            if audit(alloc, config, &record) != audit_plain(alloc, config, &record) {
+                return Ok(false);
+            }
+        }
+    }
+    Ok(true)
+}
+
+/// One worker; a cancelled task is purged, another runs, and the pool ends.
+#[test]
+fn a_purge_and_a_shutdown(rt: HostRuntime) -> Result<(), Fail> {
+    let slot = SlotId(0);
+    let asks = [
+        (0, Ask::Submit(Kind::Plain)),
+        (1, Ask::Open(slot)),
+        (0, Ask::Submit(Kind::Future)),
+        (0, Ask::Offer(TaskId(1))),
+        (0, Ask::Second(TaskId(1))),
+        (0, Ask::Submit(Kind::Future)),
+        (0, Ask::Offer(TaskId(2))),
+        (0, Ask::Second(TaskId(2))),
+        (2, Ask::Cancel(TaskId(1), true)),
+        (2, Ask::Purge),
+        (1, Ask::Take(slot)),
+        (1, Ask::Begin(slot)),
+        (1, Ask::End(slot, Ok(5))),
+        (1, Ask::Take(slot)),
+        (1, Ask::Begin(slot)),
+        (1, Ask::End(slot, Ok(6))),
+        (2, Ask::Shutdown),
+        (1, Ask::Take(slot)),
+        (2, Ask::Tidy),
+        (2, Ask::Ended),
+    ];
+    let config = Config { keep: 9, ..LONE };
+    assert!(rt; neighbours_agree(rt.alloc(), &config, &asks)?);
+    Ok(())
+}
+
+/// Two workers and a queue of one place; the oldest is dropped, groups complete, a worker faults, and the pool is stopped.
+#[test]
+fn a_drop_and_a_stop(rt: HostRuntime) -> Result<(), Fail> {
+    let config = Config {
+        core: 1,
+        maximum: 2,
+        queue: QueueKind::Bounded(1),
+        policy: Policy::DiscardOldest,
+        ..LONE
+    };
+    let asks = [
+        (0, Ask::Submit(Kind::Group(3))),
+        (1, Ask::Open(SlotId(0))),
+        (0, Ask::Submit(Kind::Plain)),
+        (0, Ask::Offer(TaskId(1))),
+        (0, Ask::Second(TaskId(1))),
+        (0, Ask::Submit(Kind::Plain)),
+        (0, Ask::Offer(TaskId(2))),
+        (0, Ask::Grow(TaskId(2))),
+        (2, Ask::Open(SlotId(1))),
+        (0, Ask::Submit(Kind::Group(3))),
+        (0, Ask::Offer(TaskId(3))),
+        (0, Ask::Grow(TaskId(3))),
+        (0, Ask::Verdict(TaskId(3), Verdict::DiscardOldest)),
+        (0, Ask::Look(TaskId(3))),
+        (0, Ask::Offer(TaskId(3))),
+        (0, Ask::Second(TaskId(3))),
+        (1, Ask::Take(SlotId(0))),
+        (1, Ask::Begin(SlotId(0))),
+        (1, Ask::End(SlotId(0), Ok(5))),
+        (3, Ask::TakeDone(3)),
+        (2, Ask::Take(SlotId(1))),
+        (2, Ask::Begin(SlotId(1))),
+        (2, Ask::End(SlotId(1), Err(7))),
+        (2, Ask::Leave(SlotId(1))),
+        (3, Ask::Cancel(TaskId(3), false)),
+        (3, Ask::Stop),
+        (1, Ask::Take(SlotId(0))),
+        (3, Ask::Fail(SlotId(1))),
+        (3, Ask::Tidy),
+        (3, Ask::Ended),
+    ];
+    assert!(rt; neighbours_agree(rt.alloc(), &config, &asks)?);
+    Ok(())
+}
+
+/// Two tasks of one worker, of a slot with a high number: what is told takes memory for tasks, a slot, the queue, the order
+/// of idling and a group.
+const TOLD: [(Ask, Did); 12] = [
+    (
+        Ask::Submit(Kind::Group(1)),
+        Did::Submit(TaskId(0), Kind::Group(1), Looked::Reserve(SlotId(7))),
+    ),
+    (Ask::Open(SlotId(7)), Did::Open(SlotId(7), Opened::Live)),
+    (
+        Ask::Submit(Kind::Plain),
+        Did::Submit(TaskId(1), Kind::Plain, Looked::Queue),
+    ),
+    (
+        Ask::Offer(TaskId(1)),
+        Did::Offer(TaskId(1), Offered::Queued),
+    ),
+    (
+        Ask::Second(TaskId(1)),
+        Did::Second(TaskId(1), Seconded::Stay),
+    ),
+    (
+        Ask::Take(SlotId(7)),
+        Did::Take(SlotId(7), Took::Held(TaskId(0))),
+    ),
+    (
+        Ask::Begin(SlotId(7)),
+        Did::Begin(SlotId(7), Started::Run(TaskId(0))),
+    ),
+    (
+        Ask::End(SlotId(7), Ok(5)),
+        Did::End(SlotId(7), TaskId(0), Ok(5)),
+    ),
+    (
+        Ask::Take(SlotId(7)),
+        Did::Take(SlotId(7), Took::Head(TaskId(1))),
+    ),
+    (
+        Ask::Begin(SlotId(7)),
+        Did::Begin(SlotId(7), Started::Run(TaskId(1))),
+    ),
+    (
+        Ask::End(SlotId(7), Ok(6)),
+        Did::End(SlotId(7), TaskId(1), Ok(6)),
+    ),
+    (Ask::Take(SlotId(7)), Did::Take(SlotId(7), Took::Idle)),
+];
+
+/// Where any one allocation fails, the whole record's judgment is want of memory; with ample memory it is right.
+#[test]
+fn want_of_memory_is_told(rt: HostRuntime) {
+    let entries = TOLD.map(|(ask, did)| Entry { by: 0, ask, did });
+    match audit(rt.alloc(), &LONE, &entries) {
+        Ok(summary) => assert_eq!(rt; summary.counts.run, 2),
+        Err(flaw) => assert_eq!(rt; flaw, Flaw::NoMemory),
+    }
+}
+
+/// Tells the auditor an entry, and once more where there was no memory.
+fn tell(auditor: &mut Auditor, entry: &Entry) -> Result<(), Flaw>
+    requires { IsJudging auditor.old }
+    ensures { IsJudging auditor.new }
+{
+    match auditor.push(entry) {
+        Err(Flaw::NoMemory) => auditor.push(entry),
+        answer => answer,
+    }
+}
+
+/// Where any one allocation fails, that entry is not told, and the auditor is as it was: told again, all goes on.
+#[test]
+fn want_of_memory_changes_nothing(rt: HostRuntime) {
+    let Ok(mut auditor) = Auditor::new(rt.alloc(), &LONE) else {
+        return;
+    };
+    for (ask, did) in TOLD {
+        let entry = Entry { by: 0, ask, did };
+        assert_eq!(rt; tell(&mut auditor, &entry), Ok(()));
+    }
+    match auditor.finish() {
+        Ok(summary) => assert_eq!(rt; summary.counts.run, 2),
+        Err(flaw) => assert_eq!(rt; flaw, Flaw::NoMemory),
+    }
+}

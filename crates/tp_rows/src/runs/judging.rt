@@ -1,0 +1,96 @@
+//! The worked rows as asks: both auditors call their records legal, and answer the same of each that has one entry wrong.
+
+use super::{
+    ROW_01, ROW_01_OUTPUT, ROW_18, ROW_18_OUTPUT, cancelling, ending, growing, refusing, working,
+};
+use crate::neighbours::neighbours_agree;
+use std::alloc::{AllocError, Global};
+use std::test::Fail;
+use tp_laws::runs::run_asks;
+use tp_record::entries::Entry;
+use tp_record_text::entries::read_entry;
+use tp_text::pools::pool_of;
+use tp_types::configs::Config;
+
+/// The configuration that the first line of a scenario says.
+fn config_of(text: &str) -> Option<Config> {
+    Some(pool_of(text.lines().next()?)?.config())
+}
+
+/// The entries among the lines that a run wrote.
+fn entries_of(alloc: Global, output: &str) -> Result<Vec<Entry>, AllocError> {
+    let mut entries = Vec::new(alloc);
+    for line in output.lines() {
+        if let Some((_, entry)) = read_entry(line.as_bytes()) {
+            entries.push(entry)?;
+        }
+    }
+    Ok(entries)
+}
+
+/// Whether the asks of a row give its record again, and both auditors judge it and its neighbours alike.
+fn is_judged(alloc: Global, text: &[u8], output: &[u8]) -> Result<bool, Fail> {
+    let (Ok(text), Ok(output)) = (str::from_utf8(text), str::from_utf8(output)) else {
+        return Ok(false);
+    };
+    let Some(config) = config_of(text) else {
+        return Ok(false);
+    };
+    if config.check().is_err() {
+        return Ok(false);
+    }
+    let entries = entries_of(alloc, output)?;
+    let mut asks = Vec::new(alloc);
+    for entry in &entries {
+        asks.push((entry.by, entry.ask))?;
+    }
+    let run = run_asks(alloc, config, &asks)?;
+    Ok(run.entries == entries && neighbours_agree(alloc, &config, &asks)?)
+}
+
+#[test]
+fn judges_the_first_rows(rt: HostRuntime) -> Result<(), Fail> {
+    assert!(rt; is_judged(rt.alloc(), ROW_01, ROW_01_OUTPUT)?);
+    assert!(rt; is_judged(rt.alloc(), ROW_18, ROW_18_OUTPUT)?);
+    Ok(())
+}
+
+#[test]
+fn judges_rows_of_growing_pools(rt: HostRuntime) -> Result<(), Fail> {
+    for (text, output) in &growing::ROWS {
+        assert!(rt; is_judged(rt.alloc(), text, output)?);
+    }
+    Ok(())
+}
+
+#[test]
+fn judges_rows_of_refused_tasks(rt: HostRuntime) -> Result<(), Fail> {
+    for (text, output) in &refusing::ROWS {
+        assert!(rt; is_judged(rt.alloc(), text, output)?);
+    }
+    Ok(())
+}
+
+#[test]
+fn judges_rows_of_working_pools(rt: HostRuntime) -> Result<(), Fail> {
+    for (text, output) in &working::ROWS {
+        assert!(rt; is_judged(rt.alloc(), text, output)?);
+    }
+    Ok(())
+}
+
+#[test]
+fn judges_rows_of_ending_pools(rt: HostRuntime) -> Result<(), Fail> {
+    for (text, output) in &ending::ROWS {
+        assert!(rt; is_judged(rt.alloc(), text, output)?);
+    }
+    Ok(())
+}
+
+#[test]
+fn judges_rows_of_cancelled_tasks(rt: HostRuntime) -> Result<(), Fail> {
+    for (text, output) in &cancelling::ROWS {
+        assert!(rt; is_judged(rt.alloc(), text, output)?);
+    }
+    Ok(())
+}
