@@ -1,0 +1,51 @@
+-- What answers of the pool tell of a future.
+use Rattle.std.proofs.Common.{◌≡◌, ℕ, Bool, true, false, subst}
+use Rattle.std.specs.Prelude.{ℤ, Option, Some, None, Result, Ok, Err}
+use Rattle.tp_types.specs.declared.configs.Config.{Config}
+use Rattle.tp_types.specs.declared.ids.TaskId.{TaskId}
+use Rattle.tp_types.specs.declared.refusals.PoolError.{PoolError}
+use Rattle.tp_types.specs.declared.refusals.PoolError.TheVariants.{TimedOut}
+use Rattle.tp_machine.specs.Readings.{value_in}
+use Rattle.tp_book.specs.BookView.{state_of}
+use Rattle.tp_locked.specs.Readings.{got, has_come, unless_late, IsFound, IsResult}
+use Rattle.tp_locked.specs.Records.{BookAtSome}
+use Rattle.tp_service.specs.Futures.{IsClosed}
+
+-- an answer that is not 'none yet', and not 'too late', is the future's own
+own_answer : (late : Bool) (found : Result (Option ℤ) PoolError) (r : Result ℤ PoolError) → got r ≡ unless_late late found → ¬ (r ≡ Err TimedOut) → ¬ (found ≡ Ok None)
+own_answer false found (Ok v) is on = λ (none : found ≡ Ok None). absurd (cc)
+own_answer false found (Err e) is on = λ (none : found ≡ Ok None). absurd (cc)
+own_answer true (Ok None) (Ok v) is on = absurd (cc)
+own_answer true (Ok None) (Err e) is on = let late : Err e ≡ Err TimedOut = cc in absurd (on late)
+own_answer true (Ok (Some v)) r is on = λ (none : Ok (Some v) ≡ Ok None). absurd (cc)
+own_answer true (Err e) r is on = λ (none : Err e ≡ Ok None). absurd (cc)
+
+-- without a deadline nothing is too late
+own_in_time : (found : Result (Option ℤ) PoolError) (r : Result ℤ PoolError) → got r ≡ found → ¬ (found ≡ Ok None)
+own_in_time found (Ok v) is = λ (none : found ≡ Ok None). absurd (cc)
+own_in_time found (Err e) is = λ (none : found ≡ Ok None). absurd (cc)
+
+module _ {P : Type 0} (c : Config) (t : TaskId) where
+  pub closed_found : (deadline : ℕ) (r : Result ℤ PoolError) → BookAtSome P c (λ b. IsFound b t.0 (Some deadline) (got r)) → ¬ (r ≡ Err TimedOut) → IsClosed P c t
+  closed_found deadline r is on = record {
+    book = is.book;
+    settings = is.settings;
+    legal = is.legal;
+    holds = own_answer (has_come (Some deadline) (state_of is.book).now) (value_in (state_of is.book) t.0) r is.holds.0 on;
+  }
+
+  pub closed_awaited : (r : Result ℤ PoolError) → BookAtSome P c (λ b. IsFound b t.0 None (got r)) → IsClosed P c t
+  closed_awaited r is = record {
+    book = is.book;
+    settings = is.settings;
+    legal = is.legal;
+    holds = own_in_time (value_in (state_of is.book) t.0) r is.holds.0;
+  }
+
+  pub closed_read : (r : Result (Option ℤ) PoolError) → BookAtSome P c (λ b. IsResult b t.0 r) → ¬ (r ≡ Ok None) → IsClosed P c t
+  closed_read r is on = record {
+    book = is.book;
+    settings = is.settings;
+    legal = is.legal;
+    holds = subst (λ v. ¬ (v ≡ Ok None)) is.holds.0 on;
+  }

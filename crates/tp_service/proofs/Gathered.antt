@@ -1,0 +1,62 @@
+-- What single calls add, in the words of the calls of many.
+use Rattle.std.proofs.Common.{◌≡◌, ℕ, List, length, inl, inr, ⊎_elim}
+use Rattle.std.specs.Prelude.{ℤ, Bool, true, Result, Ok, Err, Some, Any, IfOk, IfErr, OnErr}
+use Rattle.tp_types.specs.declared.configs.Config.{Config}
+use Rattle.tp_types.specs.declared.ids.TaskId.{TaskId}
+use Rattle.tp_types.specs.declared.refusals.PoolError.{PoolError}
+use Rattle.tp_types.specs.declared.refusals.PoolError.TheVariants as error
+use Rattle.tp_types.specs.declared.tasks.Kind.TheVariants as kind
+use Rattle.tp_record.specs.declared.entries.Ask.TheVariants as ask
+use Rattle.tp_record.specs.declared.entries.Did.TheVariants as did
+use Rattle.tp_record.specs.Paths.{Rejected}
+use Rattle.tp_book.specs.PassView.{PassView}
+use Rattle.tp_locked.specs.Passes.{AddsNone, AddsStep, Refuses}
+use Rattle.tp_locked.specs.declared.answers.Admitted.{Admitted}
+use Rattle.tp_locked.specs.declared.answers.Admitted.TheVariants as admitted
+use Rattle.tp_locked.specs.declared.answers.Refused.{Refused}
+use Rattle.tp_pool.proofs.Receipts.{none_added}
+use Rattle.tp_pool.specs.Admissions.{task_of, end_of, AddsPath, AddsFront, IsTurnedAway}
+use Rattle.tp_service.specs.Futures.{IsClosed, HasValue, HaveFailed}
+use Rattle.tp_service.specs.Submitted.{AddsSubmission, AddsSubmissions, AddsRefused, AddsCancel, AddsCancels, IsAnyValue, HasNoValue}
+
+-- a submission that was admitted
+pub admits : (a : Admitted) (old new : PassView) → AddsPath (task_of a) (end_of a) old new → AddsSubmission (task_of a) old new
+admits (admitted.Accepted t) old new path = inl path
+admits (admitted.RanHere t o) old new path = inr (inl (o, path))
+admits (admitted.Discarded t) old new path = inr (inr path)
+
+-- one that was refused, whatever its job
+pub refuses : {J : Type 0} (c : Config) (job : J) (old new : PassView) (x : Refused J) → IsTurnedAway c kind.Future job old new x → AddsRefused c x.error old new
+refuses c job old new x is =
+    ⊎_elim (λ (y : (t : TaskId) × (x.error ≡ error.Rejected t) × AddsPath t Rejected old new). inl y)
+    (⊎_elim (λ (y : (x.error ≡ error.TornRecord) × AddsFront old new). inr (inl y))
+    (λ (y : Refuses c (ask.Submit kind.Future) x.error × (x.job ≡ Some job) × AddsNone old new). inr (inr (y.0, y.2))))
+    is
+
+module _ {P : Type 0} (c : Config) (t : TaskId) (old new : PassView) where
+  -- a cancel that was asked for
+  pub cancels : (r : Result Bool PoolError) → IfOk r (λ effective. AddsStep old (ask.Cancel t true) (did.Cancel t true effective) new)
+      → IfErr r (λ e. Refuses c (ask.Cancel t true) e) → OnErr r (AddsNone old new) → AddsCancel P c t old new
+  cancels (Ok effective) step refused none = inl (effective, step)
+  cancels (Err e) step refused none = inr (none, inr (e, refused))
+
+  -- none, of a future that is not open
+  pub needs_no_cancel : new ≡ old → IsClosed P c t → AddsCancel P c t old new
+  needs_no_cancel same closed = inr (none_added old new same, inl closed)
+
+module _ (P : Type 0) (c : Config) (jobs : ℕ) (tasks : List TaskId) (count : length tasks ≡ jobs) (r : Result ℤ PoolError) where
+  -- what any of many comes to
+  pub any_value : (old mid new : PassView) → AddsSubmissions tasks old mid → IfOk r (λ v. Any (HasValue P c v) tasks) → AddsCancels P c tasks mid new
+      → IfOk r (λ v. IsAnyValue P c jobs v old new)
+  any_value old mid new submits value cancels = valued r value
+    where
+      valued : (r : Result ℤ PoolError) → IfOk r (λ v. Any (HasValue P c v) tasks) → IfOk r (λ v. IsAnyValue P c jobs v old new)
+      valued (Ok v) value = record { tasks = tasks; count = count; mid = mid; submits = submits; value = value; cancels = cancels }
+      valued (Err e) value = tt
+
+  pub no_value : (old new : PassView) → AddsSubmissions tasks old new → IfErr r (λ e. HaveFailed P c tasks e) → IfErr r (λ e. HasNoValue P c jobs e old new)
+  no_value old new submits failed = refused r failed
+    where
+      refused : (r : Result ℤ PoolError) → IfErr r (λ e. HaveFailed P c tasks e) → IfErr r (λ e. HasNoValue P c jobs e old new)
+      refused (Ok v) failed = tt
+      refused (Err e) failed = inr (inr (record { tasks = tasks; count = count; submits = submits; failed = failed }))

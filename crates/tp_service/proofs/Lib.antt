@@ -1,0 +1,4 @@
+pub mod Closed
+pub mod Gathered
+pub mod Given
+pub mod Turned

@@ -1,0 +1,10 @@
+use Rattle.std.proofs.Common.{sym, subst}
+use Rattle.tp_service.specs.Submitted.{AddsSubmission}
+use Rattle.tp_service.proofs.Gathered.{admits}
+use Rattle.tp_service.proofs.completions.CompletionService.submit.Goals as goal
+
+pub returns-in-Ok-clause-submitted : goal.returns-in-Ok-clause-submitted
+returns-in-Ok-clause-submitted g c =
+    let old = c.args.pass.now in
+    let new = c.execute_as.new.pass in
+    subst (λ t. AddsSubmission t old new) (sym c.task_of.ensures) (admits c.in-Ok.admitted old new c.in-Ok.ensures.admitted)

@@ -1,0 +1,3 @@
+pub mod Futures
+pub mod Submitted
+pub mod Turns

@@ -1,0 +1,88 @@
+-- What the calls of a service add to their caller's pass.
+use Rattle.std.specs.Prelude.{ℕ, ℤ, Bool, true, ◌≡◌, ◌⊎◌, ◌<◌, List, length, All, Any}
+use Rattle.tp_types.specs.declared.configs.Config.{Config}
+use Rattle.tp_types.specs.declared.ids.TaskId.{TaskId}
+use Rattle.tp_types.specs.declared.refusals.PoolError.{PoolError}
+use Rattle.tp_types.specs.declared.refusals.PoolError.TheVariants as error
+use Rattle.tp_types.specs.declared.tasks.Kind.TheVariants as kind
+use Rattle.tp_record.specs.declared.entries.Ask.TheVariants as ask
+use Rattle.tp_record.specs.declared.entries.Did.TheVariants as did
+use Rattle.tp_record.specs.Paths.{Accepted, RanHere, Discarded, Rejected}
+use Rattle.tp_record.specs.Effects.{Outcome}
+use Rattle.tp_book.specs.PassView.{PassView}
+use Rattle.tp_locked.specs.Passes.{AddsNone, AddsStep, Refuses}
+use Rattle.tp_pool.specs.Admissions.{AddsPath, AddsFront}
+use Rattle.tp_service.specs.Futures.{IsClosed, IsLate, HasValue, HaveFailed}
+use Rattle.tp_service.specs.Turns.{Through}
+
+-- the whole path of this task, which is admitted at its end: accepted, run by its submitter, or discarded
+abbrev pub AddsSubmission : TaskId → PassView → PassView → Type 0
+AddsSubmission t old new = AddsPath t Accepted old new ⊎ (((o : Outcome) × AddsPath t (RanHere o) old new) ⊎ AddsPath t Discarded old new)
+
+-- the submissions of these tasks, one after another
+abbrev pub AddsSubmissions : List TaskId → PassView → PassView → Type 0
+AddsSubmissions ts old new = Through AddsSubmission ts old new
+
+-- a submission of a future is refused so: after its whole path, or torn off on it, or before its first step
+abbrev pub AddsRefused : Config → PoolError → PassView → PassView → Type 0
+AddsRefused c e old new =
+    ((t : TaskId) × (e ≡ error.Rejected t) × AddsPath t Rejected old new)
+    ⊎ ((e ≡ error.TornRecord) × AddsFront old new)
+    ⊎ (Refuses c (ask.Submit kind.Future) e × AddsNone old new)
+
+-- P is what the pool keeps of a job, c its settings
+module _ (P : Type 0) (c : Config) where
+  -- the step that cancels this task with its flag; or none, where its future is not open or the step is refused
+  abbrev pub AddsCancel : TaskId → PassView → PassView → Type 0
+  AddsCancel t old new =
+      ((effective : Bool) × AddsStep old (ask.Cancel t true) (did.Cancel t true effective) new)
+      ⊎ (AddsNone old new × (IsClosed P c t ⊎ ((e : PoolError) × Refuses c (ask.Cancel t true) e)))
+
+  -- that of each of these tasks, one after another
+  abbrev pub AddsCancels : List TaskId → PassView → PassView → Type 0
+  AddsCancels ts old new = Through AddsCancel ts old new
+
+  -- some of so many jobs were submitted, the next one was refused so, and those before it are cancelled
+  pub record IsTurnedBack (jobs : ℕ) (e : PoolError) (old new : PassView) : Type 0 where
+    pub earlier : List TaskId
+    pub fewer : length earlier < jobs
+    pub submitted : PassView
+    pub refused : PassView
+    pub submits : AddsSubmissions earlier old submitted
+    pub refuses : AddsRefused c e submitted refused
+    pub cancels : AddsCancels earlier refused new
+
+  -- so many jobs are not all submitted: for want of memory before the first, or since one was refused
+  abbrev pub AreTurnedBack : ℕ → PoolError → PassView → PassView → Type 0
+  AreTurnedBack jobs e old new = ((e ≡ error.NoMemory) × (new ≡ old)) ⊎ IsTurnedBack jobs e old new
+
+  -- all these futures are submitted, and then not open
+  abbrev pub IsAll : List TaskId → PassView → PassView → Type 0
+  IsAll ts old new = AddsSubmissions ts old new × All (IsClosed P c) ts
+
+  -- all are submitted, and then not open; or a wait for one finds that it is late, and all are cancelled
+  abbrev pub IsAllUntil : ℕ → List TaskId → PassView → PassView → Type 0
+  IsAllUntil deadline ts old new =
+      IsAll ts old new
+      ⊎ ((mid : PassView) × AddsSubmissions ts old mid × Any (IsLate P c deadline) ts × AddsCancels ts mid new)
+
+  -- so many jobs are submitted; one of them has this value, and all are cancelled
+  pub record IsAnyValue (jobs : ℕ) (v : ℤ) (old new : PassView) : Type 0 where
+    pub tasks : List TaskId
+    pub count : length tasks ≡ jobs
+    pub mid : PassView
+    pub submits : AddsSubmissions tasks old mid
+    pub value : Any (HasValue P c v) tasks
+    pub cancels : AddsCancels tasks mid new
+
+  -- so many jobs are submitted, and none has a value
+  pub record IsNoValue (jobs : ℕ) (e : PoolError) (old new : PassView) : Type 0 where
+    pub tasks : List TaskId
+    pub count : length tasks ≡ jobs
+    pub submits : AddsSubmissions tasks old new
+    pub failed : HaveFailed P c tasks e
+
+  -- none of so many jobs gives a value: there are none; or they are not all submitted; or none of them has one
+  abbrev pub HasNoValue : ℕ → PoolError → PassView → PassView → Type 0
+  HasNoValue jobs e old new =
+      ((jobs ≡ 0) × (e ≡ error.NoTasks) × (new ≡ old)) ⊎ (AreTurnedBack jobs e old new ⊎ IsNoValue jobs e old new)

@@ -1,0 +1,82 @@
+//! Jobs with a future, and what their futures answer.
+ghost use Rattle.std.specs.Prelude.{◌≡◌, Some, None, IfOk, IfErr};
+ghost use Rattle.tp_types.specs.declared.tasks.Kind.TheVariants.{Future};
+ghost use Rattle.tp_locked.specs.Readings.{got, IsFound, IsResult};
+ghost use Rattle.tp_locked.specs.Records.{BookAtSome};
+ghost use Rattle.tp_locked.specs.declared.tasks.Task.{Task};
+ghost use Rattle.tp_pool.specs.Admissions.{task_of as task_of_admitted, IsTurnedAway};
+ghost use Rattle.tp_service.specs.Submitted.{AddsSubmission};
+
+use std::sync::Wait;
+use std::thread::Threads;
+use tp_book::passes::Pass;
+use tp_pool::answers::{Admitted, Refused};
+use tp_pool::edges::Edge;
+use tp_pool::jobs::Job;
+use tp_pool::names::PoolNaming;
+use tp_pool::pool::PoolOf;
+use tp_types::ids::TaskId;
+use tp_types::refusals::PoolError;
+use tp_types::tasks::Kind;
+
+/// The task of a submission that was admitted, also a discarded one.
+pub(crate) fn task_of(admitted: Admitted) -> TaskId
+    ensures { result ≡ task_of_admitted admitted }
+{
+    match admitted {
+        Admitted::Accepted(t) | Admitted::RanHere(t, _) | Admitted::Discarded(t) => t,
+    }
+}
+
+/// Submits a job with a future, as `ExecutorService.submit`, and answers its number. NoMemory (4) or
+/// BookFull (5), with the job and with nothing done; Rejected (12), with the job; TornRecord (22).
+pub fn submit<
+    G: PoolNaming + Send + Sync + 'static,
+    J: Job + 'static,
+    E: Edge + Send + Sync + 'static,
+    R: Threads + Wait + Copy + Send + 'static,
+>(pool: &PoolOf<G, J, E>, rt: R, job: J, pass: &mut Pass<G>) -> Result<TaskId, Refused<J>>
+    ensures submitted { IfOk result (λ t. AddsSubmission t pass.old pass.new) }
+    ensures refused { IfErr result (λ r. IsTurnedAway G.config Future job pass.old pass.new r) }
+{
+    match pool.execute_as(rt, Kind::Future, job, pass) {
+        Ok(admitted) => Ok(task_of(admitted)),
+        Err(refused) => Err(refused),
+    }
+}
+
+/// Waits for a future's value, as `Future.get`. UnknownTask (6), NotFuture (9), CancelledTask (13),
+/// Faulted (14) with its code, or Lost (15) with the fate that its task came to instead.
+pub fn get<G: PoolNaming, J: Job, E: Edge, R: Wait>(
+    pool: &PoolOf<G, J, E>,
+    rt: &R,
+    t: TaskId,
+) -> Result<i64, PoolError>
+    ensures { BookAtSome (Task J) G.config (λ b. IsFound b t.0 None (got result)) }
+{
+    pool.await_result(rt, t, None)
+}
+
+/// As `get`, until now has reached this moment, in ticks, as `Future.get` with a timeout: TimedOut (16)
+/// then, only where the future is open.
+pub fn get_until<G: PoolNaming, J: Job, E: Edge, R: Wait>(
+    pool: &PoolOf<G, J, E>,
+    rt: &R,
+    t: TaskId,
+    deadline: u64,
+) -> Result<i64, PoolError>
+    ensures { BookAtSome (Task J) G.config (λ b. IsFound b t.0 (Some deadline) (got result)) }
+{
+    pool.await_result(rt, t, Some(deadline))
+}
+
+/// What a future answers now, as `Future.isDone` and then `get`: None while it is open. Refused as `get`.
+pub fn try_get<G: PoolNaming, J: Job, E: Edge, R: Wait>(
+    pool: &PoolOf<G, J, E>,
+    rt: &R,
+    t: TaskId,
+) -> Result<Option<i64>, PoolError>
+    ensures { BookAtSome (Task J) G.config (λ b. IsResult b t.0 result) }
+{
+    pool.result(rt, t)
+}

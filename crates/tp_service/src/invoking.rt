@@ -1,0 +1,268 @@
+//! Many jobs at once.
+ghost use Rattle.std.specs.Prelude.{◌≡◌, vec_len, All, Any, IsTrue, IfOk, IfErr, IfSome};
+ghost use Rattle.tp_locked.specs.declared.tasks.Task.{Task};
+ghost use Rattle.tp_service.specs.Futures.{later_fault as later_fault_of, HasValue, HaveFailed, IsClosed, IsLate};
+ghost use Rattle.tp_service.specs.Submitted.{AddsCancel, AddsCancels, AddsSubmissions, AreTurnedBack, HasNoValue, IsAll, IsAllUntil, IsAnyValue};
+
+use crate::futures::submit;
+use std::alloc::Global;
+use std::sync::Wait;
+use std::thread::Threads;
+use tp_book::passes::Pass;
+use tp_pool::edges::Edge;
+use tp_pool::jobs::Job;
+use tp_pool::names::PoolNaming;
+use tp_pool::pool::PoolOf;
+use tp_types::ids::TaskId;
+use tp_types::refusals::PoolError;
+
+// Has a task cancelled with its flag, where its future is open. A cancel that is refused is left undone.
+fn cancel_open<G: PoolNaming, J: Job, E: Edge, R: Wait>(
+    pool: &PoolOf<G, J, E>,
+    rt: &R,
+    t: TaskId,
+    pass: &mut Pass<G>,
+)
+    ensures { AddsCancel (Task J) G.config t pass.old pass.new }
+{
+    if pool.result(rt, t) != Ok(None) {
+        return;
+    }
+    let _ = pool.cancel(rt, t, true, pass);
+}
+
+// Those of these tasks.
+fn cancel_all<G: PoolNaming, J: Job, E: Edge, R: Wait>(
+    pool: &PoolOf<G, J, E>,
+    rt: &R,
+    tasks: &[TaskId],
+    pass: &mut Pass<G>,
+)
+    ensures { AddsCancels (Task J) G.config tasks.now pass.old pass.new }
+{
+    for t in tasks {
+        cancel_open(pool, rt, *t, pass);
+    }
+}
+
+// Waits until a future is not open.
+fn await_closed<G: PoolNaming, J: Job, E: Edge, R: Wait>(pool: &PoolOf<G, J, E>, rt: &R, t: TaskId)
+    ensures { IsClosed (Task J) G.config t }
+{
+    let _ = pool.await_result(rt, t, None);
+}
+
+// Waits until none of these is open.
+fn await_all<G: PoolNaming, J: Job, E: Edge, R: Wait>(
+    pool: &PoolOf<G, J, E>,
+    rt: &R,
+    tasks: &[TaskId],
+)
+    ensures { All (IsClosed (Task J) G.config) tasks.now }
+{
+    for t in tasks {
+        await_closed(pool, rt, *t);
+    }
+}
+
+// Waits until a future is not open: whether that comes before now has reached the deadline.
+fn closes_by<G: PoolNaming, J: Job, E: Edge, R: Wait>(
+    pool: &PoolOf<G, J, E>,
+    rt: &R,
+    t: TaskId,
+    deadline: u64,
+) -> bool
+    ensures closed { IsTrue result → IsClosed (Task J) G.config t }
+    ensures late { ¬ IsTrue result → IsLate (Task J) G.config deadline t }
+{
+    pool.await_result(rt, t, Some(deadline)) != Err(PoolError::TimedOut)
+}
+
+// Waits until none of these is open, or the deadline has come for one.
+fn all_close_by<G: PoolNaming, J: Job, E: Edge, R: Wait>(
+    pool: &PoolOf<G, J, E>,
+    rt: &R,
+    tasks: &[TaskId],
+    deadline: u64,
+) -> bool
+    ensures closed { IsTrue result → All (IsClosed (Task J) G.config) tasks.now }
+    ensures late { ¬ IsTrue result → Any (IsLate (Task J) G.config deadline) tasks.now }
+{
+    for t in tasks {
+        if !closes_by(pool, rt, *t, deadline) {
+            return false;
+        }
+    }
+    true
+}
+
+// The last fault, where this one came before this refusal.
+fn later_fault(before: Option<u32>, error: PoolError) -> Option<u32>
+    ensures { result ≡ later_fault_of before error }
+{
+    match error {
+        PoolError::Faulted(code) => Some(code),
+        _ => before,
+    }
+}
+
+// What these futures come to together: the value of the first that has one; none while one is open; else
+// that all failed, with the last fault in their order.
+fn any_of<G: PoolNaming, J: Job, E: Edge, R: Wait>(
+    pool: &PoolOf<G, J, E>,
+    rt: &R,
+    tasks: &[TaskId],
+) -> Option<Result<i64, PoolError>>
+    ensures value { IfSome result (λ r. IfOk r (λ v. Any (HasValue (Task J) G.config v) tasks.now)) }
+    ensures failed { IfSome result (λ r. IfErr r (λ e. HaveFailed (Task J) G.config tasks.now e)) }
+{
+    let mut open = false;
+    let mut fault = None;
+    for t in tasks {
+        let found = pool.result(rt, *t).transpose();
+        match found {
+            None => open = true,
+            Some(Ok(_)) => return found,
+            Some(Err(error)) => fault = later_fault(fault, error),
+        }
+    }
+    if open {
+        return None;
+    }
+    Some(Err(PoolError::AllFailed(fault)))
+}
+
+// Waits until one of these futures has a value, or none is open. The record's length is read before each
+// look, so that no step falls between a look and the sleep unseen.
+fn await_any<G: PoolNaming, J: Job, E: Edge, R: Wait>(
+    pool: &PoolOf<G, J, E>,
+    rt: &R,
+    tasks: &[TaskId],
+) -> Result<i64, PoolError>
+    ensures value { IfOk result (λ v. Any (HasValue (Task J) G.config v) tasks.now) }
+    ensures failed { IfErr result (λ e. HaveFailed (Task J) G.config tasks.now e) }
+{
+    for _ in rt.forever() {
+        let seen = pool.steps(rt);
+        if let Some(answer) = any_of(pool, rt, tasks) {
+            return answer;
+        }
+        pool.wait_step(rt, seen);
+    }
+    unreachable!()
+}
+
+// Submits jobs with futures in this order, the memory of the answer being taken first. Where one is
+// refused, the earlier ones are cancelled with their flags, and it and the later ones are dropped.
+fn submit_all<
+    G: PoolNaming + Send + Sync + 'static,
+    J: Job + 'static,
+    E: Edge + Send + Sync + 'static,
+    R: Threads + Wait + Copy + Send + 'static,
+>(
+    pool: &PoolOf<G, J, E>,
+    rt: R,
+    alloc: Global,
+    jobs: Vec<J>,
+    pass: &mut Pass<G>,
+) -> Result<Vec<TaskId>, PoolError>
+    ensures count { IfOk result (λ tasks. vec_len tasks ≡ vec_len jobs) }
+    ensures submitted { IfOk result (λ tasks. AddsSubmissions tasks.items pass.old pass.new) }
+    ensures refused { IfErr result (λ e. AreTurnedBack (Task J) G.config (vec_len jobs) e pass.old pass.new) }
+{
+    let Ok(mut tasks) = Vec::with_capacity(alloc, jobs.len()) else {
+        return Err(PoolError::NoMemory);
+    };
+    for job in jobs {
+        match submit(pool, rt, job, pass) {
+            Ok(t) => tasks.push_reserved(t),
+            Err(refused) => {
+                let earlier = tasks.as_slice();
+                cancel_all(pool, &rt, earlier, pass);
+                return Err(refused.error);
+            }
+        }
+    }
+    Ok(tasks)
+}
+
+/// Submits these jobs and waits until each is done or lost, as `ExecutorService.invokeAll`: their numbers,
+/// in the order given. NoMemory (4), BookFull (5), Rejected (12) or TornRecord (22) of a submission: the
+/// earlier jobs are then cancelled with their flags, and it and the later ones dropped.
+pub fn invoke_all<
+    G: PoolNaming + Send + Sync + 'static,
+    J: Job + 'static,
+    E: Edge + Send + Sync + 'static,
+    R: Threads + Wait + Copy + Send + 'static,
+>(
+    pool: &PoolOf<G, J, E>,
+    rt: R,
+    alloc: Global,
+    jobs: Vec<J>,
+    pass: &mut Pass<G>,
+) -> Result<Vec<TaskId>, PoolError>
+    ensures count { IfOk result (λ tasks. vec_len tasks ≡ vec_len jobs) }
+    ensures all { IfOk result (λ tasks. IsAll (Task J) G.config tasks.items pass.old pass.new) }
+    ensures refused { IfErr result (λ e. AreTurnedBack (Task J) G.config (vec_len jobs) e pass.old pass.new) }
+{
+    let tasks = submit_all(pool, rt, alloc, jobs, pass)?;
+    await_all(pool, &rt, tasks.as_slice());
+    Ok(tasks)
+}
+
+/// As `invoke_all`, until now has reached this moment, in ticks: those that are open then are cancelled
+/// with their flags, and the numbers are answered.
+pub fn invoke_all_until<
+    G: PoolNaming + Send + Sync + 'static,
+    J: Job + 'static,
+    E: Edge + Send + Sync + 'static,
+    R: Threads + Wait + Copy + Send + 'static,
+>(
+    pool: &PoolOf<G, J, E>,
+    rt: R,
+    alloc: Global,
+    jobs: Vec<J>,
+    deadline: u64,
+    pass: &mut Pass<G>,
+) -> Result<Vec<TaskId>, PoolError>
+    ensures count { IfOk result (λ tasks. vec_len tasks ≡ vec_len jobs) }
+    ensures all { IfOk result (λ tasks. IsAllUntil (Task J) G.config deadline tasks.items pass.old pass.new) }
+    ensures refused { IfErr result (λ e. AreTurnedBack (Task J) G.config (vec_len jobs) e pass.old pass.new) }
+{
+    let tasks = submit_all(pool, rt, alloc, jobs, pass)?;
+    if all_close_by(pool, &rt, tasks.as_slice(), deadline) {
+        return Ok(tasks);
+    }
+    cancel_all(pool, &rt, tasks.as_slice(), pass);
+    Ok(tasks)
+}
+
+/// Submits these jobs and waits for one that succeeds, as `ExecutorService.invokeAny`: its value; the rest
+/// are cancelled with their flags. NoTasks (17) of no jobs; AllFailed (18) where none succeeded, with the
+/// last fault in the order given; a refused submission as in `invoke_all`.
+pub fn invoke_any<
+    G: PoolNaming + Send + Sync + 'static,
+    J: Job + 'static,
+    E: Edge + Send + Sync + 'static,
+    R: Threads + Wait + Copy + Send + 'static,
+>(
+    pool: &PoolOf<G, J, E>,
+    rt: R,
+    alloc: Global,
+    jobs: Vec<J>,
+    pass: &mut Pass<G>,
+) -> Result<i64, PoolError>
+    ensures value { IfOk result (λ v. IsAnyValue (Task J) G.config (vec_len jobs) v pass.old pass.new) }
+    ensures refused { IfErr result (λ e. HasNoValue (Task J) G.config (vec_len jobs) e pass.old pass.new) }
+{
+    if jobs.is_empty() {
+        return Err(PoolError::NoTasks);
+    }
+    let tasks = submit_all(pool, rt, alloc, jobs, pass)?;
+    let answer = await_any(pool, &rt, tasks.as_slice());
+    if answer.is_err() {
+        return answer;
+    }
+    cancel_all(pool, &rt, tasks.as_slice(), pass);
+    answer
+}

@@ -1,0 +1,5 @@
+//! Futures for a pool's callers, played by its tests.
+#![tactic(auto)]
+
+#[cfg(test)]
+mod tests;

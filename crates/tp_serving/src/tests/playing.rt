@@ -1,0 +1,261 @@
+// How a caller's lines are played.
+
+use super::boards::{Board, shared};
+use super::chores::{Chore, Deed};
+use super::scripts::{Control, Cue, Many, Step};
+use super::users::Users;
+use std::alloc::Global;
+use std::process::Abort;
+use std::sync::{Arc, Wait};
+use std::thread;
+use std::thread::Threads;
+use std::time::{Clock, Duration};
+use tp_book::passes::Pass;
+use tp_pool::answers::{Admitted, Refused, Removal};
+use tp_pool::names::PoolNaming;
+use tp_pool::pool::PoolOf;
+use tp_service::completions::CompletionService;
+use tp_service::futures::{get, get_until, submit, try_get};
+use tp_service::invoking::{invoke_all, invoke_all_until, invoke_any};
+use tp_types::ids::TaskId;
+use tp_types::refusals::PoolError;
+use tp_types::tasks::Kind;
+
+pub type Tested<G> = PoolOf<G, Chore, Users>;
+
+// Sleeps for so many microseconds, or a little longer.
+fn rest<R: Clock>(rt: &R, micros: u32) {
+    thread::sleep(rt, Duration::from_micros(u64::from(micros)));
+}
+
+fn chore(board: &Arc<Board>, deed: Deed) -> Result<Chore, PoolError> {
+    let board = shared(board)?;
+    Ok(Chore { deed, board })
+}
+
+fn chores(alloc: Global, board: &Arc<Board>, deeds: &[Deed]) -> Result<Vec<Chore>, PoolError> {
+    let Ok(mut jobs) = Vec::with_capacity(alloc, deeds.len()) else {
+        return Err(PoolError::NoMemory);
+    };
+    for deed in deeds {
+        let job = chore(board, *deed)?;
+        if jobs.push(job).is_err() {
+            return Err(PoolError::NoMemory);
+        }
+    }
+    Ok(jobs)
+}
+
+// The task of a submission.
+fn task_of(admitted: Admitted) -> TaskId {
+    match admitted {
+        Admitted::Accepted(t) | Admitted::RanHere(t, _) | Admitted::Discarded(t) => t,
+    }
+}
+
+// Submits a job of this kind.
+fn submitted<G: PoolNaming + Send + Sync + 'static, R: Threads + Wait + Copy + Send + 'static>(
+    rt: R,
+    pool: &Tested<G>,
+    kind: Kind,
+    job: Chore,
+    pass: &mut Pass<G>,
+) -> Result<TaskId, Refused<Chore>> {
+    match kind {
+        Kind::Plain => pool.execute_as(rt, Kind::Plain, job, pass).map(task_of),
+        Kind::Future => submit(pool, rt, job, pass),
+        Kind::Group(group) => CompletionService::new(group).submit(pool, rt, job, pass),
+    }
+}
+
+fn submits<G: PoolNaming + Send + Sync + 'static, R: Threads + Wait + Copy + Send + 'static>(
+    rt: R,
+    pool: &Tested<G>,
+    board: &Arc<Board>,
+    (kind, deed, number): (Kind, Deed, u32),
+    pass: &mut Pass<G>,
+) -> bool {
+    let Ok(job) = chore(board, deed) else {
+        return false;
+    };
+    match submitted(rt, pool, kind, job, pass) {
+        Ok(t) => t.0 == number,
+        Err(_) => false,
+    }
+}
+
+// Whether these are the numbers from this one on, so many of them.
+fn are_numbers(tasks: &[TaskId], from: u32, count: usize) -> bool {
+    let mut next = from;
+    for t in tasks {
+        if t.0 != next {
+            return false;
+        }
+        next = next.saturating_add(1);
+    }
+    tasks.len() == count
+}
+
+fn are_answered(found: Result<Vec<TaskId>, PoolError>, from: u32, count: usize) -> bool {
+    match found {
+        Ok(tasks) => are_numbers(tasks.as_slice(), from, count),
+        Err(_) => false,
+    }
+}
+
+fn is_refused(found: Result<Vec<TaskId>, PoolError>, error: PoolError) -> bool {
+    match found {
+        Ok(_) => false,
+        Err(refused) => refused == error,
+    }
+}
+
+fn jobs_of<'s>(many: Many<'s>) -> &'s [Deed] {
+    match many {
+        Many::All(deeds, _)
+        | Many::AllUntil(deeds, _, _)
+        | Many::AllRefused(deeds, _)
+        | Many::Any(deeds, _) => deeds,
+    }
+}
+
+// Has many jobs run.
+fn invokes<G: PoolNaming + Send + Sync + 'static, R: Threads + Wait + Copy + Send + 'static>(
+    rt: R,
+    alloc: Global,
+    pool: &Tested<G>,
+    board: &Arc<Board>,
+    many: Many<'_>,
+    pass: &mut Pass<G>,
+) -> bool {
+    let deeds = jobs_of(many);
+    let Ok(jobs) = chores(alloc, board, deeds) else {
+        return false;
+    };
+    match many {
+        Many::All(_, from) => {
+            are_answered(invoke_all(pool, rt, alloc, jobs, pass), from, deeds.len())
+        }
+        Many::AllUntil(_, deadline, from) => {
+            let found = invoke_all_until(pool, rt, alloc, jobs, deadline, pass);
+            are_answered(found, from, deeds.len())
+        }
+        Many::AllRefused(_, error) => is_refused(invoke_all(pool, rt, alloc, jobs, pass), error),
+        Many::Any(_, answer) => invoke_any(pool, rt, alloc, jobs, pass) == answer,
+    }
+}
+
+// Takes the next done task of the group.
+fn takes<G: PoolNaming, R: Wait>(
+    rt: &R,
+    pool: &Tested<G>,
+    group: u32,
+    answer: Result<u32, PoolError>,
+    pass: &mut Pass<G>,
+) -> bool {
+    let found = CompletionService::new(group).take(pool, rt, pass);
+    found.map(|t| t.0) == answer
+}
+
+fn polls<G: PoolNaming, R: Wait>(
+    rt: &R,
+    pool: &Tested<G>,
+    group: u32,
+    answer: Result<Option<u32>, PoolError>,
+    pass: &mut Pass<G>,
+) -> bool {
+    let found = CompletionService::new(group).poll(pool, rt, pass);
+    found.map(|t| t.map(|t| t.0)) == answer
+}
+
+fn controls<G: PoolNaming, R: Wait>(
+    rt: &R,
+    pool: &Tested<G>,
+    control: Control,
+    pass: &mut Pass<G>,
+) -> bool {
+    match control {
+        Control::Cancel(t, flag, could) => pool.cancel(rt, TaskId(t), flag, pass) == Ok(could),
+        Control::Remove(t) => matches!(pool.remove(rt, TaskId(t), pass), Ok(Removal::Yes(Some(_)))),
+        Control::Stop(back) => match pool.shutdown_now(rt, pass) {
+            Ok(drained) => drained.len() == back,
+            Err(_) => false,
+        },
+        Control::Shutdown => pool.shutdown(rt, pass).is_ok(),
+        Control::Tick(now) => pool.tick(rt, now, pass).is_ok(),
+    }
+}
+
+// Waits until so many tasks are queued, or for some seconds.
+fn queues<G: PoolNaming, R: Wait + Clock>(rt: &R, pool: &Tested<G>, tasks: u32) -> bool {
+    for _ in 0..20_000u32 {
+        if pool.counts(rt).queued == tasks {
+            return true;
+        }
+        rest(rt, 200);
+    }
+    false
+}
+
+fn hears<G: PoolNaming, R: Wait + Clock>(
+    rt: &R,
+    pool: &Tested<G>,
+    board: &Board,
+    cue: Cue,
+) -> bool {
+    match cue {
+        Cue::Raise(signal) => board.raise(signal),
+        Cue::Reaches(signal, to) => return board.reaches(signal, to),
+        Cue::Queued(tasks) => return queues(rt, pool, tasks),
+        Cue::Rest(micros) => rest(rt, micros),
+    }
+    true
+}
+
+// Waits for a step.
+fn goes_on<G: PoolNaming, R: Wait>(rt: &R, pool: &Tested<G>, seen: u64, least: u64) -> bool {
+    let steps = pool.wait_step(rt, seen);
+    steps > seen && steps >= least
+}
+
+// Makes the step: whether it is answered as it says.
+fn makes<G: PoolNaming + Send + Sync + 'static, R: Threads + Wait + Clock + Copy + Send + 'static>(
+    rt: R,
+    alloc: Global,
+    pool: &Tested<G>,
+    board: &Arc<Board>,
+    step: Step<'_>,
+    pass: &mut Pass<G>,
+) -> bool {
+    match step {
+        Step::Submit(kind, deed, number) => submits(rt, pool, board, (kind, deed, number), pass),
+        Step::Get(t, answer) => get(pool, &rt, TaskId(t)) == answer,
+        Step::GetUntil(t, deadline, answer) => get_until(pool, &rt, TaskId(t), deadline) == answer,
+        Step::TryGet(t, answer) => try_get(pool, &rt, TaskId(t)) == answer,
+        Step::Many(many) => invokes(rt, alloc, pool, board, many, pass),
+        Step::Take(group, answer) => takes(&rt, pool, group, answer, pass),
+        Step::Poll(group, answer) => polls(&rt, pool, group, answer, pass),
+        Step::Control(control) => controls(&rt, pool, control, pass),
+        Step::Cue(cue) => hears(&rt, pool, board, cue),
+        Step::Steps(entries) => pool.steps(&rt) == entries,
+        Step::WaitStep(seen, least) => goes_on(&rt, pool, seen, least),
+    }
+}
+
+// Plays these lines, each of which must be answered as it says.
+pub fn play<
+    G: PoolNaming + Send + Sync + 'static,
+    R: Abort + Threads + Wait + Clock + Copy + Send + 'static,
+>(
+    rt: R,
+    alloc: Global,
+    pool: &Tested<G>,
+    board: &Arc<Board>,
+    steps: &[Step<'_>],
+    pass: &mut Pass<G>,
+) {
+    for (line, step) in steps.iter().enumerate() {
+        let made = makes(rt, alloc, pool, board, *step, pass);
+        assert!(&rt; made, "line {line} of {}", steps.len());
+    }
+}
