@@ -16,8 +16,8 @@ use Rattle.tp_pool.specs.Admissions.{AddsPath, AddsFront, IsTurnedAway}
 use Rattle.tp_pool.proofs.Receipts.{adds_behind, none_behind}
 
 -- behind room for more
-path_behind : (t : TaskId) (end : Admission) (old mid new : PassView) → AddsNone old mid → AddsPath t end mid new → AddsPath t end old new
-path_behind t end old mid new none path = (path.0, path.1, adds_behind old mid new path.0 none path.2)
+path_behind : (kind : Kind) (t : TaskId) (end : Admission) (old mid new : PassView) → AddsNone old mid → AddsPath kind t end mid new → AddsPath kind t end old new
+path_behind kind t end old mid new none path = (path.0, path.1, path.2, adds_behind old mid new path.0 none path.3)
 
 front_behind : (old mid new : PassView) → AddsNone old mid → AddsFront mid new → AddsFront old new
 front_behind old mid new none is =
@@ -35,7 +35,7 @@ module _ {J : Type 0} where
   turns_behind : (c : Config) (kind : Kind) (job : J) (old mid new : PassView) (x : Refused J) → AddsNone old mid →
       IsTurnedAway c kind job mid new x → IsTurnedAway c kind job old new x
   turns_behind c kind job old mid new x none is =
-      ⊎_elim (λ (y : (t : TaskId) × (x.error ≡ error.Rejected t) × AddsPath t Rejected mid new). inl (y.0, y.1, path_behind y.0 Rejected old mid new none y.2))
+      ⊎_elim (λ (y : (t : TaskId) × (x.error ≡ error.Rejected t) × AddsPath kind t Rejected mid new). inl (y.0, y.1, path_behind kind y.0 Rejected old mid new none y.2))
       (⊎_elim (λ (y : (x.error ≡ error.TornRecord) × AddsFront mid new). inr (inl (y.0, front_behind old mid new none y.1)))
       (λ (y : Refuses c (ask.Submit kind) x.error × (x.job ≡ Some job) × AddsNone mid new). inr (inr (y.0, y.1, none_behind old mid new none y.2))))
       is

@@ -25,9 +25,14 @@ end_of (admitted.Accepted t) = Accepted
 end_of (admitted.RanHere t o) = RanHere o
 end_of (admitted.Discarded t) = Discarded
 
--- the pass has the receipts of the whole path of this task, which ends so
-abbrev pub AddsPath : TaskId → Admission → PassView → PassView → Type 0
-AddsPath t a old new = (steps : List Entry) × IsPath t.0 steps a × Adds old steps new
+-- the first of these is asked as the submission of a task of this kind
+abbrev pub AsksFor : Kind → List Entry → Type 0
+AsksFor kind [] = ⊥
+AsksFor kind (e ∷ es) = e.ask ≡ ask.Submit kind
+
+-- the pass has the receipts of the whole path of this task, which is of this kind, and the path ends so
+abbrev pub AddsPath : Kind → TaskId → Admission → PassView → PassView → Type 0
+AddsPath kind t a old new = (steps : List Entry) × IsPath t.0 steps a × AsksFor kind steps × Adds old steps new
 
 -- it has the receipts of a front of some task's path, and at most one that is not on it
 abbrev pub AddsFront : PassView → PassView → Type 0
@@ -38,6 +43,6 @@ AddsFront old new = (t : ℕ) × (front : List Entry) × (f : Follow) × IsFront
 -- step, and then with the job
 abbrev pub IsTurnedAway : {J : Type 0} → Config → Kind → J → PassView → PassView → Refused J → Type 0
 IsTurnedAway c kind job old new refused =
-    ((t : TaskId) × (refused.error ≡ error.Rejected t) × AddsPath t Rejected old new)
+    ((t : TaskId) × (refused.error ≡ error.Rejected t) × AddsPath kind t Rejected old new)
     ⊎ ((refused.error ≡ error.TornRecord) × AddsFront old new)
     ⊎ (Refuses c (ask.Submit kind) refused.error × (refused.job ≡ Some job) × AddsNone old new)

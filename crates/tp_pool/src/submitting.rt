@@ -82,7 +82,7 @@ impl<
         job: J,
         pass: &mut Pass<G>,
     ) -> Result<Admitted, Refused<J>>
-        ensures admitted { IfOk result (λ a. AddsPath (task_of a) (end_of a) pass.old pass.new) }
+        ensures admitted { IfOk result (λ a. AddsPath kind (task_of a) (end_of a) pass.old pass.new) }
         ensures refused { IfErr result (λ r. IsTurnedAway G.config kind job pass.old pass.new r) }
     {
         match self.reserve(pass) {
@@ -123,7 +123,7 @@ impl<
         pass: &mut Pass<G>,
     ) -> Result<Admitted, Refused<J>>
         requires room { 512 ≤ pass.old.room }
-        ensures admitted { IfOk result (λ a. AddsPath (task_of a) (end_of a) pass.old pass.new) }
+        ensures admitted { IfOk result (λ a. AddsPath kind (task_of a) (end_of a) pass.old pass.new) }
         ensures refused { IfErr result (λ r. IsTurnedAway G.config kind task.job pass.old pass.new r) }
     {
         let (t, did) = match self.shared().submit(&rt, kind, task, kept, pass) {
@@ -230,7 +230,7 @@ impl<G: PoolNaming + Send + Sync + 'static> PoolOf<G, Boxed, Boxes> {
         job: Box<dyn Job>,
         pass: &mut Pass<G>,
     ) -> Result<Admitted, Refused<Boxed>>
-        ensures admitted { IfOk result (λ a. AddsPath (task_of a) (end_of a) pass.old pass.new) }
+        ensures admitted { IfOk result (λ a. AddsPath Kind.Plain (task_of a) (end_of a) pass.old pass.new) }
         ensures refused { IfErr result (λ r. IsTurnedAway G.config Kind.Plain (record { job = job }) pass.old pass.new r) }
     {
         self.execute_as(rt, Kind::Plain, Boxed { job }, pass)

@@ -1,9 +1,10 @@
-//! Records judged, with answers from the worked rows or told by hand.
+//! Records judged by both auditors, with answers from the worked rows or told by hand.
+ghost use Rattle.tp_types.specs.Config.{IsConfig};
 
 use std::alloc::Global;
+use std::process::Abort;
 use std::test::Fail;
-use tp_audit::plain::audit_plain;
-use tp_audit::summary::{Flaw, Summary};
+use tp_laws::{Flaw, Summary, audit, audit_plain};
 use tp_record::entries::{Ask, Did, Entry, Looked, Opened, Started, Took};
 use tp_types::configs::{Config, Policy, QueueKind};
 use tp_types::ids::{SlotId, TaskId};
@@ -54,9 +55,24 @@ fn shortest_life(slot: usize) -> [Entry; 5] {
     ]
 }
 
+/// The judgment of both auditors, which is one.
+fn judged<R: Abort>(
+    rt: &R,
+    alloc: Global,
+    config: &Config,
+    entries: &[Entry],
+) -> Result<Summary, Flaw>
+    requires { IsConfig config.now }
+{
+    let judgment = audit(alloc, config, entries);
+    let plain = audit_plain(alloc, config, entries);
+    assert!(rt; judgment == plain, "the auditors differ");
+    judgment
+}
+
 #[test]
 fn judges_the_shortest_life(rt: HostRuntime) -> Result<(), Fail> {
-    let summary = audit_plain(rt.alloc(), &LONE, &shortest_life(0))?;
+    let summary = judged(&rt, rt.alloc(), &LONE, &shortest_life(0))?;
     let counts = Counts {
         submitted: 1,
         run: 1,
@@ -73,7 +89,7 @@ fn judges_the_shortest_life(rt: HostRuntime) -> Result<(), Fail> {
 
 #[test]
 fn judges_an_empty_record(rt: HostRuntime) -> Result<(), Fail> {
-    let summary = audit_plain(rt.alloc(), &LONE, &[])?;
+    let summary = judged(&rt, rt.alloc(), &LONE, &[])?;
     assert_eq!(rt; summary.counts, Counts::default());
     assert_eq!(rt; summary.state, RunState::Running);
     assert!(rt; summary.fates.is_empty());
@@ -83,7 +99,7 @@ fn judges_an_empty_record(rt: HostRuntime) -> Result<(), Fail> {
 #[test]
 fn takes_any_free_number(rt: HostRuntime) -> Result<(), Fail> {
     for slot in [0, 1, 7, 1_000] {
-        let summary = audit_plain(rt.alloc(), &LONE, &shortest_life(slot))?;
+        let summary = judged(&rt, rt.alloc(), &LONE, &shortest_life(slot))?;
         assert_eq!(rt; summary.counts.live, 1, "slot {slot}");
     }
     Ok(())
@@ -102,25 +118,25 @@ fn refuses_a_number_in_use(rt: HostRuntime) {
         did: Did::Submit(TaskId(task), Kind::Plain, Looked::Reserve(SlotId(slot))),
     };
     let apart = [submit(0, 4), submit(1, 0)];
-    assert!(rt; audit_plain(rt.alloc(), &two, &apart).is_ok());
+    assert!(rt; judged(&rt, rt.alloc(), &two, &apart).is_ok());
     let shared = [submit(0, 4), submit(1, 4)];
-    assert!(rt; audit_plain(rt.alloc(), &two, &shared) == Err(Flaw::At(2)));
+    assert!(rt; judged(&rt, rt.alloc(), &two, &shared) == Err(Flaw::At(2)));
 }
 
 #[test]
 fn tells_the_first_flaw(rt: HostRuntime) {
     let life = shortest_life(0);
     // Row 21: the worker takes before it is opened.
-    assert!(rt; audit_plain(rt.alloc(), &LONE, &[life[0], life[2]]) == Err(Flaw::At(2)));
-    assert!(rt; audit_plain(rt.alloc(), &LONE, &life[1..]) == Err(Flaw::At(1)));
+    assert!(rt; judged(&rt, rt.alloc(), &LONE, &[life[0], life[2]]) == Err(Flaw::At(2)));
+    assert!(rt; judged(&rt, rt.alloc(), &LONE, &life[1..]) == Err(Flaw::At(1)));
     let twice = [life[0], life[1], life[1], life[1]];
-    assert!(rt; audit_plain(rt.alloc(), &LONE, &twice) == Err(Flaw::At(3)));
+    assert!(rt; judged(&rt, rt.alloc(), &LONE, &twice) == Err(Flaw::At(3)));
     // An answer to another ask than the entry's.
     let other = Entry {
         ask: Ask::Fail(SlotId(0)),
         ..life[1]
     };
-    assert!(rt; audit_plain(rt.alloc(), &LONE, &[life[0], other]) == Err(Flaw::At(2)));
+    assert!(rt; judged(&rt, rt.alloc(), &LONE, &[life[0], other]) == Err(Flaw::At(2)));
 }
 
 /// Where any one allocation fails, the answer is want of memory; with ample memory it is right.

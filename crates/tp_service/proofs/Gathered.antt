@@ -5,6 +5,7 @@ use Rattle.tp_types.specs.declared.configs.Config.{Config}
 use Rattle.tp_types.specs.declared.ids.TaskId.{TaskId}
 use Rattle.tp_types.specs.declared.refusals.PoolError.{PoolError}
 use Rattle.tp_types.specs.declared.refusals.PoolError.TheVariants as error
+use Rattle.tp_types.specs.declared.tasks.Kind.{Kind}
 use Rattle.tp_types.specs.declared.tasks.Kind.TheVariants as kind
 use Rattle.tp_record.specs.declared.entries.Ask.TheVariants as ask
 use Rattle.tp_record.specs.declared.entries.Did.TheVariants as did
@@ -20,15 +21,15 @@ use Rattle.tp_service.specs.Futures.{IsClosed, HasValue, HaveFailed}
 use Rattle.tp_service.specs.Submitted.{AddsSubmission, AddsSubmissions, AddsRefused, AddsCancel, AddsCancels, IsAnyValue, HasNoValue}
 
 -- a submission that was admitted
-pub admits : (a : Admitted) (old new : PassView) → AddsPath (task_of a) (end_of a) old new → AddsSubmission (task_of a) old new
-admits (admitted.Accepted t) old new path = inl path
-admits (admitted.RanHere t o) old new path = inr (inl (o, path))
-admits (admitted.Discarded t) old new path = inr (inr path)
+pub admits : (k : Kind) (a : Admitted) (old new : PassView) → AddsPath k (task_of a) (end_of a) old new → AddsSubmission k (task_of a) old new
+admits k (admitted.Accepted t) old new path = inl path
+admits k (admitted.RanHere t o) old new path = inr (inl (o, path))
+admits k (admitted.Discarded t) old new path = inr (inr path)
 
 -- one that was refused, whatever its job
 pub refuses : {J : Type 0} (c : Config) (job : J) (old new : PassView) (x : Refused J) → IsTurnedAway c kind.Future job old new x → AddsRefused c x.error old new
 refuses c job old new x is =
-    ⊎_elim (λ (y : (t : TaskId) × (x.error ≡ error.Rejected t) × AddsPath t Rejected old new). inl y)
+    ⊎_elim (λ (y : (t : TaskId) × (x.error ≡ error.Rejected t) × AddsPath kind.Future t Rejected old new). inl y)
     (⊎_elim (λ (y : (x.error ≡ error.TornRecord) × AddsFront old new). inr (inl y))
     (λ (y : Refuses c (ask.Submit kind.Future) x.error × (x.job ≡ Some job) × AddsNone old new). inr (inr (y.0, y.2))))
     is

@@ -4,6 +4,7 @@ use Rattle.tp_types.specs.declared.configs.Config.{Config}
 use Rattle.tp_types.specs.declared.ids.TaskId.{TaskId}
 use Rattle.tp_types.specs.declared.refusals.PoolError.{PoolError}
 use Rattle.tp_types.specs.declared.refusals.PoolError.TheVariants as error
+use Rattle.tp_types.specs.declared.tasks.Kind.{Kind}
 use Rattle.tp_types.specs.declared.tasks.Kind.TheVariants as kind
 use Rattle.tp_record.specs.declared.entries.Ask.TheVariants as ask
 use Rattle.tp_record.specs.declared.entries.Did.TheVariants as did
@@ -15,18 +16,18 @@ use Rattle.tp_pool.specs.Admissions.{AddsPath, AddsFront}
 use Rattle.tp_service.specs.Futures.{IsClosed, IsLate, HasValue, HaveFailed}
 use Rattle.tp_service.specs.Turns.{Through}
 
--- the whole path of this task, which is admitted at its end: accepted, run by its submitter, or discarded
-abbrev pub AddsSubmission : TaskId → PassView → PassView → Type 0
-AddsSubmission t old new = AddsPath t Accepted old new ⊎ (((o : Outcome) × AddsPath t (RanHere o) old new) ⊎ AddsPath t Discarded old new)
+-- the whole path of this task of this kind, which is admitted at its end: accepted, run by its submitter, or discarded
+abbrev pub AddsSubmission : Kind → TaskId → PassView → PassView → Type 0
+AddsSubmission k t old new = AddsPath k t Accepted old new ⊎ (((o : Outcome) × AddsPath k t (RanHere o) old new) ⊎ AddsPath k t Discarded old new)
 
--- the submissions of these tasks, one after another
+-- the submissions of these futures, one after another
 abbrev pub AddsSubmissions : List TaskId → PassView → PassView → Type 0
-AddsSubmissions ts old new = Through AddsSubmission ts old new
+AddsSubmissions ts old new = Through (AddsSubmission kind.Future) ts old new
 
 -- a submission of a future is refused so: after its whole path, or torn off on it, or before its first step
 abbrev pub AddsRefused : Config → PoolError → PassView → PassView → Type 0
 AddsRefused c e old new =
-    ((t : TaskId) × (e ≡ error.Rejected t) × AddsPath t Rejected old new)
+    ((t : TaskId) × (e ≡ error.Rejected t) × AddsPath kind.Future t Rejected old new)
     ⊎ ((e ≡ error.TornRecord) × AddsFront old new)
     ⊎ (Refuses c (ask.Submit kind.Future) e × AddsNone old new)
 

@@ -48,7 +48,7 @@ impl CompletionService {
         job: J,
         pass: &mut Pass<G>,
     ) -> Result<TaskId, Refused<J>>
-        ensures submitted { IfOk result (λ t. AddsSubmission t pass.old pass.new) }
+        ensures submitted { IfOk result (λ t. AddsSubmission (Group self.now.group) t pass.old pass.new) }
         ensures refused { IfErr result (λ r. IsTurnedAway G.config (Group self.now.group) job pass.old pass.new r) }
     {
         match pool.execute_as(rt, Kind::Group(self.group), job, pass) {

@@ -36,7 +36,7 @@ pub fn submit<
     E: Edge + Send + Sync + 'static,
     R: Threads + Wait + Copy + Send + 'static,
 >(pool: &PoolOf<G, J, E>, rt: R, job: J, pass: &mut Pass<G>) -> Result<TaskId, Refused<J>>
-    ensures submitted { IfOk result (λ t. AddsSubmission t pass.old pass.new) }
+    ensures submitted { IfOk result (λ t. AddsSubmission Future t pass.old pass.new) }
     ensures refused { IfErr result (λ r. IsTurnedAway G.config Future job pass.old pass.new r) }
 {
     match pool.execute_as(rt, Kind::Future, job, pass) {

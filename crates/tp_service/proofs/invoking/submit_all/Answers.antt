@@ -1,5 +1,6 @@
 use Rattle.std.proofs.Common.{◌≡◌, length, inr, sym, subst, ap, arith, rules}
 use Rattle.std.proofs.lemmas.List.{length_push}
+use Rattle.tp_types.specs.declared.tasks.Kind.TheVariants as kind
 use Rattle.tp_locked.specs.declared.tasks.Task.{Task}
 use Rattle.tp_service.specs.Submitted.{AddsCancels, AddsSubmission, AddsSubmissions}
 use Rattle.tp_service.proofs.Gathered.{refuses}
@@ -17,7 +18,7 @@ loop-job-preserved g c =
       search rules,
       omega (arith, ap length more, length_push tasks t, ap (λ xs. length xs) c.in-Some.ensures.steps.0, c.loop-job.invariant.4),
       subst (λ ts. AddsSubmissions ts c.args.pass.now c.submit.new.pass) (sym more)
-          (through_more AddsSubmission tasks t c.args.pass.now c.loop-job.pass c.submit.new.pass c.loop-job.invariant.5 c.in-Ok-submit.ensures.submitted),
+          (through_more (AddsSubmission kind.Future) tasks t c.args.pass.now c.loop-job.pass c.submit.new.pass c.loop-job.invariant.5 c.in-Ok-submit.ensures.submitted),
     )
 
 pub returns-in-Err-clause-refused : goal.returns-in-Err-clause-refused

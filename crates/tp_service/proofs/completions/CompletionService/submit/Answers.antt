@@ -1,4 +1,5 @@
 use Rattle.std.proofs.Common.{sym, subst}
+use Rattle.tp_types.specs.declared.tasks.Kind.TheVariants as kind
 use Rattle.tp_service.specs.Submitted.{AddsSubmission}
 use Rattle.tp_service.proofs.Gathered.{admits}
 use Rattle.tp_service.proofs.completions.CompletionService.submit.Goals as goal
@@ -7,4 +8,5 @@ pub returns-in-Ok-clause-submitted : goal.returns-in-Ok-clause-submitted
 returns-in-Ok-clause-submitted g c =
     let old = c.args.pass.now in
     let new = c.execute_as.new.pass in
-    subst (λ t. AddsSubmission t old new) (sym c.task_of.ensures) (admits c.in-Ok.admitted old new c.in-Ok.ensures.admitted)
+    let group = kind.Group c.args.self.now.group in
+    subst (λ t. AddsSubmission group t old new) (sym c.task_of.ensures) (admits group c.in-Ok.admitted old new c.in-Ok.ensures.admitted)
