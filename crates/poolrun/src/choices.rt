@@ -9,6 +9,8 @@ use std::alloc::{AllocError, Global};
 pub enum Choice {
     /// Run the scenario in the file at this path.
     Steps(String),
+    /// Run the jobs in the file at this path by threads.
+    Threads(String),
     /// Judge the record in the file at this path.
     Audit(String),
 }
@@ -17,7 +19,7 @@ impl Choice {
     /// The path of the file that is to be read.
     pub fn path(&self) -> &str {
         match self {
-            Choice::Steps(path) | Choice::Audit(path) => path.as_str(),
+            Choice::Steps(path) | Choice::Threads(path) | Choice::Audit(path) => path.as_str(),
         }
     }
 }
@@ -51,6 +53,7 @@ impl From<Error> for Unchosen {
 /// What stands under the help: an example of each command, and the statuses.
 const EXAMPLES: &str = "Examples:
   poolrun steps data/shortest-life.txt     runs a scenario, step by step
+  poolrun threads data/four-jobs.txt       runs jobs by threads, and prints the record
   poolrun audit data/shortest-record.txt   judges a record by the model
 
 Status:
@@ -81,6 +84,12 @@ pub fn chosen(alloc: Global, words: &[String]) -> Result<Choice, Unchosen> {
         "Runs a scenario of atomic steps and prints its record",
         "the scenario's text",
     )?;
+    let threads = with_file(
+        alloc,
+        "threads",
+        "Runs a file of jobs by threads and prints the pool's record",
+        "the jobs' text",
+    )?;
     let audit = with_file(
         alloc,
         "audit",
@@ -88,17 +97,19 @@ pub fn chosen(alloc: Global, words: &[String]) -> Result<Choice, Unchosen> {
         "the record's text",
     )?;
     let command = Command::new(alloc, "poolrun")
-        .about("Runs scenarios of a bounded thread pool, and judges its records")
+        .about("Runs scenarios and jobs of a bounded thread pool, and judges its records")
         .version("0.1.0")
         .after_help(EXAMPLES)
         .subcommand_required(true)
         .subcommand(steps)?
+        .subcommand(threads)?
         .subcommand(audit)?;
     let matches = command.try_get_matches_from(words)?;
     match matches.subcommand() {
         Some((name, inner)) => {
             let path = String::from_str(alloc, inner.get_str("FILE").unwrap_or(""))?;
             match name {
+                "threads" => Ok(Choice::Threads(path)),
                 "audit" => Ok(Choice::Audit(path)),
                 _ => Ok(Choice::Steps(path)),
             }

@@ -1,5 +1,6 @@
 //! `poolrun steps FILE`: runs a scenario of atomic steps of one pool and prints its record, the
-//! refusals, each task's fate, the run state and the counters. `poolrun audit FILE`: judges a record.
+//! refusals, each task's fate, the run state and the counters. `poolrun threads FILE`: runs a file of jobs
+//! by threads and prints its pool's record. `poolrun audit FILE`: judges a record.
 //!
 //! The status is 0 where the run went to its end or the record is legal, 1 where it was refused (its
 //! refusal is the last line of the output) or the record has a flaw, and 2 for a bad command line or a

@@ -8,13 +8,16 @@ use std::alloc::Global;
 use std::fs;
 use std::io::{self, Read, Write};
 use std::rt::Files;
+use std::sync::Wait;
+use std::thread::Threads;
 use tp_types::refusals::PoolError;
 
 /// What is told of a text that is too long to be read.
 const TOO_LONG: &str = "the text has more than 1,048,576 bytes";
 
 /// Does what was chosen with the text that a reader gives.
-fn run<R: Read, W: Write>(
+fn run<H: Threads + Wait + Copy + Send + 'static, R: Read, W: Write>(
+    rt: H,
     alloc: Global,
     choice: &Choice,
     reader: &mut R,
@@ -23,6 +26,10 @@ fn run<R: Read, W: Write>(
     match choice {
         Choice::Steps(_) => {
             tp_scenario::run::run(alloc, reader, out)?;
+            Ok(true)
+        }
+        Choice::Threads(_) => {
+            tp_threads::texts::run_text(rt, alloc, reader, out)?;
             Ok(true)
         }
         Choice::Audit(_) => tp_scenario::audit_text(alloc, reader, out),
@@ -36,22 +43,22 @@ fn tell<E: Write>(errors: &mut E, name: &str, reason: &io::Error) {
 
 /// Does what was chosen with the text of its file. Where the file can't be opened or read, `errors` is
 /// told its path and the reason.
-fn run_file<F: Files, W: Write, E: Write>(
-    files: &F,
+fn run_file<H: Files + Threads + Wait + Copy + Send + 'static, W: Write, E: Write>(
+    rt: &H,
     alloc: Global,
     choice: &Choice,
     out: &mut W,
     errors: &mut E,
 ) -> Result<bool, PoolError> {
     let path = choice.path();
-    let mut file = match fs::open(files, path) {
+    let mut file = match fs::open(rt, path) {
         Ok(file) => Watched::new(file),
         Err(reason) => {
             tell(errors, path, &reason);
             return Err(PoolError::ReadFailed);
         }
     };
-    let outcome = run(alloc, choice, &mut file, out);
+    let outcome = run(*rt, alloc, choice, &mut file, out);
     if let Err(PoolError::ReadFailed) = outcome {
         match file.failure() {
             Some(reason) => tell(errors, path, reason),
@@ -79,8 +86,8 @@ fn show_usage<W: Write, E: Write>(error: &clap::Error, out: &mut W, errors: &mut
 /// The status of the program by the words of its command line, its own name first. The output goes to
 /// `out`, a refusal of the whole run as its last line, and to `errors` what is told beside: the reason
 /// why a file can't be opened or read, or why `out` failed, and the parser's texts.
-pub fn program<F: Files, W: Write, E: Write>(
-    files: &F,
+pub fn program<H: Files + Threads + Wait + Copy + Send + 'static, W: Write, E: Write>(
+    rt: &H,
     alloc: Global,
     words: &[String],
     out: &mut W,
@@ -89,7 +96,7 @@ pub fn program<F: Files, W: Write, E: Write>(
     let mut out = Watched::new(out);
     let status = match chosen(alloc, words) {
         Ok(choice) => {
-            let outcome = run_file(files, alloc, &choice, &mut out, errors);
+            let outcome = run_file(rt, alloc, &choice, &mut out, errors);
             finish(&mut out, &outcome)
         }
         Err(Unchosen::NoMemory) => finish(&mut out, &Err(PoolError::NoMemory)),

@@ -1,6 +1,7 @@
 //! Every way to call the program, over real files in the test's folder.
 
 mod scenarios;
+mod threads;
 
 use super::*;
 use std::io::ErrorKind as Reason;
@@ -48,11 +49,15 @@ fn words_of(alloc: Global, line: &str) -> Result<Vec<String>, Fail> {
     Ok(words)
 }
 
-fn call<F: Files>(files: &F, alloc: Global, line: &str) -> Result<Called, Fail> {
+fn call<H: Files + Threads + Wait + Copy + Send + 'static>(
+    rt: &H,
+    alloc: Global,
+    line: &str,
+) -> Result<Called, Fail> {
     let words = words_of(alloc, line)?;
     let mut out = Vec::new(alloc);
     let mut errors = Vec::new(alloc);
-    let status = program(files, alloc, words.as_slice(), &mut out, &mut errors);
+    let status = program(rt, alloc, words.as_slice(), &mut out, &mut errors);
     Ok(Called {
         status,
         out,
@@ -61,17 +66,17 @@ fn call<F: Files>(files: &F, alloc: Global, line: &str) -> Result<Called, Fail> 
 }
 
 /// Calls the program by a command on a file of this text.
-fn call_on<F: Files>(
-    files: &F,
+fn call_on<H: Files + Threads + Wait + Copy + Send + 'static>(
+    rt: &H,
     alloc: Global,
     command: &str,
     name: &str,
     text: &str,
 ) -> Result<Called, Fail> {
-    fs::write(files, name, text)?;
+    fs::write(rt, name, text)?;
     let line = format!(in alloc; "poolrun {command} {name}")?;
-    let called = call(files, alloc, line.as_str())?;
-    fs::remove_file(files, name)?;
+    let called = call(rt, alloc, line.as_str())?;
+    fs::remove_file(rt, name)?;
     Ok(called)
 }
 
@@ -183,6 +188,7 @@ fn shows_the_usage_of_a_bad_command_line(rt: HostRuntime) -> Result<(), Fail> {
         "poolrun steps",
         "poolrun steps a b",
         "poolrun audit",
+        "poolrun threads",
         "poolrun steps --loud a",
         "poolrun listen a",
         "poolrun --loud",
@@ -202,6 +208,7 @@ fn helps_on_the_standard_error(rt: HostRuntime) -> Result<(), Fail> {
         for part in [
             "Usage: poolrun",
             "poolrun steps data/",
+            "poolrun threads data/",
             "poolrun audit data/",
             "Status:",
             "  2  ",
@@ -246,9 +253,11 @@ impl Write for Full {
 fn tells_that_the_standard_output_fails(rt: HostRuntime) -> Result<(), Fail> {
     let alloc = rt.alloc();
     fs::write(&rt, "unwritten-run.txt", ROW_01)?;
+    fs::write(&rt, "unwritten-jobs.txt", "pool 1 1 handoff keep 0 abort\n")?;
     for (line, room) in [
         ("poolrun steps unwritten-run.txt", 0),
         ("poolrun steps unwritten-run.txt", 100),
+        ("poolrun threads unwritten-jobs.txt", 0),
         ("poolrun --version", 3),
     ] {
         let words = words_of(alloc, line)?;
@@ -261,6 +270,7 @@ fn tells_that_the_standard_output_fails(rt: HostRuntime) -> Result<(), Fail> {
         );
     }
     fs::remove_file(&rt, "unwritten-run.txt")?;
+    fs::remove_file(&rt, "unwritten-jobs.txt")?;
     Ok(())
 }
 

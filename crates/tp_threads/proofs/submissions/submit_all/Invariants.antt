@@ -1,0 +1,6 @@
+use Rattle.std.proofs.Common.{take}
+use Rattle.tp_threads.specs.Runs.{AddsSubmissions, kinds}
+use Rattle.tp_threads.proofs.submissions.submit_all.Given as goal
+
+abbrev pub invariant-loop-job : goal.invariant-loop-job
+invariant-loop-job g l = AddsSubmissions (take l.job-index (kinds l.jobs)) l.fn.pass l.pass

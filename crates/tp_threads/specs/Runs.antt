@@ -1,0 +1,93 @@
+-- What a run of a file of jobs leaves: in its caller's pass, in the record of its pool, and where it is written.
+use Rattle.std.specs.Prelude.{ℕ, ◌≡◌, ◌⊎◌, ◌<◌, ◌≤◌, List, [], ◌∷◌, ◌++◌, All, length, map, reverse, take, Option, Ok, Err, if◌then◌else◌}
+use Rattle.std.specs.Io.KnownBytes.{Appends}
+use Rattle.tp_types.specs.Config.{IsConfig, checked}
+use Rattle.tp_types.specs.declared.configs.Config.{Config}
+use Rattle.tp_types.specs.declared.refusals.PoolError.{PoolError}
+use Rattle.tp_types.specs.declared.refusals.PoolError.TheVariants.{NoMemory, BookFull, TornRecord}
+use Rattle.tp_types.specs.declared.tasks.Kind.{Kind}
+use Rattle.tp_types.specs.declared.tasks.Kind.TheVariants as kind
+use Rattle.tp_record.specs.declared.entries.Ask.TheVariants as ask
+use Rattle.tp_record.specs.declared.entries.Did.TheVariants as did
+use Rattle.tp_record.specs.declared.entries.Entry.{Entry}
+use Rattle.tp_record.specs.Paths.{Admission, IsPath, own}
+use Rattle.tp_record.specs.State.{state, counts}
+use Rattle.tp_record.specs.Step.{Legal}
+use Rattle.tp_record_text.specs.RecordText.{record_text}
+use Rattle.tp_scenario.specs.Jobs.{IsRead}
+use Rattle.tp_scenario.specs.declared.jobs.JobLine.{JobLine}
+use Rattle.tp_scenario.specs.declared.jobs.Jobs.{Jobs}
+use Rattle.tp_book.specs.PassView.{PassView}
+use Rattle.tp_book.specs.declared.book.closing.Report.{Report}
+use Rattle.tp_locked.specs.Passes.{Adds, AddsNone, entry_of, tidied, ended}
+use Rattle.tp_pool.specs.Admissions.{AddsFront, AsksFor}
+
+-- the kind of a job's task: a future where it is submitted, a plain task where it is executed
+abbrev pub kind_of : JobLine → Kind
+kind_of job = if job.future then kind.Future else kind.Plain
+
+abbrev pub kinds : List JobLine → List Kind
+kinds jobs = map kind_of jobs
+
+-- the whole path of the submission of a task of this kind
+abbrev pub IsSubmission : Kind → List Entry → Type 0
+IsSubmission k steps = (t : ℕ) × (end : Admission) × IsPath t steps end × AsksFor k steps
+
+-- submissions of tasks of these kinds, in this order, each followed to its end before the next begins
+abbrev pub AreSubmissions : List Kind → List Entry → Type 0
+AreSubmissions [] steps = steps ≡ []
+AreSubmissions (k ∷ ks) steps = (path rest : List Entry) × (steps ≡ path ++ rest) × IsSubmission k path × AreSubmissions ks rest
+
+-- the pass has their receipts
+abbrev pub AddsSubmissions : List Kind → PassView → PassView → Type 0
+AddsSubmissions ks old new = (steps : List Entry) × AreSubmissions ks steps × Adds old steps new
+
+-- a submission is refused: torn off on its path, or before its first step
+abbrev pub IsTorn : PoolError → PassView → PassView → Type 0
+IsTorn e old new = (((e ≡ NoMemory) ⊎ (e ≡ BookFull)) × AddsNone old new) ⊎ ((e ≡ TornRecord) × AddsFront old new)
+
+-- the first of the submissions of these kinds are followed to their end, and the one behind them is refused: it is the last
+abbrev pub BreaksOff : List Kind → PoolError → PassView → PassView → Type 0
+BreaksOff ks e old new = (n : ℕ) × (mid : PassView) × (n < length ks) × AddsSubmissions (take n ks) old mid × IsTorn e mid new
+
+-- a shutdown, and steps of the pool's end
+abbrev pub IsEnd : ℕ → List Entry → Type 0
+IsEnd by steps = (rest : List Entry) × (steps ≡ entry_of by ask.Shutdown did.Shutdown ∷ rest) × All (λ e. (e ≡ tidied by) ⊎ (e ≡ ended by)) rest
+
+-- the pass has their receipts, and has seen the pool terminated
+abbrev pub AddsEnd : PassView → PassView → Type 0
+AddsEnd old new = (steps : List Entry) × IsEnd old.number steps × Adds old steps new × (4 ≤ new.seen)
+
+-- the report of a pool with these settings, which the caller with this pass shut down and closed
+pub record IsClosed (c : Config) (pass : PassView) (r : Report) : Type 0 where
+  pub good : IsConfig c
+  pub legal : Legal c (reverse r.entries.items)
+  pub ended : (state c (reverse r.entries.items)).rank ≡ 4
+  pub counts : r.counts ≡ counts (state c (reverse r.entries.items))
+  pub receipts : (last : List Entry) × IsEnd pass.number last × (own pass.number r.entries.items ≡ pass.receipts ++ last)
+
+-- the report of a pool with these settings that ran jobs of these kinds: its record is legal and ends it, and pass 0 submitted tasks of these
+-- kinds in their order, each to the end of its submission, and then shut the pool down
+pub record IsRun (c : Config) (ks : List Kind) (r : Report) : Type 0 where
+  pub good : IsConfig c
+  pub legal : Legal c (reverse r.entries.items)
+  pub ended : (state c (reverse r.entries.items)).rank ≡ 4
+  pub counts : r.counts ≡ counts (state c (reverse r.entries.items))
+  pub submissions : (steps last : List Entry) × AreSubmissions ks steps × IsEnd 0 last × (own 0 r.entries.items ≡ steps ++ last)
+
+-- there is no memory, or no room in the record, or it is torn
+abbrev pub IsShort : PoolError → Type 0
+IsShort e = (e ≡ NoMemory) ⊎ (e ≡ BookFull) ⊎ (e ≡ TornRecord)
+
+-- no pool has these settings, or there is too little for the run
+abbrev pub RefusesRun : Config → PoolError → Type 0
+RefusesRun c e = (checked c ≡ Err e) ⊎ IsShort e
+
+-- the jobs of the text that a reader has were run, and the text of the record was written
+abbrev pub WritesRun : Option (List ℕ) → Option (List ℕ) → Option (List ℕ) → Type 0
+WritesRun input old new = (jobs : Jobs) × (r : Report) × IsRead input (Ok jobs) × IsRun jobs.config (kinds jobs.jobs.items) r
+    × Appends old new (record_text jobs.config r.entries.items)
+
+-- the text is refused, or the run of its jobs
+abbrev pub RefusesText : Option (List ℕ) → PoolError → Type 0
+RefusesText input e = IsRead input (Err e) ⊎ ((jobs : Jobs) × IsRead input (Ok jobs) × RefusesRun jobs.config e)

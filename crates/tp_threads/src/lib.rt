@@ -1,0 +1,8 @@
+//! Files of jobs, run by threads: their jobs are submitted to a running pool, and its record is written.
+#![tactic(auto)]
+
+pub mod runs;
+mod scripted;
+mod submissions;
+pub mod texts;
+mod users;

@@ -1,0 +1,77 @@
+//! The jobs of a file are submitted, in their order.
+ghost use Rattle.std.specs.Prelude.{◌≡◌, [], ◌∷◌, IfErr, OnOk};
+ghost use Rattle.tp_threads.specs.Runs.{AddsSubmissions, BreaksOff, IsTorn, kind_of, kinds};
+
+use crate::scripted::Scripted;
+use crate::users::Users;
+use std::sync::Wait;
+use std::thread::Threads;
+use tp_book::passes::Pass;
+use tp_pool::names::PoolNaming;
+use tp_pool::pool::PoolOf;
+use tp_scenario::jobs::JobLine;
+use tp_types::refusals::PoolError;
+use tp_types::tasks::Kind;
+
+/// A pool of scripted jobs.
+pub type Company<G> = PoolOf<G, Scripted, Users>;
+
+/// Receipts of one submission and of a pool's end, or more: they are reserved before each submission, so
+/// that a pool can be ended where it was refused for want of memory.
+const RECEIPTS: usize = 1_024;
+
+// The kind of a job's task.
+fn kind_of(job: &JobLine) -> Kind
+    ensures { result ≡ kind_of job.now }
+{
+    if job.future {
+        Kind::Future
+    } else {
+        Kind::Plain
+    }
+}
+
+// Submits a job, and follows it to the end of its submission; a rejected one has ended too. NoMemory (4) or
+// BookFull (5), with nothing done, or TornRecord (22).
+fn submit<G: PoolNaming + Send + Sync + 'static, R: Threads + Wait + Copy + Send + 'static>(
+    rt: R,
+    pool: &Company<G>,
+    job: &JobLine,
+    pass: &mut Pass<G>,
+) -> Result<(), PoolError>
+    ensures whole { OnOk result (AddsSubmissions (kind_of job.now ∷ []) pass.old pass.new) }
+    ensures refused { IfErr result (λ e. IsTorn e pass.old pass.new) }
+{
+    if let Err(error) = pass.reserve(RECEIPTS) {
+        return Err(error);
+    }
+    let scripted = Scripted {
+        outcome: job.outcome,
+    };
+    match pool.execute_as(rt, kind_of(job), scripted, pass) {
+        Ok(_) => Ok(()),
+        Err(refused) => match refused.error {
+            PoolError::Rejected(_) => Ok(()),
+            error => Err(error),
+        },
+    }
+}
+
+/// Submits all these jobs, one after the other, up to the first that is refused otherwise than by the pool's
+/// policy: NoMemory (4), BookFull (5) or TornRecord (22).
+pub fn submit_all<G: PoolNaming + Send + Sync + 'static, R: Threads + Wait + Copy + Send + 'static>(
+    rt: R,
+    pool: &Company<G>,
+    jobs: &[JobLine],
+    pass: &mut Pass<G>,
+) -> Result<(), PoolError>
+    ensures whole { OnOk result (AddsSubmissions (kinds jobs.now) pass.old pass.new) }
+    ensures refused { IfErr result (λ e. BreaksOff (kinds jobs.now) e pass.old pass.new) }
+{
+    for job in jobs {
+        if let Err(error) = submit(rt, pool, job, pass) {
+            return Err(error);
+        }
+    }
+    Ok(())
+}
