@@ -14,14 +14,7 @@ use tp_record::entries::{Ask, Did, Entry};
 use tp_record::recorders::{Full, Recorder};
 use tp_types::configs::Config;
 use tp_types::refusals::PoolError;
-use tp_types::tasks::Promise;
-
-/// What a job promises that may answer anything.
-const WIDEST: Promise = Promise {
-    low: i64::MIN,
-    high: i64::MAX,
-    may_fault: true,
-};
+use tp_types::tasks::WIDEST;
 
 /// What came of a list of asks.
 #[derive(Debug, PartialEq, Eq, Drop)]

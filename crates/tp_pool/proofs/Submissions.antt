@@ -19,7 +19,7 @@ use Rattle.tp_pool.proofs.Receipts.{adds_behind, none_behind}
 path_behind : (kind : Kind) (t : TaskId) (end : Admission) (old mid new : PassView) → AddsNone old mid → AddsPath kind t end mid new → AddsPath kind t end old new
 path_behind kind t end old mid new none path = (path.0, path.1, path.2, adds_behind old mid new path.0 none path.3)
 
-front_behind : (old mid new : PassView) → AddsNone old mid → AddsFront mid new → AddsFront old new
+pub front_behind : (old mid new : PassView) → AddsNone old mid → AddsFront mid new → AddsFront old new
 front_behind old mid new none is =
     let front = is.1 in (
       is.0,

@@ -1,11 +1,9 @@
 mod admissions;
-mod boards;
 mod boxes;
 mod chores;
 mod dealing;
 mod ends;
 mod faults;
-mod findings;
 mod futures;
 mod handing;
 mod lives;
@@ -16,5 +14,4 @@ mod playing;
 mod scripts;
 mod sizes;
 mod stops;
-mod users;
 mod waking;

@@ -1,10 +1,8 @@
 mod answers;
-mod boards;
 mod cancels;
 mod chores;
 mod lives;
 mod playing;
 mod refusals;
 mod scripts;
-mod users;
 mod waits;

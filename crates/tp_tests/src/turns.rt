@@ -10,7 +10,7 @@ use tp_turns::deeds::{Deed, Departed, Ended, Taken};
 use tp_turns::turns::{Begun, Closing, Turn, Workplace, one_turn};
 use tp_types::ids::{SlotId, TaskId};
 use tp_types::refusals::PoolError;
-use tp_types::tasks::{Outcome, Promise};
+use tp_types::tasks::{Outcome, Promise, WIDEST, as_widest};
 
 const TASK: TaskId = TaskId(3);
 
@@ -22,21 +22,16 @@ struct Fixed {
 }
 
 impl Job for Fixed {
-    ghost use Rattle.std.specs.Prelude.{true};
-    ghost use Rattle.tp_types.specs.declared.tasks.Promise.{Promise};
+    ghost use Rattle.tp_types.specs.declared.tasks.TheConstants.{WIDEST};
 
-    ghost promised = { λ j. record { low = j.value; high = j.value; may_fault = true } };
+    ghost promised = { λ _. WIDEST };
 
     fn promise(&self) -> Promise {
-        Promise {
-            low: self.value,
-            high: self.value,
-            may_fault: true,
-        }
+        WIDEST
     }
 
     fn call(&mut self, _cancel: &CancelFlag) -> Outcome {
-        if self.faults { Err(9) } else { Ok(self.value) }
+        as_widest(if self.faults { Err(9) } else { Ok(self.value) })
     }
 }
 

@@ -1,5 +1,5 @@
 -- Submissions one after another, with their receipts.
-use Rattle.std.proofs.Common.{◌≡◌, ◌≢◌, ◌⊎◌, ◌+◌, ◌<◌, ℕ, List, [], ◌∷◌, ◌++◌, length, get_or, take, refl, sym, ap, subst, ◌∙◌, inl, inr, ⊎_elim, append_assoc, le_refl, arith}
+use Rattle.std.proofs.Common.{◌≡◌, ◌≢◌, ◌⊎◌, ◌+◌, ◌<◌, ℕ, List, [], ◌∷◌, ◌++◌, length, get_or, take, refl, sym, ap, subst, ◌∙◌, inl, inr, ⊎_elim, append_assoc, arith}
 use Rattle.std.specs.Prelude.{map, Some}
 use Rattle.std.proofs.lemmas.List.{append-nil, length-map, take_all, take_more, get_or-map}
 use Rattle.tp_types.specs.declared.configs.Config.{Config}
@@ -16,6 +16,7 @@ use Rattle.tp_locked.specs.declared.answers.Refused.{Refused}
 use Rattle.tp_scenario.specs.declared.jobs.JobLine.{JobLine}
 use Rattle.tp_pool.specs.Admissions.{AddsPath, AddsFront, IsTurnedAway}
 use Rattle.tp_pool.proofs.Receipts.{adds_no, adds_both, adds_behind, none_behind}
+use Rattle.tp_pool.proofs.Submissions.{front_behind}
 use Rattle.tp_threads.specs.Runs.{AreSubmissions, AddsSubmissions, IsTorn, BreaksOff, IsShort, kind_of, kinds}
 use Rattle.tp_threads.proofs.Refusals.{before_first}
 
@@ -46,18 +47,6 @@ next_submission old mid new jobs n d within a b =
 
 pub all_submissions : (old new : PassView) (jobs : List JobLine) (n : ℕ) → n ≡ length jobs → AddsSubmissions (take n (kinds jobs)) old new → AddsSubmissions (kinds jobs) old new
 all_submissions old new jobs n is a = subst (λ ks. AddsSubmissions ks old new) (take_all n (kinds jobs) (omega (arith, length-map jobs kind_of))) a
-
-front_behind : (old mid new : PassView) → AddsNone old mid → AddsFront mid new → AddsFront old new
-front_behind old mid new none is =
-    let front = is.1 in (
-      is.0,
-      front,
-      is.2,
-      is.3,
-      is.4,
-      ⊎_elim (λ (x : Adds mid front new). inl (adds_behind old mid new front none x))
-          (λ (x : (e : Entry) × Adds mid (front ++ e ∷ []) new). inr (x.0, adds_behind old mid new (front ++ x.0 ∷ []) none x.1)) is.5,
-    )
 
 module _ {J : Type 0} where
   -- a submission that was turned away by the policy is followed to its end

@@ -1,13 +1,13 @@
 //! Jobs whose outcome was said beforehand.
 ghost use Rattle.std.specs.Prelude.{◌≡◌};
 ghost use Rattle.tp_types.specs.Promise.{FitsPromise};
-ghost use Rattle.tp_threads.specs.Scripts.{promise_of};
+ghost use Rattle.tp_types.specs.declared.tasks.TheConstants.{WIDEST};
 
 use tp_callbacks::flags::CancelFlag;
 use tp_callbacks::jobs::Job;
-use tp_types::tasks::{Outcome, Promise};
+use tp_types::tasks::{Outcome, Promise, WIDEST, as_widest};
 
-/// A job that ends at once, with this outcome. It promises its value and no other, or a fault and no value.
+/// A job that ends at once, with this outcome. It promises any, so that its promise tells nothing of it.
 #[derive(Drop)]
 pub struct Scripted {
     /// How it ends.
@@ -15,29 +15,18 @@ pub struct Scripted {
 }
 
 impl Job for Scripted {
-    ghost use Rattle.tp_threads.specs.Scripts.{promise_of};
+    ghost use Rattle.tp_types.specs.declared.tasks.TheConstants.{WIDEST};
 
-    ghost promised = { λ j. promise_of j.outcome };
+    ghost promised = { λ _. WIDEST };
 
     fn promise(&self) -> Promise {
-        match self.outcome {
-            Ok(value) => Promise {
-                low: value,
-                high: value,
-                may_fault: false,
-            },
-            Err(_) => Promise {
-                low: 1,
-                high: 0,
-                may_fault: true,
-            },
-        }
+        WIDEST
     }
 
     fn call(&mut self, _cancel: &CancelFlag) -> Outcome
         ensures said { result ≡ self.old.outcome }
-        ensures fits { FitsPromise (promise_of self.old.outcome) result }
+        ensures fits { FitsPromise WIDEST result }
     {
-        self.outcome
+        as_widest(self.outcome)
     }
 }

@@ -1,12 +1,12 @@
 // What becomes of submissions, as pools are full or without workers.
 
 use super::chores::Deed;
-use super::findings::Finding;
-use super::lives::{MANNER, SETTINGS, lives_twice};
+use super::lives::{SETTINGS, lives_twice};
 use super::scripts::{Answer, Control, Deal, LETS_GO, LOOKS, SHUTS_DOWN, Start, Step, View, alone};
-use super::users::{Manner, Stance};
 use std::test::Fail;
 use tp_record::entries::{Did, Ruled};
+use tp_stage::findings::Finding;
+use tp_stage::users::{MANNER, Manner, Stance};
 use tp_types::configs::{Config, Policy, QueueKind, Verdict};
 use tp_types::ids::TaskId;
 use tp_types::tasks::Kind;

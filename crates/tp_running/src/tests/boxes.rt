@@ -1,8 +1,6 @@
 // A pool of boxes: a caller's boxed jobs, factory, handler, hooks and gate.
 ghost use Rattle.std.specs.Prelude.{◌≡◌};
 
-use super::boards::{Board, Hook, Signal, shared};
-use super::findings::{Finding, finds};
 use super::lives::SETTINGS;
 use std::alloc::Global;
 use std::marker::Brand;
@@ -21,32 +19,29 @@ use tp_pool::hooks::Hooks;
 use tp_pool::jobs::{Boxed, Job};
 use tp_pool::names::PoolNaming;
 use tp_pool::pool::Pool;
+use tp_stage::boards::{Board, Hook, Signal, shared};
+use tp_stage::findings::{Finding, missing};
 use tp_types::configs::{Config, Policy, QueueKind, Verdict};
 use tp_types::ids::{SlotId, TaskId};
 use tp_types::refusals::PoolError;
 use tp_types::states::RunState;
-use tp_types::tasks::{Outcome, Promise};
+use tp_types::tasks::{Outcome, Promise, WIDEST, as_widest};
 
 // Answers 1 where its flag is set, else 0.
 #[derive(Drop)]
 struct Looking;
 
 impl Job for Looking {
-    ghost use Rattle.std.specs.Prelude.{false, pos};
-    ghost use Rattle.tp_types.specs.declared.tasks.Promise.{Promise};
+    ghost use Rattle.tp_types.specs.declared.tasks.TheConstants.{WIDEST};
 
-    ghost promised = { λ j. record { low = pos 0; high = pos 1; may_fault = false } };
+    ghost promised = { λ _. WIDEST };
 
     fn promise(&self) -> Promise {
-        Promise {
-            low: 0,
-            high: 1,
-            may_fault: false,
-        }
+        WIDEST
     }
 
     fn call(&mut self, cancel: &CancelFlag) -> Outcome {
-        Ok(i64::from(cancel.is_set()))
+        as_widest(Ok(i64::from(cancel.is_set())))
     }
 }
 
@@ -167,7 +162,7 @@ fn lived<R: Abort + Threads + Wait + Copy + Send + 'static>(
         Finding::Noted(Signal::Hooked(Hook::Ran, TaskId(0)), 1),
         Finding::Noted(Signal::Ends, 1),
     ];
-    finds(&rt, &report, &board, &findings);
+    assert_eq!(&rt; missing(&report, &board, &findings), None);
     Ok(())
 }
 

@@ -1,10 +1,10 @@
 // Jobs that tests hand in.
 
-use super::boards::{Board, Signal};
 use std::sync::Arc;
 use tp_callbacks::flags::CancelFlag;
 use tp_pool::jobs::Job;
-use tp_types::tasks::{Outcome, Promise};
+use tp_stage::boards::{Board, Signal};
+use tp_types::tasks::{Outcome, Promise, WIDEST, as_widest};
 
 // What a job does. Where it waits in vain, it ends with the fault 9.
 #[derive(Clone, Copy)]
@@ -51,23 +51,18 @@ fn found(is_so: bool, value: u8) -> Result<u8, u32> {
 }
 
 impl Job for Chore {
-    ghost use Rattle.std.specs.Prelude.{true, pos};
-    ghost use Rattle.tp_types.specs.declared.tasks.Promise.{Promise};
+    ghost use Rattle.tp_types.specs.declared.tasks.TheConstants.{WIDEST};
 
-    ghost promised = { λ j. record { low = pos 0; high = pos 255; may_fault = true } };
+    ghost promised = { λ _. WIDEST };
 
     fn promise(&self) -> Promise {
-        Promise {
-            low: 0,
-            high: 255,
-            may_fault: true,
-        }
+        WIDEST
     }
 
     fn call(&mut self, cancel: &CancelFlag) -> Outcome {
-        match self.work(cancel) {
+        as_widest(match self.work(cancel) {
             Ok(value) => Ok(i64::from(value)),
             Err(code) => Err(code),
-        }
+        })
     }
 }

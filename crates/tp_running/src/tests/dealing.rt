@@ -1,8 +1,6 @@
 // What takes more than one call.
 
-use super::boards::{Board, Signal};
 use super::chores::{Chore, Deed};
-use super::findings::is_unstaffed;
 use super::lives::SETTINGS;
 use super::playing::{Tested, chore, comes, comes_within, handed, passes, rest, started};
 use super::scripts::{Deal, Start, View};
@@ -14,6 +12,8 @@ use tp_book::passes::Pass;
 use tp_pool::answers::{Admitted, Refused};
 use tp_pool::names::PoolNaming;
 use tp_record::entries::{Did, Failed};
+use tp_stage::boards::{Board, Signal};
+use tp_stage::findings::is_unstaffed;
 use tp_types::refusals::PoolError;
 use tp_types::states::{Counts, RunState};
 use tp_types::tasks::Kind;

@@ -1,12 +1,12 @@
 // The end of pools whose workers end them.
 
-use super::boards::Signal;
-use super::findings::Finding;
-use super::lives::{MANNER, SETTINGS, lives};
+use super::lives::{SETTINGS, lives};
 use super::scripts::{Control, Cue, LOOKS, SHUTS_DOWN, Step, TELLS, View, WAITS, alone, both};
-use super::users::Manner;
 use std::test::Fail;
 use tp_record::entries::Did;
+use tp_stage::boards::Signal;
+use tp_stage::findings::Finding;
+use tp_stage::users::{MANNER, Manner};
 use tp_types::configs::Config;
 use tp_types::states::RunState;
 

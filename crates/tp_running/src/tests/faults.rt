@@ -1,11 +1,11 @@
 // What becomes of workers whose plain tasks fault.
 
 use super::chores::Deed;
-use super::findings::Finding;
-use super::lives::{MANNER, SETTINGS, lives_twice};
+use super::lives::{SETTINGS, lives_twice};
 use super::scripts::{Answer, Control, LOOKS, SHUTS_DOWN, Script, Step, View, alone};
-use super::users::Manner;
 use std::test::Fail;
+use tp_stage::findings::Finding;
+use tp_stage::users::{MANNER, Manner};
 use tp_types::configs::Config;
 use tp_types::tasks::Kind;
 

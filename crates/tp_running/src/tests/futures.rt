@@ -1,13 +1,13 @@
 // Futures that are cancelled.
 
-use super::boards::{Hook, Signal};
 use super::chores::Deed;
-use super::findings::Finding;
-use super::lives::{MANNER, SETTINGS, lives_twice};
+use super::lives::{SETTINGS, lives_twice};
 use super::scripts::{Answer, Control, Cue, LETS_GO, LOOKS, SHUTS_DOWN, Step, TELLS, alone};
-use super::users::{Manner, Stance};
 use std::test::Fail;
 use tp_record::entries::{Did, Started};
+use tp_stage::boards::{Hook, Signal};
+use tp_stage::findings::Finding;
+use tp_stage::users::{MANNER, Manner, Stance};
 use tp_types::configs::Config;
 use tp_types::ids::{SlotId, TaskId};
 use tp_types::tasks::Kind;

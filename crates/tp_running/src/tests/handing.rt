@@ -1,11 +1,12 @@
 // Tasks that are given to idle workers by hand, and workers that leave beside them.
 
-use super::boards::Signal;
 use super::chores::Deed;
-use super::findings::Finding;
-use super::lives::{MANNER, SETTINGS, lives_twice};
+use super::lives::{SETTINGS, lives_twice};
 use super::scripts::{Control, Cue, Deal, SHUTS_DOWN, Script, Step, View};
 use std::test::Fail;
+use tp_stage::boards::Signal;
+use tp_stage::findings::Finding;
+use tp_stage::users::MANNER;
 use tp_types::configs::{Config, QueueKind};
 
 const ROOMY: Config = Config {

@@ -1,18 +1,14 @@
 // How a pool is opened, lives, and is closed.
 ghost use Rattle.std.specs.Prelude.{◌≡◌};
 
-use super::boards::Board;
 use super::chores::Chore;
-use super::findings::{Finding, finds};
 use super::playing::{Tested, play, play_all};
 use super::scripts::Script;
-use super::users::{Manner, Stance, Users};
 use std::alloc::Global;
 use std::marker::Brand;
 use std::process::Abort;
 use std::sync::{Arc, Wait};
 use std::test::Fail;
-use std::thread;
 use std::thread::Threads;
 use std::time::Clock;
 use tp_book::opening::Unopened;
@@ -20,7 +16,11 @@ use tp_book::passes::Pass;
 use tp_pool::closing::Report;
 use tp_pool::names::PoolNaming;
 use tp_pool::pool::PoolOf;
-use tp_types::configs::{Config, Policy, QueueKind, Verdict};
+use tp_stage::boards::Board;
+use tp_stage::endings::{closed, in_two};
+use tp_stage::findings::{Finding, missing};
+use tp_stage::users::{Manner, Users};
+use tp_types::configs::{Config, Policy, QueueKind};
 use tp_types::refusals::PoolError;
 
 pub const SETTINGS: Config = Config {
@@ -32,65 +32,6 @@ pub const SETTINGS: Config = Config {
     policy: Policy::Abort,
     record_limit: 4096,
 };
-
-pub const MANNER: Manner = Manner {
-    consents: u64::MAX,
-    verdict: Verdict::Abort,
-    stance: Stance::Free,
-    yields: false,
-    talks: false,
-    stack: 2_097_152,
-};
-
-// The list of one or two passes.
-fn listed<G: PoolNaming>(
-    alloc: Global,
-    first: Pass<G>,
-    second: Option<Pass<G>>,
-) -> Result<Vec<Pass<G>>, PoolError> {
-    let mut passes = Vec::new(alloc);
-    if passes.reserve(2).is_err() {
-        return Err(PoolError::NoMemory);
-    }
-    passes.push_reserved(first);
-    if let Some(second) = second {
-        let _ = passes.push(second);
-    }
-    Ok(passes)
-}
-
-// Awaits the pool's end, and closes it with all its passes.
-fn closed<G: PoolNaming, R: Wait>(
-    rt: &R,
-    alloc: Global,
-    pool: Tested<G>,
-    first: Pass<G>,
-    second: Option<Pass<G>>,
-) -> Result<Report, PoolError> {
-    let mut first = first;
-    pool.await_termination(rt, u64::MAX, &mut first)?;
-    let passes = listed(alloc, first, second)?;
-    match pool.close(rt, passes) {
-        Ok(report) => Ok(report),
-        Err(fault) => Err(fault.error),
-    }
-}
-
-// Each type that crosses is a parameter, so that each is shown to cross by itself.
-fn in_two<
-    S: Sync,
-    T: Send + Drop,
-    A: Send + Drop,
-    B: Send + Drop,
-    F: Fn(&S, T) -> A + Sync,
-    H: Fn(&S, T) -> B + Sync,
-    R: Threads + Sync,
->(rt: &R, shared: &S, one: T, two: T, f: &F, h: &H) -> (A, B)
-    requires first { F.IsAlwaysCallable f.now }
-    requires second { H.IsAlwaysCallable h.now }
-{
-    thread::join(rt, move || f(shared, one), move || h(shared, two))
-}
 
 // The first caller's lines, in a thread that gives back its pass.
 fn plays_first<
@@ -187,7 +128,7 @@ pub fn lived<R: Abort + Threads + Wait + Clock + Copy + Send + Sync + 'static>(
     let users = Users::new(manner, &board)?;
     let unopened = Unopened::new(alloc)?;
     let report = open::<Brand, R>(rt, alloc, unopened, settings, users, &board, script)?;
-    finds(&rt, &report, &board, findings);
+    assert_eq!(&rt; missing(&report, &board, findings), None);
     Ok(())
 }
 

@@ -1,11 +1,12 @@
 // All jobs run at once.
 
-use super::boards::Signal;
 use super::chores::Deed;
-use super::findings::Finding;
-use super::lives::{MANNER, SETTINGS, lives_twice};
+use super::lives::{SETTINGS, lives_twice};
 use super::scripts::{Answer, SHUTS_DOWN, Step, alone};
 use std::test::Fail;
+use tp_stage::boards::Signal;
+use tp_stage::findings::Finding;
+use tp_stage::users::MANNER;
 use tp_types::configs::Config;
 use tp_types::tasks::Kind;
 

@@ -1,7 +1,6 @@
 // Submissions and prestarts, with ample memory and where one allocation fails.
 
-use super::findings::Finding;
-use super::lives::{MANNER, SETTINGS, lived};
+use super::lives::{SETTINGS, lived};
 use super::scripts::{Control, Deal, SHUTS_DOWN, Start, Step, View, alone};
 use std::alloc::Global;
 use std::process::Abort;
@@ -9,6 +8,8 @@ use std::sync::Wait;
 use std::test::Fail;
 use std::thread::Threads;
 use std::time::Clock;
+use tp_stage::findings::Finding;
+use tp_stage::users::MANNER;
 use tp_types::configs::Config;
 use tp_types::refusals::PoolError;
 

@@ -1,13 +1,13 @@
 // Callbacks are called outside the lock: each waits until another thread has had an answer from a reading of the
 // pool.
 
-use super::boards::Signal;
 use super::chores::Deed;
-use super::findings::Finding;
-use super::lives::{MANNER, SETTINGS, lives, lives_twice};
+use super::lives::{SETTINGS, lives, lives_twice};
 use super::scripts::{Answer, Control, Cue, Deal, IS_OVER, SHUTS_DOWN, Step, TELLS, WAITS, both};
-use super::users::{Manner, Stance};
 use std::test::Fail;
+use tp_stage::boards::Signal;
+use tp_stage::findings::Finding;
+use tp_stage::users::{MANNER, Manner, Stance};
 use tp_types::configs::{Config, Policy, QueueKind};
 use tp_types::tasks::Kind;
 

@@ -1,10 +1,8 @@
 // How a caller's lines are played.
 
-use super::boards::{Board, Signal, shared};
 use super::chores::{Chore, Deed};
 use super::dealing::deals;
 use super::scripts::{Answer, Control, Cue, Script, Start, Step, View};
-use super::users::Users;
 use std::process::Abort;
 use std::sync::{Arc, Wait};
 use std::thread;
@@ -14,6 +12,8 @@ use tp_book::passes::Pass;
 use tp_pool::answers::{Admitted, Drained, Refused};
 use tp_pool::names::PoolNaming;
 use tp_pool::pool::PoolOf;
+use tp_stage::boards::{Board, Signal, shared};
+use tp_stage::users::Users;
 use tp_types::ids::TaskId;
 use tp_types::refusals::PoolError;
 use tp_types::tasks::{Kind, Outcome};

@@ -1,7 +1,7 @@
 // What a caller does with its pool, line by line.
 
-use super::boards::Signal;
 use super::chores::Deed;
+use tp_stage::boards::Signal;
 use tp_types::states::RunState;
 use tp_types::tasks::{Kind, Outcome};
 

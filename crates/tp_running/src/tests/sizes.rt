@@ -1,14 +1,15 @@
 // Pools whose settings change while they run.
 
-use super::boards::Signal;
 use super::chores::Deed;
-use super::findings::Finding;
-use super::lives::{MANNER, SETTINGS, lives_twice};
+use super::lives::{SETTINGS, lives_twice};
 use super::scripts::{
     Answer, Control, Cue, Deal, LOOKS, SHUTS_DOWN, Script, Start, Step, View, alone,
 };
 use std::test::Fail;
 use tp_record::entries::Did;
+use tp_stage::boards::Signal;
+use tp_stage::findings::Finding;
+use tp_stage::users::MANNER;
 use tp_types::configs::Config;
 use tp_types::tasks::Kind;
 

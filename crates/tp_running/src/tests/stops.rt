@@ -1,13 +1,13 @@
 // Who hears of a stop.
 
-use super::boards::Signal;
 use super::chores::Deed;
-use super::findings::Finding;
-use super::lives::{MANNER, SETTINGS, lives_twice};
+use super::lives::{SETTINGS, lives_twice};
 use super::scripts::{Answer, Control, Cue, IS_OVER, LETS_GO, LOOKS, Step, TELLS, alone, both};
-use super::users::{Manner, Stance};
 use std::test::Fail;
 use tp_record::entries::Did;
+use tp_stage::boards::Signal;
+use tp_stage::findings::Finding;
+use tp_stage::users::{MANNER, Manner, Stance};
 use tp_types::configs::{Config, Policy, QueueKind};
 use tp_types::ids::TaskId;
 use tp_types::tasks::Kind;

@@ -1,12 +1,12 @@
 // Workers that sleep are woken, and nobody waits for one that is not.
 
-use super::boards::Signal;
 use super::chores::Deed;
-use super::findings::Finding;
-use super::lives::{MANNER, SETTINGS, lives, lives_twice};
+use super::lives::{SETTINGS, lives, lives_twice};
 use super::scripts::{Answer, Cue, LOOKS, SHUTS_DOWN, Script, Start, Step, View, alone};
-use super::users::{Manner, Stance};
 use std::test::Fail;
+use tp_stage::boards::Signal;
+use tp_stage::findings::Finding;
+use tp_stage::users::{MANNER, Manner, Stance};
 use tp_types::configs::Config;
 use tp_types::tasks::Kind;
 

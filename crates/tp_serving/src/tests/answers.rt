@@ -1,9 +1,10 @@
 // What futures answer, those of single jobs, of many, and of groups.
 
 use super::chores::Deed;
-use super::lives::{Finding, ONE, lives};
+use super::lives::{ONE, lives};
 use super::scripts::{Many, Script, Step, future, shuts_down};
 use std::test::Fail;
+use tp_stage::findings::Finding;
 use tp_types::refusals::PoolError;
 use tp_types::tasks::Kind;
 

@@ -1,14 +1,21 @@
 // Futures that are open, and what becomes of those that are cancelled, removed or handed back.
 
-use super::boards::Signal;
 use super::chores::Deed;
-use super::lives::{Finding, ONE, lives};
+use super::lives::{ONE, lives};
 use super::scripts::{Control, Many, Script, Step, comes, future, lost, opens, shuts_down, tells};
 use std::test::Fail;
+use tp_stage::boards::{Hook, Signal};
+use tp_stage::findings::Finding;
+use tp_types::ids::TaskId;
 use tp_types::refusals::PoolError;
 use tp_types::tasks::{Fate, Kind};
 
 const CANCELLED: PoolError = PoolError::CancelledTask;
+
+// The hook was called so often for this task.
+fn hooked(hook: Hook, t: u32, times: u64) -> Finding {
+    Finding::Noted(Signal::Hooked(hook, TaskId(t)), times)
+}
 
 fn cancels<'s>(t: u32, flag: bool) -> Step<'s> {
     Step::Control(Control::Cancel(t, flag, true))
@@ -46,9 +53,18 @@ fn open_futures_are_cancelled(rt: HostRuntime) -> Result<(), Fail> {
     let findings = [
         Finding::Run(1),
         Finding::Cancelled(3),
-        Finding::Noted(Signal::Before, 0x0101_0101),
-        Finding::Noted(Signal::Ran, 1),
-        Finding::Noted(Signal::Skipped, 0x0101_0100),
+        hooked(Hook::Before, 0, 1),
+        hooked(Hook::Ran, 0, 1),
+        hooked(Hook::Skipped, 0, 0),
+        hooked(Hook::Before, 1, 1),
+        hooked(Hook::Ran, 1, 0),
+        hooked(Hook::Skipped, 1, 1),
+        hooked(Hook::Before, 2, 1),
+        hooked(Hook::Ran, 2, 0),
+        hooked(Hook::Skipped, 2, 1),
+        hooked(Hook::Before, 3, 1),
+        hooked(Hook::Ran, 3, 0),
+        hooked(Hook::Skipped, 3, 1),
     ];
     lives(rt, rt.alloc(), ONE, true, script, &findings)
 }
@@ -121,7 +137,8 @@ fn job_that_never_looks_still_ends(rt: HostRuntime) -> Result<(), Fail> {
     let findings = [
         Finding::Ended(0, Ok(5)),
         Finding::Cancelled(1),
-        Finding::Noted(Signal::Ran, 1),
+        hooked(Hook::Ran, 0, 1),
+        hooked(Hook::Ran, 1, 0),
     ];
     lives(rt, rt.alloc(), ONE, false, script, &findings)
 }

@@ -1,10 +1,10 @@
 // Jobs that tests hand in.
 
-use super::boards::{Board, Signal};
 use std::sync::Arc;
 use tp_callbacks::flags::CancelFlag;
 use tp_pool::jobs::Job;
-use tp_types::tasks::{Outcome, Promise};
+use tp_stage::boards::{Board, Signal};
+use tp_types::tasks::{Outcome, Promise, WIDEST, as_widest};
 
 // What a job does. Where it waits in vain, it ends with the fault 99.
 #[derive(Clone, Copy)]
@@ -25,21 +25,8 @@ pub struct Chore {
     pub board: Arc<Board>,
 }
 
-impl Job for Chore {
-    ghost use Rattle.std.specs.Prelude.{true, pos, negsuc};
-    ghost use Rattle.tp_types.specs.declared.tasks.Promise.{Promise};
-
-    ghost promised = { λ j. record { low = negsuc 9223372036854775807; high = pos 255; may_fault = true } };
-
-    fn promise(&self) -> Promise {
-        Promise {
-            low: i64::MIN,
-            high: 255,
-            may_fault: true,
-        }
-    }
-
-    fn call(&mut self, cancel: &CancelFlag) -> Outcome {
+impl Chore {
+    fn outcome(&self, cancel: &CancelFlag) -> Outcome {
         match self.deed {
             Deed::End(Ok(value)) => Ok(i64::from(value)),
             Deed::End(Err(code)) => Err(code),
@@ -54,5 +41,19 @@ impl Job for Chore {
                 }
             }
         }
+    }
+}
+
+impl Job for Chore {
+    ghost use Rattle.tp_types.specs.declared.tasks.TheConstants.{WIDEST};
+
+    ghost promised = { λ _. WIDEST };
+
+    fn promise(&self) -> Promise {
+        WIDEST
+    }
+
+    fn call(&mut self, cancel: &CancelFlag) -> Outcome {
+        as_widest(self.outcome(cancel))
     }
 }

@@ -1,9 +1,7 @@
 // How a caller's lines are played.
 
-use super::boards::{Board, shared};
 use super::chores::{Chore, Deed};
 use super::scripts::{Control, Cue, Many, Step};
-use super::users::Users;
 use std::alloc::Global;
 use std::process::Abort;
 use std::sync::{Arc, Wait};
@@ -17,6 +15,8 @@ use tp_pool::pool::PoolOf;
 use tp_service::completions::CompletionService;
 use tp_service::futures::{get, get_until, submit, try_get};
 use tp_service::invoking::{invoke_all, invoke_all_until, invoke_any};
+use tp_stage::boards::{Board, shared};
+use tp_stage::users::Users;
 use tp_types::ids::TaskId;
 use tp_types::refusals::PoolError;
 use tp_types::tasks::Kind;
@@ -204,7 +204,9 @@ fn hears<G: PoolNaming, R: Wait + Clock>(
     cue: Cue,
 ) -> bool {
     match cue {
-        Cue::Raise(signal) => board.raise(signal),
+        Cue::Raise(signal) => {
+            board.raise(signal);
+        }
         Cue::Reaches(signal, to) => return board.reaches(signal, to),
         Cue::Queued(tasks) => return queues(rt, pool, tasks),
         Cue::Rest(micros) => rest(rt, micros),

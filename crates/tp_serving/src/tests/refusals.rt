@@ -1,10 +1,11 @@
 // A submission of many that is refused: the earlier ones are cancelled, and it and the later ones are dropped.
 
-use super::boards::Signal;
 use super::chores::Deed;
-use super::lives::{Finding, ONE, lives};
+use super::lives::{ONE, lives};
 use super::scripts::{Many, Script, Step, comes, future, opens, shuts_down};
 use std::test::Fail;
+use tp_stage::boards::Signal;
+use tp_stage::findings::Finding;
 use tp_types::configs::{Config, QueueKind};
 use tp_types::ids::TaskId;
 use tp_types::refusals::PoolError;

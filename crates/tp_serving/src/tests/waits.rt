@@ -1,8 +1,7 @@
 // A second caller waits while the first has the pool go on.
 
-use super::boards::Signal;
 use super::chores::Deed;
-use super::lives::{Finding, ONE, lives};
+use super::lives::{ONE, lives};
 use super::scripts::{
     Control, Cue, Many, Script, Step, comes, future, lost, opens, raises, shuts_down,
 };
@@ -12,6 +11,8 @@ use std::sync::Wait;
 use std::test::Fail;
 use std::thread::Threads;
 use std::time::Clock;
+use tp_stage::boards::Signal;
+use tp_stage::findings::Finding;
 use tp_types::configs::{Config, Policy, QueueKind};
 use tp_types::refusals::PoolError;
 use tp_types::tasks::{Fate, Kind};

@@ -1,7 +1,7 @@
 use Rattle.std.proofs.Common.{sym, subst}
 use Rattle.tp_machine.specs.Steps.{IsStep}
 use Rattle.tp_machine.proofs.Moved.{promises_stay}
-use Rattle.tp_laws.specs.declared.runs.TheConstants.{WIDEST}
+use Rattle.tp_types.specs.declared.tasks.TheConstants.{WIDEST}
 use Rattle.tp_laws.proofs.Running.{told_by, all_kept}
 use Rattle.tp_laws.proofs.runs.answer.Goals as goal
 

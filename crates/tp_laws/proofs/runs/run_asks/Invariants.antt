@@ -1,6 +1,6 @@
 use Rattle.std.proofs.Common.{◌≡◌, ◌≤◌, length, take, vec_len, vec_capacity}
 use Rattle.tp_laws.specs.Runs.{AllPromise}
-use Rattle.tp_laws.specs.declared.runs.TheConstants.{WIDEST}
+use Rattle.tp_types.specs.declared.tasks.TheConstants.{WIDEST}
 use Rattle.tp_laws.proofs.Running.{HasRun}
 use Rattle.tp_laws.proofs.runs.run_asks.Given as goal
 

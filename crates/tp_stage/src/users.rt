@@ -1,6 +1,6 @@
-// A pool's factory, handler, hooks and gate, as tests have them.
+//! A pool's factory, handler, hooks and gate, as tests have them.
 
-use super::boards::{Board, Hook, Signal, shared};
+use crate::boards::{Board, Hook, Signal, shared};
 use std::sync::{Arc, Wait};
 use std::thread;
 use tp_pool::edges::Edge;
@@ -11,34 +11,47 @@ use tp_types::refusals::PoolError;
 use tp_types::states::RunState;
 use tp_types::tasks::Outcome;
 
-// What workers meet at their gate.
+/// What workers meet at their gate.
 #[derive(Clone, Copy)]
 pub enum Stance {
-    // Nothing.
+    /// Nothing.
     Free,
-    // They are held before bodies, until they may go on.
+    /// They are held before bodies, until they may go on.
     Held,
-    // They are held before takes, beyond a limit.
+    /// They are held before takes, beyond a limit.
     Shut,
-    // They wait at each point until the pool was read.
+    /// They wait at each point until the pool was read.
     Talks,
 }
 
-// What a pool's users do.
+/// What a pool's users do.
 #[derive(Clone, Copy)]
 pub struct Manner {
-    // How many workers the factory consents to.
+    /// How many workers the factory consents to.
     pub consents: u64,
+    /// What the handler answers.
     pub verdict: Verdict,
+    /// What the gate does.
     pub stance: Stance,
-    // Whether workers yield at each point of the gate.
+    /// Whether workers yield at each point of the gate.
     pub yields: bool,
-    // Whether factory, handler and hooks wait until the pool was read.
+    /// Whether factory, handler and hooks wait until the pool was read.
     pub talks: bool,
-    // The stack of a worker's thread, in bytes.
+    /// The stack of a worker's thread, in bytes.
     pub stack: usize,
 }
 
+/// Users that let everything pass.
+pub const MANNER: Manner = Manner {
+    consents: u64::MAX,
+    verdict: Verdict::Abort,
+    stance: Stance::Free,
+    yields: false,
+    talks: false,
+    stack: 2_097_152,
+};
+
+/// All of a pool's users.
 #[derive(Drop)]
 pub struct Users {
     manner: Manner,
@@ -46,6 +59,7 @@ pub struct Users {
 }
 
 impl Users {
+    /// Users of this manner, who note on the board what they are asked.
     pub fn new(manner: Manner, board: &Arc<Board>) -> Result<Users, PoolError> {
         let board = shared(board)?;
         Ok(Users { manner, board })
@@ -96,6 +110,7 @@ impl Edge for Users {
         match self.manner.stance {
             Stance::Free => {}
             Stance::Held if p == Point::Body => {
+                self.board.raise(Signal::Came);
                 self.board.reaches(Signal::Open, 1);
             }
             Stance::Held => {}

@@ -1,4 +1,4 @@
-// What a test and its pool's threads tell each other.
+//! What a test and its pool's threads tell each other.
 
 use std::alloc::Global;
 use std::sync::Arc;
@@ -7,7 +7,7 @@ use std::thread;
 use tp_types::ids::TaskId;
 use tp_types::refusals::PoolError;
 
-// The hook before a task, and the one after a task that was skipped, or ran.
+/// The hook before a task, and the one after a task that was skipped, or ran.
 #[derive(Clone, Copy)]
 pub enum Hook {
     Before,
@@ -15,38 +15,39 @@ pub enum Hook {
     Ran,
 }
 
-// A count that all threads of a test share.
+/// A count that all threads of a test share.
 #[derive(Clone, Copy)]
 pub enum Signal {
-    // Workers that are held before bodies may go on once it is 1.
+    /// Workers that are held before bodies may go on once it is 1.
     Open,
-    // Jobs that wait have begun, and may go on.
+    /// Jobs that wait have begun, and may go on.
     Begun,
     Told,
-    // Jobs that meet others.
+    /// Jobs that meet others.
     Met,
-    // Workers that came to a gate before takes, those that passed it, and how many may.
+    /// Workers that came to the gate that holds them, those that passed it before takes, and how many may.
     Came,
     Passed,
     Limit,
-    // Readings that callbacks asked for, up to which of them one was made, and those that were not made.
+    /// Readings that callbacks asked for, up to which of them one was made, and those that were not made.
     Asked,
     Answered,
     Missed,
-    // Calls of a hook for this task; those for tasks from 2 on are counted together.
+    /// Calls of a hook for this task; those for tasks from 4 on are counted together.
     Hooked(Hook, TaskId),
-    // Calls of the hook of the pool's end.
+    /// Calls of the hook of the pool's end.
     Ends,
-    // Asks of the factory.
+    /// Asks of the factory.
     Wanted,
-    // Tasks that were handed in.
+    /// Tasks that were handed in.
     Handed,
-    // A caller is about to wait, or has done what it does.
+    /// A second caller may go on; a caller is about to wait, or has done what it does.
+    Ready,
     Waits,
     Over,
-    // The moment, in ticks.
+    /// The moment, in ticks.
     Moment,
-    // Rounds of a script that were played, and those that could tell.
+    /// Rounds of a script that were played, and those that could tell.
     Rounds,
     Telling,
 }
@@ -77,6 +78,7 @@ impl HookCalls {
     }
 }
 
+/// The counts.
 #[derive(Drop)]
 pub struct Board {
     open: AtomicU64,
@@ -91,10 +93,13 @@ pub struct Board {
     missed: AtomicU64,
     first: HookCalls,
     second: HookCalls,
+    third: HookCalls,
+    fourth: HookCalls,
     others: HookCalls,
     ends: AtomicU64,
     wanted: AtomicU64,
     handed: AtomicU64,
+    ready: AtomicU64,
     waits: AtomicU64,
     over: AtomicU64,
     moment: AtomicU64,
@@ -120,10 +125,13 @@ fn blank() -> Board {
         missed: zero(),
         first: HookCalls::new(),
         second: HookCalls::new(),
+        third: HookCalls::new(),
+        fourth: HookCalls::new(),
         others: HookCalls::new(),
         ends: zero(),
         wanted: zero(),
         handed: zero(),
+        ready: zero(),
         waits: zero(),
         over: zero(),
         moment: zero(),
@@ -133,6 +141,7 @@ fn blank() -> Board {
 }
 
 impl Board {
+    /// A board on which all counts are 0.
     pub fn new(alloc: Global) -> Result<Arc<Board>, PoolError> {
         match Arc::new(alloc, blank()) {
             Ok(board) => Ok(board),
@@ -154,10 +163,13 @@ impl Board {
             Signal::Missed => &self.missed,
             Signal::Hooked(hook, TaskId(0)) => self.first.of(hook),
             Signal::Hooked(hook, TaskId(1)) => self.second.of(hook),
+            Signal::Hooked(hook, TaskId(2)) => self.third.of(hook),
+            Signal::Hooked(hook, TaskId(3)) => self.fourth.of(hook),
             Signal::Hooked(hook, _) => self.others.of(hook),
             Signal::Ends => &self.ends,
             Signal::Wanted => &self.wanted,
             Signal::Handed => &self.handed,
+            Signal::Ready => &self.ready,
             Signal::Waits => &self.waits,
             Signal::Over => &self.over,
             Signal::Moment => &self.moment,
@@ -166,20 +178,22 @@ impl Board {
         }
     }
 
+    /// How high the count is.
     pub fn read(&self, signal: Signal) -> u64 {
         self.at(signal).load(Ordering::SeqCst)
     }
 
+    /// Sets the count.
     pub fn put(&self, signal: Signal, to: u64) {
         self.at(signal).store(to, Ordering::SeqCst);
     }
 
-    // Adds 1, and says how many there were.
+    /// Adds 1, and says how many there were.
     pub fn raise(&self, signal: Signal) -> u64 {
         self.at(signal).fetch_add(1, Ordering::SeqCst)
     }
 
-    // Yields until the count is so high, or for long; whether it came to be.
+    /// Yields until the count is so high, or for long; whether it came to be.
     pub fn reaches(&self, signal: Signal, to: u64) -> bool {
         for _ in 0..1_000_000u32 {
             if self.read(signal) >= to {
@@ -190,7 +204,7 @@ impl Board {
         false
     }
 
-    // Waits until the pool was read after this call began.
+    /// Waits until the pool was read after this call began.
     pub fn talk(&self) {
         let mine = self.raise(Signal::Asked).saturating_add(1);
         if !self.reaches(Signal::Answered, mine) {
@@ -198,14 +212,14 @@ impl Board {
         }
     }
 
-    // The n-th who comes waits until n may pass, or for long.
+    /// The n-th who comes waits until n may pass, or for long.
     pub fn enter(&self) {
         let mine = self.raise(Signal::Came).saturating_add(1);
         self.reaches(Signal::Limit, mine);
         self.raise(Signal::Passed);
     }
 
-    // Waits until so many more have come that their number is a multiple of the group's size, or for long.
+    /// Waits until so many more have come that their number is a multiple of the group's size, or for long.
     pub fn meet(&self, size: u64) -> bool {
         let before = self.raise(Signal::Met);
         let missing = size.saturating_sub(before % size.max(1));
@@ -213,6 +227,7 @@ impl Board {
     }
 }
 
+/// The same board, for another to hold.
 pub fn shared(board: &Arc<Board>) -> Result<Arc<Board>, PoolError> {
     match Arc::try_clone(board) {
         Ok(board) => Ok(board),

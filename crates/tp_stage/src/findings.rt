@@ -1,16 +1,16 @@
-// What a closed pool is to have left.
+//! What a closed pool is to have left.
 
-use super::boards::{Board, Signal};
-use std::process::Abort;
+use crate::boards::{Board, Signal};
 use tp_pool::closing::Report;
 use tp_record::entries::{Did, Entry, Failed, Looked, Offered, Opened, Seconded};
 use tp_types::ids::{SlotId, TaskId};
 use tp_types::states::Counts;
 use tp_types::tasks::{Kind, Outcome};
 
+/// A finding.
 #[derive(Clone, Copy)]
 pub enum Finding {
-    // A counter.
+    /// A counter.
     Submitted(u32),
     Run(u32),
     Caller(u32),
@@ -19,20 +19,20 @@ pub enum Finding {
     Cancelled(u32),
     Completed(u32),
     Largest(u32),
-    // Exactly one worker ended this task, so.
+    /// Exactly one worker ended this task, so.
     Ended(u32, Outcome),
-    // So many entries are answered so.
+    /// So many entries are answered so.
     Told(usize, Did),
-    // The whole record of a task that is handed back by a pool without workers, all by the one caller.
+    /// The whole record of a task that is handed back by a pool without workers, all by the one caller.
     Unstaffed,
-    // No task faulted.
+    /// No task faulted.
     NoFault,
-    // So many workers faulted, and each had another made in its place, or had not.
+    /// So many workers faulted, and each had another made in its place, or had not.
     Replaced(u32),
     Unreplaced(u32),
-    // So many tasks were given to workers by hand.
+    /// So many tasks were given to workers by hand.
     ByHand(usize),
-    // A count of the test: what it is, or that it is not 0.
+    /// A count of the test: what it is, or that it is not 0.
     Noted(Signal, u64),
     NotedSome(Signal),
 }
@@ -78,7 +78,7 @@ fn told(entries: &[Entry], times: usize, did: Did) -> bool {
     found == times
 }
 
-// A submission where no worker is made, and what follows a stop.
+/// A submission where no worker is made, and what follows a stop.
 pub const UNSTAFFED: [Did; 8] = [
     Did::Submit(TaskId(0), Kind::Plain, Looked::Reserve(SlotId(0))),
     Did::Fail(SlotId(0), Failed::Offer(TaskId(0))),
@@ -90,7 +90,7 @@ pub const UNSTAFFED: [Did; 8] = [
     Did::Ended,
 ];
 
-// Whether these are the first entries of the unstaffed pool, so many of them, by the first caller.
+/// Whether these are the first entries of the unstaffed pool, so many of them, by the first caller.
 pub fn is_unstaffed(entries: &[Entry], entries_wanted: usize) -> bool {
     let mut found = 0usize;
     for (entry, did) in entries.iter().zip(&UNSTAFFED) {
@@ -182,10 +182,12 @@ fn is_found(report: &Report, board: &Board, finding: Finding) -> bool {
     }
 }
 
-// Finds all of these.
-pub fn finds<R: Abort>(rt: &R, report: &Report, board: &Board, findings: &[Finding]) {
+/// The first of these that is not found, counted from 0.
+pub fn missing(report: &Report, board: &Board, findings: &[Finding]) -> Option<usize> {
     for (number, finding) in findings.iter().enumerate() {
-        let found = is_found(report, board, *finding);
-        assert!(rt; found, "finding {number}");
+        if !is_found(report, board, *finding) {
+            return Some(number);
+        }
     }
+    None
 }

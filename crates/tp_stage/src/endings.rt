@@ -1,0 +1,63 @@
+//! How a test's pool ends, after one caller or two.
+
+use std::alloc::Global;
+use std::sync::Wait;
+use std::thread::{self, Threads};
+use tp_book::passes::Pass;
+use tp_pool::closing::Report;
+use tp_pool::edges::Edge;
+use tp_pool::jobs::Job;
+use tp_pool::names::PoolNaming;
+use tp_pool::pool::PoolOf;
+use tp_types::refusals::PoolError;
+
+// The list of one or two passes.
+fn listed<G: PoolNaming>(
+    alloc: Global,
+    first: Pass<G>,
+    second: Option<Pass<G>>,
+) -> Result<Vec<Pass<G>>, PoolError> {
+    let mut passes = Vec::new(alloc);
+    if passes.reserve(2).is_err() {
+        return Err(PoolError::NoMemory);
+    }
+    passes.push_reserved(first);
+    if let Some(second) = second {
+        let _ = passes.push(second);
+    }
+    Ok(passes)
+}
+
+/// Awaits the pool's end, and closes it with all its passes.
+pub fn closed<G: PoolNaming, J: Job, E: Edge, R: Wait>(
+    rt: &R,
+    alloc: Global,
+    pool: PoolOf<G, J, E>,
+    first: Pass<G>,
+    second: Option<Pass<G>>,
+) -> Result<Report, PoolError> {
+    let mut first = first;
+    pool.await_termination(rt, u64::MAX, &mut first)?;
+    let passes = listed(alloc, first, second)?;
+    match pool.close(rt, passes) {
+        Ok(report) => Ok(report),
+        Err(fault) => Err(fault.error),
+    }
+}
+
+/// Both calls, each in a thread of its own. Each type that crosses is a parameter, so that each is shown to
+/// cross by itself.
+pub fn in_two<
+    S: Sync,
+    T: Send + Drop,
+    A: Send + Drop,
+    B: Send + Drop,
+    F: Fn(&S, T) -> A + Sync,
+    H: Fn(&S, T) -> B + Sync,
+    R: Threads + Sync,
+>(rt: &R, shared: &S, one: T, two: T, f: &F, h: &H) -> (A, B)
+    requires first { F.IsAlwaysCallable f.now }
+    requires second { H.IsAlwaysCallable h.now }
+{
+    thread::join(rt, move || f(shared, one), move || h(shared, two))
+}
