@@ -198,13 +198,13 @@ impl<G: Naming, P: Drop> Book<G, P> {
         ensures unchanged { OnErr result (IsUnmoved self.old self.new) }
         ensures same { OnErr result (pass.new ≡ pass.old) }
     {
-        match self.advance(ask, submitted, glance, &mut pass.account) {
-            Ok((stepped, entry)) => {
-                pass.receipts.push_reserved(entry);
-                Ok(stepped)
-            }
-            Err(refused) => Err(refused),
-        }
+        let stepped = self.advance(ask, submitted, glance, &mut pass.account)?;
+        pass.receipts.push_reserved(Entry {
+            by: pass.account.number,
+            ask,
+            did: stepped.did(&ask),
+        });
+        Ok(stepped)
     }
 
     /// Makes the step of this ask with a worker's pass, as `step`, without a receipt.
@@ -227,24 +227,19 @@ impl<G: Naming, P: Drop> Book<G, P> {
         ensures unchanged { OnErr result (IsUnmoved self.old self.new) }
         ensures same { OnErr result (pass.new ≡ pass.old) }
     {
-        match self.advance(ask, submitted, glance, &mut pass.account) {
-            Ok((stepped, _)) => Ok(stepped),
-            Err(refused) => Err(refused),
-        }
+        self.advance(ask, submitted, glance, &mut pass.account)
     }
 
-    // One step, with the entry that it made: the account has one unit more, and what the step raised
-    // is published and seen.
+    // One step: the account has one unit more, and what the step raised is published and seen.
     fn advance(
         &mut self,
         ask: Ask,
         submitted: Option<(Promise, P)>,
         glance: &Glance<G>,
         account: &mut Account<G>,
-    ) -> Result<(Stepped<P>, Entry), (PoolError, Option<P>)>
+    ) -> Result<Stepped<P>, (PoolError, Option<P>)>
         requires payload { IsPaid ask submitted }
-        ensures step { IfOk result (λ r. IsAdvanced self.old self.new account.old.number ask submitted r.0) }
-        ensures entry { IfOk result (λ r. r.1 ≡ entry_of account.old.number ask r.0) }
+        ensures step { IfOk result (IsAdvanced self.old self.new account.old.number ask submitted) }
         ensures account { OnOk result (account.new ≡ record {
           number = account.old.number;
           amount = account.old.amount + 1;
@@ -272,12 +267,7 @@ impl<G: Naming, P: Drop> Book<G, P> {
         machine.stands();
         accounts.credit(account);
         account.publish(glance, seat, before, machine.state());
-        let entry = Entry {
-            by: account.number,
-            ask,
-            did: stepped.did(&ask),
-        };
-        Ok((stepped, entry))
+        Ok(stepped)
     }
 }
 
