@@ -6,7 +6,7 @@ use std::sync::Arc;
 use std::sync::atomic::{AtomicU64, Ordering};
 use tp_callbacks::flags::CancelFlag;
 use tp_callbacks::jobs::Job;
-use tp_types::tasks::{Outcome, Promise};
+use tp_types::tasks::{Outcome, Promise, WIDEST, as_widest};
 
 /// A word that a job writes where it begins.
 pub type Mark = Arc<AtomicU64>;
@@ -35,24 +35,19 @@ impl Parcel {
 }
 
 impl Job for Parcel {
-    ghost use Rattle.std.specs.Prelude.{false};
-    ghost use Rattle.tp_types.specs.declared.tasks.Promise.{Promise};
+    ghost use Rattle.tp_types.specs.declared.tasks.TheConstants.{WIDEST};
 
-    ghost promised = { λ p. record { low = p.answer; high = p.answer; may_fault = false } };
+    ghost promised = { λ _. WIDEST };
 
     fn promise(&self) -> Promise {
-        Promise {
-            low: self.answer,
-            high: self.answer,
-            may_fault: false,
-        }
+        WIDEST
     }
 
     fn call(&mut self, _cancel: &CancelFlag) -> Outcome {
         if let Some(mark) = &self.errand.mark {
             mark.store(1, Ordering::SeqCst);
         }
-        Ok(self.answer)
+        as_widest(Ok(self.answer))
     }
 }
 

@@ -13,43 +13,14 @@ use std::thread::{JoinHandle, Threads};
 use std::time::{Clock, Duration, Instant};
 use tp_book::opening::Unopened;
 use tp_book::passes::Pass;
-use tp_callbacks::gates::Point;
-use tp_pool::edges::Edge;
+use tp_pool::edges::Defaults;
 use tp_pool::names::PoolNaming;
 use tp_pool::pool::PoolOf;
-use tp_types::configs::{Config, Policy, QueueKind, Verdict};
-use tp_types::ids::{SlotId, TaskId};
+use tp_types::configs::{Config, Policy, QueueKind};
 use tp_types::limits::MAX_RECORD_LIMIT;
-use tp_types::states::RunState;
-use tp_types::tasks::{Kind, Outcome};
+use tp_types::tasks::Kind;
 
-/// Consents to all, and does nothing.
-#[derive(Drop)]
-pub struct Bare;
-
-impl Edge for Bare {
-    fn stack(&self) -> usize {
-        1_048_576
-    }
-
-    fn allow<R: Wait>(&self, _rt: &R, _w: SlotId) -> bool {
-        true
-    }
-
-    fn verdict<R: Wait>(&self, _rt: &R, _t: TaskId, _state: RunState) -> Verdict {
-        Verdict::Abort
-    }
-
-    fn before<R: Wait>(&self, _rt: &R, _w: SlotId, _t: TaskId) {}
-
-    fn after<R: Wait>(&self, _rt: &R, _w: SlotId, _t: TaskId, _outcome: Option<&Outcome>) {}
-
-    fn terminated<R: Wait>(&self, _rt: &R) {}
-
-    fn pass(&self, _p: Point, _w: SlotId) {}
-}
-
-type Recorded<G> = PoolOf<G, Parcel, Bare>;
+type Recorded<G> = PoolOf<G, Parcel, Defaults>;
 
 // So many workers, and a queue that takes any number of tasks.
 fn settings_of(workers: u32) -> Config {
@@ -92,7 +63,7 @@ fn open<
     requires named { unopened ≡ record { ledger = G.name; parts = G.parts; table = G.table } }
     requires settings { settings ≡ G.config }
 {
-    let (pool, first) = Recorded::<G>::over(alloc, unopened, settings, Bare)?;
+    let (pool, first) = Recorded::<G>::over(alloc, unopened, settings, Defaults)?;
     let mut pass = first;
     pool.prestart_all(rt, &mut pass)?;
     settle(&rt);

@@ -7,7 +7,7 @@ use std::sync::atomic::{AtomicU64, Ordering};
 use std::thread;
 use tp_callbacks::flags::CancelFlag;
 use tp_callbacks::jobs::Job;
-use tp_types::tasks::{Outcome, Promise};
+use tp_types::tasks::{Outcome, Promise, WIDEST, as_widest};
 
 /// A count that threads share.
 pub type Count = Arc<AtomicU64>;
@@ -37,7 +37,6 @@ pub enum Work {
 pub struct Chore {
     /// The number.
     pub number: u32,
-    answer: i64,
     work: Work,
     ran: Count,
 }
@@ -45,12 +44,7 @@ pub struct Chore {
 impl Chore {
     /// The job of this number and work, whose runs this counts.
     pub fn new(number: u32, work: Work, ran: Count) -> Chore {
-        Chore {
-            number,
-            answer: i64::from(number),
-            work,
-            ran,
-        }
+        Chore { number, work, ran }
     }
 }
 
@@ -73,21 +67,8 @@ pub fn reaches(count: &Count, to: u64) -> bool {
     false
 }
 
-impl Job for Chore {
-    ghost use Rattle.std.specs.Prelude.{true};
-    ghost use Rattle.tp_types.specs.declared.tasks.Promise.{Promise};
-
-    ghost promised = { λ c. record { low = c.answer; high = c.answer; may_fault = true } };
-
-    fn promise(&self) -> Promise {
-        Promise {
-            low: self.answer,
-            high: self.answer,
-            may_fault: true,
-        }
-    }
-
-    fn call(&mut self, cancel: &CancelFlag) -> Outcome {
+impl Chore {
+    fn outcome(&self, cancel: &CancelFlag) -> Outcome {
         self.ran.fetch_add(1, Ordering::SeqCst);
         match self.work {
             Work::Nothing => {}
@@ -111,6 +92,20 @@ impl Job for Chore {
                 }
             }
         }
-        Ok(self.answer)
+        Ok(i64::from(self.number))
+    }
+}
+
+impl Job for Chore {
+    ghost use Rattle.tp_types.specs.declared.tasks.TheConstants.{WIDEST};
+
+    ghost promised = { λ _. WIDEST };
+
+    fn promise(&self) -> Promise {
+        WIDEST
+    }
+
+    fn call(&mut self, cancel: &CancelFlag) -> Outcome {
+        as_widest(self.outcome(cancel))
     }
 }

@@ -14,7 +14,7 @@ use std::thread::{JoinHandle, Threads};
 use tp_book::opening::Unopened;
 use tp_book::passes::Pass;
 use tp_callbacks::gates::Point;
-use tp_pool::edges::Edge;
+use tp_pool::edges::{Edge, STACK};
 use tp_pool::names::PoolNaming;
 use tp_pool::pool::PoolOf;
 use tp_types::configs::{Config, Policy, QueueKind, Verdict};
@@ -42,7 +42,7 @@ struct Halting {
 
 impl Edge for Halting {
     fn stack(&self) -> usize {
-        1_048_576
+        STACK
     }
 
     fn allow<R: Wait>(&self, _rt: &R, _w: SlotId) -> bool {

@@ -10,7 +10,7 @@ use tp_book::opening::Unopened;
 use tp_book::passes::Pass;
 use tp_callbacks::gates::Point;
 use tp_pool::closing::Report;
-use tp_pool::edges::Edge;
+use tp_pool::edges::{Edge, STACK};
 use tp_pool::names::PoolNaming;
 use tp_pool::pool::PoolOf;
 use tp_types::configs::{Config, Policy, QueueKind, Verdict};
@@ -41,7 +41,7 @@ pub struct Desk {
 
 impl Edge for Desk {
     fn stack(&self) -> usize {
-        1_048_576
+        STACK
     }
 
     fn allow<R: Wait>(&self, _rt: &R, _w: SlotId) -> bool {

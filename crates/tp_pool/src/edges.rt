@@ -1,4 +1,5 @@
 //! The caller's objects, as a pool calls them.
+ghost use Rattle.std.specs.Prelude.{◌≡◌, true};
 
 use std::sync::{Mutex, Wait};
 use tp_callbacks::factories::ThreadFactory;
@@ -35,8 +36,8 @@ pub trait Edge: Drop {
     fn stack(&self) -> usize;
 }
 
-// The stack of a worker's thread, in bytes.
-const STACK: usize = 2 * 1_024 * 1_024;
+/// The stack of a worker's thread where the caller asks for no other, in bytes.
+pub const STACK: usize = 2 * 1_024 * 1_024;
 
 /// The caller's boxes. Those that change are each behind a lock of its own.
 #[derive(Drop)]
@@ -90,6 +91,41 @@ impl Edge for Boxes {
     }
 
     fn stack(&self) -> usize {
+        STACK
+    }
+}
+
+/// What a pool calls where its caller has nothing to say: each worker is allowed, each verdict is Abort, the
+/// hooks do nothing, and the gate is open.
+#[derive(Drop)]
+pub struct Defaults;
+
+impl Edge for Defaults {
+    ghost use Rattle.tp_pool.specs.declared.edges.TheConstants.{STACK};
+
+    fn allow<R: Wait>(&self, _rt: &R, _w: SlotId) -> bool
+        ensures { result ≡ true }
+    {
+        true
+    }
+
+    fn verdict<R: Wait>(&self, _rt: &R, _t: TaskId, _state: RunState) -> Verdict
+        ensures { result ≡ Verdict.Abort }
+    {
+        Verdict::Abort
+    }
+
+    fn before<R: Wait>(&self, _rt: &R, _w: SlotId, _t: TaskId) {}
+
+    fn after<R: Wait>(&self, _rt: &R, _w: SlotId, _t: TaskId, _outcome: Option<&Outcome>) {}
+
+    fn terminated<R: Wait>(&self, _rt: &R) {}
+
+    fn pass(&self, _p: Point, _w: SlotId) {}
+
+    fn stack(&self) -> usize
+        ensures { result ≡ STACK }
+    {
         STACK
     }
 }

@@ -5,4 +5,3 @@ pub mod runs;
 mod scripted;
 mod submissions;
 pub mod texts;
-mod users;

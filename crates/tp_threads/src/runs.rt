@@ -3,7 +3,6 @@ ghost use Rattle.std.specs.Prelude.{◌≡◌, [], IfOk, IfErr, OnOk};
 ghost use Rattle.tp_threads.specs.Runs.{AddsEnd, IsClosed, IsRun, IsShort, RefusesRun, kinds};
 
 use crate::submissions::{Company, submit_all};
-use crate::users::Users;
 use std::alloc::Global;
 use std::marker::Brand;
 use std::sync::Wait;
@@ -11,6 +10,7 @@ use std::thread::Threads;
 use tp_book::opening::Unopened;
 use tp_book::passes::Pass;
 use tp_pool::closing::Report;
+use tp_pool::edges::Defaults;
 use tp_pool::names::PoolNaming;
 use tp_scenario::jobs::{JobLine, Jobs};
 use tp_types::configs::Config;
@@ -87,7 +87,7 @@ fn life<G: PoolNaming + Send + Sync + 'static, R: Threads + Wait + Copy + Send +
     if passes.reserve(1).is_err() {
         return Err(PoolError::NoMemory);
     }
-    let (pool, mut pass) = match Company::<G>::over(alloc, unopened, settings, Users) {
+    let (pool, mut pass) = match Company::<G>::over(alloc, unopened, settings, Defaults) {
         Ok(opened) => opened,
         Err(error) => return Err(error),
     };

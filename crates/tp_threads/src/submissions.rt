@@ -3,10 +3,10 @@ ghost use Rattle.std.specs.Prelude.{◌≡◌, [], ◌∷◌, IfErr, OnOk};
 ghost use Rattle.tp_threads.specs.Runs.{AddsSubmissions, BreaksOff, IsTorn, kind_of, kinds};
 
 use crate::scripted::Scripted;
-use crate::users::Users;
 use std::sync::Wait;
 use std::thread::Threads;
 use tp_book::passes::Pass;
+use tp_pool::edges::Defaults;
 use tp_pool::names::PoolNaming;
 use tp_pool::pool::PoolOf;
 use tp_scenario::jobs::JobLine;
@@ -14,7 +14,7 @@ use tp_types::refusals::PoolError;
 use tp_types::tasks::Kind;
 
 /// A pool of scripted jobs.
-pub type Company<G> = PoolOf<G, Scripted, Users>;
+pub type Company<G> = PoolOf<G, Scripted, Defaults>;
 
 /// Receipts of one submission and of a pool's end, or more: they are reserved before each submission, so
 /// that a pool can be ended where it was refused for want of memory.

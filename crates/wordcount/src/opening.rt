@@ -7,15 +7,11 @@ use std::marker::Brand;
 use std::sync::Wait;
 use std::thread::Threads;
 use tp_book::opening::Unopened;
-use tp_pool::edges::Boxes;
-use tp_pool::factories::Consenting;
-use tp_pool::gates::OpenGate;
-use tp_pool::handlers::OneVerdict;
-use tp_pool::hooks::NoHooks;
+use tp_pool::edges::Defaults;
 use tp_pool::jobs::Job;
 use tp_pool::names::PoolNaming;
 use tp_pool::pool::PoolOf;
-use tp_types::configs::{Config, Policy, QueueKind, Verdict};
+use tp_types::configs::{Config, Policy, QueueKind};
 use tp_types::refusals::PoolError;
 
 /// Two to four workers, and a short queue: where it is full, who submits a job runs it.
@@ -33,7 +29,7 @@ const SETTINGS: Config = Config {
 pub type Count = Result<i64, PoolError>;
 
 /// A pool of jobs that count.
-pub type Counters<G, J> = PoolOf<G, J, Boxes>;
+pub type Counters<G, J> = PoolOf<G, J, Defaults>;
 
 /// Runs these jobs on a pool, which ends with that, and answers their counts.
 pub fn counted<J: Job + 'static, R: Threads + Wait + Copy + Send + 'static>(
@@ -60,14 +56,7 @@ fn life<
     requires named { unopened ≡ record { ledger = G.name; parts = G.parts; table = G.table } }
     requires settings { settings ≡ G.config }
 {
-    let verdict = Verdict::Abort;
-    let users = Boxes::new(
-        Box::new(alloc, Consenting).or(Err(PoolError::NoMemory))?,
-        Box::new(alloc, OneVerdict { verdict }).or(Err(PoolError::NoMemory))?,
-        Box::new(alloc, NoHooks).or(Err(PoolError::NoMemory))?,
-        Box::new(alloc, OpenGate).or(Err(PoolError::NoMemory))?,
-    );
-    let (pool, mut pass) = Counters::<G, J>::over(alloc, unopened, settings, users)?;
+    let (pool, mut pass) = Counters::<G, J>::over(alloc, unopened, settings, Defaults)?;
     let counts = count(rt, alloc, &pool, jobs, &mut pass);
     pool.shutdown(&rt, &mut pass)?;
     pool.await_termination(&rt, 1, &mut pass)?;

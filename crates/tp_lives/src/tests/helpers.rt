@@ -226,19 +226,3 @@ pub fn linger() {
         thread::yield_now();
     }
 }
-
-// Each type that crosses is a parameter, so that each is shown to cross by itself.
-pub fn in_two<
-    S: Sync,
-    T: Send + Drop,
-    A: Send + Drop,
-    B: Send + Drop,
-    F: Fn(&S, T) -> A + Sync,
-    H: Fn(&S, T) -> B + Sync,
-    R: Threads + Sync,
->(rt: &R, shared: &S, one: T, two: T, f: &F, h: &H) -> (A, B)
-    requires first { F.IsAlwaysCallable f.now }
-    requires second { H.IsAlwaysCallable h.now }
-{
-    thread::join(rt, move || f(shared, one), move || h(shared, two))
-}

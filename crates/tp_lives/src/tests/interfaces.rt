@@ -1,5 +1,4 @@
 // What users write, called through its interfaces.
-ghost use Rattle.std.specs.Prelude.{true};
 
 use std::test::Fail;
 use tp_book::flags::CancelFlag;
@@ -11,7 +10,7 @@ use tp_pool::jobs::{Boxed, Job};
 use tp_types::configs::Verdict;
 use tp_types::ids::{SlotId, TaskId};
 use tp_types::states::RunState;
-use tp_types::tasks::{Outcome, Promise};
+use tp_types::tasks::{Outcome, Promise, WIDEST, as_widest};
 
 // Answers its value, or fault 9 where its flag is set.
 #[derive(Drop)]
@@ -20,22 +19,20 @@ struct Looking {
 }
 
 impl Job for Looking {
-    ghost promised = { λ l. record { low = l.value; high = l.value; may_fault = true } };
+    ghost use Rattle.tp_types.specs.declared.tasks.TheConstants.{WIDEST};
+
+    ghost promised = { λ _. WIDEST };
 
     fn promise(&self) -> Promise {
-        Promise {
-            low: self.value,
-            high: self.value,
-            may_fault: true,
-        }
+        WIDEST
     }
 
     fn call(&mut self, cancel: &CancelFlag) -> Outcome {
-        if cancel.is_set() {
+        as_widest(if cancel.is_set() {
             Err(9)
         } else {
             Ok(self.value)
-        }
+        })
     }
 }
 
@@ -69,13 +66,8 @@ fn boxed_job_has_a_turn(rt: HostRuntime) -> Result<(), Fail> {
         }
         let job: Box<dyn Job> = Box::new(rt.alloc(), Looking { value: 5 })?;
         let job = Boxed { job };
-        let promise = Promise {
-            low: 5,
-            high: 5,
-            may_fault: true,
-        };
         let had = turn(job, &flag, &mut Consenting, &mut NoHooks, &OpenGate);
-        assert_eq!(rt; had, (true, promise, outcome));
+        assert_eq!(rt; had, (true, WIDEST, outcome));
     }
     Ok(())
 }

@@ -1,6 +1,6 @@
 // Two callers, each in a thread of its own.
 
-use super::helpers::{Life, await_stage, end_of_two, in_two, lives, pair};
+use super::helpers::{Life, await_stage, end_of_two, lives, pair};
 use std::alloc::Global;
 use std::process::Abort;
 use std::sync::Wait;
@@ -11,6 +11,7 @@ use tp_book::passes::Pass;
 use tp_pool::hooks::NoHooks;
 use tp_pool::names::PoolNaming;
 use tp_pool::pool::Pool;
+use tp_stage::endings::in_two;
 use tp_types::refusals::PoolError;
 
 // The first caller's steps: a tick, and when the second has stepped a wait that is late at once.

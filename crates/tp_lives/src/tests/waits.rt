@@ -1,7 +1,7 @@
 // One caller waits in a thread of its own, and the step of another ends the wait.
 
 use super::calls::{Call, Line, make, play};
-use super::helpers::{Life, await_stage, in_two, linger, lives, pair};
+use super::helpers::{Life, await_stage, linger, lives, pair};
 use std::alloc::Global;
 use std::process::Abort;
 use std::sync::Wait;
@@ -12,6 +12,7 @@ use tp_book::passes::Pass;
 use tp_pool::hooks::Hooks;
 use tp_pool::names::PoolNaming;
 use tp_pool::pool::Pool;
+use tp_stage::endings::in_two;
 use tp_types::ids::{SlotId, TaskId};
 use tp_types::refusals::PoolError;
 use tp_types::tasks::Outcome;
