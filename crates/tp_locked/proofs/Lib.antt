@@ -1,3 +1,4 @@
+pub mod Made
 pub mod Moments
 pub mod Refusals
 pub mod Stops

@@ -1,9 +1,11 @@
 pub mod Answers
 pub mod Begins
 pub mod Closing
+pub mod Codes
 pub mod Drains
 pub mod Names
 pub mod Passes
 pub mod Readings
 pub mod Records
+pub mod Steps
 pub mod Waits

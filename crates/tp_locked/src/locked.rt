@@ -5,8 +5,9 @@ ghost use Rattle.tp_record.specs.Effects.{reaches};
 ghost use Rattle.tp_record.specs.Step.{Gives, IsRefused, Legal};
 ghost use Rattle.tp_sleepers.specs.Rests.{IsSettled};
 ghost use Rattle.tp_machine.specs.Stepped.{IsAnswer, IsPaid, IsSubmission, did_of};
-ghost use Rattle.tp_book.specs.BookView.{config, entries, state_of};
+ghost use Rattle.tp_book.specs.BookView.{config, entries, state_of, IsAdvanced, IsDenied, IsUnmoved};
 ghost use Rattle.tp_locked.specs.Passes.{AddsStep, IsRefusal};
+ghost use Rattle.tp_locked.specs.Steps.{Made, IsMade};
 ghost use Rattle.tp_locked.specs.Waits.{waits, HasNoOutcome};
 ghost use Rattle.tp_locked.specs.declared.tasks.Task.{Task as TaskOf};
 
@@ -28,7 +29,8 @@ use tp_waking::calls::Calls;
 use tp_waking::waking::Waking;
 
 /// The pool's book, which is of the settings that its name says, and what the pool keeps beside it. While
-/// nobody holds the lock, no task is queued where a worker sleeps and nobody looks for a task.
+/// nobody holds the lock, no task is queued where a worker sleeps and nobody looks for a task. What contracts
+/// see of it is the book.
 #[derive(Drop)]
 pub struct Core<G: PoolNaming, J> {
     book: Book<G, Task<J>>,
@@ -39,14 +41,20 @@ pub struct Core<G: PoolNaming, J> {
 
 impl<G: PoolNaming, J> Model for Core<G, J> {
     ghost use Rattle.std.specs.Prelude.{◌≡◌};
+    ghost use Rattle.std.specs.Coded.{codes};
     ghost use Rattle.tp_types.specs.Config.{IsConfig};
+    ghost use Rattle.tp_tasks.specs.Codes.{tasks_code};
     ghost use Rattle.tp_sleepers.specs.Rests.{IsSettled};
-    ghost use Rattle.tp_book.specs.BookView.{config};
+    ghost use Rattle.tp_book.specs.BookView.{BookView, config};
+    ghost use Rattle.tp_locked.specs.Codes.{task_code};
     ghost use Rattle.tp_locked.specs.Waits.{waits};
+    ghost use Rattle.tp_locked.specs.declared.tasks.Task.{Task};
 
-    ghost Value = { Unit {0} };
+    ghost Value = { BookView (Task J) };
 
-    ghost view = { λ _. tt };
+    ghost coded = { Prim.hlevel (codes, tasks_code (task_code J.code)) };
+
+    ghost view = { λ c. c.book };
 
     ghost invariant = { λ c. (config c.book ≡ G.config) × IsConfig G.config × IsSettled (waits c.book) c.waking.sleepers };
 }
@@ -63,6 +71,9 @@ fn step_of<G: PoolNaming, J: Drop>(
     requires settings { config book.old ≡ G.config }
     requires paid { IsPaid ask submitted }
     requires room { 0 < pass.old.room }
+    ensures came { IfOk result (IsAdvanced book.old book.new pass.old.number ask submitted) }
+    ensures denied { IfErr result (λ r. IsDenied book.old ask r.0) }
+    ensures unmoved { OnErr result (IsUnmoved book.old book.new) }
     ensures answer { IfOk result (λ s. IsAnswer ask s) }
     ensures gives { IfOk result (λ s. Gives G.config (state_of book.old) ask (did_of ask s)) }
     ensures step { IfOk result (λ s. AddsStep pass.old ask (did_of ask s) pass.new) }
@@ -155,7 +166,8 @@ impl<G: PoolNaming, J: Drop> Core<G, J> {
     pub fn new(alloc: Global, book: Book<G, Task<J>>) -> Result<Core<G, J>, PoolError>
         requires settings { config book ≡ G.config }
         requires good { IsConfig G.config }
-        ensures { IfErr result (λ e. e ≡ PoolError.NoMemory) }
+        ensures book { IfOk result (λ c. c ≡ book) }
+        ensures refused { IfErr result (λ e. e ≡ PoolError.NoMemory) }
     {
         let slots = MAX_WORKERS as usize;
         let (Ok(waking), Ok(roster)) = (Waking::new(alloc, slots), Roster::new(alloc, slots)) else {
@@ -179,6 +191,8 @@ impl<G: PoolNaming, J: Drop> Core<G, J> {
     ) -> Result<Stepped<Task<J>>, PoolError>
         requires unpaid { ¬ IsSubmission ask }
         requires room { 0 < pass.old.room }
+        ensures made { Made self.old self.new pass.old.number ask result }
+        ensures some { IfOk result (IsMade (TaskOf J) G.config pass.old.number ask) }
         ensures answer { IfOk result (λ s. IsAnswer ask s) }
         ensures step { IfOk result (λ s. AddsStep pass.old ask (did_of ask s) pass.new) }
         ensures seen { IfOk result (λ s. reaches (did_of ask s) ≤ pass.new.seen) }
@@ -196,8 +210,18 @@ impl<G: PoolNaming, J: Drop> Core<G, J> {
         concluded(book, flags, waking, &ask, stepped)
     }
 
+    /// The law that the book's record is legal in the pool's settings.
+    pub fn is_legal(&self)
+        ensures settings { config self.now ≡ G.config }
+        ensures legal { Legal G.config (reverse (entries self.now)) }
+    {
+        self.book.is_balanced();
+    }
+
     /// Who is to be woken once the lock is let go.
-    pub fn release(&mut self) -> Calls {
+    pub fn release(&mut self) -> Calls
+        ensures { self.new ≡ self.old }
+    {
         self.waking.release()
     }
 }

@@ -1,3 +1,4 @@
+pub mod Asked
 pub mod Got
 pub mod Receipts
 pub mod Starts

@@ -38,6 +38,23 @@ live_steps by steps is =
     (x.0, x.3 ∙ ap (λ e. prestarted by (Some x.0) ∷ e ∷ []) (live_opening by x.0 x.1 x.2 (sym x.4)))))
     is
 
+-- its entries are two, and those of any prestart at least one
+pub live_amount : (old new : PassView) → AddsPrestart old true new → new.amount ≡ old.amount + 2
+live_amount old new more =
+    let two : length more.0 ≡ 2 = ap length (live_steps old.number more.0 more.1).1 in
+    omega (arith, more.2.amount, two)
+
+more_amount : (old new : PassView) (steps : List Entry) (n : ℕ) → Adds old steps new → length steps ≡ n → 0 < n → old.amount < new.amount
+more_amount old new steps n adds count some = omega (arith, adds.amount, count, some)
+
+pub last_amount : (old new : PassView) (live : Bool) → AddsPrestart old live new → old.amount < new.amount
+last_amount old new live more =
+    ⊎_elim (λ (x : (more.0 ≡ prestarted old.number None ∷ []) × (live ≡ false)). more_amount old new more.0 1 more.2 (ap length x.0) (omega arith))
+    (⊎_elim (λ (x : (w : SlotId) × (more.0 ≡ prestarted old.number (Some w) ∷ []) × (live ≡ false)). more_amount old new more.0 1 more.2 (ap length x.1) (omega arith))
+    (λ (x : (w : SlotId) × (staffed : Bool) × (d : Did) × (more.0 ≡ prestarted old.number (Some w) ∷ entry_of old.number (opening w staffed) d ∷ []) × (live ≡ is_live w staffed d)).
+    more_amount old new more.0 2 more.2 (ap length x.3) (omega arith)))
+    more.1
+
 pub one_more : (old mid new : PassView) (live : ℕ) → Started old live mid → AddsPrestart mid true new → Started old (live + 1) new
 one_more old mid new live before more =
     let by = subst (λ by. IsPrestart by more.0 true) before.adds.number more.1 in
@@ -56,6 +73,15 @@ starts_fail old mid new live most started within last =
       steps ++ last.0,
       (started.slots, last.0, started.count, refl, inr (subst (λ by. IsPrestart by last.0 false) started.adds.number last.1, within)),
       adds_both old mid new steps last.0 started.adds last.2,
+    )
+
+-- no more are started
+pub starts_stop : (old mid new : PassView) (live most : ℕ) → Started old live mid → live ≤ most → new ≡ mid → AddsStarts most [] old live new
+starts_stop old mid new live most started within same =
+    let steps = flat_map (live_start old.number) started.slots in (
+      steps ++ [],
+      (started.slots, [], started.count, refl, inl (refl, within)),
+      adds_both old mid new steps [] started.adds (subst (λ p. Adds mid [] p) (sym same) (adds_no mid)),
     )
 
 more_starts : (by most more live : ℕ) (steps : List Entry) → most ≤ more → IsStarts by most steps live → IsStarts by more steps live

@@ -1,3 +1,4 @@
 pub mod Admissions
 pub mod Closing
+pub mod Deeds
 pub mod Prestarts

@@ -3,7 +3,9 @@ ghost use Rattle.std.specs.Prelude.{ℕ, IfOk, IfErr, OnOk, OnErr};
 ghost use Rattle.tp_machine.specs.Stepped.{IsAnswer, IsSubmission, did_of};
 ghost use Rattle.tp_locked.specs.Answers.{is_removed};
 ghost use Rattle.tp_locked.specs.Passes.{AddsStep, AddsNone, Refuses};
+ghost use Rattle.tp_locked.specs.Steps.{IsMade, IsRemovedAs};
 ghost use Rattle.tp_locked.specs.Waits.{HasNoOutcome};
+ghost use Rattle.tp_locked.specs.declared.tasks.Task.{Task as TaskOf};
 
 use crate::edges::Edge;
 use crate::pool::PoolOf;
@@ -28,6 +30,7 @@ impl<G: PoolNaming, J: Job, E: Edge> PoolOf<G, J, E> {
     ) -> Result<Stepped<Task<J>>, PoolError>
         requires unpaid { ¬ IsSubmission ask }
         requires no_outcome { HasNoOutcome ask }
+        ensures made { IfOk result (IsMade (TaskOf J) G.config pass.old.number ask) }
         ensures answer { IfOk result (λ s. IsAnswer ask s) }
         ensures step { IfOk result (λ s. AddsStep pass.old ask (did_of ask s) pass.new) }
         ensures refused { IfErr result (λ e. Refuses G.config ask e) }
@@ -107,6 +110,7 @@ impl<G: PoolNaming, J: Job, E: Edge> PoolOf<G, J, E> {
         t: TaskId,
         pass: &mut Pass<G>,
     ) -> Result<Removal<J>, PoolError>
+        ensures job { IfOk result (IsRemovedAs (IsMade (TaskOf J) G.config pass.old.number (Ask.Remove t))) }
         ensures step { IfOk result (λ r. AddsStep pass.old (Ask.Remove t) (Did.Remove t (is_removed r)) pass.new) }
         ensures refused { IfErr result (λ e. Refuses G.config (Ask.Remove t) e) }
         ensures unchanged { OnErr result (AddsNone pass.old pass.new) }

@@ -1,6 +1,9 @@
 //! The calls that end a pool, and the wait for its end.
 ghost use Rattle.std.specs.Prelude.{◌≡◌, ◌⊎◌, ◌≤◌, [], ◌∷◌, length, IfOk, IfErr, OnOk, OnErr};
 ghost use Rattle.tp_locked.specs.Passes.{Adds, AddsNone, AddsAndEnds, Refuses, tidied, ended};
+ghost use Rattle.tp_locked.specs.Records.{AtSome};
+ghost use Rattle.tp_locked.specs.Steps.{IsHandedBack, IsMade};
+ghost use Rattle.tp_locked.specs.declared.tasks.Task.{Task};
 
 use crate::edges::Edge;
 use crate::pool::PoolOf;
@@ -45,6 +48,7 @@ impl<G: PoolNaming, J: Job, E: Edge> PoolOf<G, J, E> {
         rt: &R,
         pass: &mut Pass<G>,
     ) -> Result<Vec<Drained<J>>, PoolError>
+        ensures handed { IfOk result (λ drained. IsHandedBack (IsMade (Task J) G.config pass.old.number Ask.Stop) drained.items) }
         ensures steps { IfOk result (λ drained. AddsAndEnds pass.old Ask.Stop (Did.Stop (length drained.items)) pass.new) }
         ensures seen { OnOk result (2 ≤ pass.new.seen) }
         ensures refused { IfErr result (λ e. Refuses G.config Ask.Stop e) }
@@ -74,6 +78,7 @@ impl<G: PoolNaming, J: Job, E: Edge> PoolOf<G, J, E> {
     ) -> Result<(), PoolError>
         ensures steps { OnOk result (Adds pass.old [] pass.new ⊎ Adds pass.old (tidied pass.old.number ∷ ended pass.old.number ∷ []) pass.new) }
         ensures seen { OnOk result (4 ≤ pass.new.seen) }
+        ensures late { IfErr result (λ e. e ≡ PoolError.TimedOut → AtSome G.config (λ s. deadline ≤ s.now)) }
         ensures refused { IfErr result (λ e. (((e ≡ PoolError.NoMemory) ⊎ (e ≡ PoolError.TimedOut)) × Adds pass.old [] pass.new)
             ⊎ ((e ≡ PoolError.TornRecord) × Adds pass.old (tidied pass.old.number ∷ []) pass.new)) }
     {

@@ -1,5 +1,5 @@
 //! Workers that are started before there is a task for them.
-ghost use Rattle.std.specs.Prelude.{ℕ, ◌≡◌, ◌+◌, ◌*◌, ◌≤◌, [], ◌∷◌, IfOk, IfErr, OnOk, OnErr};
+ghost use Rattle.std.specs.Prelude.{ℕ, ◌≡◌, ◌⊎◌, ◌+◌, ◌*◌, ◌<◌, ◌≤◌, [], ◌∷◌, IfOk, IfErr, OnOk, OnErr};
 ghost use Rattle.tp_locked.specs.Passes.{AddsNone, IsRefusal, Refuses, entry_of};
 ghost use Rattle.tp_pool.specs.Prestarts.{is_live as is_live_opening, AddsPrestart, AddsStarts};
 
@@ -109,6 +109,7 @@ impl<
         pass: &mut Pass<G>,
     ) -> Result<u32, PoolError>
         ensures steps { IfOk result (λ live. AddsStarts 1024 [] pass.old live pass.new) }
+        ensures all { IfOk result (λ live. (live ≡ 1024) ⊎ (pass.old.amount + 2 * live < pass.new.amount) ⊎ ((e : PoolError) × IsRefusal G.config Ask.Prestart e)) }
         ensures refused { IfErr result (λ e. Refuses G.config Ask.Prestart e) }
         ensures unchanged { OnErr result (AddsNone pass.old pass.new) }
     {

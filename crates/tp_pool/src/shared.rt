@@ -1,10 +1,13 @@
 //! What all threads of a pool share, and the holds of its lock.
-ghost use Rattle.std.specs.Prelude.{◌≡◌, ◌⊎◌, ◌+◌, ◌<◌, ◌≤◌, [], ◌∷◌, List, length, IfOk, IfErr, OnOk, OnErr};
+ghost use Rattle.std.specs.Prelude.{◌≡◌, ◌⊎◌, ◌+◌, ◌<◌, ◌≤◌, [], ◌∷◌, List, length, IsTrue, IfOk, IfErr, OnOk, OnErr};
 ghost use Rattle.tp_record.specs.declared.entries.Entry.{Entry};
 ghost use Rattle.tp_record.specs.Effects.{reaches};
 ghost use Rattle.tp_machine.specs.Stepped.{IsAnswer, IsSubmission, did_of};
 ghost use Rattle.tp_locked.specs.Passes.{Adds, AddsStep, IsRefusal, Refuses, IsEnding, tidied, ended};
+ghost use Rattle.tp_locked.specs.Records.{AtSome};
+ghost use Rattle.tp_locked.specs.Steps.{IsHandedBack, IsMade};
 ghost use Rattle.tp_locked.specs.Waits.{HasNoOutcome};
+ghost use Rattle.tp_locked.specs.declared.tasks.Task.{Task as TaskOf};
 
 use crate::edges::Edge;
 use crate::lock::{PAUSE, polite};
@@ -139,6 +142,7 @@ impl<G: PoolNaming, J: Drop, E: Edge> Shared<G, J, E> {
     ) -> Result<Stepped<Task<J>>, PoolError>
         requires unpaid { ¬ IsSubmission ask }
         requires room { 0 < pass.old.room }
+        ensures made { IfOk result (IsMade (TaskOf J) G.config pass.old.number ask) }
         ensures answer { IfOk result (λ s. IsAnswer ask s) }
         ensures step { IfOk result (λ s. AddsStep pass.old ask (did_of ask s) pass.new) }
         ensures seen { IfOk result (λ s. reaches (did_of ask s) ≤ pass.new.seen) }
@@ -156,6 +160,7 @@ impl<G: PoolNaming, J: Drop, E: Edge> Shared<G, J, E> {
     /// hold, before the step.
     pub fn stop<R: Wait>(&self, rt: &R, pass: &mut Pass<G>) -> Result<Vec<Drained<J>>, PoolError>
         requires room { 0 < pass.old.room }
+        ensures handed { IfOk result (λ drained. IsHandedBack (IsMade (TaskOf J) G.config pass.old.number Ask.Stop) drained.items) }
         ensures step { IfOk result (λ drained. AddsStep pass.old Ask.Stop (Did.Stop (length drained.items)) pass.new) }
         ensures seen { OnOk result (2 ≤ pass.new.seen) }
         ensures left { OnOk result (pass.old.room ≤ pass.new.room + 1) }
@@ -173,8 +178,22 @@ impl<G: PoolNaming, J: Drop, E: Edge> Shared<G, J, E> {
         requires room { 2 ≤ pass.old.room }
         ensures { (steps : List Entry) × IsEnding pass.old.number steps × Adds pass.old steps pass.new }
     {
-        if self.step(rt, Ask::Tidy, pass).is_ok() {
+        if self.tidy(rt, pass) {
             let _ = self.terminate(rt, pass);
+        }
+    }
+
+    // The step `tidy`, where the pool can end: whether it was made.
+    fn tidy<R: Wait>(&self, rt: &R, pass: &mut Pass<G>) -> bool
+        requires room { 0 < pass.old.room }
+        ensures tidied { IsTrue result → Adds pass.old (tidied pass.old.number ∷ []) pass.new }
+        ensures left { pass.old.room ≤ pass.new.room + 1 }
+        ensures unchanged { ¬ IsTrue result → pass.new ≡ pass.old }
+    {
+        match self.step(rt, Ask::Tidy, pass) {
+            Ok(Stepped::Tidy) => true,
+            Ok(_) => unreachable!(),
+            Err(_) => false,
         }
     }
 
@@ -206,6 +225,7 @@ impl<G: PoolNaming, J: Drop, E: Edge> Shared<G, J, E> {
         requires room { 2 ≤ pass.old.room }
         ensures steps { OnOk result (Adds pass.old [] pass.new ⊎ Adds pass.old (tidied pass.old.number ∷ ended pass.old.number ∷ []) pass.new) }
         ensures seen { OnOk result (4 ≤ pass.new.seen) }
+        ensures late { IfErr result (λ e. e ≡ PoolError.TimedOut → AtSome G.config (λ s. deadline ≤ s.now)) }
         ensures refused { IfErr result (λ e. ((e ≡ PoolError.TimedOut) × Adds pass.old [] pass.new) ⊎ ((e ≡ PoolError.TornRecord) × Adds pass.old (tidied pass.old.number ∷ []) pass.new)) }
     {
         let mut core = self.hold(rt);

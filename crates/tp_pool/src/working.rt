@@ -1,5 +1,8 @@
 //! A worker's thread: its turns, and its end.
 ghost use Rattle.std.specs.Prelude.{◌≡◌, IfOk, OnOk, OnErr};
+ghost use Rattle.tp_turns.specs.Turns.{told};
+ghost use Rattle.tp_locked.specs.Steps.{IsAnswered, taking_of, begun_of, departed_of, IsEndOf};
+ghost use Rattle.tp_locked.specs.declared.tasks.Task.{Task as TaskOf};
 ghost use Rattle.tp_machine.specs.Stepped.{IsAnswer, IsSubmission};
 ghost use Rattle.tp_locked.specs.Passes.{Works};
 
@@ -40,7 +43,10 @@ impl<
     E: Edge + Send + Sync + 'static,
     R: Threads + Wait + Copy + Send + 'static,
 > Workplace<J, R> for Post<G, J, E> {
-    ghost did = { λ _ _ _. Unit {0} };
+    ghost use Rattle.std.specs.Prelude.{◌≡◌};
+    ghost use Rattle.tp_pool.specs.Deeds.{IsDone};
+
+    ghost did = { λ old d new. (new.w ≡ old.w) × (new.pass.number ≡ old.pass.number) × IsDone J G.config old.w old.pass.number d };
 
     ghost owes = { λ _ _. Unit {0} };
 
@@ -61,11 +67,7 @@ impl<
     }
 
     fn begin(&mut self, rt: &R) -> Begun<J> {
-        let shared = &self.shared;
-        let mut core = shared.hold(rt);
-        let begun = core.begin(self.w, &shared.glance, &mut self.pass);
-        shared.release(core);
-        begun
+        self.shared.begin(rt, self.w, &mut self.pass)
     }
 
     fn before(&mut self, rt: &R, t: TaskId) {
@@ -82,19 +84,11 @@ impl<
     }
 
     fn end(&mut self, rt: &R, outcome: Outcome) -> Ended {
-        let shared = &self.shared;
-        let mut core = shared.hold(rt);
-        let ended = core.end(self.w, outcome, &shared.glance, &mut self.pass);
-        shared.release(core);
-        ended
+        self.shared.end(rt, self.w, outcome, &mut self.pass)
     }
 
     fn leave(&mut self, rt: &R) -> Departed {
-        let shared = &self.shared;
-        let mut core = shared.hold(rt);
-        let departed = core.leave(self.w, &shared.glance, &mut self.pass);
-        shared.release(core);
-        departed
+        self.shared.leave(rt, self.w, &mut self.pass)
     }
 
     // The turn ends here: its thread has the other worker made right after it, and then ends the pool, so
@@ -166,13 +160,50 @@ impl<G: PoolNaming + Send + Sync + 'static, J: Job + 'static, E: Edge + Send + S
 impl<G: PoolNaming, J: Drop, E: Edge> Shared<G, J, E> {
     // One hold of a worker that asks for its next task.
     fn take<R: Wait>(&self, rt: &R, w: SlotId, pass: &mut WorkerPass<G>) -> Taking
-        ensures works { result ≡ Taking.Task → Works pass.old pass.new }
-        ensures left { result ≡ Taking.Left → Works pass.old pass.new }
+        ensures asked { IsAnswered (TaskOf J) G.config pass.old.number (Ask.Take w) (λ _ r. result ≡ taking_of r) }
+        ensures number { pass.new.number ≡ pass.old.number }
     {
         let mut core = self.hold(rt);
+        core.is_legal();
         let taking = core.take(w, &self.glance, pass);
         self.release(core);
         taking
+    }
+
+    // One hold of a worker that begins the task that it took.
+    fn begin<R: Wait>(&self, rt: &R, w: SlotId, pass: &mut WorkerPass<G>) -> Begun<J>
+        ensures asked { IsAnswered (TaskOf J) G.config pass.old.number (Ask.Begin w) (λ _ r. result ≡ begun_of r) }
+        ensures number { pass.new.number ≡ pass.old.number }
+    {
+        let mut core = self.hold(rt);
+        core.is_legal();
+        let begun = core.begin(w, &self.glance, pass);
+        self.release(core);
+        begun
+    }
+
+    // One hold of a worker that tells its task's outcome.
+    fn end<R: Wait>(&self, rt: &R, w: SlotId, outcome: Outcome, pass: &mut WorkerPass<G>) -> Ended
+        ensures asked { IsAnswered (TaskOf J) G.config pass.old.number (Ask.End w outcome) (λ new r. IsEndOf new w.0 result r) }
+        ensures number { pass.new.number ≡ pass.old.number }
+    {
+        let mut core = self.hold(rt);
+        core.is_legal();
+        let ended = core.end(w, outcome, &self.glance, pass);
+        self.release(core);
+        ended
+    }
+
+    // One hold of a worker that leaves after a fault.
+    fn leave<R: Wait>(&self, rt: &R, w: SlotId, pass: &mut WorkerPass<G>) -> Departed
+        ensures asked { IsAnswered (TaskOf J) G.config pass.old.number (Ask.Leave w) (λ _ r. result ≡ departed_of r) }
+        ensures number { pass.new.number ≡ pass.old.number }
+    {
+        let mut core = self.hold(rt);
+        core.is_legal();
+        let departed = core.leave(w, &self.glance, pass);
+        self.release(core);
+        departed
     }
 
     // Sleeps until somebody took the worker off the list of those who sleep.
@@ -194,6 +225,7 @@ impl<G: PoolNaming, J: Drop, E: Edge> Shared<G, J, E> {
         pass: &mut WorkerPass<G>,
     ) -> Result<Stepped<Task<J>>, PoolError>
         requires unpaid { ¬ IsSubmission ask }
+        ensures number { pass.new.number ≡ pass.old.number }
         ensures answer { IfOk result (λ s. IsAnswer ask s) }
         ensures works { OnOk result (Works pass.old pass.new) }
         ensures unchanged { OnErr result (pass.new ≡ pass.old) }
@@ -205,7 +237,9 @@ impl<G: PoolNaming, J: Drop, E: Edge> Shared<G, J, E> {
     }
 
     // Ends the pool, where it can end now, by a worker's steps.
-    fn try_end_as_worker<R: Wait>(&self, rt: &R, pass: &mut WorkerPass<G>) {
+    fn try_end_as_worker<R: Wait>(&self, rt: &R, pass: &mut WorkerPass<G>)
+        ensures { pass.new.number ≡ pass.old.number }
+    {
         if self.work(rt, Ask::Tidy, pass).is_ok() {
             self.edge.terminated(rt);
             let _ = self.work(rt, Ask::Ended, pass);

@@ -1,5 +1,5 @@
 //! How a pool's value is made, shared out among callers, and taken apart at its end.
-ghost use Rattle.std.specs.Prelude.{◌≡◌, ◌≤◌, [], All, IfOk, IfErr};
+ghost use Rattle.std.specs.Prelude.{◌≡◌, ◌≤◌, ◌+◌, [], All, length, IfOk, IfErr, OnOk, OnErr};
 ghost use Rattle.tp_types.specs.Config.{IsConfig};
 ghost use Rattle.tp_book.specs.BookView.{config};
 ghost use Rattle.tp_locked.specs.Closing.{KeepsOpen};
@@ -64,6 +64,9 @@ impl<G: PoolNaming, J> Core<G, J> {
         glance: &Glance<G>,
         pass: &mut Pass<G>,
     ) -> Result<Pass<G>, PoolError>
+        ensures here { IfOk result (λ p. p ≡ record { number = self.old.accounts.made; amount = 0; seen = pass.old.seen; receipts = []; room = p.room }) }
+        ensures made { OnOk result (self.new ≡ record self.old { accounts = record self.old.accounts { made = self.old.accounts.made + 1; callers = self.old.accounts.callers + 1 } }) }
+        ensures left { OnErr result (self.new ≡ self.old) }
         ensures new { IfOk result (λ p. BookAtSome (Task J) G.config (λ b. p ≡ record { number = b.accounts.made; amount = 0; seen = pass.old.seen; receipts = []; room = p.room })) }
         ensures refused { IfErr result (λ e. (e ≡ PoolError.BookFull) × BookAtSome (Task J) G.config (λ b. 4294967295 ≤ b.accounts.made)) }
         ensures same { pass.new ≡ pass.old }
@@ -79,6 +82,9 @@ impl<G: PoolNaming, J> Core<G, J> {
         glance: &Glance<G>,
         passes: &mut Vec<Pass<G>>,
     ) -> Result<(), PoolError>
+        ensures terminated { OnOk result (self.old.published ≡ 4) }
+        ensures callers { OnOk result (length passes.old.items ≡ self.old.accounts.callers) }
+        ensures stands { self.new ≡ self.old }
         ensures refused { IfErr result (KeepsOpen (Task J) G.config passes.old.items) }
         ensures same { passes.new.items ≡ passes.old.items }
     {

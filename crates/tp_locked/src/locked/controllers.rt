@@ -1,8 +1,12 @@
 //! What controllers do in one hold of the lock.
-ghost use Rattle.std.specs.Prelude.{◌≡◌, ◌≢◌, ◌+◌, ◌<◌, ◌≤◌, [], ◌∷◌, length, map, vec_len, vec_capacity, IfOk, IfErr, OnOk, OnErr};
+ghost use Rattle.std.specs.Prelude.{◌≡◌, ◌≢◌, ◌⊎◌, ◌+◌, ◌<◌, ◌≤◌, [], ◌∷◌, length, map, reverse, None, vec_len, vec_capacity, IfOk, IfErr, OnOk, OnErr};
 ghost use Rattle.tp_locked.specs.Drains.{drained_of};
 ghost use Rattle.tp_locked.specs.Passes.{Adds, AddsStep, IsRefusal, LooksOnly, Refuses, tidied};
-ghost use Rattle.tp_book.specs.BookView.{config, state_of};
+ghost use Rattle.tp_locked.specs.Records.{AtSome};
+ghost use Rattle.tp_book.specs.BookView.{config, entries, state_of, IsAdvanced, IsDenied, IsUnmoved};
+ghost use Rattle.tp_record.specs.Step.{IsRefused, Legal};
+ghost use Rattle.tp_locked.specs.Steps.{IsHandedBack, IsMade};
+ghost use Rattle.tp_locked.specs.declared.tasks.Task.{Task as TaskOf};
 
 use super::{Core, rouse, settle, step_of};
 use crate::answers::Drained;
@@ -113,6 +117,10 @@ fn stop_of<G: PoolNaming, J: Drop>(
 ) -> Result<Vec<(TaskId, Option<Task<J>>)>, PoolError>
     requires settings { config book.old ≡ G.config }
     requires room { 0 < pass.old.room }
+    ensures came { IfOk result (λ handed. IsAdvanced book.old book.new pass.old.number Ask.Stop None (Stepped.Stop handed)) }
+    ensures legal { Legal G.config (reverse (entries book.old)) }
+    ensures denied { IfErr result (λ e. IsRefused G.config (state_of book.old) Ask.Stop e) }
+    ensures unmoved { OnErr result (IsUnmoved book.old book.new) }
     ensures counted { IfOk result (λ handed. vec_len handed ≡ length (state_of book.old).queue) }
     ensures step { IfOk result (λ handed. AddsStep pass.old Ask.Stop (Did.Stop (length handed.items)) pass.new) }
     ensures seen { OnOk result (2 ≤ pass.new.seen) }
@@ -139,6 +147,9 @@ impl<G: PoolNaming, J: Drop> Core<G, J> {
         pass: &mut Pass<G>,
     ) -> Result<Vec<Drained<J>>, PoolError>
         requires room { 0 < pass.old.room }
+        ensures made { IfOk result (λ drained. IsHandedBack (IsAdvanced self.old self.new pass.old.number Ask.Stop None) drained.items) }
+        ensures some { IfOk result (λ drained. IsHandedBack (IsMade (TaskOf J) G.config pass.old.number Ask.Stop) drained.items) }
+        ensures denied { IfErr result (λ e. (e ≡ PoolError.NoMemory) ⊎ IsRefused G.config (state_of self.old) Ask.Stop e) }
         ensures step { IfOk result (λ drained. AddsStep pass.old Ask.Stop (Did.Stop (length drained.items)) pass.new) }
         ensures seen { OnOk result (2 ≤ pass.new.seen) }
         ensures left { OnOk result (pass.old.room ≤ pass.new.room + 1) }
@@ -175,7 +186,13 @@ impl<G: PoolNaming, J: Drop> Core<G, J> {
         ensures tidied { result ≡ Look.Tidied → Adds pass.old (tidied pass.old.number ∷ []) pass.new }
         ensures left { result ≡ Look.Tidied → pass.old.room ≤ pass.new.room + 1 }
         ensures others { result ≢ Look.Tidied → LooksOnly pass.old pass.new }
+        ensures late { result ≡ Look.Late → deadline ≤ (state_of self.old).now }
+        ensures some { result ≡ Look.Late → AtSome G.config (λ s. deadline ≤ s.now) }
+        ensures early { result ≡ Look.Waits → (state_of self.old).now < deadline }
+        ensures unended { result ≡ Look.Waits → ¬ ((state_of self.old).rank ≡ 4) }
+        ensures untidy { result ≡ Look.Waits → (e : PoolError) × IsDenied self.old Ask.Tidy e }
     {
+        self.book.is_balanced();
         if self.book.show(glance, pass) == RunState::Terminated {
             return Look::Terminated;
         }

@@ -8,7 +8,7 @@ ghost use Rattle.tp_machine.specs.Seen.{task_of_row};
 ghost use Rattle.tp_sleepers.specs.Rests.{IsSettled};
 ghost use Rattle.tp_book.specs.BookView.{config, entries, state_of};
 ghost use Rattle.tp_locked.specs.Passes.{AddsStep};
-ghost use Rattle.tp_locked.specs.Readings.{known, has_come as come, unless_late as found_unless, IsPromiseOf, IsResult, IsFound, IsUndone};
+ghost use Rattle.tp_locked.specs.Readings.{known, has_come as come, unless_late as found_unless, IsPromiseOf, IsResult, IsFound, IsUndone, IsUndoneAt};
 ghost use Rattle.tp_locked.specs.Records.{AtSome, BookAtSome};
 ghost use Rattle.tp_locked.specs.Waits.{waits};
 ghost use Rattle.tp_locked.specs.declared.tasks.Task.{Task as TaskOf};
@@ -77,7 +77,8 @@ fn done_of<G: PoolNaming, J: Drop>(
 impl<G: PoolNaming, J: Drop> Core<G, J> {
     /// The run state.
     pub fn state(&self) -> RunState
-        ensures { AtSome G.config (λ s. state_rank result ≡ s.rank) }
+        ensures here { state_rank result ≡ (state_of self.now).rank }
+        ensures some { AtSome G.config (λ s. state_rank result ≡ s.rank) }
     {
         self.book.is_balanced();
         self.book.state()
@@ -85,7 +86,8 @@ impl<G: PoolNaming, J: Drop> Core<G, J> {
 
     /// The twelve counters.
     pub fn counts(&self) -> Counts
-        ensures { AtSome G.config (λ s. result ≡ counts_of s) }
+        ensures here { result ≡ counts_of (state_of self.now) }
+        ensures some { AtSome G.config (λ s. result ≡ counts_of s) }
     {
         self.book.is_balanced();
         self.book.counts()
@@ -93,7 +95,8 @@ impl<G: PoolNaming, J: Drop> Core<G, J> {
 
     /// The moment, in ticks.
     pub fn now(&self) -> u64
-        ensures { AtSome G.config (λ s. result ≡ s.now) }
+        ensures here { result ≡ (state_of self.now).now }
+        ensures some { AtSome G.config (λ s. result ≡ s.now) }
     {
         self.book.is_balanced();
         self.book.now()
@@ -101,7 +104,8 @@ impl<G: PoolNaming, J: Drop> Core<G, J> {
 
     /// Whether a task of the group has no fate yet.
     pub fn group_open(&self, g: u32) -> bool
-        ensures { AtSome G.config (λ s. IsTrue result ↔ HasOpen g s) }
+        ensures here { IsTrue result ↔ HasOpen g (state_of self.now) }
+        ensures some { AtSome G.config (λ s. IsTrue result ↔ HasOpen g s) }
     {
         self.book.is_balanced();
         self.book.group_open(g)
@@ -109,7 +113,8 @@ impl<G: PoolNaming, J: Drop> Core<G, J> {
 
     /// The task in the slot of this number, None where it has none or there is no such slot.
     pub fn task_in(&self, w: SlotId) -> Option<TaskId>
-        ensures { AtSome G.config (λ s. result ≡ task_of_row (slot_at s.slots w.0)) }
+        ensures here { result ≡ task_of_row (slot_at (state_of self.now).slots w.0) }
+        ensures some { AtSome G.config (λ s. result ≡ task_of_row (slot_at s.slots w.0)) }
     {
         self.book.is_balanced();
         self.book.task_in(w)
@@ -117,7 +122,8 @@ impl<G: PoolNaming, J: Drop> Core<G, J> {
 
     /// Where the task is. UnknownTask (6).
     pub fn place(&self, t: TaskId) -> Result<Place, PoolError>
-        ensures { AtSome G.config (λ s. result ≡ known s t.0 (λ r. r.place)) }
+        ensures here { result ≡ known (state_of self.now) t.0 (λ r. r.place) }
+        ensures some { AtSome G.config (λ s. result ≡ known s t.0 (λ r. r.place)) }
     {
         self.book.is_balanced();
         self.book.place(t)
@@ -125,7 +131,8 @@ impl<G: PoolNaming, J: Drop> Core<G, J> {
 
     /// What the task's job promises. UnknownTask (6).
     pub fn promise(&self, t: TaskId) -> Result<Promise, PoolError>
-        ensures { BookAtSome (TaskOf J) G.config (λ b. IsPromiseOf b t.0 result) }
+        ensures here { IsPromiseOf self.now t.0 result }
+        ensures some { BookAtSome (TaskOf J) G.config (λ b. IsPromiseOf b t.0 result) }
     {
         self.book.is_balanced();
         self.book.promise(t)
@@ -133,7 +140,8 @@ impl<G: PoolNaming, J: Drop> Core<G, J> {
 
     /// What became of the task, None while it is open. UnknownTask (6).
     pub fn fate(&self, t: TaskId) -> Result<Option<Fate>, PoolError>
-        ensures { AtSome G.config (λ s. result ≡ known s t.0 fate_of) }
+        ensures here { result ≡ known (state_of self.now) t.0 fate_of }
+        ensures some { AtSome G.config (λ s. result ≡ known s t.0 fate_of) }
     {
         self.book.is_balanced();
         self.book.fate(t)
@@ -141,7 +149,8 @@ impl<G: PoolNaming, J: Drop> Core<G, J> {
 
     /// What the task's future answers: `Book::result`.
     pub fn result(&self, t: TaskId) -> Result<Option<i64>, PoolError>
-        ensures { BookAtSome (TaskOf J) G.config (λ b. IsResult b t.0 result) }
+        ensures here { IsResult self.now t.0 result }
+        ensures some { BookAtSome (TaskOf J) G.config (λ b. IsResult b t.0 result) }
     {
         self.book.is_balanced();
         self.book.result(t)
@@ -149,7 +158,8 @@ impl<G: PoolNaming, J: Drop> Core<G, J> {
 
     /// How many entries the record has.
     pub fn steps(&self) -> u64
-        ensures { BookAtSome (TaskOf J) G.config (λ b. result ≡ length (entries b)) }
+        ensures here { result ≡ length (entries self.now) }
+        ensures some { BookAtSome (TaskOf J) G.config (λ b. result ≡ length (entries b)) }
     {
         self.book.is_balanced();
         self.book.steps()
@@ -162,7 +172,9 @@ impl<G: PoolNaming, J: Drop> Core<G, J> {
         t: TaskId,
         deadline: Option<u64>,
     ) -> Result<Option<i64>, PoolError>
-        ensures { BookAtSome (TaskOf J) G.config (λ b. IsFound b t.0 deadline result) }
+        ensures here { IsFound self.old t.0 deadline result }
+        ensures same { self.new ≡ self.old }
+        ensures some { BookAtSome (TaskOf J) G.config (λ b. IsFound b t.0 deadline result) }
     {
         self.book.is_balanced();
         let late = has_come(deadline, self.book.now());
@@ -185,6 +197,8 @@ impl<G: PoolNaming, J: Drop> Core<G, J> {
         requires room { 0 < pass.old.room }
         ensures step { IfOk result (λ found. IfSome found (λ t. AddsStep pass.old (Ask.TakeDone group) (Did.TakeDone group t) pass.new)) }
         ensures waits { IfOk result (λ found. IfNone found (pass.new ≡ pass.old)) }
+        ensures open { IfOk result (λ found. IfNone found (HasOpen group (state_of self.old) × IsRefused G.config (state_of self.old) (Ask.TakeDone group) PoolError.NotThere)) }
+        ensures undone { IfErr result (IsUndoneAt G.config (state_of self.old) group) }
         ensures refused { IfErr result (IsUndone G.config group) }
         ensures unchanged { OnErr result (pass.new ≡ pass.old) }
     {
@@ -212,7 +226,10 @@ impl<G: PoolNaming, J: Drop> Core<G, J> {
     /// One look of who waits for a record longer than this, in entries: its length. Where it is to wait, it has
     /// said so.
     pub fn await_step(&mut self, seen: u64) -> Option<u64>
-        ensures { IfSome result (λ n. (seen < n) × BookAtSome (TaskOf J) G.config (λ b. n ≡ length (entries b))) }
+        ensures here { IfSome result (λ n. n ≡ length (entries self.old)) }
+        ensures waits { IfNone result (length (entries self.old) ≤ seen) }
+        ensures same { self.new ≡ self.old }
+        ensures some { IfSome result (λ n. (seen < n) × BookAtSome (TaskOf J) G.config (λ b. n ≡ length (entries b))) }
     {
         let steps = self.steps();
         if steps > seen {

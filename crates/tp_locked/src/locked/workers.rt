@@ -1,10 +1,11 @@
 //! What workers do in one hold of the lock.
-ghost use Rattle.std.specs.Prelude.{◌≡◌, ◌≢◌, ◌⊎◌, Ok, Err, IfOk, IfErr, OnOk, OnErr};
+ghost use Rattle.std.specs.Prelude.{◌≡◌, ◌≢◌, ◌⊎◌, ◌+◌, ⊤, Ok, Err, IsOk, IsErr, IfOk, IfErr, OnOk, OnErr};
 ghost use Rattle.tp_machine.specs.Stepped.{IsAnswer, IsSubmission, did_of};
 ghost use Rattle.tp_machine.specs.declared.steps.Stepped.{Stepped as SteppedOf};
 ghost use Rattle.tp_locked.specs.declared.tasks.Task.{Task as TaskOf};
 ghost use Rattle.tp_locked.specs.Begins.{IsBegun};
 ghost use Rattle.tp_locked.specs.Passes.{Works, opening as opening_of};
+ghost use Rattle.tp_locked.specs.Steps.{Made, MadeSo, taking_of, begun_of, next_of, departed_of, IsEndOf};
 
 use super::{Core, concluded};
 use crate::names::PoolNaming;
@@ -50,6 +51,49 @@ pub(super) fn start_of(opened: &Result<Did, PoolError>) -> Start {
     }
 }
 
+// What a worker's `take` came to.
+fn taking_from<P>(stepped: &Result<Stepped<P>, PoolError>) -> Taking
+    ensures taking { result ≡ taking_of stepped.now }
+    ensures task { result ≡ Taking.Task → IsOk stepped.now }
+    ensures left { result ≡ Taking.Left → IsOk stepped.now }
+{
+    match stepped {
+        Ok(Stepped::Take(Did::Take(_, took))) => match took {
+            Took::Held(_) | Took::Head(_) => Taking::Task,
+            Took::Leave => Taking::Left,
+            Took::Idle => Taking::Sleeps,
+        },
+        // A worker that is idle already stays so.
+        Err(PoolError::NotThere) => Taking::Sleeps,
+        _ => Taking::Refused,
+    }
+}
+
+// The slot that is reserved in place of the one that was left.
+fn next_after<P>(stepped: &Stepped<P>) -> Option<SlotId>
+    ensures { result ≡ next_of stepped.now }
+{
+    match stepped {
+        Stepped::Leave(Did::Leave(_, next)) => *next,
+        _ => None,
+    }
+}
+
+// What a worker's `leave` came to.
+fn departed_from<P>(stepped: &Result<Stepped<P>, PoolError>) -> Departed
+    ensures departed { result ≡ departed_of stepped.now }
+    ensures refused { result ≡ Departed.Refused → IsErr stepped.now }
+    ensures gone { result ≢ Departed.Refused → IsOk stepped.now }
+{
+    match stepped {
+        Ok(stepped) => match next_after(stepped) {
+            Some(next) => Departed::Replaced(next),
+            None => Departed::Alone,
+        },
+        Err(_) => Departed::Refused,
+    }
+}
+
 impl<G: PoolNaming, J: Drop> Core<G, J> {
     /// Makes the step of this ask with a worker's pass.
     pub fn work(
@@ -59,6 +103,8 @@ impl<G: PoolNaming, J: Drop> Core<G, J> {
         pass: &mut WorkerPass<G>,
     ) -> Result<Stepped<Task<J>>, PoolError>
         requires unpaid { ¬ IsSubmission ask }
+        ensures number { pass.new.number ≡ pass.old.number }
+        ensures made { Made self.old self.new pass.old.number ask result }
         ensures answer { IfOk result (λ s. IsAnswer ask s) }
         ensures works { OnOk result (Works pass.old pass.new) }
         ensures unchanged { OnErr result (pass.new ≡ pass.old) }
@@ -76,19 +122,12 @@ impl<G: PoolNaming, J: Drop> Core<G, J> {
     /// The worker of slot `w` asks for its next task; where it finds none, it is listed among those who
     /// sleep.
     pub fn take(&mut self, w: SlotId, glance: &Glance<G>, pass: &mut WorkerPass<G>) -> Taking
+        ensures number { pass.new.number ≡ pass.old.number }
+        ensures made { MadeSo self.old self.new pass.old.number (Ask.Take w) (λ r. result ≡ taking_of r) }
         ensures works { result ≡ Taking.Task → Works pass.old pass.new }
         ensures left { result ≡ Taking.Left → Works pass.old pass.new }
     {
-        let taking = match self.work(Ask::Take(w), glance, pass) {
-            Ok(Stepped::Take(Did::Take(_, took))) => match took {
-                Took::Held(_) | Took::Head(_) => Taking::Task,
-                Took::Leave => Taking::Left,
-                Took::Idle => Taking::Sleeps,
-            },
-            // A worker that is idle already stays so.
-            Err(PoolError::NotThere) => Taking::Sleeps,
-            _ => Taking::Refused,
-        };
+        let taking = taking_from(&self.work(Ask::Take(w), glance, pass));
         let queued = self.book.counts().queued;
         self.waking.took(w, taking == Taking::Sleeps, queued);
         taking
@@ -96,6 +135,8 @@ impl<G: PoolNaming, J: Drop> Core<G, J> {
 
     /// The worker begins the task that it took.
     pub fn begin(&mut self, w: SlotId, glance: &Glance<G>, pass: &mut WorkerPass<G>) -> Begun<J>
+        ensures number { pass.new.number ≡ pass.old.number }
+        ensures made { MadeSo self.old self.new pass.old.number (Ask.Begin w) (λ r. result ≡ begun_of r) }
         ensures works { IsBegun result (Works pass.old pass.new) (pass.new ≡ pass.old) }
     {
         match self.work(Ask::Begin(w), glance, pass) {
@@ -113,6 +154,8 @@ impl<G: PoolNaming, J: Drop> Core<G, J> {
         glance: &Glance<G>,
         pass: &mut WorkerPass<G>,
     ) -> Ended
+        ensures number { pass.new.number ≡ pass.old.number }
+        ensures made { MadeSo self.old self.new pass.old.number (Ask.End w outcome) (IsEndOf self.new w.0 result) }
         ensures works { result ≢ Ended.Refused → Works pass.old pass.new }
         ensures refused { result ≡ Ended.Refused → pass.new ≡ pass.old }
     {
@@ -128,14 +171,12 @@ impl<G: PoolNaming, J: Drop> Core<G, J> {
 
     /// A worker whose plain task faulted leaves.
     pub fn leave(&mut self, w: SlotId, glance: &Glance<G>, pass: &mut WorkerPass<G>) -> Departed
+        ensures number { pass.new.number ≡ pass.old.number }
+        ensures made { MadeSo self.old self.new pass.old.number (Ask.Leave w) (λ r. result ≡ departed_of r) }
         ensures works { result ≢ Departed.Refused → Works pass.old pass.new }
         ensures refused { result ≡ Departed.Refused → pass.new ≡ pass.old }
     {
-        match self.work(Ask::Leave(w), glance, pass) {
-            Ok(Stepped::Leave(Did::Leave(_, Some(next)))) => Departed::Replaced(next),
-            Ok(_) => Departed::Alone,
-            Err(_) => Departed::Refused,
-        }
+        departed_from(&self.work(Ask::Leave(w), glance, pass))
     }
 
     /// The worker tells whether another was made for this slot, which was reserved in its place, and the
@@ -146,7 +187,9 @@ impl<G: PoolNaming, J: Drop> Core<G, J> {
         staffed: bool,
         glance: &Glance<G>,
         pass: &mut WorkerPass<G>,
-    ) {
+    )
+        ensures { MadeSo self.old self.new pass.old.number (opening_of w staffed) (λ _. ⊤) }
+    {
         let ask = opening(w, staffed);
         let stepped = self.work(ask, glance, pass);
         let _ = self.heard(w, &ask, stepped);
@@ -161,6 +204,7 @@ impl<G: PoolNaming, J: Drop> Core<G, J> {
         stepped: Result<Stepped<Task<J>>, PoolError>,
     ) -> Result<Did, PoolError>
         requires answer { IfOk stepped (λ s. IsAnswer ask.now s) }
+        ensures same { self.new ≡ self.old }
         ensures accepted { IfOk result (λ d. (s : SteppedOf (TaskOf J)) × (stepped ≡ Ok s) × (d ≡ did_of ask.now s)) }
         ensures refused { IfErr result (λ e. stepped ≡ Err e) }
     {
@@ -177,7 +221,9 @@ impl<G: PoolNaming, J: Drop> Core<G, J> {
     /// A pass for the worker of a slot that is reserved, whose thread waits to be told. NoMemory (4) or
     /// BookFull (5).
     pub fn enlist(&mut self, w: SlotId, glance: &Glance<G>) -> Result<WorkerPass<G>, PoolError>
-        ensures unused { IfOk result (λ p. p.amount ≡ 0) }
+        ensures new { IfOk result (λ p. p ≡ record { number = self.old.accounts.made; amount = 0; seen = self.old.published }) }
+        ensures made { OnOk result (self.new ≡ record self.old { accounts = record self.old.accounts { made = self.old.accounts.made + 1 } }) }
+        ensures unchanged { OnErr result (self.new ≡ self.old) }
         ensures refused { IfErr result (λ e. (e ≡ PoolError.NoMemory) ⊎ (e ≡ PoolError.BookFull)) }
     {
         if let Err(error) = self.roster.reserve(w) {
@@ -203,7 +249,9 @@ impl<G: PoolNaming, J: Drop> Core<G, J> {
     }
 
     /// Takes back the pass of a thread that ends.
-    pub fn hand_in(&mut self, pass: WorkerPass<G>) {
+    pub fn hand_in(&mut self, pass: WorkerPass<G>)
+        ensures { self.new ≡ self.old }
+    {
         self.roster.take_back(pass);
     }
 
