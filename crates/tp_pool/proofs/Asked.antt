@@ -1,6 +1,7 @@
 -- A worker's step in one hold, as one of its pool.
-use Rattle.std.proofs.Common.{◌≡◌, ℕ, reverse, ap, subst}
-use Rattle.std.specs.Prelude.{Result}
+use Rattle.std.proofs.Common.{◌≡◌, ℕ, Bool, true, false, reverse, Ok, Err, refl, ap, subst}
+use Rattle.std.proofs.lemmas.Bool.{false≢true}
+use Rattle.std.specs.Prelude.{⊤, Option, Result, IfOk, is_ok}
 use Rattle.tp_types.specs.declared.ids.SlotId.{SlotId}
 use Rattle.tp_types.specs.declared.configs.Config.{Config}
 use Rattle.tp_types.specs.declared.refusals.PoolError.{PoolError}
@@ -16,7 +17,7 @@ use Rattle.tp_turns.specs.declared.turns.Begun.{Begun}
 use Rattle.tp_turns.specs.declared.turns.Begun.TheVariants as begun
 use Rattle.tp_locked.specs.Steps.{IsAnswered, MadeSo, begun_of, taking_of}
 use Rattle.tp_locked.specs.declared.tasks.Task.{Task}
-use Rattle.tp_pool.specs.Deeds.{IsDone, taken_as}
+use Rattle.tp_pool.specs.Deeds.{EndsPool, IsDone, heir_after, taken_as}
 
 pub asked : {P : Type 0} (told old new : BookView P) (c : Config) (by : ℕ) (a : Ask) (F : BookView P → Result (Stepped P) PoolError → Type 0) → told ≡ old →
     config told ≡ c → Legal c (reverse (entries told)) → MadeSo old new by a (F new) → IsAnswered P c by a F
@@ -41,13 +42,54 @@ tells c w by b is =
     record { old = is.old; new = is.new; settings = is.settings; legal = is.legal; answer = is.answer; made = is.made; holds = ap told is.holds }
 
 -- the deed of a `begin` is that step
-pub begun_done : {J : Type 0} (c : Config) (w : SlotId) (by : ℕ) (b : Begun J) → IsAnswered (Task J) c by (ask.Begin w) (λ _ r. b ≡ begun_of r) → IsDone J c w by (told b)
-begun_done c w by (begun.Run t job flag) is = tells c w by (begun.Run t job flag) is
-begun_done c w by (begun.Skip t) is = tells c w by (begun.Skip t) is
-begun_done c w by begun.Refused is = tells c w by begun.Refused is
+pub begun_done : {J : Type 0} (c : Config) (w : SlotId) (by : ℕ) (heir : Option SlotId) (b : Begun J) → IsAnswered (Task J) c by (ask.Begin w) (λ _ r. b ≡ begun_of r) → IsDone J c w by heir (told b)
+begun_done c w by heir (begun.Run t job flag) is = tells c w by (begun.Run t job flag) is
+begun_done c w by heir (begun.Skip t) is = tells c w by (begun.Skip t) is
+begun_done c w by heir begun.Refused is = tells c w by begun.Refused is
+
+-- which reserves no slot
+pub heir_of : {J : Type 0} (b : Begun J) (heir : Option SlotId) → heir ≡ heir_after heir (told b)
+heir_of (begun.Run t job flag) heir = refl
+heir_of (begun.Skip t) heir = refl
+heir_of begun.Refused heir = refl
 
 -- so is that of a `take`, which a worker makes at its slot with its pass
-pub taken : {J : Type 0} (c : Config) (w v : SlotId) (by n : ℕ) (t : Taken) → v ≡ w → n ≡ by → IsAnswered (Task J) c n (ask.Take v) (λ _ r. taken_as t ≡ taking_of r) →
-    IsDone J c w by (deed.Took t)
-taken {J = J} c w v by n t same_slot same_pass is =
-    subst (λ v. IsDone J c v by (deed.Took t)) same_slot (subst (λ (n : ℕ). IsDone J c v n (deed.Took t)) same_pass is)
+pub taken : {J : Type 0} (c : Config) (w v : SlotId) (by n : ℕ) (heir : Option SlotId) (t : Taken) → v ≡ w → n ≡ by → IsAnswered (Task J) c n (ask.Take v) (λ _ r. taken_as t ≡ taking_of r) →
+    IsDone J c w by heir (deed.Took t)
+taken {J = J} c w v by n heir t same_slot same_pass is =
+    subst (λ v. IsDone J c v by heir (deed.Took t)) same_slot (subst (λ (n : ℕ). IsDone J c v n heir (deed.Took t)) same_pass is)
+
+-- the end by a worker: where `tidy` is accepted it asks `ended` too, with the same pass
+so_if_ok : {A E : Type 0} (r : Result A E) (X : Type 0) → X → IfOk r (λ _. X)
+so_if_ok (Ok a) X x = x
+so_if_ok (Err e) X x = tt
+
+pub ended_by : {J : Type 0} (c : Config) (by n : ℕ) (F H : BookView (Task J) → Result (Stepped (Task J)) PoolError → Type 0) →
+    IsAnswered (Task J) c by ask.Tidy F → n ≡ by → IsAnswered (Task J) c n ask.Ended H → EndsPool J c by
+ended_by {J = J} c by n F H is same then =
+    let X : ℕ → Type 0 = λ n. IsAnswered (Task J) c n ask.Ended (λ _ _. ⊤) in
+    let whatever : X n = record { old = then.old; new = then.new; settings = then.settings; legal = then.legal; answer = then.answer; made = then.made; holds = tt } in record {
+      old = is.old;
+      new = is.new;
+      settings = is.settings;
+      legal = is.legal;
+      answer = is.answer;
+      made = is.made;
+      holds = so_if_ok is.answer (X by) (subst X same whatever);
+    }
+
+-- and where it is refused that is all
+none_if_err : {A E : Type 0} (r : Result A E) (X : Type 0) → false ≡ is_ok r → IfOk r (λ _. X)
+none_if_err (Ok a) X is = absurd (false≢true is)
+none_if_err (Err e) X is = tt
+
+pub barred : {J : Type 0} (c : Config) (by : ℕ) → IsAnswered (Task J) c by ask.Tidy (λ _ r. false ≡ is_ok r) → EndsPool J c by
+barred {J = J} c by is = record {
+  old = is.old;
+  new = is.new;
+  settings = is.settings;
+  legal = is.legal;
+  answer = is.answer;
+  made = is.made;
+  holds = none_if_err is.answer (IsAnswered (Task J) c by ask.Ended (λ _ _. ⊤)) is.holds;
+}

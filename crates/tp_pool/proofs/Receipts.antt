@@ -5,7 +5,9 @@ use Rattle.tp_record.specs.declared.entries.Ask.{Ask}
 use Rattle.tp_record.specs.declared.entries.Did.{Did}
 use Rattle.tp_record.specs.declared.entries.Entry.{Entry}
 use Rattle.tp_book.specs.PassView.{PassView}
-use Rattle.tp_locked.specs.Passes.{Adds, AddsStep, AddsNone, AddsAndEnds, IsEnding, entry_of}
+use Rattle.tp_types.specs.declared.configs.Config.{Config}
+use Rattle.tp_locked.specs.Passes.{Adds, AddsStep, AddsNone, entry_of}
+use Rattle.tp_pool.specs.Endings.{AddsAndEnds, IsEnding}
 
 -- none
 pub adds_no : (old : PassView) → Adds old [] old
@@ -42,13 +44,13 @@ pub none_behind : (old mid new : PassView) → AddsNone old mid → AddsNone mid
 none_behind old mid new first then = then ∙ ap (λ (p : PassView). record p { room = new.room }) first
 
 -- a step behind room for more, and then those of the pool's end
-pub step_and_end : (old mid after new : PassView) (a : Ask) (d : Did) → AddsNone old mid → AddsStep mid a d after → ((steps : List Entry) × IsEnding after.number steps × Adds after steps new) →
-    AddsAndEnds old a d new
-step_and_end old mid after new a d none step end =
+pub step_and_end : (c : Config) (old mid after new : PassView) (a : Ask) (d : Did) → AddsNone old mid → AddsStep mid a d after → ((steps : List Entry) × IsEnding c after.number steps × Adds after steps new) →
+    AddsAndEnds c old a d new
+step_and_end c old mid after new a d none step end =
     let number : mid.number ≡ old.number = ap (λ p. p.number) none in
     let first : Adds old (entry_of old.number a d ∷ []) after =
     subst (λ (by : ℕ). Adds old (entry_of by a d ∷ []) after) number (adds_behind old mid after (entry_of mid.number a d ∷ []) none step) in (
       end.0,
-      subst (λ (by : ℕ). IsEnding by end.0) (step.number ∙ number) end.1,
+      subst (λ (by : ℕ). IsEnding c by end.0) (step.number ∙ number) end.1,
       adds_both old after new (entry_of old.number a d ∷ []) end.0 first end.2,
     )

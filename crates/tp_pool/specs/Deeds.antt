@@ -1,5 +1,5 @@
 -- What a worker's deeds are in its pool's book.
-use Rattle.std.specs.Prelude.{ℕ, ◌≡◌, ⊤, Result}
+use Rattle.std.specs.Prelude.{ℕ, ◌≡◌, ⊤, Option, Some, None, Result, IfOk}
 use Rattle.tp_types.specs.declared.configs.Config.{Config}
 use Rattle.tp_types.specs.declared.ids.SlotId.{SlotId}
 use Rattle.tp_types.specs.declared.refusals.PoolError.{PoolError}
@@ -23,17 +23,33 @@ taken_as taken.Task = taking.Task
 taken_as taken.Left = taking.Left
 taken_as taken.Refused = taking.Refused
 
-module _ (J : Type 0) (c : Config) (w : SlotId) (by : ℕ) where
-  -- the worker of slot w, whose pass has this number, asks the pool so at some moment, and its answer is such
+-- the slot that is reserved for a worker in its place, after this deed
+abbrev pub heir_after : Option SlotId → Deed → Option SlotId
+heir_after heir (deed.Replaced v) = Some v
+heir_after heir _ = heir
+
+module _ (J : Type 0) (c : Config) (by : ℕ) where
+  -- the worker whose pass has this number asks the pool so at some moment, and its answer is such
   abbrev pub Asked : Ask → (BookView (Task J) → Result (Stepped (Task J)) PoolError → Type 0) → Type 0
   Asked a F = IsAnswered (Task J) c by a F
 
-  -- a deed that is a step is answered as it says; the others are no steps
+  -- it asks for the pool's end, and where that has begun it ends it
+  abbrev pub EndsPool : Type 0
+  EndsPool = Asked ask.Tidy (λ _ r. IfOk r (λ _. Asked ask.Ended (λ _ _. ⊤)))
+
+  -- so it does where no worker is to be made in its place
+  abbrev pub Closes : Option SlotId → Type 0
+  Closes None = EndsPool
+  Closes (Some v) = ⊤
+
+module _ (J : Type 0) (c : Config) (w : SlotId) (by : ℕ) (heir : Option SlotId) where
+  -- a deed of the worker of slot w that is a step is answered as it says; the others are no steps
   abbrev pub IsDone : Deed → Type 0
-  IsDone (deed.Took t) = Asked (ask.Take w) (λ _ r. taken_as t ≡ taking_of r)
-  IsDone (deed.Began t) = Asked (ask.Begin w) (λ _ r. deed.Began t ≡ told (begun_of r))
-  IsDone (deed.Skipped t) = Asked (ask.Begin w) (λ _ r. deed.Skipped t ≡ told (begun_of r))
-  IsDone deed.Unbegun = Asked (ask.Begin w) (λ _ r. deed.Unbegun ≡ told (begun_of r))
-  IsDone (deed.Ended o e) = Asked (ask.End w o) (λ new r. IsEndOf new w.0 e r)
-  IsDone (deed.Left d) = Asked (ask.Leave w) (λ _ r. d ≡ departed_of r)
+  IsDone (deed.Took t) = Asked J c by (ask.Take w) (λ _ r. taken_as t ≡ taking_of r)
+  IsDone (deed.Began t) = Asked J c by (ask.Begin w) (λ _ r. deed.Began t ≡ told (begun_of r))
+  IsDone (deed.Skipped t) = Asked J c by (ask.Begin w) (λ _ r. deed.Skipped t ≡ told (begun_of r))
+  IsDone deed.Unbegun = Asked J c by (ask.Begin w) (λ _ r. deed.Unbegun ≡ told (begun_of r))
+  IsDone (deed.Ended o e) = Asked J c by (ask.End w o) (λ new r. IsEndOf new w.0 e r)
+  IsDone (deed.Left d) = Asked J c by (ask.Leave w) (λ _ r. d ≡ departed_of r)
+  IsDone deed.Tidied = Closes J c by heir
   IsDone _ = ⊤

@@ -1,4 +1,5 @@
 pub mod Admissions
 pub mod Closing
 pub mod Deeds
+pub mod Endings
 pub mod Prestarts

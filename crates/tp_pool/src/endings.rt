@@ -1,9 +1,10 @@
 //! The calls that end a pool, and the wait for its end.
 ghost use Rattle.std.specs.Prelude.{◌≡◌, ◌⊎◌, ◌≤◌, [], ◌∷◌, length, IfOk, IfErr, OnOk, OnErr};
-ghost use Rattle.tp_locked.specs.Passes.{Adds, AddsNone, AddsAndEnds, Refuses, tidied, ended};
+ghost use Rattle.tp_locked.specs.Passes.{Adds, AddsNone, Refuses, tidied, ended};
 ghost use Rattle.tp_locked.specs.Records.{AtSome};
 ghost use Rattle.tp_locked.specs.Steps.{IsHandedBack, IsMade};
 ghost use Rattle.tp_locked.specs.declared.tasks.Task.{Task};
+ghost use Rattle.tp_pool.specs.Endings.{AddsAndEnds, IsBarred};
 
 use crate::edges::Edge;
 use crate::pool::PoolOf;
@@ -20,7 +21,7 @@ impl<G: PoolNaming, J: Job, E: Edge> PoolOf<G, J, E> {
     /// The pool takes no more tasks and runs those that it has, as `shutdown`. Where it can end at once,
     /// this call ends it. NoMemory (4) for its receipts, else BookFull (5).
     pub fn shutdown<R: Wait>(&self, rt: &R, pass: &mut Pass<G>) -> Result<(), PoolError>
-        ensures steps { OnOk result (AddsAndEnds pass.old Ask.Shutdown Did.Shutdown pass.new) }
+        ensures steps { OnOk result (AddsAndEnds G.config pass.old Ask.Shutdown Did.Shutdown pass.new) }
         ensures seen { OnOk result (1 ≤ pass.new.seen) }
         ensures refused { IfErr result (λ e. Refuses G.config Ask.Shutdown e) }
         ensures unchanged { OnErr result (AddsNone pass.old pass.new) }
@@ -49,7 +50,7 @@ impl<G: PoolNaming, J: Job, E: Edge> PoolOf<G, J, E> {
         pass: &mut Pass<G>,
     ) -> Result<Vec<Drained<J>>, PoolError>
         ensures handed { IfOk result (λ drained. IsHandedBack (IsMade (Task J) G.config pass.old.number Ask.Stop) drained.items) }
-        ensures steps { IfOk result (λ drained. AddsAndEnds pass.old Ask.Stop (Did.Stop (length drained.items)) pass.new) }
+        ensures steps { IfOk result (λ drained. AddsAndEnds G.config pass.old Ask.Stop (Did.Stop (length drained.items)) pass.new) }
         ensures seen { OnOk result (2 ≤ pass.new.seen) }
         ensures refused { IfErr result (λ e. Refuses G.config Ask.Stop e) }
         ensures unchanged { OnErr result (AddsNone pass.old pass.new) }
@@ -80,7 +81,7 @@ impl<G: PoolNaming, J: Job, E: Edge> PoolOf<G, J, E> {
         ensures seen { OnOk result (4 ≤ pass.new.seen) }
         ensures late { IfErr result (λ e. e ≡ PoolError.TimedOut → AtSome G.config (λ s. deadline ≤ s.now)) }
         ensures refused { IfErr result (λ e. (((e ≡ PoolError.NoMemory) ⊎ (e ≡ PoolError.TimedOut)) × Adds pass.old [] pass.new)
-            ⊎ ((e ≡ PoolError.TornRecord) × Adds pass.old (tidied pass.old.number ∷ []) pass.new)) }
+            ⊎ ((e ≡ PoolError.TornRecord) × IsBarred G.config Ask.Ended × Adds pass.old (tidied pass.old.number ∷ []) pass.new)) }
     {
         if let Err(error) = pass.reserve(2) {
             return Err(error);

@@ -3,11 +3,12 @@ ghost use Rattle.std.specs.Prelude.{◌≡◌, ◌⊎◌, ◌+◌, ◌<◌, ◌�
 ghost use Rattle.tp_record.specs.declared.entries.Entry.{Entry};
 ghost use Rattle.tp_record.specs.Effects.{reaches};
 ghost use Rattle.tp_machine.specs.Stepped.{IsAnswer, IsSubmission, did_of};
-ghost use Rattle.tp_locked.specs.Passes.{Adds, AddsStep, IsRefusal, Refuses, IsEnding, tidied, ended};
+ghost use Rattle.tp_locked.specs.Passes.{Adds, AddsStep, IsRefusal, Refuses, tidied, ended};
 ghost use Rattle.tp_locked.specs.Records.{AtSome};
 ghost use Rattle.tp_locked.specs.Steps.{IsHandedBack, IsMade};
 ghost use Rattle.tp_locked.specs.Waits.{HasNoOutcome};
 ghost use Rattle.tp_locked.specs.declared.tasks.Task.{Task as TaskOf};
+ghost use Rattle.tp_pool.specs.Endings.{IsBarred, IsEnding};
 
 use crate::edges::Edge;
 use crate::lock::{PAUSE, polite};
@@ -176,7 +177,7 @@ impl<G: PoolNaming, J: Drop, E: Edge> Shared<G, J, E> {
     /// Ends the pool, where it can end now: the step `tidy`, the terminated hook and the step `ended`.
     pub fn try_end<R: Wait>(&self, rt: &R, pass: &mut Pass<G>)
         requires room { 2 ≤ pass.old.room }
-        ensures { (steps : List Entry) × IsEnding pass.old.number steps × Adds pass.old steps pass.new }
+        ensures { (steps : List Entry) × IsEnding G.config pass.old.number steps × Adds pass.old steps pass.new }
     {
         if self.tidy(rt, pass) {
             let _ = self.terminate(rt, pass);
@@ -188,6 +189,7 @@ impl<G: PoolNaming, J: Drop, E: Edge> Shared<G, J, E> {
         requires room { 0 < pass.old.room }
         ensures tidied { IsTrue result → Adds pass.old (tidied pass.old.number ∷ []) pass.new }
         ensures left { pass.old.room ≤ pass.new.room + 1 }
+        ensures refused { ¬ IsTrue result → IsBarred G.config Ask.Tidy }
         ensures unchanged { ¬ IsTrue result → pass.new ≡ pass.old }
     {
         match self.step(rt, Ask::Tidy, pass) {
@@ -203,7 +205,7 @@ impl<G: PoolNaming, J: Drop, E: Edge> Shared<G, J, E> {
         requires room { 0 < pass.old.room }
         ensures step { OnOk result (Adds pass.old (ended pass.old.number ∷ []) pass.new) }
         ensures seen { OnOk result (4 ≤ pass.new.seen) }
-        ensures refused { IfErr result (λ e. e ≡ PoolError.TornRecord) }
+        ensures refused { IfErr result (λ e. (e ≡ PoolError.TornRecord) × IsBarred G.config Ask.Ended) }
         ensures unchanged { OnErr result (pass.new ≡ pass.old) }
     {
         self.edge.terminated(rt);
@@ -226,7 +228,7 @@ impl<G: PoolNaming, J: Drop, E: Edge> Shared<G, J, E> {
         ensures steps { OnOk result (Adds pass.old [] pass.new ⊎ Adds pass.old (tidied pass.old.number ∷ ended pass.old.number ∷ []) pass.new) }
         ensures seen { OnOk result (4 ≤ pass.new.seen) }
         ensures late { IfErr result (λ e. e ≡ PoolError.TimedOut → AtSome G.config (λ s. deadline ≤ s.now)) }
-        ensures refused { IfErr result (λ e. ((e ≡ PoolError.TimedOut) × Adds pass.old [] pass.new) ⊎ ((e ≡ PoolError.TornRecord) × Adds pass.old (tidied pass.old.number ∷ []) pass.new)) }
+        ensures refused { IfErr result (λ e. ((e ≡ PoolError.TimedOut) × Adds pass.old [] pass.new) ⊎ ((e ≡ PoolError.TornRecord) × IsBarred G.config Ask.Ended × Adds pass.old (tidied pass.old.number ∷ []) pass.new)) }
     {
         let mut core = self.hold(rt);
         for _ in rt.forever() {

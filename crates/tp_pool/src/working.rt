@@ -1,16 +1,16 @@
 //! A worker's thread: its turns, and its end.
-ghost use Rattle.std.specs.Prelude.{◌≡◌, IfOk, OnOk, OnErr};
+ghost use Rattle.std.specs.Prelude.{◌≡◌, ⊤, is_ok};
 ghost use Rattle.tp_turns.specs.Turns.{told};
 ghost use Rattle.tp_locked.specs.Steps.{IsAnswered, taking_of, begun_of, departed_of, IsEndOf};
 ghost use Rattle.tp_locked.specs.declared.tasks.Task.{Task as TaskOf};
-ghost use Rattle.tp_machine.specs.Stepped.{IsAnswer, IsSubmission};
-ghost use Rattle.tp_locked.specs.Passes.{Works};
+ghost use Rattle.tp_machine.specs.Stepped.{IsSubmission};
+ghost use Rattle.tp_locked.specs.Passes.{opening};
+ghost use Rattle.tp_pool.specs.Deeds.{EndsPool};
 
 use crate::edges::Edge;
 use crate::shared::Shared;
 use std::sync::{Arc, Wait};
 use std::thread::Threads;
-use tp_book::book::Stepped;
 use tp_book::passes::WorkerPass;
 use tp_callbacks::flags::CancelFlag;
 use tp_callbacks::gates::Point;
@@ -23,7 +23,6 @@ use tp_record::entries::Ask;
 use tp_turns::deeds::{Departed, Ended, Taken};
 use tp_turns::turns::{Begun, Workplace, one_turn};
 use tp_types::ids::{SlotId, TaskId};
-use tp_types::refusals::PoolError;
 use tp_types::tasks::Outcome;
 
 /// A worker at its slot.
@@ -44,9 +43,9 @@ impl<
     R: Threads + Wait + Copy + Send + 'static,
 > Workplace<J, R> for Post<G, J, E> {
     ghost use Rattle.std.specs.Prelude.{◌≡◌};
-    ghost use Rattle.tp_pool.specs.Deeds.{IsDone};
+    ghost use Rattle.tp_pool.specs.Deeds.{IsDone, heir_after};
 
-    ghost did = { λ old d new. (new.w ≡ old.w) × (new.pass.number ≡ old.pass.number) × IsDone J G.config old.w old.pass.number d };
+    ghost did = { λ old d new. (new.w ≡ old.w) × (new.pass.number ≡ old.pass.number) × (new.heir ≡ heir_after old.heir d) × IsDone J G.config old.w old.pass.number old.heir d };
 
     ghost owes = { λ _ _. Unit {0} };
 
@@ -133,15 +132,15 @@ impl<G: PoolNaming + Send + Sync + 'static, J: Job + 'static, E: Edge + Send + S
     }
 
     /// Tells whether a worker was made in its place, and ends the pool, where it can end now.
-    pub fn hand_over<R: Wait>(&mut self, rt: &R, w: SlotId, staffed: bool) {
-        let shared = &self.shared;
-        let mut core = shared.hold(rt);
-        core.open_as_worker(w, staffed, &shared.glance, &mut self.pass);
-        shared.release(core);
+    pub fn hand_over<R: Wait>(&mut self, rt: &R, w: SlotId, staffed: bool)
+        ensures told { IsAnswered (TaskOf J) G.config self.old.pass.number (opening w staffed) (λ _ _. ⊤) }
+        ensures ends { EndsPool J G.config self.old.pass.number }
+    {
+        self.shared.open_as_worker(rt, w, staffed, &mut self.pass);
         if staffed {
-            shared.conditions.begun.notify_all();
+            self.shared.conditions.begun.notify_all();
         }
-        shared.try_end_as_worker(rt, &mut self.pass);
+        self.shared.try_end_as_worker(rt, &mut self.pass);
     }
 
     /// Hands in its pass, and lets go of the pool.
@@ -206,6 +205,17 @@ impl<G: PoolNaming, J: Drop, E: Edge> Shared<G, J, E> {
         departed
     }
 
+    // One hold of a worker that tells whether another was made in its place.
+    fn open_as_worker<R: Wait>(&self, rt: &R, w: SlotId, staffed: bool, pass: &mut WorkerPass<G>)
+        ensures asked { IsAnswered (TaskOf J) G.config pass.old.number (opening w staffed) (λ _ _. ⊤) }
+        ensures number { pass.new.number ≡ pass.old.number }
+    {
+        let mut core = self.hold(rt);
+        core.is_legal();
+        core.open_as_worker(w, staffed, &self.glance, pass);
+        self.release(core);
+    }
+
     // Sleeps until somebody took the worker off the list of those who sleep.
     fn sleep<R: Wait>(&self, rt: &R, w: SlotId) {
         for _ in rt.forever() {
@@ -217,30 +227,25 @@ impl<G: PoolNaming, J: Drop, E: Edge> Shared<G, J, E> {
         unreachable!()
     }
 
-    // Makes the step of this ask in a hold of its own, with a worker's pass.
-    fn work<R: Wait>(
-        &self,
-        rt: &R,
-        ask: Ask,
-        pass: &mut WorkerPass<G>,
-    ) -> Result<Stepped<Task<J>>, PoolError>
+    // Makes the step of this ask in a hold of its own, with a worker's pass: whether it was made.
+    fn work<R: Wait>(&self, rt: &R, ask: Ask, pass: &mut WorkerPass<G>) -> bool
         requires unpaid { ¬ IsSubmission ask }
+        ensures asked { IsAnswered (TaskOf J) G.config pass.old.number ask (λ _ r. result ≡ is_ok r) }
         ensures number { pass.new.number ≡ pass.old.number }
-        ensures answer { IfOk result (λ s. IsAnswer ask s) }
-        ensures works { OnOk result (Works pass.old pass.new) }
-        ensures unchanged { OnErr result (pass.new ≡ pass.old) }
     {
         let mut core = self.hold(rt);
-        let stepped = core.work(ask, &self.glance, pass);
+        core.is_legal();
+        let made = core.work(ask, &self.glance, pass).is_ok();
         self.release(core);
-        stepped
+        made
     }
 
     // Ends the pool, where it can end now, by a worker's steps.
     fn try_end_as_worker<R: Wait>(&self, rt: &R, pass: &mut WorkerPass<G>)
-        ensures { pass.new.number ≡ pass.old.number }
+        ensures ends { EndsPool J G.config pass.old.number }
+        ensures number { pass.new.number ≡ pass.old.number }
     {
-        if self.work(rt, Ask::Tidy, pass).is_ok() {
+        if self.work(rt, Ask::Tidy, pass) {
             self.edge.terminated(rt);
             let _ = self.work(rt, Ask::Ended, pass);
         }

@@ -11,8 +11,9 @@ use Rattle.tp_record.specs.declared.entries.Entry.{Entry}
 use Rattle.tp_record.specs.Paths.{own}
 use Rattle.tp_book.specs.PassView.{PassView}
 use Rattle.tp_book.specs.declared.book.closing.Report.{Report}
-use Rattle.tp_locked.specs.Passes.{Adds, AddsAndEnds, IsEnding, entry_of, tidied, ended}
+use Rattle.tp_locked.specs.Passes.{Adds, entry_of, tidied, ended}
 use Rattle.tp_pool.specs.Closing.{Reports}
+use Rattle.tp_pool.specs.Endings.{AddsAndEnds, IsBarred, IsEnding}
 use Rattle.tp_pool.proofs.Receipts.{adds_both}
 use Rattle.tp_threads.specs.Runs.{AddsEnd, AddsSubmissions, IsClosed, IsEnd, IsRun}
 
@@ -21,27 +22,27 @@ two_ended by =
     let P : Entry → Type 0 = λ e. (e ≡ tidied by) ⊎ (e ≡ ended by) in
     All-cons P (tidied by) (ended by ∷ []) (inl refl) (All-cons P (ended by) [] (inr refl) (All-nil P))
 
-are_endings : (by : ℕ) (steps : List Entry) → IsEnding by steps → All (λ e. (e ≡ tidied by) ⊎ (e ≡ ended by)) steps
-are_endings by steps is =
+are_endings : (c : Config) (by : ℕ) (steps : List Entry) → IsEnding c by steps → All (λ e. (e ≡ tidied by) ⊎ (e ≡ ended by)) steps
+are_endings c by steps is =
     let P : Entry → Type 0 = λ e. (e ≡ tidied by) ⊎ (e ≡ ended by) in
-    ⊎_elim (λ (x : steps ≡ []). subst (All P) (sym x) (All-nil P))
-    (⊎_elim (λ (x : steps ≡ tidied by ∷ []). subst (All P) (sym x) (All-cons P (tidied by) [] (inl refl) (All-nil P)))
+    ⊎_elim (λ (x : (steps ≡ []) × IsBarred c ask.Tidy). subst (All P) (sym x.0) (All-nil P))
+    (⊎_elim (λ (x : (steps ≡ tidied by ∷ []) × IsBarred c ask.Ended). subst (All P) (sym x.0) (All-cons P (tidied by) [] (inl refl) (All-nil P)))
     (λ (x : steps ≡ tidied by ∷ ended by ∷ []). subst (All P) (sym x) (two_ended by)))
     is
 
 -- a shutdown, and the wait for the end
-pub adds_end : (old mid new : PassView) → AddsAndEnds old ask.Shutdown did.Shutdown mid
+pub adds_end : (c : Config) (old mid new : PassView) → AddsAndEnds c old ask.Shutdown did.Shutdown mid
     → Adds mid [] new ⊎ Adds mid (tidied mid.number ∷ ended mid.number ∷ []) new → 4 ≤ new.seen → AddsEnd old new
-adds_end old mid new first then seen =
+adds_end c old mid new first then seen =
     let P : Entry → Type 0 = λ e. (e ≡ tidied old.number) ⊎ (e ≡ ended old.number) in
     let by = first.2.number in
     let steps = entry_of old.number ask.Shutdown did.Shutdown ∷ first.0 in
     let last = tidied old.number ∷ ended old.number ∷ [] in
     ⊎_elim (λ (x : Adds mid [] new).
-    (steps, (first.0, refl, are_endings old.number first.0 first.1), subst (λ s. Adds old s new) (append-nil steps) (adds_both old mid new steps [] first.2 x), seen))
+    (steps, (first.0, refl, are_endings c old.number first.0 first.1), subst (λ s. Adds old s new) (append-nil steps) (adds_both old mid new steps [] first.2 x), seen))
     (λ (x : Adds mid (tidied mid.number ∷ ended mid.number ∷ []) new). (
       steps ++ last,
-      (first.0 ++ last, refl, All-append P first.0 last (are_endings old.number first.0 first.1) (two_ended old.number)),
+      (first.0 ++ last, refl, All-append P first.0 last (are_endings c old.number first.0 first.1) (two_ended old.number)),
       adds_both old mid new steps last first.2 (subst (λ n. Adds mid (tidied n ∷ ended n ∷ []) new) by x),
       seen,
     ))

@@ -188,7 +188,8 @@ impl<G: PoolNaming, J: Drop> Core<G, J> {
         glance: &Glance<G>,
         pass: &mut WorkerPass<G>,
     )
-        ensures { MadeSo self.old self.new pass.old.number (opening_of w staffed) (λ _. ⊤) }
+        ensures number { pass.new.number ≡ pass.old.number }
+        ensures made { MadeSo self.old self.new pass.old.number (opening_of w staffed) (λ _. ⊤) }
     {
         let ask = opening(w, staffed);
         let stepped = self.work(ask, glance, pass);

@@ -6,5 +6,5 @@ use Rattle.tp_pool.proofs.pool.PoolOf.shutdown_now.Goals as goal
 
 pub returns-in-Ok-clause-steps : goal.returns-in-Ok-clause-steps
 returns-in-Ok-clause-steps g c =
-    step_and_end c.args.pass.now c.reserve.new.self c.stop.new.pass c.try_end.new.pass ask.Stop (did.Stop (length c.in-Ok.drained.items))
+    step_and_end g.G.PoolNaming.config c.args.pass.now c.reserve.new.self c.stop.new.pass c.try_end.new.pass ask.Stop (did.Stop (length c.in-Ok.drained.items))
     c.reserve.ensures.same c.in-Ok.ensures.step c.try_end.ensures

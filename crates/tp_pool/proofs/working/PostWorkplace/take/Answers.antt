@@ -8,7 +8,8 @@ returns-in-Task g c = record {
   done = (
     c.loop.invariant.2,
     c.take.ensures.number ∙ c.loop.invariant.3,
-    asked.taken g.G.PoolNaming.config c.args.self.now.w c.loop.self.w c.args.self.now.pass.number c.loop.self.pass.number taken.Task c.loop.invariant.2 c.loop.invariant.3 c.in-Task.ensures.asked,
+    c.loop.invariant.4,
+    asked.taken g.G.PoolNaming.config c.args.self.now.w c.loop.self.w c.args.self.now.pass.number c.loop.self.pass.number c.args.self.now.heir taken.Task c.loop.invariant.2 c.loop.invariant.3 c.in-Task.ensures.asked,
   );
 }
 
@@ -17,7 +18,8 @@ returns-in-Left g c = record {
   done = (
     c.loop.invariant.2,
     c.take.ensures.number ∙ c.loop.invariant.3,
-    asked.taken g.G.PoolNaming.config c.args.self.now.w c.loop.self.w c.args.self.now.pass.number c.loop.self.pass.number taken.Left c.loop.invariant.2 c.loop.invariant.3 c.in-Left.ensures.asked,
+    c.loop.invariant.4,
+    asked.taken g.G.PoolNaming.config c.args.self.now.w c.loop.self.w c.args.self.now.pass.number c.loop.self.pass.number c.args.self.now.heir taken.Left c.loop.invariant.2 c.loop.invariant.3 c.in-Left.ensures.asked,
   );
 }
 
@@ -26,6 +28,7 @@ returns-in-Refused g c = record {
   done = (
     c.loop.invariant.2,
     c.take.ensures.number ∙ c.loop.invariant.3,
-    asked.taken g.G.PoolNaming.config c.args.self.now.w c.loop.self.w c.args.self.now.pass.number c.loop.self.pass.number taken.Refused c.loop.invariant.2 c.loop.invariant.3 c.in-Refused.ensures.asked,
+    c.loop.invariant.4,
+    asked.taken g.G.PoolNaming.config c.args.self.now.w c.loop.self.w c.args.self.now.pass.number c.loop.self.pass.number c.args.self.now.heir taken.Refused c.loop.invariant.2 c.loop.invariant.3 c.in-Refused.ensures.asked,
   );
 }

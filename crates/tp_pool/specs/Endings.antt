@@ -1,0 +1,25 @@
+-- What the end of a pool adds to the pass of a caller that asks for it.
+use Rattle.std.specs.Prelude.{ℕ, ◌≡◌, ◌⊎◌, List, [], ◌∷◌}
+use Rattle.tp_types.specs.declared.configs.Config.{Config}
+use Rattle.tp_types.specs.declared.refusals.PoolError.{PoolError}
+use Rattle.tp_record.specs.declared.entries.Ask.{Ask}
+use Rattle.tp_record.specs.declared.entries.Ask.TheVariants as ask
+use Rattle.tp_record.specs.declared.entries.Did.{Did}
+use Rattle.tp_record.specs.declared.entries.Entry.{Entry}
+use Rattle.tp_book.specs.PassView.{PassView}
+use Rattle.tp_locked.specs.Passes.{Adds, IsRefusal, entry_of, tidied, ended}
+
+-- at some moment a pool with these settings refuses this ask
+abbrev pub IsBarred : Config → Ask → Type 0
+IsBarred c a = (e : PoolError) × IsRefusal c a e
+
+-- the steps of an end that the pass of this number made, as far as the pool took them: `tidy`, and `ended`
+abbrev pub IsEnding : Config → ℕ → List Entry → Type 0
+IsEnding c by steps =
+    ((steps ≡ []) × IsBarred c ask.Tidy)
+    ⊎ ((steps ≡ tidied by ∷ []) × IsBarred c ask.Ended)
+    ⊎ (steps ≡ tidied by ∷ ended by ∷ [])
+
+-- it has the receipt of one step more, and those of the pool's end as far as it made it
+abbrev pub AddsAndEnds : Config → PassView → Ask → Did → PassView → Type 0
+AddsAndEnds c old a d new = (steps : List Entry) × IsEnding c old.number steps × Adds old (entry_of old.number a d ∷ steps) new
