@@ -5,6 +5,7 @@ use Rattle.tp_types.specs.declared.ids.SlotId.{SlotId}
 use Rattle.tp_types.specs.declared.refusals.PoolError.{PoolError}
 use Rattle.tp_types.specs.declared.refusals.PoolError.TheVariants.{NotThere}
 use Rattle.tp_record.specs.declared.entries.Ask.{Ask}
+use Rattle.tp_record.specs.declared.entries.Did.{Did}
 use Rattle.tp_record.specs.declared.entries.Did.TheVariants as did
 use Rattle.tp_record.specs.declared.entries.Took.TheVariants as took
 use Rattle.tp_record.specs.Step.{Legal}
@@ -12,6 +13,7 @@ use Rattle.tp_machine.specs.declared.answers.Begun.TheVariants as started
 use Rattle.tp_machine.specs.declared.steps.Stepped.{Stepped}
 use Rattle.tp_machine.specs.declared.steps.Stepped.TheVariants as stepped
 use Rattle.tp_machine.specs.Readings.{IsDyingAt}
+use Rattle.tp_machine.specs.Stepped.{did_of}
 use Rattle.tp_turns.specs.declared.deeds.Departed.{Departed}
 use Rattle.tp_turns.specs.declared.deeds.Departed.TheVariants as departed
 use Rattle.tp_turns.specs.declared.deeds.Ended.{Ended}
@@ -53,6 +55,11 @@ pub record IsAnswered (P : Type 0) (c : Config) (by : ℕ) (a : Ask) (F : BookVi
   pub answer : Result (Stepped P) PoolError
   pub made : Made old new by a answer
   pub holds : F new answer
+
+-- what was done, where the step was made
+abbrev pub did_in : {P : Type 0} → Ask → Result (Stepped P) PoolError → Result Did PoolError
+did_in a (Ok s) = Ok (did_of a s)
+did_in a (Err e) = Err e
 
 -- what a worker's `take` came to: one that is idle already stays so
 abbrev pub taking_of : {P : Type 0} → Result (Stepped P) PoolError → Taking

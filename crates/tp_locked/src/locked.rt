@@ -1,12 +1,15 @@
 //! The value under a pool's lock.
-ghost use Rattle.std.specs.Prelude.{◌≡◌, ◌+◌, ◌<◌, ◌≤◌, reverse, Ok, Err, Option, IfOk, IfErr, OnOk, OnErr, option_map};
+ghost use Rattle.std.specs.Prelude.{◌≡◌, ◌+◌, ◌<◌, ◌≤◌, [], replicate, reverse, Ok, Err, Option, IfOk, IfErr, OnOk, OnErr, option_map};
 ghost use Rattle.tp_types.specs.Config.{IsConfig};
 ghost use Rattle.tp_record.specs.Effects.{reaches};
 ghost use Rattle.tp_record.specs.Step.{Gives, IsRefused, Legal};
 ghost use Rattle.tp_sleepers.specs.Rests.{IsSettled};
+ghost use Rattle.tp_sleepers.specs.declared.sleepers.Rest.TheVariants as rests;
+ghost use Rattle.tp_waking.specs.declared.calls.TheConstants.{NO_WAITERS, NOBODY};
 ghost use Rattle.tp_machine.specs.Stepped.{IsAnswer, IsPaid, IsSubmission, did_of};
 ghost use Rattle.tp_book.specs.BookView.{config, entries, state_of, IsAdvanced, IsDenied, IsUnmoved};
 ghost use Rattle.tp_locked.specs.Passes.{AddsStep, IsRefusal};
+ghost use Rattle.tp_locked.specs.Roused.{IsRoused};
 ghost use Rattle.tp_locked.specs.Steps.{Made, IsMade};
 ghost use Rattle.tp_locked.specs.Waits.{waits, HasNoOutcome};
 ghost use Rattle.tp_locked.specs.declared.tasks.Task.{Task as TaskOf};
@@ -29,8 +32,7 @@ use tp_waking::calls::Calls;
 use tp_waking::waking::Waking;
 
 /// The pool's book, which is of the settings that its name says, and what the pool keeps beside it. While
-/// nobody holds the lock, no task is queued where a worker sleeps and nobody looks for a task. What contracts
-/// see of it is the book.
+/// nobody holds the lock, no task is queued where a worker sleeps and nobody looks for a task.
 #[derive(Drop)]
 pub struct Core<G: PoolNaming, J> {
     book: Book<G, Task<J>>,
@@ -45,16 +47,16 @@ impl<G: PoolNaming, J> Model for Core<G, J> {
     ghost use Rattle.tp_types.specs.Config.{IsConfig};
     ghost use Rattle.tp_tasks.specs.Codes.{tasks_code};
     ghost use Rattle.tp_sleepers.specs.Rests.{IsSettled};
-    ghost use Rattle.tp_book.specs.BookView.{BookView, config};
+    ghost use Rattle.tp_book.specs.BookView.{config};
     ghost use Rattle.tp_locked.specs.Codes.{task_code};
+    ghost use Rattle.tp_locked.specs.CoreView.{CoreView};
     ghost use Rattle.tp_locked.specs.Waits.{waits};
-    ghost use Rattle.tp_locked.specs.declared.tasks.Task.{Task};
 
-    ghost Value = { BookView (Task J) };
+    ghost Value = { CoreView J };
 
     ghost coded = { Prim.hlevel (codes, tasks_code (task_code J.code)) };
 
-    ghost view = { λ c. c.book };
+    ghost view = { λ c. record { book = c.book; roster = c.roster; waking = c.waking } };
 
     ghost invariant = { λ c. (config c.book ≡ G.config) × IsConfig G.config × IsSettled (waits c.book) c.waking.sleepers };
 }
@@ -98,7 +100,8 @@ fn step_of<G: PoolNaming, J: Drop>(
 
 // Whom an accepted step concerns: who sleeps, and who waits.
 fn rouse<G: PoolNaming, J>(book: &Book<G, Task<J>>, waking: &mut Waking, ask: &Ask, did: &Did)
-    ensures { IsSettled (waits book.now) waking.new.sleepers }
+    ensures settled { IsSettled (waits book.now) waking.new.sleepers }
+    ensures roused { IsRoused book.now waking.old waking.new ask.now did.now }
 {
     let counts = book.counts();
     waking.follow(ask, did, book.state(), &counts, book.leaving());
@@ -113,7 +116,8 @@ fn noted<G: PoolNaming, J>(
     stepped: &Stepped<Task<J>>,
 )
     requires { IsAnswer ask.now stepped.now }
-    ensures { IsSettled (waits book.now) waking.new.sleepers }
+    ensures settled { IsSettled (waits book.now) waking.new.sleepers }
+    ensures roused { IsRoused book.now waking.old waking.new ask.now (did_of ask.now stepped.now) }
 {
     rouse(book, waking, ask, &stepped.did(ask));
     mark(book, flags, ask, stepped);
@@ -129,6 +133,7 @@ fn concluded<G: PoolNaming, J: Drop>(
 ) -> Result<Stepped<Task<J>>, PoolError>
     requires answer { IfOk stepped (λ s. IsAnswer ask.now s) }
     ensures settled { IsSettled (waits book.now) waking.new.sleepers }
+    ensures roused { IfOk result (λ s. IsRoused book.now waking.old waking.new ask.now (did_of ask.now s)) }
     ensures accepted { IfOk result (λ s. stepped ≡ Ok s) }
     ensures refused { IfErr result (λ e. (task : Option (TaskOf J)) × (stepped ≡ Err (e, task))) }
 {
@@ -166,7 +171,9 @@ impl<G: PoolNaming, J: Drop> Core<G, J> {
     pub fn new(alloc: Global, book: Book<G, Task<J>>) -> Result<Core<G, J>, PoolError>
         requires settings { config book ≡ G.config }
         requires good { IsConfig G.config }
-        ensures book { IfOk result (λ c. c ≡ book) }
+        ensures book { IfOk result (λ c. c.book ≡ book) }
+        ensures threads { IfOk result (λ c. (c.roster.running ≡ 0) × (c.roster.ended ≡ [])) }
+        ensures awake { IfOk result (λ c. c.waking ≡ record { sleepers = replicate 1024 rests.Away; awaited = NO_WAITERS; calls = NOBODY }) }
         ensures refused { IfErr result (λ e. e ≡ PoolError.NoMemory) }
     {
         let slots = MAX_WORKERS as usize;
@@ -191,7 +198,9 @@ impl<G: PoolNaming, J: Drop> Core<G, J> {
     ) -> Result<Stepped<Task<J>>, PoolError>
         requires unpaid { ¬ IsSubmission ask }
         requires room { 0 < pass.old.room }
-        ensures made { Made self.old self.new pass.old.number ask result }
+        ensures made { Made self.old.book self.new.book pass.old.number ask result }
+        ensures roused { IfOk result (λ s. IsRoused self.new.book self.old.waking self.new.waking ask (did_of ask s)) }
+        ensures threads { self.new.roster ≡ self.old.roster }
         ensures some { IfOk result (IsMade (TaskOf J) G.config pass.old.number ask) }
         ensures answer { IfOk result (λ s. IsAnswer ask s) }
         ensures step { IfOk result (λ s. AddsStep pass.old ask (did_of ask s) pass.new) }
@@ -212,15 +221,16 @@ impl<G: PoolNaming, J: Drop> Core<G, J> {
 
     /// The law that the book's record is legal in the pool's settings.
     pub fn is_legal(&self)
-        ensures settings { config self.now ≡ G.config }
-        ensures legal { Legal G.config (reverse (entries self.now)) }
+        ensures settings { config self.now.book ≡ G.config }
+        ensures legal { Legal G.config (reverse (entries self.now.book)) }
     {
         self.book.is_balanced();
     }
 
     /// Who is to be woken once the lock is let go.
     pub fn release(&mut self) -> Calls
-        ensures { self.new ≡ self.old }
+        ensures calls { result ≡ self.old.waking.calls }
+        ensures told { self.new ≡ record self.old { waking = record self.old.waking { calls = NOBODY } } }
     {
         self.waking.release()
     }

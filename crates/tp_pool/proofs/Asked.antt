@@ -1,7 +1,7 @@
 -- A worker's step in one hold, as one of its pool.
-use Rattle.std.proofs.Common.{◌≡◌, ℕ, Bool, true, false, reverse, Ok, Err, refl, ap, subst}
+use Rattle.std.proofs.Common.{◌≡◌, ℕ, false, reverse, Ok, Err, refl, ap, subst}
 use Rattle.std.proofs.lemmas.Bool.{false≢true}
-use Rattle.std.specs.Prelude.{⊤, Option, Result, IfOk, is_ok}
+use Rattle.std.specs.Prelude.{⊤, Option, None, Result, IfOk, is_ok}
 use Rattle.tp_types.specs.declared.ids.SlotId.{SlotId}
 use Rattle.tp_types.specs.declared.configs.Config.{Config}
 use Rattle.tp_types.specs.declared.refusals.PoolError.{PoolError}
@@ -42,22 +42,22 @@ tells c w by b is =
     record { old = is.old; new = is.new; settings = is.settings; legal = is.legal; answer = is.answer; made = is.made; holds = ap told is.holds }
 
 -- the deed of a `begin` is that step
-pub begun_done : {J : Type 0} (c : Config) (w : SlotId) (by : ℕ) (heir : Option SlotId) (b : Begun J) → IsAnswered (Task J) c by (ask.Begin w) (λ _ r. b ≡ begun_of r) → IsDone J c w by heir (told b)
+pub begun_done : {J : Type 0} (c : Config) (w : SlotId) (by : ℕ) (heir : Option SlotId) (b : Begun J) → IsAnswered (Task J) c by (ask.Begin w) (λ _ r. b ≡ begun_of r) → IsDone J c w by heir (told b).0 (told b).1
 begun_done c w by heir (begun.Run t job flag) is = tells c w by (begun.Run t job flag) is
 begun_done c w by heir (begun.Skip t) is = tells c w by (begun.Skip t) is
 begun_done c w by heir begun.Refused is = tells c w by begun.Refused is
 
 -- which reserves no slot
-pub heir_of : {J : Type 0} (b : Begun J) (heir : Option SlotId) → heir ≡ heir_after heir (told b)
+pub heir_of : {J : Type 0} (b : Begun J) (heir : Option SlotId) → heir ≡ heir_after heir (told b).0
 heir_of (begun.Run t job flag) heir = refl
 heir_of (begun.Skip t) heir = refl
 heir_of begun.Refused heir = refl
 
 -- so is that of a `take`, which a worker makes at its slot with its pass
 pub taken : {J : Type 0} (c : Config) (w v : SlotId) (by n : ℕ) (heir : Option SlotId) (t : Taken) → v ≡ w → n ≡ by → IsAnswered (Task J) c n (ask.Take v) (λ _ r. taken_as t ≡ taking_of r) →
-    IsDone J c w by heir (deed.Took t)
+    IsDone J c w by heir (deed.Took t) None
 taken {J = J} c w v by n heir t same_slot same_pass is =
-    subst (λ v. IsDone J c v by heir (deed.Took t)) same_slot (subst (λ (n : ℕ). IsDone J c v n heir (deed.Took t)) same_pass is)
+    subst (λ v. IsDone J c v by heir (deed.Took t) None) same_slot (subst (λ (n : ℕ). IsDone J c v n heir (deed.Took t) None) same_pass is)
 
 -- the end by a worker: where `tidy` is accepted it asks `ended` too, with the same pass
 so_if_ok : {A E : Type 0} (r : Result A E) (X : Type 0) → X → IfOk r (λ _. X)

@@ -3,6 +3,7 @@ use Rattle.std.specs.Prelude.{ℕ, ◌≡◌, ⊤, Option, Some, None, Result, I
 use Rattle.tp_types.specs.declared.configs.Config.{Config}
 use Rattle.tp_types.specs.declared.ids.SlotId.{SlotId}
 use Rattle.tp_types.specs.declared.refusals.PoolError.{PoolError}
+use Rattle.tp_callbacks.specs.declared.flags.CancelFlag.{CancelFlag}
 use Rattle.tp_record.specs.declared.entries.Ask.{Ask}
 use Rattle.tp_record.specs.declared.entries.Ask.TheVariants as ask
 use Rattle.tp_machine.specs.declared.steps.Stepped.{Stepped}
@@ -43,13 +44,13 @@ module _ (J : Type 0) (c : Config) (by : ℕ) where
   Closes (Some v) = ⊤
 
 module _ (J : Type 0) (c : Config) (w : SlotId) (by : ℕ) (heir : Option SlotId) where
-  -- a deed of the worker of slot w that is a step is answered as it says; the others are no steps
-  abbrev pub IsDone : Deed → Type 0
-  IsDone (deed.Took t) = Asked J c by (ask.Take w) (λ _ r. taken_as t ≡ taking_of r)
-  IsDone (deed.Began t) = Asked J c by (ask.Begin w) (λ _ r. deed.Began t ≡ told (begun_of r))
-  IsDone (deed.Skipped t) = Asked J c by (ask.Begin w) (λ _ r. deed.Skipped t ≡ told (begun_of r))
-  IsDone deed.Unbegun = Asked J c by (ask.Begin w) (λ _ r. deed.Unbegun ≡ told (begun_of r))
-  IsDone (deed.Ended o e) = Asked J c by (ask.End w o) (λ new r. IsEndOf new w.0 e r)
-  IsDone (deed.Left d) = Asked J c by (ask.Leave w) (λ _ r. d ≡ departed_of r)
-  IsDone deed.Tidied = Closes J c by heir
-  IsDone _ = ⊤
+  -- a deed of the worker of slot w that is a step is answered as it says, with the job that it hands out; the others are no steps
+  abbrev pub IsDone : Deed → Option (J × CancelFlag) → Type 0
+  IsDone (deed.Took t) _ = Asked J c by (ask.Take w) (λ _ r. taken_as t ≡ taking_of r)
+  IsDone (deed.Began t) job = Asked J c by (ask.Begin w) (λ _ r. (deed.Began t, job) ≡ told (begun_of r))
+  IsDone (deed.Skipped t) job = Asked J c by (ask.Begin w) (λ _ r. (deed.Skipped t, job) ≡ told (begun_of r))
+  IsDone deed.Unbegun job = Asked J c by (ask.Begin w) (λ _ r. (deed.Unbegun, job) ≡ told (begun_of r))
+  IsDone (deed.Ended o e) _ = Asked J c by (ask.End w o) (λ new r. IsEndOf new w.0 e r)
+  IsDone (deed.Left d) _ = Asked J c by (ask.Leave w) (λ _ r. d ≡ departed_of r)
+  IsDone deed.Tidied _ = Closes J c by heir
+  IsDone _ _ = ⊤

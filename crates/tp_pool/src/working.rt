@@ -1,6 +1,6 @@
 //! A worker's thread: its turns, and its end.
 ghost use Rattle.std.specs.Prelude.{◌≡◌, ⊤, is_ok};
-ghost use Rattle.tp_turns.specs.Turns.{told};
+ghost use Rattle.tp_turns.specs.Turns.{bare, told};
 ghost use Rattle.tp_locked.specs.Steps.{IsAnswered, taking_of, begun_of, departed_of, IsEndOf};
 ghost use Rattle.tp_locked.specs.declared.tasks.Task.{Task as TaskOf};
 ghost use Rattle.tp_machine.specs.Stepped.{IsSubmission};
@@ -45,7 +45,7 @@ impl<
     ghost use Rattle.std.specs.Prelude.{◌≡◌};
     ghost use Rattle.tp_pool.specs.Deeds.{IsDone, heir_after};
 
-    ghost did = { λ old d new. (new.w ≡ old.w) × (new.pass.number ≡ old.pass.number) × (new.heir ≡ heir_after old.heir d) × IsDone J G.config old.w old.pass.number old.heir d };
+    ghost did = { λ old d new. (new.w ≡ old.w) × (new.pass.number ≡ old.pass.number) × (new.heir ≡ heir_after old.heir d.0) × IsDone J G.config old.w old.pass.number old.heir d.0 d.1 };
 
     ghost owes = { λ _ _. Unit {0} };
 

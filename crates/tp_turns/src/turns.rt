@@ -1,8 +1,8 @@
 //! One turn of a worker.
-ghost use Rattle.std.specs.Prelude.{◌↔◌, IsTrue};
+ghost use Rattle.std.specs.Prelude.{◌↔◌, IsTrue, Some};
 ghost use Rattle.tp_types.specs.Promise.{FitsPromise};
 ghost use Rattle.tp_turns.specs.declared.deeds.Deed.TheVariants as deed;
-ghost use Rattle.tp_turns.specs.Turns.{told, IsOwed, Does, deeds_of, running, departure, GoesOn};
+ghost use Rattle.tp_turns.specs.Turns.{bare, told, IsOwed, IsTurn, Does, running, departure, GoesOn};
 
 use crate::deeds::{Deed, Departed, Ended, Taken};
 use std::sync::Wait;
@@ -26,22 +26,22 @@ pub enum Begun<J> {
 /// Where a worker works: its pool, as it steps there, and the pool's users. Each call is one deed.
 pub trait Workplace<J: Job, R: Wait> {
     ghost use Rattle.tp_types.specs.declared.tasks.Promise.{Promise};
-    ghost use Rattle.tp_turns.specs.declared.deeds.Deed.{Deed};
+    ghost use Rattle.tp_turns.specs.Turns.{Act};
 
-    // it is so before a deed and after it
-    ghost did: { Self → Deed → Self → Type 0 };
+    // it is so before a deed and after it, with the job that the deed hands out or runs
+    ghost did: { Self → Act J → Self → Type 0 };
 
     // the task that was begun is to end as it promised
     ghost owes: { Self → Promise → Type 0 };
 
     /// Passes the gate.
     fn pass(&mut self, p: Point)
-        ensures done { did self.old (deed.Passed p) self.new }
+        ensures done { did self.old (bare (deed.Passed p)) self.new }
         ensures owes { (p : Promise) → owes self.old p → owes self.new p };
 
     /// Asks for the next task, and sleeps as long as there is none.
     fn take(&mut self, rt: &R) -> Taken
-        ensures done { did self.old (deed.Took result) self.new };
+        ensures done { did self.old (bare (deed.Took result)) self.new };
 
     /// Begins the task that it took.
     fn begin(&mut self, rt: &R) -> Begun<J>
@@ -50,36 +50,36 @@ pub trait Workplace<J: Job, R: Wait> {
 
     /// Calls the hook before a task.
     fn before(&mut self, rt: &R, t: TaskId)
-        ensures done { did self.old (deed.Before t) self.new }
+        ensures done { did self.old (bare (deed.Before t)) self.new }
         ensures owes { (p : Promise) → owes self.old p → owes self.new p };
 
     /// Runs a body.
     fn run(&mut self, job: J, flag: CancelFlag) -> Outcome
-        ensures done { did self.old (deed.Ran result) self.new }
+        ensures done { did self.old (deed.Ran result, Some (job, flag)) self.new }
         ensures outcome { FitsPromise (J.promised job) result }
         ensures owes { (p : Promise) → owes self.old p → owes self.new p };
 
     /// Calls the hook after a task.
     fn after(&mut self, rt: &R, t: TaskId, outcome: Option<Outcome>)
-        ensures done { did self.old (deed.After t outcome) self.new }
+        ensures done { did self.old (bare (deed.After t outcome)) self.new }
         ensures owes { (p : Promise) → owes self.old p → owes self.new p };
 
     /// Tells the outcome of its task, which is as its job promised.
     fn end(&mut self, rt: &R, outcome: Outcome) -> Ended
         requires promised { (p : Promise) × owes self.old p × FitsPromise p outcome }
-        ensures done { did self.old (deed.Ended outcome result) self.new };
+        ensures done { did self.old (bare (deed.Ended outcome result)) self.new };
 
     /// Leaves, after a fault of its plain task.
     fn leave(&mut self, rt: &R) -> Departed
-        ensures done { did self.old (deed.Left result) self.new };
+        ensures done { did self.old (bare (deed.Left result)) self.new };
 
     /// Has a worker made for the slot that is reserved in its place.
     fn replace(&mut self, rt: &R, w: SlotId)
-        ensures done { did self.old (deed.Replaced w) self.new };
+        ensures done { did self.old (bare (deed.Replaced w)) self.new };
 
     /// Ends the pool, where the pool can end.
     fn tidy(&mut self, rt: &R)
-        ensures done { did self.old deed.Tidied self.new };
+        ensures done { did self.old (bare deed.Tidied) self.new };
 }
 
 /// How a turn went.
@@ -119,7 +119,7 @@ impl Turn {
 
 /// One turn of a worker, from the gate before its first `take` on.
 pub fn one_turn<J: Job, R: Wait, W: Workplace<J, R>>(rt: &R, work: &mut W) -> Turn
-    ensures { Does W.did work.old (deeds_of result) work.new }
+    ensures { IsTurn W.did work.old result work.new }
 {
     work.pass(Point::Take);
     match work.take(rt) {
@@ -153,7 +153,7 @@ fn run_task<J: Job, R: Wait, W: Workplace<J, R>>(
     flag: CancelFlag,
 ) -> (Outcome, Closing)
     requires owed { W.owes work.old (J.promised job) }
-    ensures deeds { Does W.did work.old (running t result.0 result.1) work.new }
+    ensures deeds { Does W.did work.old (running t job flag result.0 result.1) work.new }
 {
     work.before(rt, t);
     work.pass(Point::Body);

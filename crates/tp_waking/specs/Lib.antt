@@ -1,5 +1,6 @@
 pub mod Calls
 pub mod Ends
+pub mod Follows
 pub mod Heard
 pub mod Results
 pub mod Told

@@ -3,8 +3,10 @@ ghost use Rattle.std.specs.Prelude.{ℕ, ◌≡◌, ◌≢◌, ◌⊎◌, ◌<�
 ghost use Rattle.tp_types.specs.declared.ids.SlotId.{SlotId};
 ghost use Rattle.tp_types.specs.declared.ids.TaskId.{TaskId};
 ghost use Rattle.tp_sleepers.specs.Rests.{rest_at, IsSettled};
+ghost use Rattle.tp_waking.specs.declared.calls.TheConstants.{NO_WAITERS, NOBODY};
 ghost use Rattle.tp_waking.specs.Calls.{IsCalled};
-ghost use Rattle.tp_waking.specs.Heard.{IsHeard, IsHeardBy};
+ghost use Rattle.tp_waking.specs.Follows.{Follows};
+ghost use Rattle.tp_waking.specs.Heard.{IsHeardBy};
 ghost use Rattle.tp_waking.specs.Told.{IsTold, EndsIdling};
 
 use crate::calls::{Calls, NO_WAITERS, NOBODY, Waiters};
@@ -30,7 +32,7 @@ pub struct Waking {
 impl Waking {
     /// Nobody sleeps, of workers in so many slots, and nobody waits.
     pub fn new(alloc: Global, slots: usize) -> Result<Waking, AllocError>
-        ensures { IfOk result (λ w. w.sleepers ≡ replicate slots Rest.Away) }
+        ensures { IfOk result (λ w. w ≡ record { sleepers = replicate slots Rest.Away; awaited = NO_WAITERS; calls = NOBODY }) }
     {
         Ok(Waking {
             sleepers: Sleepers::new(alloc, slots)?,
@@ -63,7 +65,7 @@ impl Waking {
     /// Who is to be woken; the caller wakes them once it has let go of the lock.
     pub fn release(&mut self) -> Calls
         ensures calls { result ≡ self.old.calls }
-        ensures sleepers { self.new.sleepers ≡ self.old.sleepers }
+        ensures told { self.new ≡ record self.old { calls = NOBODY } }
     {
         let calls = self.calls;
         self.calls = NOBODY;
@@ -81,11 +83,7 @@ impl Waking {
         leaving: Option<SlotId>,
     )
         ensures settled { IsSettled (nat_lt 0 counts.now.queued) self.new.sleepers }
-        ensures told { IsTold self.old self.new }
-        ensures hand { (t : TaskId) (w : SlotId) → did.now ≡ Did.Offer t (Offered.Hand w) → rest_at self.new.sleepers w.0 ≢ Rest.Listed }
-        ensures leaving { (w : SlotId) → leaving ≡ Some w → rest_at self.new.sleepers w.0 ≢ Rest.Listed }
-        ensures all { EndsIdling did.now → (v : ℕ) → rest_at self.new.sleepers v ≢ Rest.Listed }
-        ensures heard { IsHeard self.old self.new ask.now did.now state counts.now }
+        ensures follows { Follows self.old self.new ask.now did.now state counts.now leaving }
     {
         self.call_for(did);
         self.call_leaving(leaving);

@@ -64,8 +64,8 @@ impl<G: PoolNaming, J> Core<G, J> {
         glance: &Glance<G>,
         pass: &mut Pass<G>,
     ) -> Result<Pass<G>, PoolError>
-        ensures here { IfOk result (λ p. p ≡ record { number = self.old.accounts.made; amount = 0; seen = pass.old.seen; receipts = []; room = p.room }) }
-        ensures made { OnOk result (self.new ≡ record self.old { accounts = record self.old.accounts { made = self.old.accounts.made + 1; callers = self.old.accounts.callers + 1 } }) }
+        ensures here { IfOk result (λ p. p ≡ record { number = self.old.book.accounts.made; amount = 0; seen = pass.old.seen; receipts = []; room = p.room }) }
+        ensures made { OnOk result (self.new ≡ record self.old { book = record self.old.book { accounts = record self.old.book.accounts { made = self.old.book.accounts.made + 1; callers = self.old.book.accounts.callers + 1 } } }) }
         ensures left { OnErr result (self.new ≡ self.old) }
         ensures new { IfOk result (λ p. BookAtSome (Task J) G.config (λ b. p ≡ record { number = b.accounts.made; amount = 0; seen = pass.old.seen; receipts = []; room = p.room })) }
         ensures refused { IfErr result (λ e. (e ≡ PoolError.BookFull) × BookAtSome (Task J) G.config (λ b. 4294967295 ≤ b.accounts.made)) }
@@ -82,8 +82,8 @@ impl<G: PoolNaming, J> Core<G, J> {
         glance: &Glance<G>,
         passes: &mut Vec<Pass<G>>,
     ) -> Result<(), PoolError>
-        ensures terminated { OnOk result (self.old.published ≡ 4) }
-        ensures callers { OnOk result (length passes.old.items ≡ self.old.accounts.callers) }
+        ensures terminated { OnOk result (self.old.book.published ≡ 4) }
+        ensures callers { OnOk result (length passes.old.items ≡ self.old.book.accounts.callers) }
         ensures stands { self.new ≡ self.old }
         ensures refused { IfErr result (KeepsOpen (Task J) G.config passes.old.items) }
         ensures same { passes.new.items ≡ passes.old.items }
@@ -101,6 +101,8 @@ impl<G: PoolNaming, J> Core<G, J> {
 
     /// The book, the passes that workers handed in, and the rest.
     pub fn part(self) -> (Book<G, Task<J>>, Vec<WorkerPass<G>>, Beside)
+        ensures book { result.0 ≡ self.book }
+        ensures workers { result.1.items ≡ self.roster.ended }
         ensures settings { config result.0 ≡ G.config }
         ensures good { IsConfig G.config }
     {
@@ -122,6 +124,8 @@ impl<G: PoolNaming, J> Core<G, J> {
     ) -> Core<G, J>
         requires settings { config book ≡ G.config }
         requires good { IsConfig G.config }
+        ensures book { result.book ≡ book }
+        ensures workers { (result.roster.running ≡ 0) × (result.roster.ended ≡ ended.items) }
     {
         let Beside { flags, mut waking } = beside;
         settle(&book, &mut waking);

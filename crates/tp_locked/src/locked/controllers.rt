@@ -1,8 +1,9 @@
 //! What controllers do in one hold of the lock.
-ghost use Rattle.std.specs.Prelude.{◌≡◌, ◌≢◌, ◌⊎◌, ◌+◌, ◌<◌, ◌≤◌, [], ◌∷◌, length, map, reverse, None, vec_len, vec_capacity, IfOk, IfErr, OnOk, OnErr};
+ghost use Rattle.std.specs.Prelude.{◌≡◌, ◌≢◌, ◌⊎◌, ◌+◌, ◌<◌, ◌≤◌, [], ◌∷◌, length, map, reverse, None, vec_len, vec_capacity, IfOk, IfErr, OnOk, OnErr, IsTrue};
 ghost use Rattle.tp_locked.specs.Drains.{drained_of};
 ghost use Rattle.tp_locked.specs.Passes.{Adds, AddsStep, IsRefusal, LooksOnly, Refuses, tidied};
 ghost use Rattle.tp_locked.specs.Records.{AtSome};
+ghost use Rattle.tp_locked.specs.Roused.{IsRoused};
 ghost use Rattle.tp_book.specs.BookView.{config, entries, state_of, IsAdvanced, IsDenied, IsUnmoved};
 ghost use Rattle.tp_record.specs.Step.{IsRefused, Legal};
 ghost use Rattle.tp_locked.specs.Steps.{IsHandedBack, IsMade};
@@ -147,9 +148,11 @@ impl<G: PoolNaming, J: Drop> Core<G, J> {
         pass: &mut Pass<G>,
     ) -> Result<Vec<Drained<J>>, PoolError>
         requires room { 0 < pass.old.room }
-        ensures made { IfOk result (λ drained. IsHandedBack (IsAdvanced self.old self.new pass.old.number Ask.Stop None) drained.items) }
+        ensures made { IfOk result (λ drained. IsHandedBack (IsAdvanced self.old.book self.new.book pass.old.number Ask.Stop None) drained.items) }
+        ensures roused { IfOk result (λ drained. IsRoused self.new.book self.old.waking self.new.waking Ask.Stop (Did.Stop (length drained.items))) }
+        ensures threads { self.new.roster ≡ self.old.roster }
         ensures some { IfOk result (λ drained. IsHandedBack (IsMade (TaskOf J) G.config pass.old.number Ask.Stop) drained.items) }
-        ensures denied { IfErr result (λ e. (e ≡ PoolError.NoMemory) ⊎ IsRefused G.config (state_of self.old) Ask.Stop e) }
+        ensures denied { IfErr result (λ e. (e ≡ PoolError.NoMemory) ⊎ IsRefused G.config (state_of self.old.book) Ask.Stop e) }
         ensures step { IfOk result (λ drained. AddsStep pass.old Ask.Stop (Did.Stop (length drained.items)) pass.new) }
         ensures seen { OnOk result (2 ≤ pass.new.seen) }
         ensures left { OnOk result (pass.old.room ≤ pass.new.room + 1) }
@@ -186,11 +189,13 @@ impl<G: PoolNaming, J: Drop> Core<G, J> {
         ensures tidied { result ≡ Look.Tidied → Adds pass.old (tidied pass.old.number ∷ []) pass.new }
         ensures left { result ≡ Look.Tidied → pass.old.room ≤ pass.new.room + 1 }
         ensures others { result ≢ Look.Tidied → LooksOnly pass.old pass.new }
-        ensures late { result ≡ Look.Late → deadline ≤ (state_of self.old).now }
+        ensures late { result ≡ Look.Late → deadline ≤ (state_of self.old.book).now }
         ensures some { result ≡ Look.Late → AtSome G.config (λ s. deadline ≤ s.now) }
-        ensures early { result ≡ Look.Waits → (state_of self.old).now < deadline }
-        ensures unended { result ≡ Look.Waits → ¬ ((state_of self.old).rank ≡ 4) }
-        ensures untidy { result ≡ Look.Waits → (e : PoolError) × IsDenied self.old Ask.Tidy e }
+        ensures early { result ≡ Look.Waits → (state_of self.old.book).now < deadline }
+        ensures unended { result ≡ Look.Waits → ¬ ((state_of self.old.book).rank ≡ 4) }
+        ensures untidy { result ≡ Look.Waits → (e : PoolError) × IsDenied self.old.book Ask.Tidy e }
+        ensures awaits { result ≡ Look.Waits → IsTrue self.new.waking.awaited.end }
+        ensures threads { self.new.roster ≡ self.old.roster }
     {
         self.book.is_balanced();
         if self.book.show(glance, pass) == RunState::Terminated {

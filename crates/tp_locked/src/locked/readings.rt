@@ -1,5 +1,5 @@
 //! What is read in one hold of the lock. Who looks for what is not there yet says so in the same hold.
-ghost use Rattle.std.specs.Prelude.{◌≡◌, ◌↔◌, ◌<◌, ◌≤◌, ◌+◌, length, reverse, IsTrue, IfOk, IfErr, IfSome, IfNone, OnErr};
+ghost use Rattle.std.specs.Prelude.{◌≡◌, ◌↔◌, ◌<◌, ◌≤◌, ◌+◌, length, reverse, Ok, None, IsTrue, IfOk, IfErr, IfSome, IfNone, OnErr};
 ghost use Rattle.tp_types.specs.RunState.{state_rank};
 ghost use Rattle.tp_record.specs.State.{counts as counts_of, fate_of, slot_at};
 ghost use Rattle.tp_record.specs.Step.{IsRefused, Legal};
@@ -77,7 +77,7 @@ fn done_of<G: PoolNaming, J: Drop>(
 impl<G: PoolNaming, J: Drop> Core<G, J> {
     /// The run state.
     pub fn state(&self) -> RunState
-        ensures here { state_rank result ≡ (state_of self.now).rank }
+        ensures here { state_rank result ≡ (state_of self.now.book).rank }
         ensures some { AtSome G.config (λ s. state_rank result ≡ s.rank) }
     {
         self.book.is_balanced();
@@ -86,7 +86,7 @@ impl<G: PoolNaming, J: Drop> Core<G, J> {
 
     /// The twelve counters.
     pub fn counts(&self) -> Counts
-        ensures here { result ≡ counts_of (state_of self.now) }
+        ensures here { result ≡ counts_of (state_of self.now.book) }
         ensures some { AtSome G.config (λ s. result ≡ counts_of s) }
     {
         self.book.is_balanced();
@@ -95,7 +95,7 @@ impl<G: PoolNaming, J: Drop> Core<G, J> {
 
     /// The moment, in ticks.
     pub fn now(&self) -> u64
-        ensures here { result ≡ (state_of self.now).now }
+        ensures here { result ≡ (state_of self.now.book).now }
         ensures some { AtSome G.config (λ s. result ≡ s.now) }
     {
         self.book.is_balanced();
@@ -104,7 +104,7 @@ impl<G: PoolNaming, J: Drop> Core<G, J> {
 
     /// Whether a task of the group has no fate yet.
     pub fn group_open(&self, g: u32) -> bool
-        ensures here { IsTrue result ↔ HasOpen g (state_of self.now) }
+        ensures here { IsTrue result ↔ HasOpen g (state_of self.now.book) }
         ensures some { AtSome G.config (λ s. IsTrue result ↔ HasOpen g s) }
     {
         self.book.is_balanced();
@@ -113,7 +113,7 @@ impl<G: PoolNaming, J: Drop> Core<G, J> {
 
     /// The task in the slot of this number, None where it has none or there is no such slot.
     pub fn task_in(&self, w: SlotId) -> Option<TaskId>
-        ensures here { result ≡ task_of_row (slot_at (state_of self.now).slots w.0) }
+        ensures here { result ≡ task_of_row (slot_at (state_of self.now.book).slots w.0) }
         ensures some { AtSome G.config (λ s. result ≡ task_of_row (slot_at s.slots w.0)) }
     {
         self.book.is_balanced();
@@ -122,7 +122,7 @@ impl<G: PoolNaming, J: Drop> Core<G, J> {
 
     /// Where the task is. UnknownTask (6).
     pub fn place(&self, t: TaskId) -> Result<Place, PoolError>
-        ensures here { result ≡ known (state_of self.now) t.0 (λ r. r.place) }
+        ensures here { result ≡ known (state_of self.now.book) t.0 (λ r. r.place) }
         ensures some { AtSome G.config (λ s. result ≡ known s t.0 (λ r. r.place)) }
     {
         self.book.is_balanced();
@@ -131,7 +131,7 @@ impl<G: PoolNaming, J: Drop> Core<G, J> {
 
     /// What the task's job promises. UnknownTask (6).
     pub fn promise(&self, t: TaskId) -> Result<Promise, PoolError>
-        ensures here { IsPromiseOf self.now t.0 result }
+        ensures here { IsPromiseOf self.now.book t.0 result }
         ensures some { BookAtSome (TaskOf J) G.config (λ b. IsPromiseOf b t.0 result) }
     {
         self.book.is_balanced();
@@ -140,7 +140,7 @@ impl<G: PoolNaming, J: Drop> Core<G, J> {
 
     /// What became of the task, None while it is open. UnknownTask (6).
     pub fn fate(&self, t: TaskId) -> Result<Option<Fate>, PoolError>
-        ensures here { result ≡ known (state_of self.now) t.0 fate_of }
+        ensures here { result ≡ known (state_of self.now.book) t.0 fate_of }
         ensures some { AtSome G.config (λ s. result ≡ known s t.0 fate_of) }
     {
         self.book.is_balanced();
@@ -149,7 +149,7 @@ impl<G: PoolNaming, J: Drop> Core<G, J> {
 
     /// What the task's future answers: `Book::result`.
     pub fn result(&self, t: TaskId) -> Result<Option<i64>, PoolError>
-        ensures here { IsResult self.now t.0 result }
+        ensures here { IsResult self.now.book t.0 result }
         ensures some { BookAtSome (TaskOf J) G.config (λ b. IsResult b t.0 result) }
     {
         self.book.is_balanced();
@@ -158,7 +158,7 @@ impl<G: PoolNaming, J: Drop> Core<G, J> {
 
     /// How many entries the record has.
     pub fn steps(&self) -> u64
-        ensures here { result ≡ length (entries self.now) }
+        ensures here { result ≡ length (entries self.now.book) }
         ensures some { BookAtSome (TaskOf J) G.config (λ b. result ≡ length (entries b)) }
     {
         self.book.is_balanced();
@@ -172,8 +172,9 @@ impl<G: PoolNaming, J: Drop> Core<G, J> {
         t: TaskId,
         deadline: Option<u64>,
     ) -> Result<Option<i64>, PoolError>
-        ensures here { IsFound self.old t.0 deadline result }
-        ensures same { self.new ≡ self.old }
+        ensures here { IsFound self.old.book t.0 deadline result }
+        ensures same { (self.new.book ≡ self.old.book) × (self.new.roster ≡ self.old.roster) }
+        ensures awaits { result ≡ Ok None → IsTrue self.new.waking.awaited.results }
         ensures some { BookAtSome (TaskOf J) G.config (λ b. IsFound b t.0 deadline result) }
     {
         self.book.is_balanced();
@@ -197,8 +198,10 @@ impl<G: PoolNaming, J: Drop> Core<G, J> {
         requires room { 0 < pass.old.room }
         ensures step { IfOk result (λ found. IfSome found (λ t. AddsStep pass.old (Ask.TakeDone group) (Did.TakeDone group t) pass.new)) }
         ensures waits { IfOk result (λ found. IfNone found (pass.new ≡ pass.old)) }
-        ensures open { IfOk result (λ found. IfNone found (HasOpen group (state_of self.old) × IsRefused G.config (state_of self.old) (Ask.TakeDone group) PoolError.NotThere)) }
-        ensures undone { IfErr result (IsUndoneAt G.config (state_of self.old) group) }
+        ensures open { IfOk result (λ found. IfNone found (HasOpen group (state_of self.old.book) × IsRefused G.config (state_of self.old.book) (Ask.TakeDone group) PoolError.NotThere)) }
+        ensures awaits { IfOk result (λ found. IfNone found (IsTrue self.new.waking.awaited.results)) }
+        ensures threads { self.new.roster ≡ self.old.roster }
+        ensures undone { IfErr result (IsUndoneAt G.config (state_of self.old.book) group) }
         ensures refused { IfErr result (IsUndone G.config group) }
         ensures unchanged { OnErr result (pass.new ≡ pass.old) }
     {
@@ -226,9 +229,10 @@ impl<G: PoolNaming, J: Drop> Core<G, J> {
     /// One look of who waits for a record longer than this, in entries: its length. Where it is to wait, it has
     /// said so.
     pub fn await_step(&mut self, seen: u64) -> Option<u64>
-        ensures here { IfSome result (λ n. n ≡ length (entries self.old)) }
-        ensures waits { IfNone result (length (entries self.old) ≤ seen) }
-        ensures same { self.new ≡ self.old }
+        ensures here { IfSome result (λ n. n ≡ length (entries self.old.book)) }
+        ensures waits { IfNone result (length (entries self.old.book) ≤ seen) }
+        ensures awaits { IfNone result (IsTrue self.new.waking.awaited.steps) }
+        ensures same { (self.new.book ≡ self.old.book) × (self.new.roster ≡ self.old.roster) }
         ensures some { IfSome result (λ n. (seen < n) × BookAtSome (TaskOf J) G.config (λ b. n ≡ length (entries b))) }
     {
         let steps = self.steps();

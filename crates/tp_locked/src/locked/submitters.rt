@@ -7,6 +7,8 @@ ghost use Rattle.tp_record.specs.Step.{IsRefused, Legal};
 ghost use Rattle.tp_book.specs.BookView.{config, entries, state_of, IsAdvanced, IsDenied, IsUnmoved};
 ghost use Rattle.tp_locked.specs.declared.tasks.Task.{Task as TaskOf};
 ghost use Rattle.tp_locked.specs.Passes.{AddsStep, IsRefusal, Refuses, opening as opening_of};
+ghost use Rattle.tp_locked.specs.Rosters.{hearing, telling};
+ghost use Rattle.tp_locked.specs.Roused.{IsRoused};
 
 use super::workers::opening;
 use super::{Core, rouse, settle, step_of};
@@ -65,8 +67,10 @@ impl<G: PoolNaming, J: Drop> Core<G, J> {
         pass: &mut Pass<G>,
     ) -> Result<(TaskId, Did), (PoolError, Task<J>)>
         requires room { 0 < pass.old.room }
-        ensures made { IfOk result (λ r. IsAdvanced self.old self.new pass.old.number (Ask.Submit kind) (Some (promise, task)) (Stepped.Submit r.0 r.1)) }
-        ensures denied { IfErr result (λ r. (r.0 ≡ PoolError.NoMemory) ⊎ IsRefused G.config (state_of self.old) (Ask.Submit kind) r.0) }
+        ensures made { IfOk result (λ r. IsAdvanced self.old.book self.new.book pass.old.number (Ask.Submit kind) (Some (promise, task)) (Stepped.Submit r.0 r.1)) }
+        ensures roused { IfOk result (λ r. IsRoused self.new.book self.old.waking self.new.waking (Ask.Submit kind) r.1) }
+        ensures threads { self.new.roster ≡ self.old.roster }
+        ensures denied { IfErr result (λ r. (r.0 ≡ PoolError.NoMemory) ⊎ IsRefused G.config (state_of self.old.book) (Ask.Submit kind) r.0) }
         ensures step { IfOk result (λ r. AddsStep pass.old (Ask.Submit kind) r.1 pass.new) }
         ensures number { IfOk result (λ r. submits r.1 ≡ Some r.0.0) }
         ensures left { OnOk result (pass.old.room ≤ pass.new.room + 1) }
@@ -106,8 +110,10 @@ impl<G: PoolNaming, J: Drop> Core<G, J> {
         pass: &mut Pass<G>,
     ) -> Result<Did, PoolError>
         requires room { 0 < pass.old.room }
-        ensures made { IfOk result (λ d. (s : SteppedOf (TaskOf J)) × IsAdvanced self.old self.new pass.old.number (opening_of w staffed) None s × (d ≡ did_of (opening_of w staffed) s)) }
-        ensures denied { IfErr result (IsDenied self.old (opening_of w staffed)) }
+        ensures made { IfOk result (λ d. (s : SteppedOf (TaskOf J)) × IsAdvanced self.old.book self.new.book pass.old.number (opening_of w staffed) None s × (d ≡ did_of (opening_of w staffed) s)) }
+        ensures roused { IfOk result (IsRoused self.new.book self.old.waking self.new.waking (opening_of w staffed)) }
+        ensures told { self.new.roster ≡ hearing (opening_of w staffed) result self.old.roster }
+        ensures denied { IfErr result (IsDenied self.old.book (opening_of w staffed)) }
         ensures step { IfOk result (λ d. AddsStep pass.old (opening_of w staffed) d pass.new) }
         ensures left { OnOk result (pass.old.room ≤ pass.new.room + 1) }
         ensures refused { IfErr result (λ e. IsRefusal G.config (opening_of w staffed) e) }
@@ -115,12 +121,12 @@ impl<G: PoolNaming, J: Drop> Core<G, J> {
     {
         let ask = opening(w, staffed);
         let stepped = self.step(ask, glance, pass);
-        self.heard(w, &ask, stepped)
+        self.heard(&ask, stepped)
     }
 
     /// Tells the thread that was made for this slot that it is given up: none could be started.
     pub fn give_up(&mut self, w: SlotId)
-        ensures { self.new ≡ self.old }
+        ensures { self.new ≡ record self.old { roster = telling w.0 Start.GivenUp self.old.roster } }
     {
         self.roster.tell(w, Start::GivenUp);
     }

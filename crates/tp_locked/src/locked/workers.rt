@@ -1,11 +1,14 @@
 //! What workers do in one hold of the lock.
-ghost use Rattle.std.specs.Prelude.{◌≡◌, ◌≢◌, ◌⊎◌, ◌+◌, ⊤, Ok, Err, IsOk, IsErr, IfOk, IfErr, OnOk, OnErr};
+ghost use Rattle.std.specs.Prelude.{◌≡◌, ◌≢◌, ◌⊎◌, ◌↔◌, ◌+◌, ◌-◌, ◌<◌, ◌++◌, [], ◌∷◌, set, Ok, Err, IsOk, IsErr, IfOk, IfErr, OnOk, OnErr, IsTrue};
 ghost use Rattle.tp_machine.specs.Stepped.{IsAnswer, IsSubmission, did_of};
 ghost use Rattle.tp_machine.specs.declared.steps.Stepped.{Stepped as SteppedOf};
 ghost use Rattle.tp_locked.specs.declared.tasks.Task.{Task as TaskOf};
 ghost use Rattle.tp_locked.specs.Begins.{IsBegun};
 ghost use Rattle.tp_locked.specs.Passes.{Works, opening as opening_of};
-ghost use Rattle.tp_locked.specs.Steps.{Made, MadeSo, taking_of, begun_of, next_of, departed_of, IsEndOf};
+ghost use Rattle.tp_locked.specs.Rosters.{hearing, start_after, told_at};
+ghost use Rattle.tp_locked.specs.Roused.{IsRoused};
+ghost use Rattle.tp_locked.specs.Steps.{Made, MadeSo, did_in, taking_of, begun_of, next_of, departed_of, IsEndOf};
+ghost use Rattle.tp_sleepers.specs.Rests.{rest_at};
 
 use super::{Core, concluded};
 use crate::names::PoolNaming;
@@ -44,7 +47,9 @@ pub(super) fn opening(w: SlotId, staffed: bool) -> Ask
 }
 
 // What the thread of a slot is told after that.
-pub(super) fn start_of(opened: &Result<Did, PoolError>) -> Start {
+pub(super) fn start_of(opened: &Result<Did, PoolError>) -> Start
+    ensures { result ≡ start_after opened.now }
+{
     match opened {
         Ok(Did::Open(_, Opened::Live)) => Start::Live,
         _ => Start::GivenUp,
@@ -104,7 +109,9 @@ impl<G: PoolNaming, J: Drop> Core<G, J> {
     ) -> Result<Stepped<Task<J>>, PoolError>
         requires unpaid { ¬ IsSubmission ask }
         ensures number { pass.new.number ≡ pass.old.number }
-        ensures made { Made self.old self.new pass.old.number ask result }
+        ensures made { Made self.old.book self.new.book pass.old.number ask result }
+        ensures roused { IfOk result (λ s. IsRoused self.new.book self.old.waking self.new.waking ask (did_of ask s)) }
+        ensures threads { self.new.roster ≡ self.old.roster }
         ensures answer { IfOk result (λ s. IsAnswer ask s) }
         ensures works { OnOk result (Works pass.old pass.new) }
         ensures unchanged { OnErr result (pass.new ≡ pass.old) }
@@ -123,7 +130,8 @@ impl<G: PoolNaming, J: Drop> Core<G, J> {
     /// sleep.
     pub fn take(&mut self, w: SlotId, glance: &Glance<G>, pass: &mut WorkerPass<G>) -> Taking
         ensures number { pass.new.number ≡ pass.old.number }
-        ensures made { MadeSo self.old self.new pass.old.number (Ask.Take w) (λ r. result ≡ taking_of r) }
+        ensures made { MadeSo self.old.book self.new.book pass.old.number (Ask.Take w) (λ r. result ≡ taking_of r) }
+        ensures threads { self.new.roster ≡ self.old.roster }
         ensures works { result ≡ Taking.Task → Works pass.old pass.new }
         ensures left { result ≡ Taking.Left → Works pass.old pass.new }
     {
@@ -136,7 +144,8 @@ impl<G: PoolNaming, J: Drop> Core<G, J> {
     /// The worker begins the task that it took.
     pub fn begin(&mut self, w: SlotId, glance: &Glance<G>, pass: &mut WorkerPass<G>) -> Begun<J>
         ensures number { pass.new.number ≡ pass.old.number }
-        ensures made { MadeSo self.old self.new pass.old.number (Ask.Begin w) (λ r. result ≡ begun_of r) }
+        ensures made { MadeSo self.old.book self.new.book pass.old.number (Ask.Begin w) (λ r. result ≡ begun_of r) }
+        ensures threads { self.new.roster ≡ self.old.roster }
         ensures works { IsBegun result (Works pass.old pass.new) (pass.new ≡ pass.old) }
     {
         match self.work(Ask::Begin(w), glance, pass) {
@@ -155,7 +164,8 @@ impl<G: PoolNaming, J: Drop> Core<G, J> {
         pass: &mut WorkerPass<G>,
     ) -> Ended
         ensures number { pass.new.number ≡ pass.old.number }
-        ensures made { MadeSo self.old self.new pass.old.number (Ask.End w outcome) (IsEndOf self.new w.0 result) }
+        ensures made { MadeSo self.old.book self.new.book pass.old.number (Ask.End w outcome) (IsEndOf self.new.book w.0 result) }
+        ensures threads { self.new.roster ≡ self.old.roster }
         ensures works { result ≢ Ended.Refused → Works pass.old pass.new }
         ensures refused { result ≡ Ended.Refused → pass.new ≡ pass.old }
     {
@@ -172,7 +182,8 @@ impl<G: PoolNaming, J: Drop> Core<G, J> {
     /// A worker whose plain task faulted leaves.
     pub fn leave(&mut self, w: SlotId, glance: &Glance<G>, pass: &mut WorkerPass<G>) -> Departed
         ensures number { pass.new.number ≡ pass.old.number }
-        ensures made { MadeSo self.old self.new pass.old.number (Ask.Leave w) (λ r. result ≡ departed_of r) }
+        ensures made { MadeSo self.old.book self.new.book pass.old.number (Ask.Leave w) (λ r. result ≡ departed_of r) }
+        ensures threads { self.new.roster ≡ self.old.roster }
         ensures works { result ≢ Departed.Refused → Works pass.old pass.new }
         ensures refused { result ≡ Departed.Refused → pass.new ≡ pass.old }
     {
@@ -189,23 +200,22 @@ impl<G: PoolNaming, J: Drop> Core<G, J> {
         pass: &mut WorkerPass<G>,
     )
         ensures number { pass.new.number ≡ pass.old.number }
-        ensures made { MadeSo self.old self.new pass.old.number (opening_of w staffed) (λ _. ⊤) }
+        ensures made { MadeSo self.old.book self.new.book pass.old.number (opening_of w staffed) (λ r. self.new.roster ≡ hearing (opening_of w staffed) (did_in (opening_of w staffed) r) self.old.roster) }
     {
         let ask = opening(w, staffed);
         let stepped = self.work(ask, glance, pass);
-        let _ = self.heard(w, &ask, stepped);
+        let _ = self.heard(&ask, stepped);
     }
 
     // What became of a slot after this `open` or `fail`: the thread that was made for it, where one was, hears
     // of it.
     pub(super) fn heard(
         &mut self,
-        w: SlotId,
         ask: &Ask,
         stepped: Result<Stepped<Task<J>>, PoolError>,
     ) -> Result<Did, PoolError>
         requires answer { IfOk stepped (λ s. IsAnswer ask.now s) }
-        ensures same { self.new ≡ self.old }
+        ensures told { self.new ≡ record self.old { roster = hearing ask.now result self.old.roster } }
         ensures accepted { IfOk result (λ d. (s : SteppedOf (TaskOf J)) × (stepped ≡ Ok s) × (d ≡ did_of ask.now s)) }
         ensures refused { IfErr result (λ e. stepped ≡ Err e) }
     {
@@ -213,8 +223,8 @@ impl<G: PoolNaming, J: Drop> Core<G, J> {
             Ok(stepped) => Ok(stepped.did(ask)),
             Err(error) => Err(error),
         };
-        if matches!(ask, Ask::Open(_)) {
-            self.roster.tell(w, start_of(&opened));
+        if let Ask::Open(w) = ask {
+            self.roster.tell(*w, start_of(&opened));
         }
         opened
     }
@@ -222,9 +232,13 @@ impl<G: PoolNaming, J: Drop> Core<G, J> {
     /// A pass for the worker of a slot that is reserved, whose thread waits to be told. NoMemory (4) or
     /// BookFull (5).
     pub fn enlist(&mut self, w: SlotId, glance: &Glance<G>) -> Result<WorkerPass<G>, PoolError>
-        ensures new { IfOk result (λ p. p ≡ record { number = self.old.accounts.made; amount = 0; seen = self.old.published }) }
-        ensures made { OnOk result (self.new ≡ record self.old { accounts = record self.old.accounts { made = self.old.accounts.made + 1 } }) }
-        ensures unchanged { OnErr result (self.new ≡ self.old) }
+        ensures new { IfOk result (λ p. p ≡ record { number = self.old.book.accounts.made; amount = 0; seen = self.old.book.published }) }
+        ensures made { OnOk result (self.new.book ≡ record self.old.book { accounts = record self.old.book.accounts { made = self.old.book.accounts.made + 1 } }) }
+        ensures waits { OnOk result (self.new.roster.seats ≡ set self.old.roster.seats w.0 (record { pass = self.old.book.accounts.made; start = Start.Waits })) }
+        ensures running { OnOk result (self.new.roster.running ≡ self.old.roster.running + 1) }
+        ensures ended { self.new.roster.ended ≡ self.old.roster.ended }
+        ensures asleep { self.new.waking ≡ self.old.waking }
+        ensures unchanged { OnErr result (self.new ≡ record self.old { roster = record self.old.roster { room = self.new.roster.room } }) }
         ensures refused { IfErr result (λ e. (e ≡ PoolError.NoMemory) ⊎ (e ≡ PoolError.BookFull)) }
     {
         if let Err(error) = self.roster.reserve(w) {
@@ -240,24 +254,31 @@ impl<G: PoolNaming, J: Drop> Core<G, J> {
     }
 
     /// What the thread of this slot and pass was told.
-    pub fn told(&self, w: SlotId, pass: &WorkerPass<G>) -> Start {
+    pub fn told(&self, w: SlotId, pass: &WorkerPass<G>) -> Start
+        ensures { result ≡ told_at self.now.roster.seats w.0 pass.now.number }
+    {
         self.roster.told(w, pass.number())
     }
 
     /// Whether the worker of this slot sleeps.
-    pub fn is_asleep(&self, w: SlotId) -> bool {
+    pub fn is_asleep(&self, w: SlotId) -> bool
+        ensures { IsTrue result ↔ (rest_at self.now.waking.sleepers w.0 ≡ Rest.Listed) }
+    {
         self.waking.sleepers.rest(w) == Rest::Listed
     }
 
     /// Takes back the pass of a thread that ends.
     pub fn hand_in(&mut self, pass: WorkerPass<G>)
-        ensures { self.new ≡ self.old }
+        ensures back { 0 < self.old.roster.running → self.new ≡ record self.old { roster = record self.old.roster { running = self.old.roster.running - 1; ended = self.old.roster.ended ++ pass ∷ [] } } }
+        ensures none { self.old.roster.running ≡ 0 → self.new ≡ self.old }
     {
         self.roster.take_back(pass);
     }
 
     /// How many threads have not handed in their passes.
-    pub fn running(&self) -> usize {
+    pub fn running(&self) -> usize
+        ensures { result ≡ self.now.roster.running }
+    {
         self.roster.running()
     }
 }
