@@ -53,7 +53,7 @@ impl<G: Naming, P> Model for Book<G, P> {
 
 impl<G: Naming, P> Book<G, P> {
     /// A pool with these settings and no tasks, which runs, at tick 0: the book, the word of its run
-    /// state, and the pass of number 0. Room for the whole record is taken here. BadSizes (1),
+    /// state, and the pass of number 0. Room for the whole record is taken here, and written once. BadSizes (1),
     /// BadCapacity (2), BadLimit (3), KeepZero (11) or NoMemory (4), as a `ThreadPoolExecutor`'s
     /// constructor throws `IllegalArgumentException`.
     pub fn open(
@@ -69,7 +69,8 @@ impl<G: Naming, P> Book<G, P> {
         ensures good { OnOk result (IsConfig settings) }
         ensures refused { IfErr result (λ e. (checked settings ≡ Err e) ⊎ ((e ≡ PoolError.NoMemory) × IsConfig settings)) }
     {
-        let machine = Machine::new(alloc, settings)?;
+        let mut machine = Machine::new(alloc, settings)?;
+        machine.write_room();
         let (mut accounts, glance, mut seat) = unopened.open::<G>();
         let Ok(pass) = accounts.new_pass(alloc, &glance, &mut seat) else {
             unreachable!()

@@ -37,6 +37,22 @@ impl<T: Copy> Model for Line<T> {
     ghost invariant = { λ l. IsLine l.ring.items (l.ring.capacity / 2) l.live l.offers };
 }
 
+// Writes each place of an empty ring once.
+fn write_places<T: Copy>(ring: &mut HeapCircularBuffer<Item<T>>, blank: T)
+    requires { ring.old.items ≡ [] }
+    ensures { ring.new ≡ ring.old }
+{
+    let item = Item {
+        id: blank,
+        number: 0,
+        live: false,
+    };
+    for _ in 0..ring.capacity() {
+        ring.push_back(item);
+    }
+    ring.clear();
+}
+
 impl<T: Copy> Line<T> {
     /// An empty line of this capacity, no offer accepted so far. Its places are made here.
     pub fn with_capacity(alloc: Global, capacity: usize) -> Result<Line<T>, AllocError>
@@ -50,6 +66,15 @@ impl<T: Copy> Line<T> {
             live: 0,
             offers: 0,
         })
+    }
+
+    /// As `with_capacity`, with each place written once, so that none of its memory is new to an offer.
+    pub fn written(alloc: Global, capacity: usize, blank: T) -> Result<Line<T>, AllocError>
+        ensures { IfOk result (λ l. l ≡ line [] capacity 0) }
+    {
+        let mut line = Line::with_capacity(alloc, capacity)?;
+        write_places(&mut line.ring, blank);
+        Ok(line)
     }
 
     /// The law that place numbers rise along the line, and stay below the number of accepted offers.

@@ -27,12 +27,12 @@ impl Model for Bounded {
 }
 
 impl Bounded {
-    /// An empty queue of this capacity. `AllocError` is refusal 4.
+    /// An empty queue of this capacity, whose places are written once here. `AllocError` is refusal 4.
     pub fn new(alloc: Global, capacity: u32) -> Result<Bounded, AllocError>
         ensures { IfOk result (λ q. q ≡ first_waiting (Places capacity)) }
     {
         Ok(Bounded {
-            line: Line::with_capacity(alloc, capacity as usize)?,
+            line: Line::written(alloc, capacity as usize, TaskId(0))?,
         })
     }
 }
