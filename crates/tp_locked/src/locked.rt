@@ -132,8 +132,10 @@ fn concluded<G: PoolNaming, J: Drop>(
     stepped: Result<Stepped<Task<J>>, (PoolError, Option<Task<J>>)>,
 ) -> Result<Stepped<Task<J>>, PoolError>
     requires answer { IfOk stepped (λ s. IsAnswer ask.now s) }
+    requires settled { OnErr stepped (IsSettled (waits book.now) waking.old.sleepers) }
     ensures settled { IsSettled (waits book.now) waking.new.sleepers }
     ensures roused { IfOk result (λ s. IsRoused book.now waking.old waking.new ask.now (did_of ask.now s)) }
+    ensures asleep { OnErr result (waking.new ≡ waking.old) }
     ensures accepted { IfOk result (λ s. stepped ≡ Ok s) }
     ensures refused { IfErr result (λ e. (task : Option (TaskOf J)) × (stepped ≡ Err (e, task))) }
 {
@@ -142,18 +144,8 @@ fn concluded<G: PoolNaming, J: Drop>(
             noted(book, flags, waking, ask, &stepped);
             Ok(stepped)
         }
-        Err((error, _)) => {
-            settle(book, waking);
-            Err(error)
-        }
+        Err((error, _)) => Err(error),
     }
-}
-
-// After a refused ask nobody is to be woken, but for a worker whose search it ends.
-fn settle<G: PoolNaming, J>(book: &Book<G, Task<J>>, waking: &mut Waking)
-    ensures { IsSettled (waits book.now) waking.new.sleepers }
-{
-    waking.settle(book.counts().queued);
 }
 
 mod closing;
@@ -200,6 +192,7 @@ impl<G: PoolNaming, J: Drop> Core<G, J> {
         requires room { 0 < pass.old.room }
         ensures made { Made self.old.book self.new.book pass.old.number ask result }
         ensures roused { IfOk result (λ s. IsRoused self.new.book self.old.waking self.new.waking ask (did_of ask s)) }
+        ensures asleep { OnErr result (self.new.waking ≡ self.old.waking) }
         ensures threads { self.new.roster ≡ self.old.roster }
         ensures some { IfOk result (IsMade (TaskOf J) G.config pass.old.number ask) }
         ensures answer { IfOk result (λ s. IsAnswer ask s) }

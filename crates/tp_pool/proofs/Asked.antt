@@ -15,20 +15,20 @@ use Rattle.tp_turns.specs.declared.deeds.Deed.TheVariants as deed
 use Rattle.tp_turns.specs.declared.deeds.Taken.{Taken}
 use Rattle.tp_turns.specs.declared.turns.Begun.{Begun}
 use Rattle.tp_turns.specs.declared.turns.Begun.TheVariants as begun
-use Rattle.tp_locked.specs.Steps.{IsAnswered, MadeSo, begun_of, taking_of}
+use Rattle.tp_locked.specs.Steps.{IsAnswered, Made, begun_of, taking_of}
 use Rattle.tp_locked.specs.declared.tasks.Task.{Task}
 use Rattle.tp_pool.specs.Deeds.{EndsPool, IsDone, heir_after, taken_as}
 
 pub asked : {P : Type 0} (told old new : BookView P) (c : Config) (by : ℕ) (a : Ask) (F : BookView P → Result (Stepped P) PoolError → Type 0) → told ≡ old →
-    config told ≡ c → Legal c (reverse (entries told)) → MadeSo old new by a (F new) → IsAnswered P c by a F
-asked told old new c by a F same settings legal made = record {
+    config told ≡ c → Legal c (reverse (entries told)) → (answer : Result (Stepped P) PoolError) → Made old new by a answer → F new answer → IsAnswered P c by a F
+asked told old new c by a F same settings legal answer made holds = record {
   old = old;
   new = new;
   settings = subst (λ b. config b ≡ c) same settings;
   legal = subst (λ b. Legal c (reverse (entries b))) same legal;
-  answer = made.0;
-  made = made.1;
-  holds = made.2;
+  answer = answer;
+  made = made;
+  holds = holds;
 }
 
 abbrev Begins : {J : Type 0} → Config → SlotId → ℕ → Begun J → Type 0

@@ -7,7 +7,7 @@ ghost use Rattle.tp_waking.specs.declared.calls.TheConstants.{NO_WAITERS, NOBODY
 ghost use Rattle.tp_waking.specs.Calls.{IsCalled};
 ghost use Rattle.tp_waking.specs.Follows.{Follows};
 ghost use Rattle.tp_waking.specs.Heard.{IsHeardBy};
-ghost use Rattle.tp_waking.specs.Told.{IsTold, EndsIdling};
+ghost use Rattle.tp_waking.specs.Told.{IsTold, EndsIdling, HasLooked};
 
 use crate::calls::{Calls, NO_WAITERS, NOBODY, Waiters};
 use crate::ends::changes_end;
@@ -118,11 +118,7 @@ impl Waking {
     /// search is over, and where it is idle it sleeps from now on.
     pub fn took(&mut self, w: SlotId, idle: bool, queued: u32)
         ensures settled { IsSettled (nat_lt 0 queued) self.new.sleepers }
-        ensures told { (v : ℕ) → rest_at self.old.sleepers v ≡ Rest.Listed → rest_at self.new.sleepers v ≢ Rest.Listed → IsCalled self.new.calls v }
-        ensures kept { (v : ℕ) → IsCalled self.old.calls v → IsCalled self.new.calls v }
-        ensures others { (v : ℕ) → v ≢ w.0 → rest_at self.old.sleepers v ≢ Rest.Listed → rest_at self.new.sleepers v ≢ Rest.Listed }
-        ensures asleep { IsTrue idle → w.0 < length self.old.sleepers → (rest_at self.new.sleepers w.0 ≡ Rest.Listed) ⊎ IsCalled self.new.calls w.0 }
-        ensures same { (self.new.awaited ≡ self.old.awaited) × (self.new.calls.waiters ≡ self.old.calls.waiters) }
+        ensures looked { HasLooked self.old self.new w.0 (IsTrue idle) }
     {
         self.rest(w, idle);
         self.settle(queued);
@@ -133,6 +129,7 @@ impl Waking {
         ensures listed { (v : ℕ) → rest_at self.old.sleepers v ≡ Rest.Listed → rest_at self.new.sleepers v ≡ Rest.Listed }
         ensures others { (v : ℕ) → v ≢ w.0 → rest_at self.new.sleepers v ≡ rest_at self.old.sleepers v }
         ensures asleep { IsTrue idle → w.0 < length self.old.sleepers → rest_at self.new.sleepers w.0 ≡ Rest.Listed }
+        ensures over { rest_at self.new.sleepers w.0 ≢ Rest.Marked }
         ensures same { (self.new.awaited ≡ self.old.awaited) × (self.new.calls ≡ self.old.calls) }
     {
         self.sleepers.end_search(w);
@@ -191,6 +188,7 @@ impl Waking {
     pub fn settle(&mut self, queued: u32)
         ensures settled { IsSettled (nat_lt 0 queued) self.new.sleepers }
         ensures told { IsTold self.old self.new }
+        ensures marked { (v : ℕ) → rest_at self.new.sleepers v ≡ Rest.Marked → (rest_at self.old.sleepers v ≡ Rest.Marked) ⊎ IsCalled self.new.calls v }
         ensures same { (self.new.awaited ≡ self.old.awaited) × (self.new.calls.waiters ≡ self.old.calls.waiters) }
     {
         if let Some(w) = self.sleepers.settle(queued > 0) {

@@ -7,4 +7,4 @@ use Rattle.tp_pool.proofs.shared.Shared.take.Goals as goal
 pub returns-clause-asked : goal.returns-clause-asked
 returns-clause-asked g c =
     asked c.deref.result.now.book c.deref_mut.result.now.book c.take-taking.new.self.book g.G.PoolNaming.config c.args.pass.now.number (ask.Take c.args.w) (λ _ r. c.take-taking.result ≡ taking_of r)
-    (ap (λ v. v.book) (c.deref.ensures ∙ sym c.deref_mut.ensures.value)) c.is_legal.ensures.settings c.is_legal.ensures.legal c.take-taking.ensures.made
+    (ap (λ v. v.book) (c.deref.ensures ∙ sym c.deref_mut.ensures.value)) c.is_legal.ensures.settings c.is_legal.ensures.legal c.take-taking.ensures.worked.1.answer c.take-taking.ensures.worked.1.made c.take-taking.ensures.worked.1.holds
