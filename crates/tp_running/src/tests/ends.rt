@@ -1,14 +1,19 @@
 // The end of pools whose workers end them.
 
+use super::chores::Deed;
 use super::lives::{SETTINGS, lives};
-use super::scripts::{Control, Cue, LOOKS, SHUTS_DOWN, Step, TELLS, View, WAITS, alone, both};
+use super::scripts::{
+    Answer, Control, Cue, LOOKS, SHUTS_DOWN, Step, TELLS, View, WAITS, alone, both,
+};
 use std::test::Fail;
 use tp_record::entries::Did;
 use tp_stage::boards::Signal;
 use tp_stage::findings::Finding;
 use tp_stage::users::{MANNER, Manner};
 use tp_types::configs::Config;
+use tp_types::ids::TaskId;
 use tp_types::states::RunState;
+use tp_types::tasks::Kind;
 
 // Waits for the end, without a limit.
 const AWAITS: [Step; 3] = [
@@ -41,6 +46,49 @@ fn worker_that_ends_the_pool_wakes_who_waits(rt: HostRuntime) -> Result<(), Fail
         ];
         let script = both(&shuts, &AWAITS);
         lives(rt, rt.alloc(), SETTINGS, manner, script, &findings)?;
+    }
+    Ok(())
+}
+
+// A future that no worker is made for stays in the queue of a pool that is shut down.
+const FUTURE: Step = Step::Hand(Kind::Future, Deed::Look, Answer::Accepted);
+
+// Lets who waits for the end have so many microseconds to fall asleep.
+fn waited(micros: u32) -> [Step; 2] {
+    [
+        Step::Cue(Cue::Reaches(Signal::Waits, 1)),
+        Step::Cue(Cue::Rest(micros)),
+    ]
+}
+
+// The step that takes the last task out of the queue wakes who waits for the end, where there is no worker
+// who could end the pool.
+#[test]
+fn step_that_empties_the_queue_wakes_who_waits(rt: HostRuntime) -> Result<(), Fail> {
+    let manner = Manner {
+        consents: 0,
+        ..MANNER
+    };
+    for round in 0..20u32 {
+        let [waits, rests] = waited(round * 40);
+        let remove = Step::Control(Control::Remove(0));
+        let removes = [FUTURE, SHUTS_DOWN, waits, rests, remove];
+        let removed = [
+            Finding::Told(1, Did::Remove(TaskId(0), true)),
+            Finding::Told(1, Did::Ended),
+        ];
+        let script = both(&removes, &AWAITS);
+        lives(rt, rt.alloc(), SETTINGS, manner, script, &removed)?;
+        let cancel = Step::Control(Control::Cancel(0, false, true));
+        let purge = Step::Control(Control::Purge(1));
+        let purges = [FUTURE, cancel, SHUTS_DOWN, waits, rests, purge];
+        let purged = [
+            Finding::Told(1, Did::Purge(1)),
+            Finding::Cancelled(1),
+            Finding::Told(1, Did::Ended),
+        ];
+        let script = both(&purges, &AWAITS);
+        lives(rt, rt.alloc(), SETTINGS, manner, script, &purged)?;
     }
     Ok(())
 }

@@ -9,7 +9,7 @@ use std::thread;
 use std::thread::Threads;
 use std::time::{Clock, Duration};
 use tp_book::passes::Pass;
-use tp_pool::answers::{Admitted, Drained, Refused};
+use tp_pool::answers::{Admitted, Drained, Refused, Removal};
 use tp_pool::names::PoolNaming;
 use tp_pool::pool::PoolOf;
 use tp_stage::boards::{Board, Signal, shared};
@@ -161,6 +161,8 @@ fn controls<G: PoolNaming, R: Wait>(
         Control::CoreTimeout(on) => pool.allow_core_timeout(rt, on, pass).is_ok(),
         Control::Pass(ticks) => passes(rt, pool, board, ticks, pass),
         Control::Cancel(t, flag, could) => pool.cancel(rt, TaskId(t), flag, pass) == Ok(could),
+        Control::Remove(t) => matches!(pool.remove(rt, TaskId(t), pass), Ok(Removal::Yes(Some(_)))),
+        Control::Purge(cancelled) => pool.purge(rt, pass) == Ok(cancelled),
         Control::Shutdown => pool.shutdown(rt, pass).is_ok(),
         Control::Stop(from, to) => stops(rt, pool, from, to, pass),
         Control::Await => pool.await_termination(rt, u64::MAX, pass).is_ok(),

@@ -36,6 +36,10 @@ pub enum Control {
     Pass(u64),
     // Cancels this task, with or without its flag, and whether it could.
     Cancel(u32, bool, bool),
+    // Takes this task out of the queue, which comes back with its job.
+    Remove(u32),
+    // Takes so many cancelled tasks out of the queue.
+    Purge(u32),
     Shutdown,
     // Stops the pool, which hands back the tasks from one number to below another, with their jobs.
     Stop(u32, u32),
