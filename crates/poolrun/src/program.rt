@@ -32,7 +32,7 @@ fn run<H: Threads + Wait + Copy + Send + 'static, R: Read, W: Write>(
             tp_threads::texts::run_text(rt, alloc, reader, out)?;
             Ok(true)
         }
-        Choice::Audit(_) => tp_scenario::audit_text(alloc, reader, out),
+        Choice::Audit(_) => tp_audit_text::audits::audit_text(alloc, reader, out),
     }
 }
 

@@ -15,4 +15,3 @@ pub mod Counting
 pub mod Sizes
 pub mod Serves
 pub mod AllLaws
-pub mod Running

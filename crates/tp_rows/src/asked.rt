@@ -2,9 +2,10 @@
 
 use crate::judged::LONE;
 use std::test::Fail;
-use tp_laws::runs::run_asks;
-use tp_laws::{Flaw, audit_plain};
+use tp_audit::plain::audit_plain;
+use tp_audit::summary::Flaw;
 use tp_record::entries::{Ask, Did, Looked, Opened, Started, Took};
+use tp_runs::runs::run_asks;
 use tp_types::ids::{SlotId, TaskId};
 use tp_types::refusals::PoolError;
 use tp_types::tasks::Kind;

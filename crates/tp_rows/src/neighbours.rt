@@ -6,11 +6,14 @@ ghost use Rattle.tp_auditor.specs.Audited.{IsJudging};
 use crate::judged::LONE;
 use std::alloc::{AllocError, Global};
 use std::test::Fail;
-use tp_laws::runs::run_asks;
-use tp_laws::{Auditor, Flaw, audit, audit_plain};
+use tp_audit::plain::audit_plain;
+use tp_audit::summary::Flaw;
+use tp_auditor::auditor::Auditor;
+use tp_auditor::audits::audit;
 use tp_record::entries::{
     Ask, Did, Entry, Failed, Grown, Looked, Offered, Opened, Seconded, Started, Took,
 };
+use tp_runs::runs::run_asks;
 use tp_types::configs::{Config, Policy, QueueKind, Verdict};
 use tp_types::ids::{SlotId, TaskId};
 use tp_types::tasks::Kind;

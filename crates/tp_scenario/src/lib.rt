@@ -1,5 +1,5 @@
 //! Scenarios: their texts, read line by line, and the runner that plays them on a pool and writes
-//! what comes of each line. Beside them files of jobs, which are read, and the audit of a record's text.
+//! what comes of each line. Beside them files of jobs, which are read.
 #![tactic(auto)]
 
 pub mod asks;
@@ -14,4 +14,3 @@ pub mod step;
 pub mod texts;
 
 pub use crate::jobs::read_jobs;
-pub use tp_audit_text::audits::audit_text;

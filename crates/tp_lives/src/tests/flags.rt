@@ -1,7 +1,7 @@
 //! A cancel flag that several hold.
 
 use std::test::Fail;
-use tp_book::flags::CancelFlag;
+use tp_callbacks::flags::CancelFlag;
 
 #[test]
 fn all_holds_see_a_flag_set(rt: HostRuntime) -> Result<(), Fail> {

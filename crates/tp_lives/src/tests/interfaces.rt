@@ -1,7 +1,7 @@
 // What users write, called through its interfaces.
 
 use std::test::Fail;
-use tp_book::flags::CancelFlag;
+use tp_callbacks::flags::CancelFlag;
 use tp_pool::factories::{Consenting, ThreadFactory};
 use tp_pool::gates::{Gate, OpenGate, Point};
 use tp_pool::handlers::{OneVerdict, RejectionHandler};

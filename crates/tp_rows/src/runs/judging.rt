@@ -6,9 +6,9 @@ use super::{
 use crate::neighbours::neighbours_agree;
 use std::alloc::{AllocError, Global};
 use std::test::Fail;
-use tp_laws::runs::run_asks;
 use tp_record::entries::Entry;
 use tp_record_text::entries::read_entry;
+use tp_runs::runs::run_asks;
 use tp_text::pools::pool_of;
 use tp_types::configs::Config;
 

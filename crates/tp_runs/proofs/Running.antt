@@ -23,7 +23,7 @@ use Rattle.tp_parts.specs.Payloads.{PutsIn}
 use Rattle.tp_machine.specs.Seen.{Seen, At, config_of, promise}
 use Rattle.tp_machine.specs.Steps.{IsStep, Stays, IsRefusedBy}
 use Rattle.tp_machine.specs.Stepped.{FitsOutcome}
-use Rattle.tp_laws.specs.Runs.{AllPromise, IfOutcome}
+use Rattle.tp_runs.specs.Runs.{AllPromise, IfOutcome}
 
 -- what a recorder that keeps every entry tells
 abbrev pub told_by : Kept → List Entry → Type 0

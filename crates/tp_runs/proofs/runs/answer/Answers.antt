@@ -2,8 +2,8 @@ use Rattle.std.proofs.Common.{sym, subst}
 use Rattle.tp_machine.specs.Steps.{IsStep}
 use Rattle.tp_machine.proofs.Moved.{promises_stay}
 use Rattle.tp_types.specs.declared.tasks.TheConstants.{WIDEST}
-use Rattle.tp_laws.proofs.Running.{told_by, all_kept}
-use Rattle.tp_laws.proofs.runs.answer.Goals as goal
+use Rattle.tp_runs.proofs.Running.{told_by, all_kept}
+use Rattle.tp_runs.proofs.runs.answer.Goals as goal
 
 pub returns-in-Ok-step : goal.returns-in-Ok-step
 returns-in-Ok-step c =

@@ -1,7 +1,7 @@
 use Rattle.std.proofs.Common.{[], arith, sym, subst}
 use Rattle.tp_types.specs.declared.tasks.TheConstants.{WIDEST}
-use Rattle.tp_laws.proofs.Running.{HasRun, has_run_next, none_run, none_promised, ran_all, ran_lawful}
-use Rattle.tp_laws.proofs.runs.run_asks.Goals as goal
+use Rattle.tp_runs.proofs.Running.{HasRun, has_run_next, none_run, none_promised, ran_all, ran_lawful}
+use Rattle.tp_runs.proofs.runs.run_asks.Goals as goal
 
 pub loop-by-init : goal.loop-by-init
 loop-by-init c =

@@ -1,8 +1,8 @@
 use Rattle.std.proofs.Common.{◌≡◌, ◌≤◌, length, take, vec_len, vec_capacity}
-use Rattle.tp_laws.specs.Runs.{AllPromise}
+use Rattle.tp_runs.specs.Runs.{AllPromise}
 use Rattle.tp_types.specs.declared.tasks.TheConstants.{WIDEST}
-use Rattle.tp_laws.proofs.Running.{HasRun}
-use Rattle.tp_laws.proofs.runs.run_asks.Given as goal
+use Rattle.tp_runs.proofs.Running.{HasRun}
+use Rattle.tp_runs.proofs.runs.run_asks.Given as goal
 
 -- the asks so far have run on the machine, and there is a place for each answer
 abbrev pub invariant-loop-by : goal.invariant-loop-by

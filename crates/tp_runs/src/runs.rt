@@ -6,7 +6,7 @@ ghost use Rattle.tp_types.specs.Promise.{FitsPromise};
 ghost use Rattle.tp_record.specs.Step as steps;
 ghost use Rattle.tp_machine.specs.Steps.{IsStep, Stays, IsRefusedBy};
 ghost use Rattle.tp_laws.specs.Lawful.{IsLawful};
-ghost use Rattle.tp_laws.specs.Runs.{AllPromise, IfOutcome};
+ghost use Rattle.tp_runs.specs.Runs.{AllPromise, IfOutcome};
 
 use std::alloc::Global;
 use tp_machine::machine::Machine;
