@@ -9,7 +9,7 @@ ghost use Rattle.tp_machine.specs.Steps.{IsStep, Stays, IsRefusedBy};
 
 use super::{Machine, note, note_owed};
 use crate::answers::Judged;
-use tp_record::entries::{Ask, Did};
+use tp_record::entries::{Ask, Did, Grown, Looked, Offered, Seconded};
 use tp_record::recorders::Recorder;
 use tp_submitters::{callerend, grow, look, offer, second, submit, verdict};
 use tp_types::configs::Verdict;
@@ -36,6 +36,28 @@ impl<P, R: Recorder> Machine<P, R> {
         ensures returned { IfErr result (λ r. r.1 ≡ payload) }
         ensures unchanged { OnErr result (Stays R.tells self.old self.new) }
     {
+        match self.make_submit(by, kind, promise, payload) {
+            Ok((t, looked)) => Ok((t, Did::Submit(t, kind, looked))),
+            Err(refused) => Err(refused),
+        }
+    }
+
+    /// The step of `submit`, which answers its own part of the entry alone.
+    pub(crate) fn make_submit(
+        &mut self,
+        by: u32,
+        kind: Kind,
+        promise: Promise,
+        payload: P,
+    ) -> Result<(TaskId, Looked), (PoolError, P)>
+    where
+        P: Drop,
+        ensures step { IfOk result (λ r. IsStep R.tells self.old self.new by (Ask.Submit kind) (Did.Submit r.0 kind r.1)) }
+        ensures payloads { IfOk result (λ r. PutsIn self.old.parts.tasks self.new.parts.tasks r.0.0 promise payload) }
+        ensures refused { IfErr result (λ r. IsRefusedBy R.tells self.old (Ask.Submit kind) r.0) }
+        ensures returned { IfErr result (λ r. r.1 ≡ payload) }
+        ensures unchanged { OnErr result (Stays R.tells self.old self.new) }
+    {
         let looked = match submit::answer(&self.parts, kind) {
             Ok(looked) => looked,
             Err(error) => return Err((error, payload)),
@@ -46,13 +68,26 @@ impl<P, R: Recorder> Machine<P, R> {
         let did = Did::Submit(TaskId(self.parts.tasks.submitted()), kind, looked);
         note(&self.parts, &mut self.noted, by, Ask::Submit(kind), did);
         let t = submit::apply(&mut self.parts, kind, promise, payload, looked);
-        Ok((t, did))
+        Ok((t, looked))
     }
 
     /// Looks at the pool for a task that was refused and is tried again, as the beginning of `execute`: a core slot is reserved, the task
     /// is to be offered, or it is refused. UnknownTask (6) or NotThere (8).
     pub fn look(&mut self, by: u32, t: TaskId) -> Result<Did, PoolError>
         ensures step { IfOk result (λ d. IsStep R.tells self.old self.new by (Ask.Look t) d) }
+        ensures refused { IfErr result (λ e. IsRefusedBy R.tells self.old (Ask.Look t) e) }
+        ensures unchanged { OnErr result (self.new ≡ self.old) }
+        ensures payloads { Keeps self.old.parts.tasks self.new.parts.tasks }
+    {
+        match self.make_look(by, t) {
+            Ok(answer) => Ok(Did::Look(t, answer)),
+            Err(error) => Err(error),
+        }
+    }
+
+    /// The step of `look`, which answers its own part of the entry alone.
+    pub(crate) fn make_look(&mut self, by: u32, t: TaskId) -> Result<Looked, PoolError>
+        ensures step { IfOk result (λ x. IsStep R.tells self.old self.new by (Ask.Look t) (Did.Look t x)) }
         ensures refused { IfErr result (λ e. IsRefusedBy R.tells self.old (Ask.Look t) e) }
         ensures unchanged { OnErr result (self.new ≡ self.old) }
         ensures payloads { Keeps self.old.parts.tasks self.new.parts.tasks }
@@ -64,13 +99,26 @@ impl<P, R: Recorder> Machine<P, R> {
         let did = Did::Look(t, looked);
         note_owed(&self.parts, &mut self.noted, by, Ask::Look(t), did);
         look::apply(&mut self.parts, t, looked);
-        Ok(did)
+        Ok(looked)
     }
 
     /// Offers the task to the queue, as `workQueue.offer` in `execute`: it is queued, handed to the worker that is idle longest, or the
     /// queue is full. UnknownTask (6) or NotThere (8).
     pub fn offer(&mut self, by: u32, t: TaskId) -> Result<Did, PoolError>
         ensures step { IfOk result (λ d. IsStep R.tells self.old self.new by (Ask.Offer t) d) }
+        ensures refused { IfErr result (λ e. IsRefusedBy R.tells self.old (Ask.Offer t) e) }
+        ensures unchanged { OnErr result (self.new ≡ self.old) }
+        ensures payloads { Keeps self.old.parts.tasks self.new.parts.tasks }
+    {
+        match self.make_offer(by, t) {
+            Ok(answer) => Ok(Did::Offer(t, answer)),
+            Err(error) => Err(error),
+        }
+    }
+
+    /// The step of `offer`, which answers its own part of the entry alone.
+    pub(crate) fn make_offer(&mut self, by: u32, t: TaskId) -> Result<Offered, PoolError>
+        ensures step { IfOk result (λ x. IsStep R.tells self.old self.new by (Ask.Offer t) (Did.Offer t x)) }
         ensures refused { IfErr result (λ e. IsRefusedBy R.tells self.old (Ask.Offer t) e) }
         ensures unchanged { OnErr result (self.new ≡ self.old) }
         ensures payloads { Keeps self.old.parts.tasks self.new.parts.tasks }
@@ -82,13 +130,26 @@ impl<P, R: Recorder> Machine<P, R> {
         let did = Did::Offer(t, offered);
         note_owed(&self.parts, &mut self.noted, by, Ask::Offer(t), did);
         offer::apply(&mut self.parts, t, offered);
-        Ok(did)
+        Ok(offered)
     }
 
     /// Takes the second look that the task owes after its offer, as the recheck in `execute`: a pool that was shut down meanwhile gives a
     /// queued task back, and one without slots reserves a bare one. UnknownTask (6) or NotThere (8).
     pub fn second(&mut self, by: u32, t: TaskId) -> Result<Did, PoolError>
         ensures step { IfOk result (λ d. IsStep R.tells self.old self.new by (Ask.Second t) d) }
+        ensures refused { IfErr result (λ e. IsRefusedBy R.tells self.old (Ask.Second t) e) }
+        ensures unchanged { OnErr result (self.new ≡ self.old) }
+        ensures payloads { Keeps self.old.parts.tasks self.new.parts.tasks }
+    {
+        match self.make_second(by, t) {
+            Ok(answer) => Ok(Did::Second(t, answer)),
+            Err(error) => Err(error),
+        }
+    }
+
+    /// The step of `second`, which answers its own part of the entry alone.
+    pub(crate) fn make_second(&mut self, by: u32, t: TaskId) -> Result<Seconded, PoolError>
+        ensures step { IfOk result (λ x. IsStep R.tells self.old self.new by (Ask.Second t) (Did.Second t x)) }
         ensures refused { IfErr result (λ e. IsRefusedBy R.tells self.old (Ask.Second t) e) }
         ensures unchanged { OnErr result (self.new ≡ self.old) }
         ensures payloads { Keeps self.old.parts.tasks self.new.parts.tasks }
@@ -100,13 +161,26 @@ impl<P, R: Recorder> Machine<P, R> {
         let did = Did::Second(t, seconded);
         note_owed(&self.parts, &mut self.noted, by, Ask::Second(t), did);
         second::apply(&mut self.parts, t, seconded);
-        Ok(did)
+        Ok(seconded)
     }
 
     /// Grows the pool for the task that the full queue did not take, as the last `addWorker` of `execute`, or refuses it. UnknownTask (6)
     /// or NotThere (8).
     pub fn grow(&mut self, by: u32, t: TaskId) -> Result<Did, PoolError>
         ensures step { IfOk result (λ d. IsStep R.tells self.old self.new by (Ask.Grow t) d) }
+        ensures refused { IfErr result (λ e. IsRefusedBy R.tells self.old (Ask.Grow t) e) }
+        ensures unchanged { OnErr result (self.new ≡ self.old) }
+        ensures payloads { Keeps self.old.parts.tasks self.new.parts.tasks }
+    {
+        match self.make_grow(by, t) {
+            Ok(answer) => Ok(Did::Grow(t, answer)),
+            Err(error) => Err(error),
+        }
+    }
+
+    /// The step of `grow`, which answers its own part of the entry alone.
+    pub(crate) fn make_grow(&mut self, by: u32, t: TaskId) -> Result<Grown, PoolError>
+        ensures step { IfOk result (λ x. IsStep R.tells self.old self.new by (Ask.Grow t) (Did.Grow t x)) }
         ensures refused { IfErr result (λ e. IsRefusedBy R.tells self.old (Ask.Grow t) e) }
         ensures unchanged { OnErr result (self.new ≡ self.old) }
         ensures payloads { Keeps self.old.parts.tasks self.new.parts.tasks }
@@ -118,7 +192,7 @@ impl<P, R: Recorder> Machine<P, R> {
         let did = Did::Grow(t, grown);
         note_owed(&self.parts, &mut self.noted, by, Ask::Grow(t), did);
         grow::apply(&mut self.parts, t, grown);
-        Ok(did)
+        Ok(grown)
     }
 
     /// What becomes of a refused task, as `RejectedExecutionHandler.rejectedExecution`. It hands out the task's own payload where

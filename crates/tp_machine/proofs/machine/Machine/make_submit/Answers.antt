@@ -5,8 +5,9 @@ use Rattle.tp_record.specs.declared.entries.Did.TheVariants as did
 use Rattle.tp_tasks.specs.Tasks.{submissions}
 use Rattle.tp_parts.specs.Steps.{Accepts, Leads}
 use Rattle.tp_parts.proofs.Standing.{fits_accepted}
+use Rattle.tp_machine.specs.Steps.{IsStep}
 use Rattle.tp_machine.proofs.Stepping.{step_made, step_sound, same_sound, same_stays, step_after, refused_memory}
-use Rattle.tp_machine.proofs.machine.Machine.submit.Goals as goal
+use Rattle.tp_machine.proofs.machine.Machine.make_submit.Goals as goal
 
 pub invariant_of-self : goal.invariant_of-self
 invariant_of-self g c =
@@ -50,7 +51,8 @@ returns-clause-step g c =
     let p = c.prepare.ensures in
     let D : ℕ → Did = λ n. did.Submit (record { 0 = n }) c.args.kind c.in-Ok.looked in
     let accepts = subst (λ n. Accepts c.prepare.new.parts (ask.Submit c.args.kind) (D n)) (sym p.submitted ∙ sym c.submitted.ensures) (p.accepts (ask.Submit c.args.kind) (D (submissions c.self.inside.parts.tasks)) c.in-Ok.ensures.accepts) in
-    step_after g.R.Recorder.tells c.args.self.now (record { parts = c.prepare.new.parts; noted = c.self.inside.noted }) _ c.args.by (ask.Submit c.args.kind) (D c.submitted.result)
+    subst (λ n. IsStep g.R.Recorder.tells c.args.self.now (record { parts = c.apply-t.new.parts; noted = c.note.new.noted }) c.args.by (ask.Submit c.args.kind) (D n)) (sym (c.apply-t.ensures.number ∙ sym c.submitted.ensures))
+    (step_after g.R.Recorder.tells c.args.self.now (record { parts = c.prepare.new.parts; noted = c.self.inside.noted }) _ c.args.by (ask.Submit c.args.kind) (D c.submitted.result)
     (same_stays g.R.Recorder.tells c.self.inside.parts c.prepare.new.parts c.self.inside.noted (ap (λ x. x.config) p.rest) p.same p.payloads c.args.self.now c.self.view_is)
     (step_made g.R.Recorder.tells g.R.Recorder.places c.prepare.new.parts c.self.inside.noted _ c.args.by (ask.Submit c.args.kind) (D c.submitted.result)
-    accepts (subst (λ n. Leads c.prepare.new.parts (D n) c.apply-t.new.parts) (c.apply-t.ensures.number ∙ sym c.submitted.ensures) c.apply-t.ensures.leads) c.note.ensures.tells _ refl)
+    accepts (subst (λ n. Leads c.prepare.new.parts (D n) c.apply-t.new.parts) (c.apply-t.ensures.number ∙ sym c.submitted.ensures) c.apply-t.ensures.leads) c.note.ensures.tells _ refl))
