@@ -29,7 +29,7 @@ impl<G: Naming> Model for Account<G> {
 }
 
 impl<G: Naming> Account<G> {
-    // One unit more.
+    // Adds one unit.
     pub fn credit(&mut self, ledger: &mut ledger::Book<G>)
         ensures total { ledger.new.total ≡ ledger.old.total + 1 }
         ensures account { self.new ≡ record self.old { amount = self.old.amount + 1 } }
@@ -61,7 +61,7 @@ impl<G: Naming> Account<G> {
         glance.seen_is_published(book, &mut self.seat);
     }
 
-    // Publishes the state after a step, and lets the seat see it, where the step changed it.
+    // Where a step changed the state, publishes it and lets the seat see it.
     pub fn publish(
         &mut self,
         glance: &Glance<G>,
