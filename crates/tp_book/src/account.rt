@@ -1,4 +1,4 @@
-// What a caller's and a worker's pass have in common.
+// The common part of a caller's and a worker's pass.
 ghost use Rattle.std.specs.Prelude.{◌≡◌, ◌≤◌, ◌+◌, max};
 ghost use Rattle.tp_types.specs.RunState.{state_rank};
 ghost use Rattle.tp_book.specs.PassView.{seen_after};
@@ -45,7 +45,7 @@ impl<G: Naming> Account<G> {
         glance.glance(&mut self.seat)
     }
 
-    // Lets the seat see what the book's seat knows.
+    // Lets the seat see the state that the book's seat knows.
     pub fn learn(&mut self, glance: &Glance<G>, book: &mut BookSeat<G>)
         ensures seen { self.new ≡ record self.old { seen = max self.old.seen book.old } }
         ensures same { book.new ≡ book.old }
@@ -80,7 +80,7 @@ impl<G: Naming> Account<G> {
         }
     }
 
-    // A seat that has seen what this one has seen.
+    // A seat that has seen the same state as this one.
     pub fn split_seat(&mut self, glance: &Glance<G>) -> PassSeat<G>
         ensures begins { result ≡ self.old.seen }
         ensures same { self.new ≡ self.old }

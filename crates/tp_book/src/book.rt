@@ -84,9 +84,9 @@ impl<G: Naming, P> Book<G, P> {
         Ok((book, glance, pass))
     }
 
-    /// Makes a pass for one more caller, which has seen what this caller's pass has seen. Passes are numbered
-    /// from 0, in the order in which they are made. BookFull (5) where the number would be 4,294,967,295, and
-    /// then nothing has changed.
+    /// Makes a pass for one more caller, which has seen the same state as this caller's. Callers' and
+    /// workers' passes are numbered from 0, in the order in which they are made. BookFull (5) where the
+    /// number would be 4,294,967,295, and then nothing has changed.
     pub fn split_pass(
         &mut self,
         alloc: Global,

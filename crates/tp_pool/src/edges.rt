@@ -17,7 +17,7 @@ pub trait Edge: Drop {
     /// Asks the thread factory whether this slot may have a worker.
     fn allow<R: Wait>(&self, rt: &R, w: SlotId) -> bool;
 
-    /// Asks the rejection handler what becomes of this task, in a pool in this run state.
+    /// Asks the rejection handler for its verdict on this task, in a pool in this run state.
     fn verdict<R: Wait>(&self, rt: &R, t: TaskId, state: RunState) -> Verdict;
 
     /// Calls the hook before a task, as `beforeExecute`.

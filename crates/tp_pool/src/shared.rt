@@ -44,7 +44,7 @@ pub struct Conditions {
 }
 
 impl Conditions {
-    /// Nobody sleeps.
+    /// No thread sleeps.
     pub fn new() -> Conditions {
         Conditions {
             end: Condvar::new(),
@@ -69,7 +69,7 @@ impl Conditions {
     }
 }
 
-/// The one lock, what lies beside it, and the caller's objects.
+/// The one lock, the places where threads sleep, the word, and the caller's objects.
 #[derive(Drop)]
 pub struct Shared<G: PoolNaming, J, E> {
     /// The value under the lock.
@@ -84,7 +84,7 @@ pub struct Shared<G: PoolNaming, J, E> {
     pub edge: E,
     /// The rejection policy.
     pub policy: Policy,
-    /// The allocator of what the calls answer.
+    /// The allocator of the calls' answers.
     pub alloc: Global,
 }
 

@@ -20,7 +20,8 @@ impl Promise<()> for Free {
 }
 
 /// Has a worker made for this slot, and tells whether one was: the factory is asked, and where it consents a
-/// pass and a thread are made. The thread waits to be told of its slot. No lock is held meanwhile.
+/// pass and a thread are made. The thread waits to be told of its slot. No lock is held while the factory
+/// answers or the thread is made.
 pub fn staff<
     G: PoolNaming + Send + Sync + 'static,
     J: Job + 'static,

@@ -160,7 +160,7 @@ impl<
     }
 
     // One further step of a submission, None where the book does not take it. The verdict is asked, the body
-    // run and the worker's thread made before the hold, so no lock is held meanwhile.
+    // run and the worker's thread made before the hold of the step, with no lock held.
     fn advance<R: Threads + Wait + Copy + Send + 'static>(
         &self,
         rt: R,
@@ -228,9 +228,9 @@ impl<
 }
 
 impl<G: PoolNaming + Send + Sync + 'static> PoolOf<G, Boxed, Boxes> {
-    /// Submits a plain task, as `ThreadPoolExecutor.execute`: as `execute_as`, of a boxed job. NoMemory (4)
-    /// or BookFull (5), with the job and with nothing done; Rejected (12), with the job; TornRecord (22),
-    /// which does not come as long as the pool's book is sound.
+    /// Submits a plain task, as `ThreadPoolExecutor.execute`, in a box and with the answers of `execute_as`.
+    /// NoMemory (4) or BookFull (5), with the job and with nothing done; Rejected (12), with the job;
+    /// TornRecord (22), which does not come as long as the pool's book is sound.
     pub fn execute<R: Threads + Wait + Copy + Send + 'static>(
         &self,
         rt: R,
