@@ -1,4 +1,4 @@
-// What a caller's and a worker's pass have in common.
+// The common part of a caller's and a worker's pass.
 ghost use Rattle.std.specs.Prelude.{◌≡◌, ◌≤◌, ◌+◌, max};
 ghost use Rattle.tp_types.specs.RunState.{state_rank};
 ghost use Rattle.tp_book.specs.PassView.{seen_after};
@@ -29,7 +29,7 @@ impl<G: Naming> Model for Account<G> {
 }
 
 impl<G: Naming> Account<G> {
-    // One unit more.
+    // Adds one unit.
     pub fn credit(&mut self, ledger: &mut ledger::Book<G>)
         ensures total { ledger.new.total ≡ ledger.old.total + 1 }
         ensures account { self.new ≡ record self.old { amount = self.old.amount + 1 } }
@@ -45,7 +45,7 @@ impl<G: Naming> Account<G> {
         glance.glance(&mut self.seat)
     }
 
-    // Lets the seat see what the book's seat knows.
+    // Lets the seat see the state that the book's seat knows.
     pub fn learn(&mut self, glance: &Glance<G>, book: &mut BookSeat<G>)
         ensures seen { self.new ≡ record self.old { seen = max self.old.seen book.old } }
         ensures same { book.new ≡ book.old }
@@ -61,7 +61,7 @@ impl<G: Naming> Account<G> {
         glance.seen_is_published(book, &mut self.seat);
     }
 
-    // Publishes the state after a step, and lets the seat see it, where the step changed it.
+    // Where a step changed the state, publishes it and lets the seat see it.
     pub fn publish(
         &mut self,
         glance: &Glance<G>,
@@ -80,7 +80,7 @@ impl<G: Naming> Account<G> {
         }
     }
 
-    // A seat that has seen what this one has seen.
+    // A seat that has seen the same state as this one.
     pub fn split_seat(&mut self, glance: &Glance<G>) -> PassSeat<G>
         ensures begins { result ≡ self.old.seen }
         ensures same { self.new ≡ self.old }

@@ -1,5 +1,5 @@
-//! What lies under a pool's lock: the machine with its record, the book's side of the ledger, and
-//! the seat that raises the word.
+//! The value under a pool's lock: the machine with its record, the book's side of the ledger, and the seat
+//! that raises the word.
 ghost use Rattle.std.specs.Prelude.{◌≡◌, ◌⊎◌, ◌↔◌, ◌<◌, ◌≤◌, ◌+◌, ◌++◌, [], ◌∷◌, length, max, reverse, IsTrue, IsOk, IfOk, OnOk, IfErr, OnErr, Err, option_map};
 ghost use Rattle.tp_types.specs.Config.{IsConfig, checked};
 ghost use Rattle.tp_types.specs.RunState.{state_rank};
@@ -25,9 +25,8 @@ use tp_types::refusals::PoolError;
 use tp_types::states::RunState;
 use tp_types::tasks::Promise;
 
-/// One pool, as its lock keeps it. Each step is one step of its machine, made with a pass: it is
-/// accounted for in the ledger, and the word publishes the rank of the record whenever no step is
-/// under way.
+/// One pool, as its lock keeps it. Each of its steps is one step of its machine, made with a pass and
+/// accounted for in the ledger. Whenever no step is under way, the word publishes the rank of the record.
 #[derive(Drop)]
 pub struct Book<G: Naming, P> {
     machine: Machine<P, Full>,
@@ -52,10 +51,12 @@ impl<G: Naming, P> Model for Book<G, P> {
 }
 
 impl<G: Naming, P> Book<G, P> {
-    /// A pool with these settings and no tasks, which runs, at tick 0: the book, the word of its run
-    /// state, and the pass of number 0. Room for the whole record is taken here, and written once. BadSizes (1),
-    /// BadCapacity (2), BadLimit (3), KeepZero (11) or NoMemory (4), as a `ThreadPoolExecutor`'s
-    /// constructor throws `IllegalArgumentException`.
+    /// Makes a pool with these settings: the book, the word of its run state, and the pass of number 0. The
+    /// pool runs, has no tasks, and stands at tick 0. Room for the whole record is taken and written here,
+    /// since a page that is touched first within a hold is paid for by each thread that waits for the lock.
+    ///
+    /// BadSizes (1), BadCapacity (2), BadLimit (3) or KeepZero (11), as `ThreadPoolExecutor`'s constructor
+    /// throws `IllegalArgumentException`; good settings are refused with NoMemory (4) alone.
     pub fn open(
         alloc: Global,
         unopened: Unopened,
@@ -83,9 +84,9 @@ impl<G: Naming, P> Book<G, P> {
         Ok((book, glance, pass))
     }
 
-    /// A pass for one more caller, which has seen what this caller's pass has seen. Passes are
-    /// numbered from 0, in the order in which they are made; at number 4,294,967,295 it is refused
-    /// 5, `BookFull`.
+    /// Makes a pass for one more caller, which has seen the same state as this caller's. Callers' and
+    /// workers' passes are numbered from 0, in the order in which they are made. BookFull (5) where the
+    /// number would be 4,294,967,295, and then nothing has changed.
     pub fn split_pass(
         &mut self,
         alloc: Global,
@@ -102,8 +103,8 @@ impl<G: Naming, P> Book<G, P> {
         self.accounts.split_pass(alloc, glance, pass)
     }
 
-    /// A pass for one more caller, which has seen what is published. It is numbered and refused as
-    /// `split_pass`.
+    /// Makes a pass for one more caller, which has seen the state that is published. It is numbered and
+    /// refused as by `split_pass`, with BookFull (5).
     pub fn new_pass(&mut self, alloc: Global, glance: &Glance<G>) -> Result<Pass<G>, PoolError>
         ensures new { IfOk result (λ p. p ≡ record { number = self.old.accounts.made; amount = 0; seen = self.old.published; receipts = []; room = p.room }) }
         ensures made { OnOk result (self.new ≡ record self.old { accounts = record self.old.accounts { made = self.old.accounts.made + 1; callers = self.old.accounts.callers + 1 } }) }
@@ -114,8 +115,8 @@ impl<G: Naming, P> Book<G, P> {
         self.accounts.new_pass(alloc, glance, &mut self.seat)
     }
 
-    /// A pass for a worker, which has seen what is published. It is numbered and refused as
-    /// `split_pass`, and takes no memory.
+    /// Makes a pass for a worker, which has seen the state that is published. It is numbered and refused as
+    /// by `split_pass`, with BookFull (5), and takes no memory.
     pub fn new_worker_pass(&mut self, glance: &Glance<G>) -> Result<WorkerPass<G>, PoolError>
         ensures new { IfOk result (λ p. p ≡ record { number = self.old.accounts.made; amount = 0; seen = self.old.published }) }
         ensures made { OnOk result (self.new ≡ record self.old { accounts = record self.old.accounts { made = self.old.accounts.made + 1 } }) }
@@ -126,7 +127,7 @@ impl<G: Naming, P> Book<G, P> {
         self.accounts.new_worker_pass(glance, &mut self.seat)
     }
 
-    /// The run state, which the pass has then seen.
+    /// The run state. The pass has then seen it.
     pub fn show(&mut self, glance: &Glance<G>, pass: &mut Pass<G>) -> RunState
         ensures state { state_rank result ≡ self.old.published }
         ensures seen { pass.new ≡ record pass.old { seen = max pass.old.seen self.old.published } }
@@ -156,7 +157,7 @@ impl<G: Naming, P> Book<G, P> {
         self.machine.stands();
     }
 
-    // Whether an outcome that comes with the ask is as the task promised that ends.
+    // Whether an outcome that comes with the ask is as the ending task promised.
     fn is_promised(&self, ask: &Ask) -> bool
         ensures { IsTrue result ↔ FitsOutcome self.now.machine ask.now }
     {
@@ -169,13 +170,15 @@ impl<G: Naming, P> Book<G, P> {
 }
 
 impl<G: Naming, P: Drop> Book<G, P> {
-    /// Makes the step of this ask with a caller's pass, for whose receipt the caller has reserved a
-    /// place. A promise and a payload come with a submission alone, and where that is refused the
-    /// payload comes back. Where the step is accepted it writes one entry with the pass's number,
-    /// which is one unit of the pass's share and its last receipt; where it raises the run state,
-    /// the word publishes that and the pass has seen it. Refused with TornRecord (22) where an
-    /// outcome is not as the task promised that ends, else as the machine's call is, and then
-    /// nothing has changed.
+    /// Makes the step of this ask with a caller's pass. The caller has reserved a place for its receipt. A
+    /// promise and a payload come with a submission alone, and where that is refused the payload comes back.
+    ///
+    /// An accepted step writes one entry with the pass's number. That entry is one unit of the pass's share
+    /// and its last receipt. Where the step raises the run state, the word publishes that and the pass has
+    /// seen it.
+    ///
+    /// TornRecord (22) where an outcome is not as the ending task promised, else refused as the machine's
+    /// call is. Nothing has changed then.
     pub fn step(
         &mut self,
         ask: Ask,
@@ -208,7 +211,8 @@ impl<G: Naming, P: Drop> Book<G, P> {
         Ok(stepped)
     }
 
-    /// Makes the step of this ask with a worker's pass, as `step`, without a receipt.
+    /// Makes the step of this ask with a worker's pass, as `step` and with the same refusals, but without a
+    /// receipt.
     pub fn step_worker(
         &mut self,
         ask: Ask,
@@ -231,7 +235,7 @@ impl<G: Naming, P: Drop> Book<G, P> {
         self.advance(ask, submitted, glance, &mut pass.account)
     }
 
-    // One step: the account has one unit more, and what the step raised is published and seen.
+    // One step: the account has one unit more, and the state that the step raised is published and seen.
     fn advance(
         &mut self,
         ask: Ask,

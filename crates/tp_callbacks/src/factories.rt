@@ -1,17 +1,16 @@
-//! Who consents to a new worker.
+//! Thread factories, which consent to a new worker or refuse it.
 ghost use Rattle.std.specs.Prelude.{◌≡◌, true};
 
 use tp_types::ids::SlotId;
 
-/// Says whether a worker may be started, as a `ThreadFactory`, whose `newThread` answers null to
-/// refuse. The pool starts the thread itself.
+/// Says whether a worker may be started, as a `ThreadFactory`, whose `newThread` answers null to refuse. The
+/// pool starts the thread itself.
 ///
-/// It is asked by the thread that reserved the slot, with no lock of the pool held, one ask at a
-/// time. It may take its time, and read the pool. A submission or a prestart of the same pool from
-/// within would wait for ever where it reserves a slot, since that asks this factory again while it
-/// answers.
+/// The thread that reserved the slot asks it, with no lock of the pool held, one ask at a time. It may take
+/// its time, and read the pool. A submission or a prestart of the same pool from within would wait for ever
+/// where it reserves a slot: that asks this factory again while it answers.
 pub trait ThreadFactory: Send + Drop {
-    /// Whether slot `w` may have a worker. Where not, the step `fail` gives the slot back and its
+    /// Whether slot `w` may have a worker. Where it may not, the step `fail` gives the slot back and its
     /// first task goes to the queue or to the policy.
     fn allow(&mut self, w: SlotId) -> bool;
 }

@@ -6,16 +6,16 @@ use std::sync::Arc;
 use std::sync::atomic::{AtomicBool, Ordering};
 use tp_types::refusals::PoolError;
 
-/// A flag that is set when its job's task is cancelled with the flag asked for, or is in a slot
-/// when the pool is stopped. It stands in place of a Java thread's interrupt status: nothing wakes a
-/// job that does not look.
+/// A flag in place of a Java thread's interrupt status. It is set when its job's task is cancelled with the
+/// flag asked for, or when the pool is stopped while the task is in a slot. It wakes no thread: a job hears
+/// of it where it looks.
 #[derive(Drop)]
 pub struct CancelFlag {
     word: Arc<AtomicBool>,
 }
 
 impl CancelFlag {
-    /// A flag that is not set. Refused 4, `NoMemory`, where there is no memory for it.
+    /// A flag that is not set. NoMemory (4) where there is no memory for it.
     pub fn new(alloc: Global) -> Result<CancelFlag, PoolError>
         ensures { IfErr result (λ e. e ≡ PoolError.NoMemory) }
     {
@@ -25,8 +25,8 @@ impl CancelFlag {
         }
     }
 
-    /// One more hold of the same flag, for the thread that sets it or the one that looks. Refused 4,
-    /// `NoMemory`, where no more holds can be counted.
+    /// One more hold of the same flag, so that one thread may set it while another looks. NoMemory (4) where
+    /// no more holds can be counted; the flag stays as it is.
     pub fn share(&self) -> Result<CancelFlag, PoolError>
         ensures { IfErr result (λ e. e ≡ PoolError.NoMemory) }
     {
@@ -41,7 +41,7 @@ impl CancelFlag {
         self.word.store(true, Ordering::SeqCst);
     }
 
-    /// Whether the flag is set, without waiting, as `Thread.isInterrupted`.
+    /// Whether the flag is set, without waiting, as `Thread.isInterrupted`. A look does not clear it.
     pub fn is_set(&self) -> bool {
         self.word.load(Ordering::SeqCst)
     }

@@ -1,4 +1,4 @@
-//! Where tests hold workers.
+//! Gates, by which a test holds workers.
 
 use tp_types::ids::SlotId;
 
@@ -13,18 +13,18 @@ pub enum Point {
     End,
 }
 
-/// Is passed by each worker at each point of its turn, so that a test can hold the worker there.
-/// Java has no such thing.
+/// Is passed by each worker at each point of its turn, so that a test can hold the worker there. Java has no
+/// such thing.
 ///
-/// It is called with no lock of the pool held, by several workers at once. It may wait for other
-/// threads, but not for what only the worker that it holds can bring: its task's `end`, a task that
-/// no other worker can take, or the pool's termination.
+/// Workers call it with no lock of the pool held, several at once. It may wait for other threads. It would
+/// wait for ever for a thing that only the held worker can bring: its task's `end`, a task that no other
+/// worker can take, or the pool's termination.
 pub trait Gate: Send + Sync + Drop {
     /// The worker of slot `w` is about to pass this point.
     fn before(&self, p: Point, w: SlotId);
 }
 
-/// Holds no worker.
+/// A gate that holds no worker.
 #[derive(Drop)]
 pub struct OpenGate;
 

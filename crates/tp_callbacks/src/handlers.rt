@@ -1,19 +1,19 @@
-//! Who rules on tasks that the pool cannot take.
+//! Rejection handlers, which rule on tasks that the pool cannot take.
 ghost use Rattle.std.specs.Prelude.{◌≡◌};
 
 use tp_types::configs::Verdict;
 use tp_types::ids::TaskId;
 use tp_types::states::RunState;
 
-/// Rules on each task that a pool under `Policy::Own` cannot take, as a `RejectedExecutionHandler`
-/// of one's own. Under the other policies it is not asked.
+/// Rules on each task that a pool under `Policy::Own` cannot take, as a `RejectedExecutionHandler` of one's
+/// own. Under the other policies it is not asked.
 ///
-/// It is asked by the submitter's thread, with no lock of the pool held, one ask at a time. It may
-/// take its time, and read the pool. A submission to the same pool from within would wait for ever
-/// where it needs a verdict, since this handler has not answered yet; so would a wait for the task
-/// that it rules on.
+/// The submitter's thread asks it, with no lock of the pool held, one ask at a time. It may take its time,
+/// and read the pool. A submission to the same pool from within would wait for ever where it needs a verdict,
+/// since this handler has not answered yet. A wait from within for the task that it rules on would never end
+/// either.
 pub trait RejectionHandler: Send + Drop {
-    /// What becomes of task `t`, in a pool in this run state.
+    /// The verdict on task `t`, in a pool that was in this run state when its submitter looked.
     fn verdict(&mut self, t: TaskId, state: RunState) -> Verdict;
 }
 

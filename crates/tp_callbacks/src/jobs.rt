@@ -1,31 +1,30 @@
-//! What a pool runs.
+//! Jobs, the bodies that a pool runs.
 ghost use Rattle.std.specs.Prelude.{◌≡◌};
 ghost use Rattle.tp_types.specs.Promise.{FitsPromise};
 
 use crate::flags::CancelFlag;
 use tp_types::tasks::{Outcome, Promise};
 
-/// A body that a pool runs once, as a `Runnable` or a `Callable`. A boxed job is called at most once
-/// and then dropped; a task that is cancelled, discarded, removed or handed back before it begins is
-/// not called.
+/// A body that a pool runs once, as a `Runnable` or a `Callable`. A boxed job is called at most once and then
+/// dropped. A task that is cancelled, discarded, removed or handed back before it begins is not called.
 ///
-/// `call` runs on a worker's thread, or on its submitter's under `Verdict::CallerRuns`, with no lock
-/// of the pool held. It may take its time, wait for other tasks that run or will run elsewhere,
-/// submit, and step on the pool with a pass of its own. It would wait for ever where it awaits the
-/// pool's termination or `get`s its own task, since neither comes before it has returned; and where
-/// it waits for a queued task while no other worker is left to run that one, as in Java.
+/// `call` runs with no lock of the pool held, on a worker's thread, or on its submitter's under
+/// `Verdict::CallerRuns`. It may take its time, wait for other tasks that run or will run elsewhere, submit,
+/// and step on the pool with a pass of its own. It would wait for ever where it awaits the pool's termination
+/// or `get`s its own task, since neither comes before it has returned; and where it waits for a queued task
+/// while no other worker is left to run that one, as in Java.
 pub trait Job: Send + Drop {
     ghost use Rattle.tp_types.specs.declared.tasks.Promise.{Promise};
 
     ghost promised: { Self → Promise };
 
-    /// The outcomes that the body may have. It is asked when the job is submitted.
+    /// The outcomes that the body may have. The pool asks when the job is submitted.
     fn promise(&self) -> Promise
         ensures { result ≡ promised self.now };
 
-    /// Runs the body, and answers its value, or a fault's code where a Java body throws. The outcome
-    /// is as promised before the call. The flag is set once the task is cancelled with the flag
-    /// asked for, or the pool is stopped while a worker runs it; a body may look and end early.
+    /// Runs the body, and answers its value, or a fault's code where a Java body throws. The outcome is as
+    /// was promised before the call. The flag is set once the task is cancelled with the flag asked for, or
+    /// the pool is stopped while a worker runs it; a body may look and end early.
     fn call(&mut self, cancel: &CancelFlag) -> Outcome
         ensures { FitsPromise (promised self.old) result };
 }

@@ -1,7 +1,7 @@
-//! What a pool's users write: jobs, thread factories, rejection handlers, hooks and gates.
+//! The objects that a pool's users write: jobs, thread factories, rejection handlers, hooks and gates.
 //!
-//! All of them are called outside the pool's lock, so each may ask the pool for its state, its counters
-//! and its steps; the pages of the traits say what would wait for ever.
+//! A pool calls all of them outside its lock, so each of them may ask the pool for its state, its counters
+//! and its steps. The pages of the traits say which calls from within would wait for ever.
 #![tactic(auto)]
 
 pub mod factories;

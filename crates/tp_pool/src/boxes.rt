@@ -1,10 +1,10 @@
-//! Jobs in their boxes.
+//! Jobs in boxes.
 
 use tp_callbacks::flags::CancelFlag;
 use tp_callbacks::jobs::Job;
 use tp_types::tasks::{Outcome, Promise};
 
-/// A job in its box: a job again, so that a pool holds any job of its caller's.
+/// A job in a box, which is a job again: so one pool holds jobs of several types.
 #[derive(Drop)]
 pub struct Boxed {
     /// The box.

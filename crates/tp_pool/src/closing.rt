@@ -1,4 +1,4 @@
-//! The end of a pool: its record, with every pass accounted for.
+//! The close of a pool: its record, with every pass accounted for.
 ghost use Rattle.std.specs.Prelude.{◌≡◌, IfOk, IfErr};
 ghost use Rattle.tp_pool.specs.Closing.{Reports};
 ghost use Rattle.tp_locked.specs.Closing.{KeepsOpen};
@@ -18,23 +18,26 @@ use tp_locked::locked::{Core, all_seen_is_published};
 use tp_locked::names::PoolNaming;
 use tp_types::refusals::PoolError;
 
-/// A pool that was not closed, which comes back with the passes that were handed in.
+/// The answer of a close that was refused: the pool comes back, with the passes that were handed in.
 #[derive(Drop)]
 pub struct CloseFault<G: PoolNaming, J, E> {
-    /// Why: NotTerminated (20), MissingPass (21) or TornRecord (22).
+    /// The refusal: NotTerminated (20), MissingPass (21) or TornRecord (22).
     pub error: PoolError,
-    /// The pool.
+    /// The pool, handed back.
     pub pool: PoolOf<G, J, E>,
-    /// The passes.
+    /// The passes, handed back in their order.
     pub passes: Vec<Pass<G>>,
 }
 
 impl<G: PoolNaming, J: Job, E: Edge> PoolOf<G, J, E> {
-    /// Closes a terminated pool with all passes that callers got, and gives its record and counters; Java
-    /// has no such call. NotTerminated (20), which never comes with a pass that has seen the pool
-    /// terminated; else MissingPass (21) where they are not as many as the pool has made; else, once no
-    /// thread has the pool any more, TornRecord (22) where a pass's receipts are not its own entries of
-    /// the record. Then the pool and the passes come back.
+    /// Closes a terminated pool with all passes that its callers got, and answers its record and counters;
+    /// Java has no such call. The record is legal, and each pass's receipts are that pass's entries in it.
+    ///
+    /// NotTerminated (20) comes first, and never with a pass that has seen the pool terminated.
+    /// MissingPass (21) comes next, where fewer or more passes come back than callers got. Then the call
+    /// waits until no thread has the pool any more, since a worker's thread lets go of it after the last
+    /// step. TornRecord (22) comes last, where a pass's receipts are not its own entries. After a refusal the
+    /// pool and the passes come back.
     pub fn close<R: Wait>(self, rt: &R, passes: Vec<Pass<G>>) -> Result<Report, CloseFault<G, J, E>>
         ensures report { IfOk result (Reports G.config passes.items) }
         ensures refused { IfErr result (λ f. KeepsOpen (Task J) G.config passes.items f.error) }
@@ -60,7 +63,7 @@ impl<G: PoolNaming, J: Job, E: Edge> PoolOf<G, J, E> {
     }
 }
 
-// The value, once nobody else has it.
+// The value, once no other thread has it: a worker's thread lets go of it after its pass is handed in.
 fn sole<T, R: Wait>(rt: &R, shared: Arc<T>) -> T {
     let mut shared = shared;
     for _ in rt.forever() {

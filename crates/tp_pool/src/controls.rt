@@ -1,4 +1,5 @@
-//! The controlling calls: settings, the moment, and single tasks. Each makes one step, with one receipt.
+//! The controlling calls: settings, the moment, and single tasks. Each makes one step, with one receipt. A
+//! refused call makes no step, and its pass gets no receipt.
 ghost use Rattle.std.specs.Prelude.{ℕ, IfOk, IfErr, OnOk, OnErr};
 ghost use Rattle.tp_machine.specs.Stepped.{IsAnswer, IsSubmission, did_of};
 ghost use Rattle.tp_locked.specs.Answers.{is_removed};
@@ -21,7 +22,8 @@ use tp_types::ids::TaskId;
 use tp_types::refusals::PoolError;
 
 impl<G: PoolNaming, J: Job, E: Edge> PoolOf<G, J, E> {
-    // Makes the step of this ask, for whose receipt it takes the memory first.
+    // Makes the step of this ask. The memory of its receipt is taken first, since an accepted step can't be
+    // taken back.
     pub(crate) fn control<R: Wait>(
         &self,
         rt: &R,
@@ -42,8 +44,9 @@ impl<G: PoolNaming, J: Job, E: Edge> PoolOf<G, J, E> {
         self.shared().step(rt, ask, pass)
     }
 
-    /// Sets the maximum size in workers, as `setMaximumPoolSize`. NoMemory (4) for its receipt, else
-    /// BadSizes (1), BookFull (5), or NoMemory (4) for the places of more slots.
+    /// Sets the maximum size, in workers, as `setMaximumPoolSize`. NoMemory (4) for its receipt, else
+    /// BadSizes (1) for 0, above 1,024 or below the core size, else BookFull (5), or NoMemory (4) for the
+    /// places of more slots.
     pub fn set_maximum<R: Wait>(
         &self,
         rt: &R,
@@ -57,8 +60,8 @@ impl<G: PoolNaming, J: Job, E: Edge> PoolOf<G, J, E> {
         answered!(self.control(rt, Ask::Maximum(maximum), pass), Stepped::Maximum => ())
     }
 
-    /// Sets the keep-alive in ticks, as `setKeepAliveTime`. NoMemory (4) for its receipt, else KeepZero
-    /// (11) or BookFull (5).
+    /// Sets the keep-alive, in ticks, as `setKeepAliveTime`. NoMemory (4) for its receipt, else KeepZero (11)
+    /// for 0 while core workers time out, else BookFull (5).
     pub fn set_keep<R: Wait>(&self, rt: &R, keep: u64, pass: &mut Pass<G>) -> Result<(), PoolError>
         ensures step { OnOk result (AddsStep pass.old (Ask.Keep keep) (Did.Keep keep) pass.new) }
         ensures refused { IfErr result (λ e. Refuses G.config (Ask.Keep keep) e) }
@@ -68,7 +71,7 @@ impl<G: PoolNaming, J: Job, E: Edge> PoolOf<G, J, E> {
     }
 
     /// Says whether core workers time out too, as `allowCoreThreadTimeOut`. NoMemory (4) for its receipt,
-    /// else KeepZero (11) or BookFull (5).
+    /// else KeepZero (11) for `true` while the keep-alive is 0, else BookFull (5).
     pub fn allow_core_timeout<R: Wait>(
         &self,
         rt: &R,
@@ -82,8 +85,8 @@ impl<G: PoolNaming, J: Job, E: Edge> PoolOf<G, J, E> {
         answered!(self.control(rt, Ask::CoreTimeout(on), pass), Stepped::CoreTimeout => ())
     }
 
-    /// The moment is this one from now on, in ticks; Java's pool reads a clock. NoMemory (4) for its
-    /// receipt, else ClockBack (10) or BookFull (5).
+    /// Sets the moment, in ticks; Java's pool reads a clock instead. Keep-alives and deadlines are measured
+    /// by it. NoMemory (4) for its receipt, else ClockBack (10) for a moment below now, else BookFull (5).
     pub fn tick<R: Wait>(&self, rt: &R, now: u64, pass: &mut Pass<G>) -> Result<(), PoolError>
         ensures step { OnOk result (AddsStep pass.old (Ask.Tick now) (Did.Tick now) pass.new) }
         ensures refused { IfErr result (λ e. Refuses G.config (Ask.Tick now) e) }
@@ -92,8 +95,8 @@ impl<G: PoolNaming, J: Job, E: Edge> PoolOf<G, J, E> {
         answered!(self.control(rt, Ask::Tick(now), pass), Stepped::Tick => ())
     }
 
-    /// Takes the cancelled tasks out of the queue, as `purge`, and says how many. NoMemory (4) for its
-    /// receipt, else BookFull (5).
+    /// Takes the cancelled tasks out of the queue, as `ThreadPoolExecutor.purge`, and answers how many they
+    /// were. NoMemory (4) for its receipt, else BookFull (5).
     pub fn purge<R: Wait>(&self, rt: &R, pass: &mut Pass<G>) -> Result<u32, PoolError>
         ensures step { IfOk result (λ n. AddsStep pass.old Ask.Purge (Did.Purge n) pass.new) }
         ensures refused { IfErr result (λ e. Refuses G.config Ask.Purge e) }
@@ -102,7 +105,8 @@ impl<G: PoolNaming, J: Job, E: Edge> PoolOf<G, J, E> {
         answered!(self.control(rt, Ask::Purge, pass), Stepped::Purge(cancelled) => cancelled)
     }
 
-    /// Takes a task out of the queue, as `remove`, and hands its job back unless it was cancelled.
+    /// Takes a task out of the queue, as `ThreadPoolExecutor.remove`, and hands its job back unless it was
+    /// cancelled. A task that is not in the queue answers `Removal::No`: a worker may have taken it first.
     /// NoMemory (4) for its receipt, else UnknownTask (6) or BookFull (5).
     pub fn remove<R: Wait>(
         &self,
@@ -118,9 +122,10 @@ impl<G: PoolNaming, J: Job, E: Edge> PoolOf<G, J, E> {
         answered!(self.control(rt, Ask::Remove(t), pass), Stepped::Remove(None) => Removal::No, Stepped::Remove(Some((_, task))) => Removal::Yes(task.map(Task::into_job)))
     }
 
-    /// Cancels a future that has no fate yet, as `Future.cancel`, and says whether that had effect; a job
-    /// that has not begun is given up. NoMemory (4) for its receipt, else UnknownTask (6), NotFuture (9)
-    /// or BookFull (5).
+    /// Cancels a task's future, as `Future.cancel`, and answers whether that had effect: it has while the
+    /// task has no fate. A job that has not begun is then given up. A job that runs hears of it by its cancel
+    /// flag, where `flag` asks for that. NoMemory (4) for its receipt, else UnknownTask (6), NotFuture (9)
+    /// for a plain task, or BookFull (5).
     pub fn cancel<R: Wait>(
         &self,
         rt: &R,

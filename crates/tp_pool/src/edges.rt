@@ -11,35 +11,36 @@ use tp_types::ids::{SlotId, TaskId};
 use tp_types::states::RunState;
 use tp_types::tasks::Outcome;
 
-/// A pool's factory, handler, hooks and gate behind one bound, so that the pool's own types hold no
-/// trait object. It is called with no lock of the pool held.
+/// A pool's factory, handler, hooks and gate behind one bound, so that the pool's own types hold no trait
+/// object. Each call is made with no lock of the pool held, and several threads may make calls at once.
 pub trait Edge: Drop {
-    /// Asks the thread factory.
+    /// Asks the thread factory whether this slot may have a worker.
     fn allow<R: Wait>(&self, rt: &R, w: SlotId) -> bool;
 
-    /// Asks the rejection handler.
+    /// Asks the rejection handler for its verdict on this task, in a pool in this run state.
     fn verdict<R: Wait>(&self, rt: &R, t: TaskId, state: RunState) -> Verdict;
 
-    /// Calls the hook before a task.
+    /// Calls the hook before a task, as `beforeExecute`.
     fn before<R: Wait>(&self, rt: &R, w: SlotId, t: TaskId);
 
-    /// Calls the hook after a task.
+    /// Calls the hook after a task, as `afterExecute`, with no outcome where the task was skipped.
     fn after<R: Wait>(&self, rt: &R, w: SlotId, t: TaskId, outcome: Option<&Outcome>);
 
-    /// Calls the hook of the pool's end.
+    /// Calls the hook of the pool's end, as `ThreadPoolExecutor.terminated`.
     fn terminated<R: Wait>(&self, rt: &R);
 
-    /// Passes the gate.
+    /// Passes the gate at this point of the turn of this slot's worker.
     fn pass(&self, p: Point, w: SlotId);
 
     /// The stack of a worker's thread, in bytes.
     fn stack(&self) -> usize;
 }
 
-/// The stack of a worker's thread where the caller asks for no other, in bytes.
+/// The stack of a worker's thread, in bytes, where the caller asks for no other: 2 MiB.
 pub const STACK: usize = 2 * 1_024 * 1_024;
 
-/// The caller's boxes. Those that change are each behind a lock of its own.
+/// The caller's boxes. The factory, the handler and the hooks change when they are called, so each of them is
+/// behind a lock of its own.
 #[derive(Drop)]
 pub struct Boxes {
     factory: Mutex<Box<dyn ThreadFactory>>,
@@ -49,7 +50,7 @@ pub struct Boxes {
 }
 
 impl Boxes {
-    /// These boxes.
+    /// Puts these boxes behind one bound.
     pub fn new(
         factory: Box<dyn ThreadFactory>,
         handler: Box<dyn RejectionHandler>,
@@ -95,8 +96,9 @@ impl Edge for Boxes {
     }
 }
 
-/// What a pool calls where its caller has nothing to say: each worker is allowed, each verdict is Abort, the
-/// hooks do nothing, and the gate is open.
+/// The objects of a caller that has none of its own: each worker is allowed, each verdict is Abort, the hooks
+/// do nothing, and the gate is open. Java's constructors fill in a default factory and `AbortPolicy`
+/// likewise.
 #[derive(Drop)]
 pub struct Defaults;
 

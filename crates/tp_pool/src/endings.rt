@@ -1,4 +1,5 @@
-//! The calls that end a pool, and the wait for its end.
+//! The calls that end a pool, and the wait for its end. A thread that finds that the pool can end makes the
+//! step `tidy`, calls the terminated hook with no lock held, and makes the step `ended`.
 ghost use Rattle.std.specs.Prelude.{◌≡◌, ◌⊎◌, ◌≤◌, [], ◌∷◌, length, IfOk, IfErr, OnOk, OnErr};
 ghost use Rattle.tp_locked.specs.Passes.{Adds, AddsNone, Refuses, tidied, ended};
 ghost use Rattle.tp_locked.specs.Records.{AtSome};
@@ -18,8 +19,11 @@ use tp_record::entries::{Ask, Did};
 use tp_types::refusals::PoolError;
 
 impl<G: PoolNaming, J: Job, E: Edge> PoolOf<G, J, E> {
-    /// The pool takes no more tasks and runs those that it has, as `shutdown`. Where it can end at once,
-    /// this call ends it. NoMemory (4) for its receipts, else BookFull (5).
+    /// Shuts the pool down, as `ThreadPoolExecutor.shutdown`: it takes no more tasks, and runs those that it
+    /// has. Where it can end at once, this call ends it. The pass has then seen the shutdown.
+    ///
+    /// NoMemory (4) for its receipts, else BookFull (5), which does not come while the pool runs. A refused
+    /// call makes no step.
     pub fn shutdown<R: Wait>(&self, rt: &R, pass: &mut Pass<G>) -> Result<(), PoolError>
         ensures steps { OnOk result (AddsAndEnds G.config pass.old Ask.Shutdown Did.Shutdown pass.new) }
         ensures seen { OnOk result (1 ≤ pass.new.seen) }
@@ -40,10 +44,13 @@ impl<G: PoolNaming, J: Job, E: Edge> PoolOf<G, J, E> {
         }
     }
 
-    /// Stops the pool, as `shutdownNow`: the tasks in its queue are handed back in their order, and no
-    /// task begins any more. Where it can end at once, this call ends it. NoMemory (4) for its receipts,
-    /// else BookFull (5), or NoMemory (4) for its answer, whose memory is taken before the step: a job is
-    /// handed back or still queued, and never lost.
+    /// Stops the pool, as `shutdownNow`: the tasks in its queue are handed back in their order and never
+    /// begin. The cancel flags of tasks in slots are set, and a job that runs goes on. Where the pool can end
+    /// at once, this call ends it. The pass has then seen the stop.
+    ///
+    /// NoMemory (4) for its receipts, else BookFull (5), which does not come before the pool is stopped, or
+    /// NoMemory (4) for its answer. A refused call makes no step. The answer's memory is taken before the
+    /// step, so a job is handed back or still queued, and never lost.
     pub fn shutdown_now<R: Wait>(
         &self,
         rt: &R,
@@ -68,9 +75,12 @@ impl<G: PoolNaming, J: Job, E: Edge> PoolOf<G, J, E> {
         }
     }
 
-    /// Waits until the pool is terminated, as `awaitTermination`, or until now has reached this moment,
-    /// in ticks; where the pool can end, this call ends it. NoMemory (4) for its receipts, else TimedOut
-    /// (16), at once where now is there already, or TornRecord (22) where its own last step is not taken.
+    /// Waits until the pool is terminated, as `awaitTermination`; where the pool can end, this call ends it.
+    /// The pass has then seen the end. The deadline is a moment in ticks.
+    ///
+    /// NoMemory (4) for its receipts, else TimedOut (16) once now has reached the deadline, at once where it
+    /// has already: these calls make no step. TornRecord (22) where the book does not take its step `ended`
+    /// after its own `tidy`.
     pub fn await_termination<R: Wait>(
         &self,
         rt: &R,

@@ -1,5 +1,5 @@
-//! Waits for futures, for done tasks of a group, and for steps. Whoever waits does so with the guard of the hold in
-//! which its look failed.
+//! Waits for futures, for done tasks of a group, and for steps. A waiter begins to wait with the guard of the
+//! hold in which its look failed, so no step falls between the look and the sleep.
 ghost use Rattle.std.specs.Prelude.{◌≡◌, ◌⊎◌, ◌<◌, length, IfOk, IfErr, OnErr};
 ghost use Rattle.tp_book.specs.BookView.{entries};
 ghost use Rattle.tp_locked.specs.Passes.{AddsStep, AddsNone, Refuses};
@@ -20,9 +20,12 @@ use tp_types::ids::TaskId;
 use tp_types::refusals::PoolError;
 
 impl<G: PoolNaming, J: Job, E: Edge> PoolOf<G, J, E> {
-    /// Waits until the task's future is not open any more, as `Future.get`, and answers its value, as `result`.
-    /// With a deadline, in ticks, TimedOut (16) where now has reached it while the future is open. Else
-    /// UnknownTask (6), NotFuture (9), CancelledTask (13), Faulted (14) or Lost (15).
+    /// Waits until the task's future is not open any more, and answers its value, as `Future.get`. An outcome
+    /// is as the job promised. The call makes no step.
+    ///
+    /// With a deadline, in ticks, TimedOut (16) once now has reached it, only while the future is open, as a
+    /// `TimeoutException`. Else as `result`: UnknownTask (6), NotFuture (9), CancelledTask (13), Faulted (14)
+    /// or Lost (15).
     pub fn await_result<R: Wait>(
         &self,
         rt: &R,
@@ -43,8 +46,8 @@ impl<G: PoolNaming, J: Job, E: Edge> PoolOf<G, J, E> {
     }
 
     /// Takes the task of this group that was done first and was not taken yet, as
-    /// `ExecutorCompletionService.poll`. NoMemory (4) for its receipt, else NotThere (8) where none is done, or
-    /// BookFull (5).
+    /// `ExecutorCompletionService.poll`. NoMemory (4) for its receipt, else NotThere (8) where there is none,
+    /// or BookFull (5). After a refusal nothing was taken.
     pub fn take_done<R: Wait>(
         &self,
         rt: &R,
@@ -59,7 +62,8 @@ impl<G: PoolNaming, J: Job, E: Edge> PoolOf<G, J, E> {
     }
 
     /// As `take_done`, but it waits while none is done and one is open, as `ExecutorCompletionService.take`.
-    /// NoMemory (4) for its receipt, else NothingOpen (19) where none is done and none is open, or BookFull (5).
+    /// NoMemory (4) for its receipt, else NothingOpen (19) where none is done and none is open, or
+    /// BookFull (5). After a refusal nothing was taken.
     pub fn await_done<R: Wait>(
         &self,
         rt: &R,
@@ -76,7 +80,9 @@ impl<G: PoolNaming, J: Job, E: Edge> PoolOf<G, J, E> {
         self.shared().await_done(rt, group, pass)
     }
 
-    /// Waits until the record is longer than this, in entries, and answers its length.
+    /// Waits until the record is longer than this, in entries, and answers its length; Java has no such call.
+    /// A caller reads `steps`, looks, and waits with the number that it read: a step that falls after the
+    /// reading ends the wait.
     pub fn wait_step<R: Wait>(&self, rt: &R, seen: u64) -> u64
         ensures { (seen < result) × BookAtSome (Task J) G.config (λ b. result ≡ length (entries b)) }
     {

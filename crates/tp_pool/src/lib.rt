@@ -1,11 +1,12 @@
-//! A pool of threads: its calls, what its users write, and what its calls answer.
+//! A pool of threads after `ThreadPoolExecutor`: its calls, the objects that its users write, and its
+//! answers.
 //!
-//! A user hands jobs to a pool, and when it is made a thread factory, a rejection handler, hooks and
-//! a gate. All of them are called outside the pool's lock, so each may ask the pool for its state,
-//! its counters and its steps; the pages of the traits say what would wait for ever.
+//! A user hands in jobs, and with the making of a pool a thread factory, a rejection handler, hooks and a
+//! gate. The pool calls all of them outside its lock, so each of them may ask the pool for its state, its
+//! counters and its steps. The pages of the traits say which calls from within would wait for ever.
 #![tactic(auto)]
 
-// What a call answers whose step is answered so.
+// The answer of a call, made from the answer of its step.
 macro_rules! answered {
     ($stepped:expr, $($answer:pat => $value:expr),+) => {
         match $stepped {
@@ -34,7 +35,7 @@ mod working;
 pub use tp_callbacks::{factories, gates, handlers, hooks};
 pub use tp_locked::{answers, names};
 
-/// What a pool runs.
+/// The bodies that a pool runs.
 pub mod jobs {
     pub use crate::boxes::Boxed;
     pub use tp_callbacks::jobs::Job;

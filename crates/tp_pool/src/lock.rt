@@ -3,15 +3,15 @@
 use std::hint::spin_loop;
 use std::sync::{Mutex, MutexGuard, Wait};
 
-/// How many turns of `spin_loop` lie between two looks at the lock: some 3.5 microseconds where a
-/// turn takes 7 nanoseconds.
+/// The pause between two looks at the lock, in turns of `spin_loop`: some 3.5 microseconds where a turn takes
+/// 7 nanoseconds.
 pub const PAUSE: u32 = 500;
 
-// How many looks come before a thread sleeps.
+// The number of looks before a thread sleeps.
 const LOOKS: u32 = 8;
 
-/// Takes the lock. It looks a few times, with a pause of so many turns after each look, before it
-/// sleeps: a hold is much shorter than a sleep, and a lock that nobody sleeps for is let go without a
+/// Takes the lock. A thread looks a few times, with a pause of so many turns after each look, before it
+/// sleeps: a hold is much shorter than a sleep, and a lock for which no thread sleeps is let go without a
 /// system call.
 pub fn polite<'a, T, R: Wait>(rt: &R, lock: &'a Mutex<T>, pause: u32) -> MutexGuard<'a, T> {
     for _ in 0..LOOKS {

@@ -1,4 +1,4 @@
-//! The pool as its callers hold it.
+//! The pool as its callers hold it: its making, its callers' passes, and the glance at its run state.
 ghost use Rattle.std.specs.Prelude.{◌≡◌, ◌⊎◌, ◌≤◌, [], IfOk, IfErr, OnOk, Err};
 ghost use Rattle.tp_types.specs.Config.{IsConfig, checked};
 ghost use Rattle.tp_types.specs.RunState.{state_rank};
@@ -26,17 +26,18 @@ use tp_types::limits::MAX_WORKERS;
 use tp_types::refusals::PoolError;
 use tp_types::states::RunState;
 
-/// A pool of threads, as a `ThreadPoolExecutor`, over any jobs and any caller's objects. Its calls take
-/// `&self`, so that many threads may share it; those that make steps take a pass of their caller's.
+/// A pool of threads, as `ThreadPoolExecutor`, over jobs `J` and the caller's objects `E`. Its calls take
+/// `&self`, so that many threads may share it. A call that makes steps takes a pass: each entry of the record
+/// has the number of the pass that asked for it.
 #[derive(Drop)]
 pub struct PoolOf<G: PoolNaming, J, E> {
     pub(crate) hold: Hold<G, J, E>,
 }
 
-/// The pool of a caller's boxes.
+/// A pool whose jobs, factory, handler, hooks and gate are boxes of the caller.
 pub type Pool<G> = PoolOf<G, Boxed, Boxes>;
 
-// Shared with threads, or taken back from them by a close.
+// The pool's value: shared with its threads, or taken back from them by a close that was then refused.
 #[derive(Drop)]
 pub(crate) enum Hold<G: PoolNaming, J, E> {
     Many(Arc<Shared<G, J, E>>),
@@ -44,7 +45,7 @@ pub(crate) enum Hold<G: PoolNaming, J, E> {
 }
 
 impl<G: PoolNaming, J, E> PoolOf<G, J, E> {
-    // What its threads share.
+    // The value that the pool's threads share.
     pub(crate) fn shared(&self) -> &Shared<G, J, E> {
         match &self.hold {
             Hold::Many(shared) => &**shared,
@@ -54,9 +55,12 @@ impl<G: PoolNaming, J, E> PoolOf<G, J, E> {
 }
 
 impl<G: PoolNaming> PoolOf<G, Boxed, Boxes> {
-    /// A pool with these settings and no tasks, which runs, at tick 0, and its first pass, of number 0.
-    /// BadSizes (1), BadCapacity (2), BadLimit (3), NoMemory (4) or KeepZero (11), as a
-    /// `ThreadPoolExecutor`'s constructor throws `IllegalArgumentException`.
+    /// Makes a pool with these settings, as `ThreadPoolExecutor`'s constructor, and its first pass, of number
+    /// 0. The pool runs, has no tasks, and stands at tick 0.
+    ///
+    /// Settings that `Config::check` refuses are refused alike: BadSizes (1), BadCapacity (2), BadLimit (3)
+    /// or KeepZero (11), where Java throws `IllegalArgumentException`. Good settings are refused with
+    /// NoMemory (4) alone.
     pub fn new(
         alloc: Global,
         unopened: Unopened,
@@ -82,7 +86,7 @@ impl<G: PoolNaming> PoolOf<G, Boxed, Boxes> {
 }
 
 impl<G: PoolNaming, J: Job, E: Edge> PoolOf<G, J, E> {
-    /// As `Pool::new`, over these objects.
+    /// As `Pool::new`, with the caller's objects behind one `Edge`.
     pub fn over(
         alloc: Global,
         unopened: Unopened,
@@ -124,9 +128,9 @@ impl<G: PoolNaming, J: Job, E: Edge> PoolOf<G, J, E> {
         Ok((pool, pass))
     }
 
-    /// A pass for one more caller, which has seen what this caller's pass has seen. Passes are numbered
-    /// from 0 in the order in which they are made; at number 4,294,967,295 it is refused with BookFull
-    /// (5).
+    /// Makes a pass for one more caller, which has seen the same state as this caller's; Java's callers need
+    /// none. Callers' and workers' passes are numbered from 0, in the order in which they are made.
+    /// BookFull (5) where the next number would be 4,294,967,295. This caller's pass stays as it is.
     pub fn split_pass<R: Wait>(&self, rt: &R, pass: &mut Pass<G>) -> Result<Pass<G>, PoolError>
         ensures new { IfOk result (λ p. BookAtSome (Task J) G.config (λ b. p ≡ record { number = b.accounts.made; amount = 0; seen = pass.old.seen; receipts = []; room = p.room })) }
         ensures refused { IfErr result (λ e. (e ≡ PoolError.BookFull) × BookAtSome (Task J) G.config (λ b. 4294967295 ≤ b.accounts.made)) }
@@ -138,9 +142,9 @@ impl<G: PoolNaming, J: Job, E: Edge> PoolOf<G, J, E> {
             .split_pass(shared.alloc, &shared.glance, pass)
     }
 
-    /// The run state that is published now, without waiting for the lock, as `isShutdown` and
-    /// `isTerminated` are answered. It is never below what the pass has seen, and the pass has then seen
-    /// it.
+    /// The run state that is published now, as `isShutdown` and `isTerminated` tell it. It is read without
+    /// the lock, so no step that is under way delays it. It is never below the state that the pass has seen,
+    /// and the pass has then seen it.
     pub fn glance(&self, pass: &mut Pass<G>) -> RunState
         ensures rises { pass.old.seen ≤ state_rank result }
         ensures seen { pass.new ≡ record pass.old { seen = state_rank result } }

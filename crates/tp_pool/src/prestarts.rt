@@ -1,4 +1,5 @@
-//! Workers that are started before there is a task for them.
+//! Workers that are started before there is a task for them. Each start is two steps: a slot is reserved, and
+//! once its thread was made or refused it is opened or given back.
 ghost use Rattle.std.specs.Prelude.{ℕ, ◌≡◌, ◌⊎◌, ◌+◌, ◌*◌, ◌<◌, ◌≤◌, [], ◌∷◌, IfOk, IfErr, OnOk, OnErr};
 ghost use Rattle.tp_locked.specs.Passes.{AddsNone, IsRefusal, Refuses, entry_of};
 ghost use Rattle.tp_pool.specs.Prestarts.{is_live as is_live_opening, AddsPrestart, AddsStarts};
@@ -16,7 +17,7 @@ use tp_types::ids::SlotId;
 use tp_types::limits::MAX_WORKERS;
 use tp_types::refusals::PoolError;
 
-// Whether the worker that was made for this slot, if one was, lives after this opening.
+// Whether a worker was made for this slot and lives after this opening.
 fn is_live(w: SlotId, staffed: bool, opened: &Did) -> bool
     ensures { result ≡ is_live_opening w staffed opened.now }
 {
@@ -31,10 +32,12 @@ impl<
     J: Job + 'static,
     E: Edge + Send + Sync + 'static,
 > PoolOf<G, J, E> {
-    /// Sets the core size in workers, as `setCorePoolSize`. A larger one starts a worker for each task that
-    /// waits, at most as many as the size grew; that stops at the first worker that is not made or not opened
-    /// live, at an empty queue, or at a refusal, which is not answered. NoMemory (4) for its receipts, else
-    /// BadSizes (1) or BookFull (5).
+    /// Sets the core size, in workers, as `setCorePoolSize`. A larger one starts a worker for each queued
+    /// task, at most as many as the size grew. The starts end at the first worker that is not made or not
+    /// opened live, at an empty queue, or at a refusal, which is not answered.
+    ///
+    /// NoMemory (4) for its receipts, else BadSizes (1) above the maximum size, else BookFull (5). A refused
+    /// call makes no step.
     pub fn set_core<R: Threads + Wait + Copy + Send + 'static>(
         &self,
         rt: R,
@@ -60,7 +63,8 @@ impl<
         Ok(())
     }
 
-    // Starts a worker for each of so many tasks that wait, as far as it goes.
+    // Starts a worker for each of so many queued tasks, as far as it goes. The queue is looked at before each
+    // start, since the workers that run empty it meanwhile.
     fn prestart_some<R: Threads + Wait + Copy + Send + 'static>(
         &self,
         rt: R,
@@ -82,8 +86,9 @@ impl<
         }
     }
 
-    /// Starts a core worker, as `prestartCoreThread`, where there are fewer slots than the core size; true
-    /// exactly where its slot was opened live. NoMemory (4) for its receipts, else BookFull (5).
+    /// Starts a core worker, as `prestartCoreThread`, where there are fewer slots than the core size, and
+    /// answers whether its slot was opened live. None is started once the pool is stopped, or shut down with
+    /// no task queued. NoMemory (4) for its receipts, else BookFull (5). A refused call makes no step.
     pub fn prestart_core<R: Threads + Wait + Copy + Send + 'static>(
         &self,
         rt: R,
@@ -100,9 +105,11 @@ impl<
     }
 
     /// Starts core workers until there are as many slots as the core size, as `prestartAllCoreThreads`, and
-    /// says how many were opened live. It stops after 1,024 reservations, or at the first whose worker is
-    /// not made or not opened. NoMemory (4) for its receipts, else BookFull (5); a refusal after its first
-    /// reservation ends it and is not answered.
+    /// answers how many were opened live. It stops after 1,024 reservations, or at the first whose worker is
+    /// not made or not opened live.
+    ///
+    /// NoMemory (4) for its receipts, else BookFull (5) at the first reservation. A refused call makes no
+    /// step. A later refusal ends the call and is not answered.
     pub fn prestart_all<R: Threads + Wait + Copy + Send + 'static>(
         &self,
         rt: R,
@@ -127,7 +134,8 @@ impl<
         Ok(MAX_WORKERS)
     }
 
-    // One prestart, with the opening of the slot that it reserved: whether a worker lives.
+    // One prestart, with the opening of the slot that it reserved: whether a worker lives. No lock is held
+    // between the two, so a stop may fall there, and the slot is then given up.
     fn prestart<R: Threads + Wait + Copy + Send + 'static>(
         &self,
         rt: R,

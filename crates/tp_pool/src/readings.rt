@@ -1,4 +1,5 @@
-//! What is read of a pool, each in one hold of its lock. No reading makes a step.
+//! Readings of a pool, each in one hold of its lock. No reading makes a step. Each answer holds of some
+//! moment: before its caller acts on it, another thread may have made a step.
 ghost use Rattle.std.specs.Prelude.{◌≡◌, ◌↔◌, length, IsTrue};
 ghost use Rattle.tp_types.specs.RunState.{state_rank};
 ghost use Rattle.tp_record.specs.State.{counts as counts_of, fate_of, slot_at};
@@ -20,14 +21,14 @@ use tp_types::states::{Counts, RunState};
 use tp_types::tasks::{Fate, Place, Promise};
 
 impl<G: PoolNaming, J: Job, E: Edge> PoolOf<G, J, E> {
-    /// The run state, as the record has it.
+    /// The run state, as the record has it. `glance` answers without the lock.
     pub fn state<R: Wait>(&self, rt: &R) -> RunState
         ensures { AtSome G.config (λ s. state_rank result ≡ s.rank) }
     {
         self.shared().hold(rt).state()
     }
 
-    /// The twelve counters, as `getTaskCount` and its like, all of one moment.
+    /// The twelve counters, all of one moment, as `getTaskCount`, `getPoolSize` and their like.
     pub fn counts<R: Wait>(&self, rt: &R) -> Counts
         ensures { AtSome G.config (λ s. result ≡ counts_of s) }
     {
@@ -48,44 +49,48 @@ impl<G: PoolNaming, J: Job, E: Edge> PoolOf<G, J, E> {
         self.shared().hold(rt).group_open(g)
     }
 
-    /// The task in the slot of this number, None where it has none or there is no such slot.
+    /// The task in the slot of this number, None where the slot has none or there is no such slot.
     pub fn task_in<R: Wait>(&self, rt: &R, w: SlotId) -> Option<TaskId>
         ensures { AtSome G.config (λ s. result ≡ task_of_row (slot_at s.slots w.0)) }
     {
         self.shared().hold(rt).task_in(w)
     }
 
-    /// Where the task is. UnknownTask (6).
+    /// The task's place. UnknownTask (6) where no submission got this number.
     pub fn place<R: Wait>(&self, rt: &R, t: TaskId) -> Result<Place, PoolError>
         ensures { AtSome G.config (λ s. result ≡ known s t.0 (λ r. r.place)) }
     {
         self.shared().hold(rt).place(t)
     }
 
-    /// What the task's job promises. UnknownTask (6).
+    /// The promise of the task's job. UnknownTask (6) where no submission got this number.
     pub fn promise<R: Wait>(&self, rt: &R, t: TaskId) -> Result<Promise, PoolError>
         ensures { BookAtSome (Task J) G.config (λ b. IsPromiseOf b t.0 result) }
     {
         self.shared().hold(rt).promise(t)
     }
 
-    /// What became of the task, None while it is open. UnknownTask (6).
+    /// The task's fate, None while it is open. UnknownTask (6) where no submission got this number.
     pub fn fate<R: Wait>(&self, rt: &R, t: TaskId) -> Result<Option<Fate>, PoolError>
         ensures { AtSome G.config (λ s. result ≡ known s t.0 fate_of) }
     {
         self.shared().hold(rt).fate(t)
     }
 
-    /// What the task's future answers, as `Future.get`: None while the task is open, else its value, which is as
-    /// its job promised. UnknownTask (6), NotFuture (9) for a plain task, CancelledTask (13), Faulted (14) with
-    /// its fault, or Lost (15) with the fate that it came to instead.
+    /// The answer of the task's future, as `Future.get` gives it, but without waiting: None while the task is
+    /// open, else its value. An outcome is as the job promised.
+    ///
+    /// UnknownTask (6) where no submission got this number; NotFuture (9) for a plain task;
+    /// CancelledTask (13), as a `CancellationException`; Faulted (14) with the job's fault, as an
+    /// `ExecutionException`; Lost (15) with the fate of a task that left without running, at which Java's
+    /// `get` waits for ever.
     pub fn result<R: Wait>(&self, rt: &R, t: TaskId) -> Result<Option<i64>, PoolError>
         ensures { BookAtSome (Task J) G.config (λ b. IsResult b t.0 result) }
     {
         self.shared().hold(rt).result(t)
     }
 
-    /// How many entries the record has.
+    /// The record's length, in entries.
     pub fn steps<R: Wait>(&self, rt: &R) -> u64
         ensures { BookAtSome (Task J) G.config (λ b. result ≡ length (entries b)) }
     {

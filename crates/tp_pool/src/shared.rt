@@ -1,4 +1,4 @@
-//! What all threads of a pool share, and the holds of its lock.
+//! The value that all threads of a pool share, and the holds of its lock.
 ghost use Rattle.std.specs.Prelude.{◌≡◌, ◌⊎◌, ◌+◌, ◌<◌, ◌≤◌, [], ◌∷◌, List, length, IsTrue, IfOk, IfErr, OnOk, OnErr};
 ghost use Rattle.tp_record.specs.declared.entries.Entry.{Entry};
 ghost use Rattle.tp_record.specs.Effects.{reaches};
@@ -28,23 +28,23 @@ use tp_types::ids::SlotId;
 use tp_types::refusals::PoolError;
 use tp_waking::calls::{Calls, Waiters};
 
-/// Where those sleep who wait, each kind on a condition of its own.
+/// The places where waiters sleep, one condition for each kind.
 #[derive(Drop)]
 pub struct Conditions {
-    /// Who waits in `await_termination`.
+    /// Waiters in `await_termination`.
     pub end: Condvar,
-    /// Who waits for a future.
+    /// Waiters for futures and done tasks.
     pub results: Condvar,
-    /// Who waits in `wait_step`.
+    /// Waiters in `wait_step`.
     pub steps: Condvar,
-    /// Who waits in `close` for the workers' passes.
+    /// The thread that waits in `close` for the workers' passes.
     pub gone: Condvar,
     /// Threads of workers that are to be told of their slots.
     pub begun: Condvar,
 }
 
 impl Conditions {
-    /// Nobody sleeps.
+    /// No thread sleeps.
     pub fn new() -> Conditions {
         Conditions {
             end: Condvar::new(),
@@ -55,7 +55,7 @@ impl Conditions {
         }
     }
 
-    // Wakes these.
+    // Wakes the waiters of these kinds.
     fn call(&self, waiters: Waiters) {
         if waiters.end {
             self.end.notify_all();
@@ -69,22 +69,22 @@ impl Conditions {
     }
 }
 
-/// The one lock, what lies beside it, and the caller's objects.
+/// The one lock, the places where threads sleep, the word, and the caller's objects.
 #[derive(Drop)]
 pub struct Shared<G: PoolNaming, J, E> {
     /// The value under the lock.
     pub core: Mutex<Core<G, J>>,
-    /// Where those sleep who wait.
+    /// The places where waiters sleep.
     pub conditions: Conditions,
-    /// Each worker sleeps at its slot's place.
+    /// The places where workers sleep, one for each slot number.
     pub parkers: Vec<Parker>,
     /// The word of the run state, which is read with no lock held.
     pub glance: Glance<G>,
     /// The caller's objects.
     pub edge: E,
-    /// What becomes of tasks that the pool cannot take.
+    /// The rejection policy.
     pub policy: Policy,
-    /// What answers take their memory from.
+    /// The allocator of the calls' answers.
     pub alloc: Global,
 }
 
@@ -94,7 +94,8 @@ impl<G: PoolNaming, J: Drop, E: Edge> Shared<G, J, E> {
         polite(rt, &self.core, PAUSE)
     }
 
-    /// Lets go of the lock, and then wakes whom the hold concerned.
+    /// Lets go of the lock, and only then wakes the threads that the hold concerned: a thread that is woken
+    /// needs the lock.
     pub fn release(&self, core: MutexGuard<'_, Core<G, J>>) {
         let mut core = core;
         let calls = core.release();
@@ -120,21 +121,21 @@ impl<G: PoolNaming, J: Drop, E: Edge> Shared<G, J, E> {
         }
     }
 
-    /// Tells the thread that was made for this slot that it is given up.
+    /// Tells the thread that was made for this slot that the slot is given up.
     pub fn give_up<R: Wait>(&self, rt: &R, w: SlotId) {
         self.hold(rt).give_up(w);
         self.conditions.begun.notify_all();
     }
 
-    /// Sleeps at this slot's place until somebody wakes it, or for no reason.
+    /// Sleeps at this slot's place until a thread wakes it, or for no reason.
     pub fn park<R: Wait>(&self, rt: &R, w: SlotId) {
         if let Some(parker) = self.parkers.get(w.0) {
             parker.park(rt);
         }
     }
 
-    /// Makes the step of this ask in a hold of its own, with a pass that has room for its receipt, and
-    /// wakes whom it concerns after the hold.
+    /// Makes the step of this ask in a hold of its own, with a pass that has room for its receipt, and wakes
+    /// the threads that it concerns after the hold.
     pub fn step<R: Wait>(
         &self,
         rt: &R,
@@ -157,8 +158,8 @@ impl<G: PoolNaming, J: Drop, E: Edge> Shared<G, J, E> {
         stepped
     }
 
-    /// Makes the step `stop` in a hold of its own, as `step`; the answer's memory is taken in the same
-    /// hold, before the step.
+    /// Makes the step `stop` in a hold of its own, as `step`. The answer's memory is taken in the same hold,
+    /// before the step, so that no job is lost for want of memory.
     pub fn stop<R: Wait>(&self, rt: &R, pass: &mut Pass<G>) -> Result<Vec<Drained<J>>, PoolError>
         requires room { 0 < pass.old.room }
         ensures handed { IfOk result (λ drained. IsHandedBack (IsMade (TaskOf J) G.config pass.old.number Ask.Stop) drained.items) }
@@ -216,8 +217,9 @@ impl<G: PoolNaming, J: Drop, E: Edge> Shared<G, J, E> {
         }
     }
 
-    /// Waits until the pool is terminated, or now has reached the deadline, and ends the pool where it
-    /// can end. Whoever waits does so with the guard of the hold in which its look failed.
+    /// Waits until the pool is terminated, or now has reached the deadline, and ends the pool where it can
+    /// end. A waiter begins to wait with the guard of the hold in which its look failed, so no step falls
+    /// between.
     pub fn await_end<R: Wait>(
         &self,
         rt: &R,

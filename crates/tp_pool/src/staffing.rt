@@ -19,8 +19,9 @@ impl Promise<()> for Free {
     ghost kept_by = { λ _ _. Unit {0} };
 }
 
-/// Has a worker made for this slot: the factory is asked, and where it consents a pass and a thread are
-/// made, which waits to be told of its slot. Whether all of them were made. No lock is held meanwhile.
+/// Has a worker made for this slot, and tells whether one was: the factory is asked, and where it consents a
+/// pass and a thread are made. The thread waits to be told of its slot. No lock is held while the factory
+/// answers or the thread is made.
 pub fn staff<
     G: PoolNaming + Send + Sync + 'static,
     J: Job + 'static,
@@ -30,7 +31,7 @@ pub fn staff<
     staff_heir(rt, shared, w, u64::MAX)
 }
 
-/// As `staff`, for a worker whose line of heirs is to be shorter than this; none is made at 0.
+/// As `staff`, for a worker whose line of heirs is to be shorter than this; at 0 none is made.
 #[cycle(staffing)]
 pub fn staff_heir<
     G: PoolNaming + Send + Sync + 'static,
@@ -54,9 +55,9 @@ pub fn staff_heir<
     }
 }
 
-// Starts the thread. Where none can be made, its work is done here: told that its slot is given up, it
-// only hands its pass in. A function of its own, where little else is known: the check shows there that
-// the pool may cross to a thread.
+// Starts the thread. Where none can be made, its work is done here: told that its slot is given up, it only
+// hands its pass in, since no close would find all passes without it. It is a function of its own, where
+// little else is known: the check shows there that the pool may cross to a thread.
 #[cycle(staffing)]
 fn launch<
     G: PoolNaming + Send + Sync + 'static,
@@ -89,9 +90,9 @@ fn launch<
     }
 }
 
-// What a worker's thread does: its turns once its slot is live, then it has a worker made in its place
-// where one is wanted, and at last it hands in its pass and lets go of the pool. Its line of heirs, of
-// whom each is made by the one before, is shorter than this.
+// The work of a worker's thread: its turns once its slot is live, then a worker in its place where one is
+// wanted, and at last it hands in its pass and lets go of the pool. Each heir is made by the thread before
+// it, so the line of heirs is counted down.
 #[cycle(staffing)]
 fn run_worker<
     G: PoolNaming + Send + Sync + 'static,

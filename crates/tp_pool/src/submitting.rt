@@ -1,4 +1,5 @@
-//! Submissions: a task's path from its first step to its end, each step in a hold of its own.
+//! Submissions: a task's path from its first step to its end, each step in a hold of its own. Between two of
+//! them other threads may make steps, so a submission asks after each answer what comes next.
 ghost use Rattle.std.specs.Prelude.{◌≡◌, ◌⊎◌, ◌+◌, ◌<◌, ◌≤◌, Some, IfSome, IfNone, IfOk, IfErr, OnSome, OnOk, OnErr};
 ghost use Rattle.tp_record.specs.Effects.{submits};
 ghost use Rattle.tp_record.specs.Paths.{Astray};
@@ -29,11 +30,11 @@ use tp_types::ids::{SlotId, TaskId};
 use tp_types::refusals::PoolError;
 use tp_types::tasks::{Kind, Outcome};
 
-/// The most steps of one submission: its receipts are reserved before its first. The longest path is
-/// shorter.
+/// The most steps of one submission. Their receipts are reserved before the first, so that no submission
+/// breaks off for want of memory. The longest path is shorter.
 pub const MOST_STEPS: usize = 512;
 
-// What a submission comes to whose steps the book does not take as they should be, or that does not end.
+// The refusal of a submission whose step the book does not take, or whose path does not end.
 fn torn<J>() -> Refused<J>
     ensures { result.error ≡ PoolError.TornRecord }
 {
@@ -43,7 +44,7 @@ fn torn<J>() -> Refused<J>
     }
 }
 
-// What a submission answers that has ended so.
+// The answer of a submission that has come to this end.
 fn answer<J: Drop>(t: TaskId, ending: Ending, held: Option<Task<J>>) -> Result<Admitted, Refused<J>>
     ensures admitted { IfOk result (λ a. (task_of a ≡ t) × (end_of a ≡ admission_of ending)) }
     ensures rejected { IfErr result (λ r. (r.error ≡ PoolError.Rejected t) × (ending ≡ Ending.Rejected)) }
@@ -59,7 +60,7 @@ fn answer<J: Drop>(t: TaskId, ending: Ending, held: Option<Task<J>>) -> Result<A
     }
 }
 
-// Runs a task on its submitter's thread, where it is to be run.
+// Runs a task's job on its submitter's thread, None where no task was handed out.
 fn run_here<J: Job>(held: Option<Task<J>>) -> Option<Outcome> {
     let Task { job, flag } = held?;
     let mut job = job;
@@ -71,10 +72,14 @@ impl<
     J: Job + 'static,
     E: Edge + Send + Sync + 'static,
 > PoolOf<G, J, E> {
-    /// Submits a task of this kind, as `execute`, and follows it to the end of its submission. Accepted,
-    /// where the pool has the task; RanHere and Discarded by the pool's policy. NoMemory (4) or BookFull
-    /// (5), with the job and with nothing done; Rejected (12), with the job where it was not cancelled;
-    /// TornRecord (22), which does not come as long as the pool's book is sound.
+    /// Submits a task of this kind, as `ThreadPoolExecutor.execute`, and follows it to the end of its
+    /// submission. The answer has the task's number. `Accepted`: the pool has the task, or it was cancelled
+    /// before its submitter was to run it. `RanHere` and `Discarded`: the pool could not take the task, and
+    /// the policy had it run or dropped.
+    ///
+    /// NoMemory (4) or BookFull (5) comes before the first step, with the job and with nothing done.
+    /// Rejected (12) comes after the task's whole path, with the job where it was not cancelled.
+    /// TornRecord (22) does not come as long as the pool's book is sound.
     pub fn execute_as<R: Threads + Wait + Copy + Send + 'static>(
         &self,
         rt: R,
@@ -94,7 +99,8 @@ impl<
         }
     }
 
-    // The memory of a submission: room for its receipts, and two holds of its task's flag.
+    // The memory of a submission: room for its receipts, and two holds of its task's flag, one of which the
+    // pool keeps.
     fn reserve(&self, pass: &mut Pass<G>) -> Result<(CancelFlag, CancelFlag), PoolError>
         ensures room { OnOk result (512 ≤ pass.new.room) }
         ensures same { AddsNone pass.old pass.new }
@@ -113,7 +119,7 @@ impl<
         }
     }
 
-    // The steps of a submission.
+    // The steps of a submission: the first, and then each that the answer before it asks for.
     fn submit<R: Threads + Wait + Copy + Send + 'static>(
         &self,
         rt: R,
@@ -153,7 +159,8 @@ impl<
         }
     }
 
-    // One further step of a submission, None where the book does not take it.
+    // One further step of a submission, None where the book does not take it. The verdict is asked, the body
+    // run and the worker's thread made before the hold of the step, with no lock held.
     fn advance<R: Threads + Wait + Copy + Send + 'static>(
         &self,
         rt: R,
@@ -192,7 +199,7 @@ impl<
         }
     }
 
-    // What the policy, or the handler, says of a refused task.
+    // The verdict on a refused task: the policy's, or the handler's under `Policy::Own`.
     fn verdict<R: Wait>(&self, rt: &R, t: TaskId) -> Verdict {
         let shared = self.shared();
         match shared.policy {
@@ -207,7 +214,7 @@ impl<
         }
     }
 
-    // Has a worker made for this slot: whether one was.
+    // Has a worker made for this slot, and tells whether one was.
     pub(crate) fn staffed<R: Threads + Wait + Copy + Send + 'static>(
         &self,
         rt: R,
@@ -221,9 +228,9 @@ impl<
 }
 
 impl<G: PoolNaming + Send + Sync + 'static> PoolOf<G, Boxed, Boxes> {
-    /// Submits a plain task, as `execute`. Accepted, where the pool has the task; RanHere and Discarded by the
-    /// pool's policy. NoMemory (4) or BookFull (5), with the job and with nothing done; Rejected (12), with
-    /// the job; TornRecord (22), which does not come as long as the pool's book is sound.
+    /// Submits a plain task, as `ThreadPoolExecutor.execute`, in a box and with the answers of `execute_as`.
+    /// NoMemory (4) or BookFull (5), with the job and with nothing done; Rejected (12), with the job;
+    /// TornRecord (22), which does not come as long as the pool's book is sound.
     pub fn execute<R: Threads + Wait + Copy + Send + 'static>(
         &self,
         rt: R,
@@ -262,7 +269,8 @@ impl<G: PoolNaming, J: Job, E: Edge> Shared<G, J, E> {
         submitted
     }
 
-    /// Tells, in a hold of its own, whether a worker was made for this slot.
+    /// Tells, in a hold of its own, whether a worker was made for this slot, and wakes the threads that are
+    /// to hear of it.
     pub fn open<R: Wait>(
         &self,
         rt: &R,

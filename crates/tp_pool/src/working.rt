@@ -90,7 +90,7 @@ impl<
         self.shared.leave(rt, self.w, &mut self.pass)
     }
 
-    // The turn ends here: its thread has the other worker made right after it, and then ends the pool, so
+    // The turn ends here. Its thread has the other worker made right after it, and then ends the pool, so
     // that no turn starts a thread that makes turns.
     fn replace(&mut self, _rt: &R, w: SlotId) {
         self.heir = Some(w);
@@ -118,7 +118,8 @@ impl<G: PoolNaming + Send + Sync + 'static, J: Job + 'static, E: Edge + Send + S
         }
     }
 
-    /// Its turns, once its slot is live, and the slot that is reserved in its place where one is.
+    /// Makes its turns, once its slot is live, and answers the slot that is reserved in its place, where one
+    /// is.
     pub fn work<R: Threads + Wait + Copy + Send + 'static>(&mut self, rt: &R) -> Option<SlotId> {
         if !self.shared.await_start(rt, self.w, &self.pass) {
             return None;
@@ -131,7 +132,7 @@ impl<G: PoolNaming + Send + Sync + 'static, J: Job + 'static, E: Edge + Send + S
         unreachable!()
     }
 
-    /// Tells whether a worker was made in its place, and ends the pool, where it can end now.
+    /// Tells whether a worker was made in its place, and ends the pool where it can end now.
     pub fn hand_over<R: Wait>(&mut self, rt: &R, w: SlotId, staffed: bool)
         ensures told { IsAnswered (TaskOf J) G.config self.old.pass.number (opening w staffed) (λ _ _. ⊤) }
         ensures ends { EndsPool J G.config self.old.pass.number }
@@ -216,7 +217,8 @@ impl<G: PoolNaming, J: Drop, E: Edge> Shared<G, J, E> {
         self.release(core);
     }
 
-    // Sleeps until somebody took the worker off the list of those who sleep.
+    // Sleeps until another thread took the worker off the list of sleepers. Each wake is checked under the
+    // lock, since one may be left over from an earlier sleep.
     fn sleep<R: Wait>(&self, rt: &R, w: SlotId) {
         for _ in rt.forever() {
             if !self.hold(rt).is_asleep(w) {
@@ -251,7 +253,8 @@ impl<G: PoolNaming, J: Drop, E: Edge> Shared<G, J, E> {
         }
     }
 
-    // Waits until the thread of this slot and pass is told what became of it: whether it is live.
+    // Waits until the thread of this slot and pass is told whether its slot is live. It is told by its pass,
+    // since a slot that was given up may be reserved anew before this thread has looked.
     fn await_start<R: Wait>(&self, rt: &R, w: SlotId, pass: &WorkerPass<G>) -> bool {
         let mut core = self.hold(rt);
         for _ in rt.forever() {

@@ -20,22 +20,24 @@ use tp_types::ids::TaskId;
 use tp_types::refusals::PoolError;
 use tp_types::tasks::Kind;
 
-/// A completion service, as `ExecutorCompletionService`. Two of one number share one queue of done tasks.
+/// A completion service, as `ExecutorCompletionService`. A number names its group, and two services of one
+/// number share one queue of done tasks.
 #[derive(Clone, Copy, Debug, PartialEq, Eq)]
 pub struct CompletionService {
-    /// The group's number.
+    /// The group's number, any u32.
     pub group: u32,
 }
 
 impl CompletionService {
-    /// The service of this group.
+    /// Makes the service of this group. It takes no memory and makes no step.
     pub fn new(group: u32) -> CompletionService
         ensures { result.group ≡ group }
     {
         CompletionService { group }
     }
 
-    /// Submits a job of the group, and answers its number. Refused as `futures::submit`.
+    /// Submits a job of the group, as `CompletionService.submit`, and answers its task's number. Refused as
+    /// `futures::submit`: NoMemory (4), BookFull (5), Rejected (12) or TornRecord (22).
     pub fn submit<
         G: PoolNaming + Send + Sync + 'static,
         J: Job + 'static,
@@ -57,9 +59,11 @@ impl CompletionService {
         }
     }
 
-    /// Waits for the next done task, cancelled ones too, in the order of completion, as
-    /// `CompletionService.take`. NothingOpen (19) where the group has no done and no open task, where Java
-    /// would wait; NoMemory (4) for its receipt; BookFull (5).
+    /// Waits for the next done task and takes it, cancelled ones too, in the order of completion, as
+    /// `CompletionService.take`.
+    ///
+    /// NoMemory (4) for its receipt, else NothingOpen (19) where no task of the group is done and none is
+    /// open, at which Java waits, or BookFull (5). A refused call takes nothing and makes no step.
     pub fn take<G: PoolNaming, J: Job, E: Edge, R: Wait>(
         &self,
         pool: &PoolOf<G, J, E>,
@@ -73,8 +77,9 @@ impl CompletionService {
         pool.await_done(rt, self.group, pass)
     }
 
-    /// The next done task, as `CompletionService.poll`: None where there is none yet. NoMemory (4) for its
-    /// receipt, or BookFull (5).
+    /// Takes the next done task without waiting, as `CompletionService.poll`: None where no task of the group
+    /// is done. NoMemory (4) for its receipt, else BookFull (5). A call that is refused or answers None makes
+    /// no step.
     pub fn poll<G: PoolNaming, J: Job, E: Edge, R: Wait>(
         &self,
         pool: &PoolOf<G, J, E>,

@@ -1,4 +1,4 @@
-//! Jobs with a future, and what their futures answer.
+//! Jobs with a future, and the answers of their futures.
 ghost use Rattle.std.specs.Prelude.{◌≡◌, Some, None, IfOk, IfErr};
 ghost use Rattle.tp_types.specs.declared.tasks.Kind.TheVariants.{Future};
 ghost use Rattle.tp_locked.specs.Readings.{got, IsFound, IsResult};
@@ -19,7 +19,7 @@ use tp_types::ids::TaskId;
 use tp_types::refusals::PoolError;
 use tp_types::tasks::Kind;
 
-/// The task of a submission that was admitted, also a discarded one.
+/// The task of a submission that was admitted, also of a discarded one.
 pub(crate) fn task_of(admitted: Admitted) -> TaskId
     ensures { result ≡ task_of_admitted admitted }
 {
@@ -28,8 +28,10 @@ pub(crate) fn task_of(admitted: Admitted) -> TaskId
     }
 }
 
-/// Submits a job with a future, as `ExecutorService.submit`, and answers its number. NoMemory (4) or
-/// BookFull (5), with the job and with nothing done; Rejected (12), with the job; TornRecord (22).
+/// Submits a job with a future, as `ExecutorService.submit`, and answers its task's number, also where its
+/// submitter ran it or the policy discarded it. NoMemory (4) or BookFull (5), with the job and with nothing
+/// done; Rejected (12), with the job where it was not cancelled; TornRecord (22), which does not come as long
+/// as the pool's book is sound.
 pub fn submit<
     G: PoolNaming + Send + Sync + 'static,
     J: Job + 'static,
@@ -45,8 +47,11 @@ pub fn submit<
     }
 }
 
-/// Waits for a future's value, as `Future.get`. UnknownTask (6), NotFuture (9), CancelledTask (13),
-/// Faulted (14) with its code, or Lost (15) with the fate that its task came to instead.
+/// Waits until a future is not open any more, and answers its value, as `Future.get`. It makes no step.
+///
+/// UnknownTask (6) where no submission got this number; NotFuture (9) for a plain task; CancelledTask (13),
+/// as a `CancellationException`; Faulted (14) with the fault's code, as an `ExecutionException`; Lost (15)
+/// with the fate of a task that left without running, at which Java waits for ever.
 pub fn get<G: PoolNaming, J: Job, E: Edge, R: Wait>(
     pool: &PoolOf<G, J, E>,
     rt: &R,
@@ -57,8 +62,8 @@ pub fn get<G: PoolNaming, J: Job, E: Edge, R: Wait>(
     pool.await_result(rt, t, None)
 }
 
-/// As `get`, until now has reached this moment, in ticks, as `Future.get` with a timeout: TimedOut (16)
-/// then, only where the future is open.
+/// As `get`, but until now has reached this moment, in ticks, as `Future.get` with a timeout. TimedOut (16)
+/// comes then, and only while the future is open: a value that is there is worth more than a refusal.
 pub fn get_until<G: PoolNaming, J: Job, E: Edge, R: Wait>(
     pool: &PoolOf<G, J, E>,
     rt: &R,
@@ -70,7 +75,8 @@ pub fn get_until<G: PoolNaming, J: Job, E: Edge, R: Wait>(
     pool.await_result(rt, t, Some(deadline))
 }
 
-/// What a future answers now, as `Future.isDone` and then `get`: None while it is open. Refused as `get`.
+/// The answer of a future in one look, as `Future.isDone` and then `get`: None while it is open. Refused as
+/// `get`.
 pub fn try_get<G: PoolNaming, J: Job, E: Edge, R: Wait>(
     pool: &PoolOf<G, J, E>,
     rt: &R,

@@ -1,4 +1,5 @@
-//! Many jobs at once.
+//! Many jobs at once. A cancel that these calls ask for and that is refused is left undone: the answer of the
+//! call says nothing of it.
 ghost use Rattle.std.specs.Prelude.{◌≡◌, vec_len, All, Any, IsTrue, IfOk, IfErr, IfSome};
 ghost use Rattle.tp_locked.specs.declared.tasks.Task.{Task};
 ghost use Rattle.tp_service.specs.Futures.{later_fault as later_fault_of, HasValue, HaveFailed, IsClosed, IsLate};
@@ -16,7 +17,8 @@ use tp_pool::pool::PoolOf;
 use tp_types::ids::TaskId;
 use tp_types::refusals::PoolError;
 
-// Has a task cancelled with its flag, where its future is open. A cancel that is refused is left undone.
+// Has a task cancelled with its flag, where its future is open. Between the look and the cancel the task may
+// end: the cancel then has no effect. A cancel that is refused is left undone.
 fn cancel_open<G: PoolNaming, J: Job, E: Edge, R: Wait>(
     pool: &PoolOf<G, J, E>,
     rt: &R,
@@ -31,7 +33,7 @@ fn cancel_open<G: PoolNaming, J: Job, E: Edge, R: Wait>(
     let _ = pool.cancel(rt, t, true, pass);
 }
 
-// Those of these tasks.
+// Has each of these tasks cancelled likewise.
 fn cancel_all<G: PoolNaming, J: Job, E: Edge, R: Wait>(
     pool: &PoolOf<G, J, E>,
     rt: &R,
@@ -45,14 +47,14 @@ fn cancel_all<G: PoolNaming, J: Job, E: Edge, R: Wait>(
     }
 }
 
-// Waits until a future is not open.
+// Waits until a future is not open any more.
 fn await_closed<G: PoolNaming, J: Job, E: Edge, R: Wait>(pool: &PoolOf<G, J, E>, rt: &R, t: TaskId)
     ensures { IsClosed (Task J) G.config t }
 {
     let _ = pool.await_result(rt, t, None);
 }
 
-// Waits until none of these is open.
+// Waits until none of these futures is open.
 fn await_all<G: PoolNaming, J: Job, E: Edge, R: Wait>(
     pool: &PoolOf<G, J, E>,
     rt: &R,
@@ -65,7 +67,8 @@ fn await_all<G: PoolNaming, J: Job, E: Edge, R: Wait>(
     }
 }
 
-// Waits until a future is not open: whether that comes before now has reached the deadline.
+// Waits until a future is not open any more, and answers whether that comes before now has reached the
+// deadline.
 fn closes_by<G: PoolNaming, J: Job, E: Edge, R: Wait>(
     pool: &PoolOf<G, J, E>,
     rt: &R,
@@ -78,7 +81,7 @@ fn closes_by<G: PoolNaming, J: Job, E: Edge, R: Wait>(
     pool.await_result(rt, t, Some(deadline)) != Err(PoolError::TimedOut)
 }
 
-// Waits until none of these is open, or the deadline has come for one.
+// Waits until none of these futures is open, or the deadline has come for one of them.
 fn all_close_by<G: PoolNaming, J: Job, E: Edge, R: Wait>(
     pool: &PoolOf<G, J, E>,
     rt: &R,
@@ -96,7 +99,7 @@ fn all_close_by<G: PoolNaming, J: Job, E: Edge, R: Wait>(
     true
 }
 
-// The last fault, where this one came before this refusal.
+// The last fault so far, once this refusal came after that one.
 fn later_fault(before: Option<u32>, error: PoolError) -> Option<u32>
     ensures { result ≡ later_fault_of before error }
 {
@@ -106,7 +109,7 @@ fn later_fault(before: Option<u32>, error: PoolError) -> Option<u32>
     }
 }
 
-// What these futures come to together: the value of the first that has one; none while one is open; else
+// The answer of these futures together: the value of the first that has one; none while one is open; else
 // that all failed, with the last fault in their order.
 fn any_of<G: PoolNaming, J: Job, E: Edge, R: Wait>(
     pool: &PoolOf<G, J, E>,
@@ -133,7 +136,7 @@ fn any_of<G: PoolNaming, J: Job, E: Edge, R: Wait>(
 }
 
 // Waits until one of these futures has a value, or none is open. The record's length is read before each
-// look, so that no step falls between a look and the sleep unseen.
+// look, so that no step falls unseen between a look and the sleep.
 fn await_any<G: PoolNaming, J: Job, E: Edge, R: Wait>(
     pool: &PoolOf<G, J, E>,
     rt: &R,
@@ -152,8 +155,8 @@ fn await_any<G: PoolNaming, J: Job, E: Edge, R: Wait>(
     unreachable!()
 }
 
-// Submits jobs with futures in this order, the memory of the answer being taken first. Where one is
-// refused, the earlier ones are cancelled with their flags, and it and the later ones are dropped.
+// Submits jobs with futures in this order. The answer's memory is taken first. Where one is refused, the
+// earlier ones are cancelled with their flags, and it and the later ones are dropped.
 fn submit_all<
     G: PoolNaming + Send + Sync + 'static,
     J: Job + 'static,
@@ -186,9 +189,12 @@ fn submit_all<
     Ok(tasks)
 }
 
-/// Submits these jobs and waits until each is done or lost, as `ExecutorService.invokeAll`: their numbers,
-/// in the order given. NoMemory (4), BookFull (5), Rejected (12) or TornRecord (22) of a submission: the
-/// earlier jobs are then cancelled with their flags, and it and the later ones dropped.
+/// Submits these jobs in their order and waits until no future of theirs is open, as
+/// `ExecutorService.invokeAll`. The answer has their numbers, in the same order.
+///
+/// NoMemory (4) for the answer, before the first job is submitted. Else the first submission that is refused
+/// ends the call, with NoMemory (4), BookFull (5), Rejected (12) or TornRecord (22): the earlier jobs are
+/// cancelled with their flags where they are open, and it and the later ones are dropped.
 pub fn invoke_all<
     G: PoolNaming + Send + Sync + 'static,
     J: Job + 'static,
@@ -210,8 +216,9 @@ pub fn invoke_all<
     Ok(tasks)
 }
 
-/// As `invoke_all`, until now has reached this moment, in ticks: those that are open then are cancelled
-/// with their flags, and the numbers are answered.
+/// As `invoke_all`, but until now has reached this moment, in ticks, as `invokeAll` with a timeout. All jobs
+/// are submitted. The tasks that are open at the deadline are cancelled with their flags, and the numbers are
+/// answered. Refused as `invoke_all`.
 pub fn invoke_all_until<
     G: PoolNaming + Send + Sync + 'static,
     J: Job + 'static,
@@ -237,9 +244,12 @@ pub fn invoke_all_until<
     Ok(tasks)
 }
 
-/// Submits these jobs and waits for one that succeeds, as `ExecutorService.invokeAny`: its value; the rest
-/// are cancelled with their flags. NoTasks (17) of no jobs; AllFailed (18) where none succeeded, with the
-/// last fault in the order given; a refused submission as in `invoke_all`.
+/// Submits these jobs in their order, waits for one that succeeds, and answers its value, as
+/// `ExecutorService.invokeAny`. The other tasks are cancelled with their flags where they are open.
+///
+/// NoTasks (17) of no jobs; AllFailed (18) where none succeeded, with the last fault in the order given, if
+/// there was one; else a refused submission, as in `invoke_all`: NoMemory (4), BookFull (5), Rejected (12) or
+/// TornRecord (22).
 pub fn invoke_any<
     G: PoolNaming + Send + Sync + 'static,
     J: Job + 'static,

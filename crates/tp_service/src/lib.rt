@@ -1,5 +1,5 @@
-//! Futures for a pool's callers: what `ExecutorService`, `FutureTask` and `ExecutorCompletionService`
-//! offer above a pool.
+//! Futures for a pool's callers, after `ExecutorService`, `FutureTask` and `ExecutorCompletionService`. Each
+//! call takes the pool first, and its caller's pass last where it makes steps.
 #![tactic(auto)]
 
 pub mod completions;

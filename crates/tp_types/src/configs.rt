@@ -1,4 +1,4 @@
-//! A pool's configuration and the ranges that it has to keep.
+//! A pool's configuration, and the ranges that its settings have to keep.
 ghost use Rattle.std.specs.Prelude.{◌≡◌, ◌↔◌};
 ghost use Rattle.tp_types.specs.Policy.{policy_name, PoliciesAreDistinct};
 ghost use Rattle.tp_types.specs.Verdict.{verdict_name, VerdictsAreDistinct};
@@ -7,22 +7,22 @@ ghost use Rattle.tp_types.specs.Config.{IsConfig, HasBadSizes, HasBadCapacity, H
 use crate::limits::{MAX_CAPACITY, MAX_RECORD_LIMIT, MAX_WORKERS, MIN_RECORD_LIMIT};
 use crate::refusals::PoolError;
 
-/// Where tasks wait for a worker.
+/// The kind of the queue in which tasks wait for a worker.
 #[derive(Clone, Copy, Debug, PartialEq, Eq, Hash)]
 pub enum QueueKind {
     /// No places: a task is handed to an idle worker, as in a `SynchronousQueue`.
     Handoff,
-    /// Room always, as in a `LinkedBlockingQueue`.
+    /// Always room, as in a `LinkedBlockingQueue`.
     Unbounded,
-    /// So many places for tasks, as in an `ArrayBlockingQueue`: 1 to 65,536, else refusal 2.
+    /// So many places for tasks, as in an `ArrayBlockingQueue`: 1 to 65,536, else BadCapacity (2).
     Bounded(u32),
 }
 
-/// What becomes of a task that the pool cannot take, as the `RejectedExecutionHandler` given to a
-/// `ThreadPoolExecutor` decides.
+/// The rule for tasks that the pool cannot take, as the `RejectedExecutionHandler` given to a
+/// `ThreadPoolExecutor`.
 #[derive(Clone, Copy, Debug, PartialEq, Eq, Hash)]
 pub enum Policy {
-    /// It is rejected, with refusal 12, as by `AbortPolicy`.
+    /// It is rejected, with Rejected (12), as by `AbortPolicy`.
     Abort,
     /// Its submitter runs it, as by `CallerRunsPolicy`; once the pool is shut down it is dropped.
     CallerRuns,
@@ -31,49 +31,49 @@ pub enum Policy {
     /// The head of the queue is dropped and the task is offered again, as by `DiscardOldestPolicy`,
     /// at most 64 times for one task; once the pool is shut down the task itself is dropped.
     DiscardOldest,
-    /// A handler of the caller's answers a verdict each time, as a `RejectedExecutionHandler` of
-    /// one's own.
+    /// A handler of the caller's answers a verdict each time, as a `RejectedExecutionHandler` of one's own.
     Own,
 }
 
-/// What is said of one task that the pool cannot take: the policy, or the answer of the caller's
-/// handler under `Policy::Own`.
+/// The ruling on one task that the pool cannot take: the policy's, or the answer of the caller's handler
+/// under `Policy::Own`.
 #[derive(Clone, Copy, Debug, PartialEq, Eq, Hash)]
 pub enum Verdict {
-    /// It is rejected.
+    /// It is rejected, with Rejected (12).
     Abort,
-    /// Its submitter runs it.
+    /// Its submitter runs it; once the pool is shut down it is dropped.
     CallerRuns,
     /// It is dropped.
     Discard,
-    /// The head of the queue is dropped, and it is offered again.
+    /// The head of the queue is dropped, and the task is offered again; once the pool is shut down, after 64
+    /// times, or without room in the record, the task itself is dropped.
     DiscardOldest,
 }
 
-/// A pool's settings at its start, as the arguments of a `ThreadPoolExecutor`'s constructor. A value
-/// may have any numbers: `check` says whether a pool can start with them.
+/// A pool's settings at its start, as the arguments of a `ThreadPoolExecutor`'s constructor. A value may have
+/// any numbers: `check` says whether a pool can start with them.
 #[derive(Clone, Copy, Debug, PartialEq, Eq, Hash)]
 pub struct Config {
-    /// The core size in workers, as `corePoolSize`: 0 to the maximum, else refusal 1.
+    /// The core size, in workers, as `corePoolSize`: 0 to the maximum, else BadSizes (1).
     pub core: u32,
-    /// The maximum size in workers, as `maximumPoolSize`: 1 to 1,024, else refusal 1.
+    /// The maximum size, in workers, as `maximumPoolSize`: 1 to 1,024, else BadSizes (1).
     pub maximum: u32,
     /// The work queue, as `workQueue`.
     pub queue: QueueKind,
-    /// How long a worker may be idle, in ticks, as `keepAliveTime`: any number, but not 0 where
-    /// core workers time out.
+    /// The time that a worker may be idle, in ticks, as `keepAliveTime`: any number, but for 0 where core
+    /// workers time out, which is KeepZero (11).
     pub keep: u64,
     /// Whether core workers time out too, as `allowCoreThreadTimeOut`: with a keep-alive of 0 it is
-    /// refusal 11.
+    /// KeepZero (11).
     pub core_timeout: bool,
     /// The rejection policy, as `handler`.
     pub policy: Policy,
-    /// How many entries the record may have: 64 to 1,048,576, else refusal 3.
+    /// The record's limit, in entries: 64 to 1,048,576, else BadLimit (3). Java keeps no record.
     pub record_limit: u32,
 }
 
 impl QueueKind {
-    /// Whether a queue may have so many places: a bounded one 1 to 65,536.
+    /// Whether a queue may have so many places: 1 to 65,536 where it is bounded.
     pub fn is_good_capacity(self) -> bool
         ensures { result ≡ is_good_capacity self }
     {
@@ -85,7 +85,7 @@ impl QueueKind {
 }
 
 impl Policy {
-    /// What texts call the policy: `abort`, `callerruns`, `discard`, `discardoldest` or `own`.
+    /// The policy's name in texts: `abort`, `callerruns`, `discard`, `discardoldest` or `own`.
     pub fn name(self) -> &'static str
         ensures { result.now ≡ policy_name self }
     {
@@ -100,7 +100,7 @@ impl Policy {
 }
 
 impl Verdict {
-    /// What texts call the verdict: `abort`, `callerruns`, `discard` or `discardoldest`.
+    /// The verdict's name in texts: `abort`, `callerruns`, `discard` or `discardoldest`.
     pub fn name(self) -> &'static str
         ensures { result.now ≡ verdict_name self }
     {
@@ -124,9 +124,9 @@ pub fn verdicts_are_distinct()
 {}
 
 impl Config {
-    /// Refuses settings that no pool can have: 1 `BadSizes`, 2 `BadCapacity`, 3 `BadLimit` or
-    /// 11 `KeepZero`, the first of them that applies, as the constructors of
-    /// `ThreadPoolExecutor` throw `IllegalArgumentException`.
+    /// Refuses settings that no pool can have, as `ThreadPoolExecutor`'s constructor with its
+    /// `IllegalArgumentException`. The first of these that applies is answered: BadSizes (1),
+    /// BadCapacity (2), BadLimit (3) or KeepZero (11).
     pub fn check(&self) -> Result<(), PoolError>
         ensures computed { result ≡ checked self.now }
 
@@ -156,8 +156,8 @@ impl Config {
     }
 }
 
-/// Whether a pool may have this core size beside this maximum, both in workers: the maximum is 1 to
-/// 1,024, and the core size 0 to the maximum.
+/// Whether a pool may have this core size beside this maximum, both in workers: the maximum is 1 to 1,024,
+/// and the core size 0 to the maximum.
 pub fn are_good_sizes(core: u32, maximum: u32) -> bool
     ensures { result ≡ are_good_sizes core maximum }
 {
@@ -171,8 +171,7 @@ pub fn is_good_limit(entries: u32) -> bool
     MIN_RECORD_LIMIT <= entries && entries <= MAX_RECORD_LIMIT
 }
 
-/// Whether a keep-alive, in ticks, goes with this choice on core workers: it is not 0 where they
-/// time out.
+/// Whether a keep-alive, in ticks, goes with this choice on core workers: it is not 0 where they time out.
 pub fn is_good_keep(keep: u64, core_timeout: bool) -> bool
     ensures { result ≡ is_good_keep keep core_timeout }
 {
