@@ -5,8 +5,8 @@
 
 Read are Markdown links, with their anchors, and what stands in backticks and looks like a path of the repository:
 it begins with a folder or a file at its top, or it is a crate's name such as `tp_pool`. NAME, `*` and `..` in a
-path stand for anything, and a word that git ignores is taken as made by a run. Code blocks are not read. The
-status is 1 where something is missing, and each line says FILE:LINE and what it names.
+path stand for anything; `out` is made by a run, and a crate that a page makes by `rt new` by its reader. Code blocks
+are not read. The status is 1 where something is missing, and each line says FILE:LINE and what it names.
 """
 import argparse
 import glob
@@ -68,6 +68,7 @@ def stands(root, word):
 
 
 def faults(root, page, tops, crates):
+    made = tuple(name + "/" for name in re.findall(r"^\s*rt new (\S+)", page.read_text(), re.M))
     for number, line in lines_of(page.read_text()):
         for target in LINK.findall(line):
             if not leads_somewhere(root, page, target):
@@ -75,7 +76,7 @@ def faults(root, page, tops, crates):
         for word in QUOTED.findall(line):
             word = word.split("::")[0]
             if is_path(word, tops):
-                if not stands(root, word):
+                if not word.startswith(made) and not stands(root, word):
                     yield number, "the file " + word
             elif CRATE.match(word.split("/")[0]) and word.split("/")[0] not in crates:
                 yield number, "the crate " + word
