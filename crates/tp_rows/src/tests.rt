@@ -2,7 +2,7 @@
 
 ghost use Rattle.std.specs.Prelude.{◌≤◌, length};
 
-use std::process::Abort;
+use std::alloc::{AllocError, Global};
 use std::test::Fail;
 use tp_plain::answer::answer;
 use tp_plain::build::snapshot;
@@ -23,11 +23,6 @@ use tp_types::refusals::PoolError;
 use tp_types::states::Counts;
 use tp_types::tasks::{Fate, Kind, Place};
 
-/// The entry of pass 0 with this ask and this answer.
-fn entry((ask, did): (Ask, Did)) -> Entry {
-    Entry { by: 0, ask, did }
-}
-
 /// A core worker, a worker more, one place in the queue, and refused tasks are rejected.
 const GROWING: Config = Config {
     core: 1,
@@ -40,46 +35,43 @@ const GROWING: Config = Config {
 };
 
 /// Four submissions: one held for the core, one queued, one held up to the maximum, one rejected.
-fn rejected() -> [Entry; 11] {
-    [
-        (
-            Ask::Submit(Kind::Plain),
-            Did::Submit(TaskId(0), Kind::Plain, Looked::Reserve(SlotId(0))),
-        ),
-        (
-            Ask::Submit(Kind::Plain),
-            Did::Submit(TaskId(1), Kind::Plain, Looked::Queue),
-        ),
-        (
-            Ask::Offer(TaskId(1)),
-            Did::Offer(TaskId(1), Offered::Queued),
-        ),
-        (
-            Ask::Second(TaskId(1)),
-            Did::Second(TaskId(1), Seconded::Stay),
-        ),
-        (
-            Ask::Submit(Kind::Plain),
-            Did::Submit(TaskId(2), Kind::Plain, Looked::Queue),
-        ),
-        (Ask::Offer(TaskId(2)), Did::Offer(TaskId(2), Offered::Full)),
-        (
-            Ask::Grow(TaskId(2)),
-            Did::Grow(TaskId(2), Grown::Reserve(SlotId(1))),
-        ),
-        (
-            Ask::Submit(Kind::Plain),
-            Did::Submit(TaskId(3), Kind::Plain, Looked::Queue),
-        ),
-        (Ask::Offer(TaskId(3)), Did::Offer(TaskId(3), Offered::Full)),
-        (Ask::Grow(TaskId(3)), Did::Grow(TaskId(3), Grown::Refuse)),
-        (
-            Ask::Verdict(TaskId(3), Verdict::Abort),
-            Did::Verdict(TaskId(3), Verdict::Abort, Ruled::Rejected),
-        ),
-    ]
-    .map(entry)
-}
+const REJECTED: [(Ask, Did); 11] = [
+    (
+        Ask::Submit(Kind::Plain),
+        Did::Submit(TaskId(0), Kind::Plain, Looked::Reserve(SlotId(0))),
+    ),
+    (
+        Ask::Submit(Kind::Plain),
+        Did::Submit(TaskId(1), Kind::Plain, Looked::Queue),
+    ),
+    (
+        Ask::Offer(TaskId(1)),
+        Did::Offer(TaskId(1), Offered::Queued),
+    ),
+    (
+        Ask::Second(TaskId(1)),
+        Did::Second(TaskId(1), Seconded::Stay),
+    ),
+    (
+        Ask::Submit(Kind::Plain),
+        Did::Submit(TaskId(2), Kind::Plain, Looked::Queue),
+    ),
+    (Ask::Offer(TaskId(2)), Did::Offer(TaskId(2), Offered::Full)),
+    (
+        Ask::Grow(TaskId(2)),
+        Did::Grow(TaskId(2), Grown::Reserve(SlotId(1))),
+    ),
+    (
+        Ask::Submit(Kind::Plain),
+        Did::Submit(TaskId(3), Kind::Plain, Looked::Queue),
+    ),
+    (Ask::Offer(TaskId(3)), Did::Offer(TaskId(3), Offered::Full)),
+    (Ask::Grow(TaskId(3)), Did::Grow(TaskId(3), Grown::Refuse)),
+    (
+        Ask::Verdict(TaskId(3), Verdict::Abort),
+        Did::Verdict(TaskId(3), Verdict::Abort, Ruled::Rejected),
+    ),
+];
 
 /// One worker, one place in the queue, and the oldest task gives way.
 const OLDEST: Config = Config {
@@ -93,225 +85,400 @@ const OLDEST: Config = Config {
 };
 
 /// Three submissions, the last of which drops the second from the queue.
-fn dropped() -> [Entry; 11] {
-    [
-        (
-            Ask::Submit(Kind::Plain),
-            Did::Submit(TaskId(0), Kind::Plain, Looked::Reserve(SlotId(0))),
+const DROPPED: [(Ask, Did); 11] = [
+    (
+        Ask::Submit(Kind::Plain),
+        Did::Submit(TaskId(0), Kind::Plain, Looked::Reserve(SlotId(0))),
+    ),
+    (
+        Ask::Submit(Kind::Plain),
+        Did::Submit(TaskId(1), Kind::Plain, Looked::Queue),
+    ),
+    (
+        Ask::Offer(TaskId(1)),
+        Did::Offer(TaskId(1), Offered::Queued),
+    ),
+    (
+        Ask::Second(TaskId(1)),
+        Did::Second(TaskId(1), Seconded::Stay),
+    ),
+    (
+        Ask::Submit(Kind::Plain),
+        Did::Submit(TaskId(2), Kind::Plain, Looked::Queue),
+    ),
+    (Ask::Offer(TaskId(2)), Did::Offer(TaskId(2), Offered::Full)),
+    (Ask::Grow(TaskId(2)), Did::Grow(TaskId(2), Grown::Refuse)),
+    (
+        Ask::Verdict(TaskId(2), Verdict::DiscardOldest),
+        Did::Verdict(
+            TaskId(2),
+            Verdict::DiscardOldest,
+            Ruled::RetryDrop(TaskId(1)),
         ),
-        (
-            Ask::Submit(Kind::Plain),
-            Did::Submit(TaskId(1), Kind::Plain, Looked::Queue),
-        ),
-        (
-            Ask::Offer(TaskId(1)),
-            Did::Offer(TaskId(1), Offered::Queued),
-        ),
-        (
-            Ask::Second(TaskId(1)),
-            Did::Second(TaskId(1), Seconded::Stay),
-        ),
-        (
-            Ask::Submit(Kind::Plain),
-            Did::Submit(TaskId(2), Kind::Plain, Looked::Queue),
-        ),
-        (Ask::Offer(TaskId(2)), Did::Offer(TaskId(2), Offered::Full)),
-        (Ask::Grow(TaskId(2)), Did::Grow(TaskId(2), Grown::Refuse)),
-        (
-            Ask::Verdict(TaskId(2), Verdict::DiscardOldest),
-            Did::Verdict(
-                TaskId(2),
-                Verdict::DiscardOldest,
-                Ruled::RetryDrop(TaskId(1)),
-            ),
-        ),
-        (Ask::Look(TaskId(2)), Did::Look(TaskId(2), Looked::Queue)),
-        (
-            Ask::Offer(TaskId(2)),
-            Did::Offer(TaskId(2), Offered::Queued),
-        ),
-        (
-            Ask::Second(TaskId(2)),
-            Did::Second(TaskId(2), Seconded::Stay),
-        ),
-    ]
-    .map(entry)
-}
+    ),
+    (Ask::Look(TaskId(2)), Did::Look(TaskId(2), Looked::Queue)),
+    (
+        Ask::Offer(TaskId(2)),
+        Did::Offer(TaskId(2), Offered::Queued),
+    ),
+    (
+        Ask::Second(TaskId(2)),
+        Did::Second(TaskId(2), Seconded::Stay),
+    ),
+];
 
 /// Three futures: one answers 5, one faults with 4, one is cancelled before anybody takes it.
-fn futures() -> [Entry; 13] {
-    let w = SlotId(0);
-    let first = TaskId(0);
-    let second = TaskId(1);
-    let third = TaskId(2);
-    [
-        (
-            Ask::Submit(Kind::Future),
-            Did::Submit(first, Kind::Future, Looked::Reserve(w)),
-        ),
-        (
-            Ask::Submit(Kind::Future),
-            Did::Submit(second, Kind::Future, Looked::Queue),
-        ),
-        (Ask::Offer(second), Did::Offer(second, Offered::Queued)),
-        (Ask::Second(second), Did::Second(second, Seconded::Stay)),
-        (
-            Ask::Submit(Kind::Future),
-            Did::Submit(third, Kind::Future, Looked::Queue),
-        ),
-        (Ask::Cancel(third, false), Did::Cancel(third, false, true)),
-        (Ask::Open(w), Did::Open(w, Opened::Live)),
-        (Ask::Take(w), Did::Take(w, Took::Held(first))),
-        (Ask::Begin(w), Did::Begin(w, Started::Run(first))),
-        (Ask::End(w, Ok(5)), Did::End(w, first, Ok(5))),
-        (Ask::Take(w), Did::Take(w, Took::Head(second))),
-        (Ask::Begin(w), Did::Begin(w, Started::Run(second))),
-        (Ask::End(w, Err(4)), Did::End(w, second, Err(4))),
-    ]
-    .map(entry)
+const FUTURES: [(Ask, Did); 13] = [
+    (
+        Ask::Submit(Kind::Future),
+        Did::Submit(TaskId(0), Kind::Future, Looked::Reserve(SlotId(0))),
+    ),
+    (
+        Ask::Submit(Kind::Future),
+        Did::Submit(TaskId(1), Kind::Future, Looked::Queue),
+    ),
+    (
+        Ask::Offer(TaskId(1)),
+        Did::Offer(TaskId(1), Offered::Queued),
+    ),
+    (
+        Ask::Second(TaskId(1)),
+        Did::Second(TaskId(1), Seconded::Stay),
+    ),
+    (
+        Ask::Submit(Kind::Future),
+        Did::Submit(TaskId(2), Kind::Future, Looked::Queue),
+    ),
+    (
+        Ask::Cancel(TaskId(2), false),
+        Did::Cancel(TaskId(2), false, true),
+    ),
+    (Ask::Open(SlotId(0)), Did::Open(SlotId(0), Opened::Live)),
+    (
+        Ask::Take(SlotId(0)),
+        Did::Take(SlotId(0), Took::Held(TaskId(0))),
+    ),
+    (
+        Ask::Begin(SlotId(0)),
+        Did::Begin(SlotId(0), Started::Run(TaskId(0))),
+    ),
+    (
+        Ask::End(SlotId(0), Ok(5)),
+        Did::End(SlotId(0), TaskId(0), Ok(5)),
+    ),
+    (
+        Ask::Take(SlotId(0)),
+        Did::Take(SlotId(0), Took::Head(TaskId(1))),
+    ),
+    (
+        Ask::Begin(SlotId(0)),
+        Did::Begin(SlotId(0), Started::Run(TaskId(1))),
+    ),
+    (
+        Ask::End(SlotId(0), Err(4)),
+        Did::End(SlotId(0), TaskId(1), Err(4)),
+    ),
+];
+
+/// What is told of a task, whose number is its index in a list of these.
+struct Task {
+    place: Place,
+    fate: Option<Fate>,
+    result: Option<Result<i64, PoolError>>,
+    retries: u32,
 }
 
-#[test]
-fn rejected_submission(rt: HostRuntime) {
-    let entries = &rejected();
-    assert_eq!(rt; rank(entries), 0);
-    assert_eq!(rt; core(entries, 1), 1);
-    assert_eq!(rt; moment(entries), 0);
-    assert_eq!(rt; place(entries, TaskId(0)), Place::Held(SlotId(0)));
-    assert_eq!(rt; place(entries, TaskId(1)), Place::Queued);
-    assert_eq!(rt; place(entries, TaskId(2)), Place::Held(SlotId(1)));
-    assert_eq!(rt; place(entries, TaskId(3)), Place::Gone);
-    assert_eq!(rt; fate(entries, TaskId(0)), None);
-    assert_eq!(rt; fate(entries, TaskId(1)), None);
-    assert_eq!(rt; fate(entries, TaskId(2)), None);
-    assert_eq!(rt; fate(entries, TaskId(3)), Some(Fate::Rejected));
-    assert_eq!(rt; result(entries, TaskId(0)), None);
-    assert_eq!(rt;
-        result(entries, TaskId(3)),
-        Some(Err(PoolError::Lost(Fate::Rejected)))
-    );
-    assert_eq!(rt; kind(entries, TaskId(3)), Kind::Plain);
-    assert!(rt; !is_cancelled(entries, TaskId(3)));
-    let row = SlotRow {
-        stage: Stage::ReservedMaximum,
-        task: Some(TaskId(2)),
-    };
-    assert_eq!(rt; slot_row(entries, SlotId(1)), Some(row));
+/// What is told of the pool at the end of a record whose tasks are all plain, and of which none was cancelled or ended.
+struct End {
+    record: &'static [(Ask, Did)],
+    config: Config,
+    tasks: &'static [Task],
+    slots: &'static [Option<SlotRow>],
+    queue: &'static [u32],
+    counts: Counts,
+    owed: u64,
 }
 
-#[test]
-fn rejected_submission_is_not_queued(rt: HostRuntime) -> Result<(), Fail> {
-    let queue = queue(rt.alloc(), &rejected())?;
-    assert_eq!(rt; queue.as_slice(), [1].as_slice());
-    Ok(())
+const HELD_FOR_CORE: Option<SlotRow> = Some(SlotRow {
+    stage: Stage::ReservedCore,
+    task: Some(TaskId(0)),
+});
+
+const HELD_UP_TO_MAXIMUM: Option<SlotRow> = Some(SlotRow {
+    stage: Stage::ReservedMaximum,
+    task: Some(TaskId(2)),
+});
+
+/// A task of which nothing is decided yet.
+const OPEN: Task = Task {
+    place: Place::Queued,
+    fate: None,
+    result: None,
+    retries: 0,
+};
+
+const NONE: Counts = Counts {
+    submitted: 0,
+    run: 0,
+    caller: 0,
+    rejected: 0,
+    discarded: 0,
+    handedback: 0,
+    removed: 0,
+    cancelled: 0,
+    completed: 0,
+    queued: 0,
+    live: 0,
+    largest: 0,
+};
+
+const ENDS: [End; 2] = [
+    End {
+        record: &REJECTED,
+        config: GROWING,
+        tasks: &[
+            Task {
+                place: Place::Held(SlotId(0)),
+                ..OPEN
+            },
+            OPEN,
+            Task {
+                place: Place::Held(SlotId(1)),
+                ..OPEN
+            },
+            Task {
+                place: Place::Gone,
+                fate: Some(Fate::Rejected),
+                result: Some(Err(PoolError::Lost(Fate::Rejected))),
+                retries: 0,
+            },
+        ],
+        slots: &[HELD_FOR_CORE, HELD_UP_TO_MAXIMUM],
+        queue: &[1],
+        counts: Counts {
+            submitted: 4,
+            rejected: 1,
+            queued: 1,
+            ..NONE
+        },
+        // 9 and 3 for the task and the slot of the core, 5 and 3 for those up to the maximum, 6 for the queued task, and 4
+        // for the pool.
+        owed: 30,
+    },
+    End {
+        record: &DROPPED,
+        config: OLDEST,
+        tasks: &[
+            Task {
+                place: Place::Held(SlotId(0)),
+                ..OPEN
+            },
+            Task {
+                place: Place::Gone,
+                fate: Some(Fate::Discarded),
+                result: Some(Err(PoolError::Lost(Fate::Discarded))),
+                retries: 0,
+            },
+            Task { retries: 1, ..OPEN },
+        ],
+        slots: &[HELD_FOR_CORE],
+        queue: &[2],
+        counts: Counts {
+            submitted: 3,
+            discarded: 1,
+            queued: 1,
+            ..NONE
+        },
+        // 9 and 3 for the task and the slot of the core, 6 for the queued task, and 4 for the pool.
+        owed: 22,
+    },
+];
+
+/// The entries of pass 0 with these asks and answers.
+fn entries_of(alloc: Global, record: &[(Ask, Did)]) -> Result<Vec<Entry>, AllocError> {
+    let mut entries = Vec::new(alloc);
+    for (ask, did) in record {
+        entries.push(Entry {
+            by: 0,
+            ask: *ask,
+            did: *did,
+        })?;
+    }
+    Ok(entries)
 }
 
-#[test]
-fn rejected_submission_is_counted(rt: HostRuntime) -> Result<(), Fail> {
-    let entries = &rejected();
-    let expected = Counts {
-        submitted: 4,
-        rejected: 1,
-        queued: 1,
-        ..Counts::default()
-    };
-    assert_eq!(rt; counts(rt.alloc(), &GROWING, entries)?, expected);
-    // 9 and 3 for the task and the slot of the core, 5 and 3 for those up to the maximum, 6 for the queued task, and 4
-    // for the pool.
-    assert_eq!(rt; owed(rt.alloc(), &GROWING, entries)?, 30);
-    Ok(())
-}
-
-#[test]
-fn dropped_oldest(rt: HostRuntime) {
-    let entries = &dropped();
-    assert_eq!(rt; rank(entries), 0);
-    assert_eq!(rt; place(entries, TaskId(1)), Place::Gone);
-    assert_eq!(rt; place(entries, TaskId(2)), Place::Queued);
-    assert_eq!(rt; fate(entries, TaskId(0)), None);
-    assert_eq!(rt; fate(entries, TaskId(1)), Some(Fate::Discarded));
-    assert_eq!(rt; fate(entries, TaskId(2)), None);
-    assert_eq!(rt; retries(entries, TaskId(2)), 1);
-}
-
-#[test]
-fn dropped_oldest_leaves_the_queue(rt: HostRuntime) -> Result<(), Fail> {
-    let entries = &dropped();
-    let queue = queue(rt.alloc(), entries)?;
-    assert_eq!(rt; queue.as_slice(), [2].as_slice());
-    let tasks = tasks(rt.alloc(), entries)?;
-    assert_eq!(rt; tasks.len(), 3);
-    assert_eq!(rt; tasks[1], task_row(entries, TaskId(1)));
-    Ok(())
-}
-
-#[test]
-fn dropped_oldest_opens_no_slot(rt: HostRuntime) -> Result<(), Fail> {
-    let entries = &dropped();
-    assert_eq!(rt; slots(rt.alloc(), entries)?.len(), 1);
-    assert!(rt; idling(rt.alloc(), entries)?.is_empty());
-    assert!(rt; done(rt.alloc(), entries)?.is_empty());
-    Ok(())
-}
-
-#[test]
-fn dropped_oldest_is_counted(rt: HostRuntime) -> Result<(), Fail> {
-    let entries = &dropped();
-    assert_eq!(rt; live(rt.alloc(), entries)?, 0);
-    assert_eq!(rt; largest(rt.alloc(), entries)?, 0);
-    let expected = Counts {
-        submitted: 3,
-        discarded: 1,
-        queued: 1,
-        ..Counts::default()
-    };
-    assert_eq!(rt; counts(rt.alloc(), &OLDEST, entries)?, expected);
-    // 9 and 3 for the task and the slot of the core, 6 for the queued task, and 4 for the pool.
-    assert_eq!(rt; owed(rt.alloc(), &OLDEST, entries)?, 22);
-    Ok(())
-}
-
-/// The step answers each entry's ask at the front before it with the entry's answer.
-fn answers_each(rt: &(impl Abort + AllocGlobal), config: &Config, entries: &[Entry])
+/// Whether this is told of a plain task that was not cancelled.
+fn is_told(entries: &[Entry], t: TaskId, task: &Task) -> bool
     requires { length entries.now ≤ 1048576 }
 {
-    for i in 0..entries.len() {
-        let answered = answer(rt.alloc(), config, &entries[..i], entries[i].ask);
-        assert_eq!(rt; answered, Ok(entries[i].did));
+    place(entries, t) == task.place
+        && fate(entries, t) == task.fate
+        && result(entries, t) == task.result
+        && retries(entries, t) == task.retries
+        && kind(entries, t) == Kind::Plain
+        && !is_cancelled(entries, t)
+}
+
+/// Whether the tables of tasks are these.
+fn has_tasks(alloc: Global, entries: &[Entry], expected: &[Task]) -> Result<bool, Fail>
+    requires { length entries.now ≤ 1048576 }
+{
+    let rows = tasks(alloc, entries)?;
+    let mut number = 0u32;
+    for task in expected {
+        let t = TaskId(number);
+        if !is_told(entries, t, task) || rows.get(number as usize) != Some(&task_row(entries, t)) {
+            return Ok(false);
+        }
+        number = number.wrapping_add(1);
     }
+    Ok(rows.len() == expected.len())
+}
+
+/// Whether the tables of slots are these, none of them live, idle or done.
+fn has_slots(alloc: Global, entries: &[Entry], expected: &[Option<SlotRow>]) -> Result<bool, Fail> {
+    for (number, row) in expected.iter().enumerate() {
+        if slot_row(entries, SlotId(number)) != *row {
+            return Ok(false);
+        }
+    }
+    Ok(
+        slots(alloc, entries)?.as_slice() == expected
+            && idling(alloc, entries)?.is_empty()
+            && done(alloc, entries)?.is_empty()
+            && live(alloc, entries)? == 0
+            && largest(alloc, entries)? == 0,
+    )
+}
+
+/// What is told otherwise at the end of a record.
+fn told_otherwise(alloc: Global, end: &End) -> Result<Option<&'static str>, Fail> {
+    let entries = &entries_of(alloc, end.record)?;
+    if entries.len() > 1_048_576 {
+        return Ok(Some("length"));
+    }
+    if rank(entries) != 0 || moment(entries) != 0 || core(entries, 1) != 1 {
+        return Ok(Some("pool"));
+    }
+    if !has_tasks(alloc, entries, end.tasks)? {
+        return Ok(Some("tasks"));
+    }
+    if !has_slots(alloc, entries, end.slots)? {
+        return Ok(Some("slots"));
+    }
+    if queue(alloc, entries)?.as_slice() != end.queue {
+        return Ok(Some("queue"));
+    }
+    if counts(alloc, &end.config, entries)? != end.counts {
+        return Ok(Some("counts"));
+    }
+    if owed(alloc, &end.config, entries)? != end.owed {
+        return Ok(Some("owed"));
+    }
+    Ok(None)
 }
 
 #[test]
-fn answers_each_entry(rt: HostRuntime) {
-    answers_each(&rt, &GROWING, &rejected());
-    answers_each(&rt, &GROWING, &futures());
-    answers_each(&rt, &OLDEST, &dropped());
-    assert_eq!(rt;
-        answer(rt.alloc(), &OLDEST, &dropped(), Ask::Offer(TaskId(9))),
-        Err(PoolError::UnknownTask)
-    );
-}
-
-#[test]
-fn next_counts_the_same(rt: HostRuntime) -> Result<(), Fail> {
-    let entries = &rejected();
-    let before = snapshot(rt.alloc(), &GROWING, &entries[..10])?;
-    let after = next(rt.alloc(), &before, entries[10].did)?;
-    assert_eq!(rt; counts_of(&after), counts(rt.alloc(), &GROWING, entries)?);
+fn ends_of_worked_records(rt: HostRuntime) -> Result<(), Fail> {
+    for end in &ENDS {
+        assert_eq!(rt; told_otherwise(rt.alloc(), end)?, None);
+    }
     Ok(())
 }
 
+/// The answer to an ask behind a record, unless the record is too long.
+fn answer_behind(
+    alloc: Global,
+    config: &Config,
+    entries: &[Entry],
+    ask: Ask,
+) -> Option<Result<Did, PoolError>> {
+    if entries.len() > 1_048_576 {
+        return None;
+    }
+    Some(answer(alloc, config, entries, ask))
+}
+
+/// The first entry whose ask is answered otherwise at the front before it.
+fn first_answered_otherwise(
+    alloc: Global,
+    config: &Config,
+    record: &[(Ask, Did)],
+) -> Result<Option<usize>, Fail> {
+    let entries = entries_of(alloc, record)?;
+    for (i, entry) in entries.iter().enumerate() {
+        if answer_behind(alloc, config, &entries[..i], entry.ask) != Some(Ok(entry.did)) {
+            return Ok(Some(i));
+        }
+    }
+    Ok(None)
+}
+
+const RECORDS: [(Config, &[(Ask, Did)]); 3] = [
+    (GROWING, &REJECTED),
+    (GROWING, &FUTURES),
+    (OLDEST, &DROPPED),
+];
+
 #[test]
-fn results(rt: HostRuntime) {
-    let entries = &futures();
-    assert_eq!(rt; result(entries, TaskId(0)), Some(Ok(5)));
-    assert_eq!(rt;
-        result(entries, TaskId(1)),
-        Some(Err(PoolError::Faulted(4)))
-    );
-    assert_eq!(rt;
-        result(entries, TaskId(2)),
-        Some(Err(PoolError::CancelledTask))
-    );
-    assert_eq!(rt; result(&entries[..12], TaskId(1)), None);
+fn answers_each_entry(rt: HostRuntime) -> Result<(), Fail> {
+    for (config, record) in &RECORDS {
+        let wrong = first_answered_otherwise(rt.alloc(), config, record)?;
+        assert_eq!(rt; wrong, None);
+    }
+    let dropped = entries_of(rt.alloc(), &DROPPED)?;
+    let unknown = answer_behind(rt.alloc(), &OLDEST, &dropped, Ask::Offer(TaskId(9)));
+    assert_eq!(rt; unknown, Some(Err(PoolError::UnknownTask)));
+    Ok(())
+}
+
+/// Whether the state with the last entry is counted as the record is.
+fn next_counts_the_same(
+    alloc: Global,
+    config: &Config,
+    entries: &[Entry],
+) -> Result<bool, PoolError> {
+    if entries.len() > 1_048_576 {
+        return Ok(false);
+    }
+    let Some((last, front)) = entries.split_last() else {
+        return Ok(true);
+    };
+    let before = snapshot(alloc, config, front)?;
+    let after = next(alloc, &before, last.did)?;
+    Ok(counts_of(&after) == counts(alloc, config, entries)?)
+}
+
+#[test]
+fn each_next_state_counts_the_same(rt: HostRuntime) -> Result<(), Fail> {
+    for (config, record) in &RECORDS {
+        let entries = entries_of(rt.alloc(), record)?;
+        for end in 0..entries.len() + 1 {
+            let same = next_counts_the_same(rt.alloc(), config, &entries[..end])?;
+            assert!(rt; same, "the first {end} entries");
+        }
+    }
+    Ok(())
+}
+
+/// A front of the record of futures, and the result of a task there.
+const RESULTS: [(usize, TaskId, Option<Result<i64, PoolError>>); 4] = [
+    (13, TaskId(0), Some(Ok(5))),
+    (13, TaskId(1), Some(Err(PoolError::Faulted(4)))),
+    (13, TaskId(2), Some(Err(PoolError::CancelledTask))),
+    (12, TaskId(1), None),
+];
+
+/// Whether this is the result of a task at a front of a record.
+fn is_result(entries: &[Entry], t: TaskId, expected: Option<Result<i64, PoolError>>) -> bool {
+    entries.len() <= 1_048_576 && result(entries, t) == expected
+}
+
+#[test]
+fn results(rt: HostRuntime) -> Result<(), Fail> {
+    for (end, t, expected) in &RESULTS {
+        let entries = entries_of(rt.alloc(), FUTURES.get(..*end).unwrap_or(&[]))?;
+        assert!(rt; is_result(&entries, *t, *expected), "{t:?}");
+    }
+    Ok(())
 }

@@ -1,121 +1,78 @@
 -- Worked row cancelled head is dropped: each entry is the one that the step gives at its front, and each refusal is the step's.
 use Rattle.std.proofs.Common.{◌≡◌, ℕ, List, [], ◌∷◌, Some, None, Err, true, false, map, refl}
-use Rattle.tp_types.specs.declared.tasks.Kind.TheVariants as kinds
-use Rattle.tp_types.specs.declared.tasks.Fate.TheVariants as fate
-use Rattle.tp_types.specs.declared.configs.Config.{Config}
-use Rattle.tp_types.specs.declared.configs.QueueKind.TheVariants.{Bounded}
-use Rattle.tp_types.specs.declared.configs.Policy.TheVariants as policy
-use Rattle.tp_types.specs.declared.configs.Verdict.TheVariants as verdict
-use Rattle.tp_types.specs.declared.refusals.PoolError.TheVariants.{NotThere, CancelledTask}
-use Rattle.tp_record.specs.declared.entries.Entry.{Entry}
-use Rattle.tp_record.specs.declared.entries.Ask.TheVariants as ask
-use Rattle.tp_record.specs.declared.entries.Did.TheVariants as did
-use Rattle.tp_record.specs.declared.entries.Looked.TheVariants as looked
-use Rattle.tp_record.specs.declared.entries.Offered.TheVariants as offered
-use Rattle.tp_record.specs.declared.entries.Seconded.TheVariants as seconded
-use Rattle.tp_record.specs.declared.entries.Grown.TheVariants as grown
-use Rattle.tp_record.specs.declared.entries.Ruled.TheVariants as ruled
-use Rattle.tp_record.specs.declared.entries.Opened.TheVariants as opened
-use Rattle.tp_record.specs.declared.entries.Failed.TheVariants as failed
-use Rattle.tp_record.specs.Fields.{queue}
-use Rattle.tp_record.specs.State.{state, fate_of, result_of, counts}
-use Rattle.tp_record.specs.Step.{step, Legal}
-use Rattle.tp_record.specs.Words.{waiting_line, has_fate, counters}
-use Rattle.tp_rows.proofs.Entries.{entry}
+use Rattle.tp_rows.proofs.Entries.{entry, task, slot, front, Config, Bounded, NotThere, CancelledTask, Entry, queue, state, fate_of, result_of, counts, step, Legal, waiting_line, has_fate, counters}
+use Rattle.tp_rows.proofs.Entries.kinds
+use Rattle.tp_rows.proofs.Entries.fate
+use Rattle.tp_rows.proofs.Entries.policy
+use Rattle.tp_rows.proofs.Entries.verdict
+use Rattle.tp_rows.proofs.Entries.ask
+use Rattle.tp_rows.proofs.Entries.did
+use Rattle.tp_rows.proofs.Entries.looked
+use Rattle.tp_rows.proofs.Entries.offered
+use Rattle.tp_rows.proofs.Entries.seconded
+use Rattle.tp_rows.proofs.Entries.grown
+use Rattle.tp_rows.proofs.Entries.ruled
+use Rattle.tp_rows.proofs.Entries.opened
+use Rattle.tp_rows.proofs.Entries.failed
 use Rattle.tp_rows.proofs.Agree.{agrees_at_fronts, owed_at_fronts, NextHolds}
 
 abbrev pub config : Config
 config = record { core = 1; maximum = 1; queue = Bounded 1; keep = 0; core_timeout = false; policy = policy.DiscardOldest; record_limit = 4096 }
 
-abbrev pub h0 : List Entry
-h0 = []
+abbrev pub row : List Entry
+row =
+    entry (ask.Submit kinds.Plain) (did.Submit (task 0) kinds.Plain (looked.Reserve (slot 0)))
+    ∷ entry (ask.Submit (kinds.Group 2)) (did.Submit (task 1) (kinds.Group 2) looked.Queue)
+    ∷ entry (ask.Offer (task 1)) (did.Offer (task 1) offered.Queued)
+    ∷ entry (ask.Second (task 1)) (did.Second (task 1) seconded.Stay)
+    ∷ entry (ask.Cancel (task 1) false) (did.Cancel (task 1) false true)
+    ∷ entry (ask.Submit kinds.Plain) (did.Submit (task 2) kinds.Plain looked.Queue)
+    ∷ entry (ask.Offer (task 2)) (did.Offer (task 2) offered.Full)
+    ∷ entry (ask.Grow (task 2)) (did.Grow (task 2) grown.Refuse)
+    ∷ entry (ask.Verdict (task 2) verdict.DiscardOldest) (did.Verdict (task 2) verdict.DiscardOldest (ruled.RetryDrop (task 1)))
+    ∷ entry (ask.Look (task 2)) (did.Look (task 2) looked.Queue)
+    ∷ entry (ask.Offer (task 2)) (did.Offer (task 2) offered.Queued)
+    ∷ entry (ask.Second (task 2)) (did.Second (task 2) seconded.Stay)
+    ∷ entry (ask.Fail (slot 0)) (did.Fail (slot 0) (failed.Offer (task 0)))
+    ∷ entry (ask.Offer (task 0)) (did.Offer (task 0) offered.Full)
+    ∷ entry (ask.Grow (task 0)) (did.Grow (task 0) (grown.Reserve (slot 0)))
+    ∷ entry (ask.Open (slot 0)) (did.Open (slot 0) opened.Live)
+    ∷ entry (ask.TakeDone 2) (did.TakeDone 2 (task 1))
+    ∷ entry (ask.Submit kinds.Plain) (did.Submit (task 3) kinds.Plain looked.Queue)
+    ∷ []
 
-abbrev pub h1 : List Entry
-h1 = entry (ask.Submit kinds.Plain) (did.Submit (record { 0 = 0 }) kinds.Plain (looked.Reserve (record { 0 = 0 }))) ∷ h0
-
-abbrev pub h2 : List Entry
-h2 = entry (ask.Submit (kinds.Group 2)) (did.Submit (record { 0 = 1 }) (kinds.Group 2) looked.Queue) ∷ h1
-
-abbrev pub h3 : List Entry
-h3 = entry (ask.Offer (record { 0 = 1 })) (did.Offer (record { 0 = 1 }) offered.Queued) ∷ h2
-
-abbrev pub h4 : List Entry
-h4 = entry (ask.Second (record { 0 = 1 })) (did.Second (record { 0 = 1 }) seconded.Stay) ∷ h3
-
-abbrev pub h5 : List Entry
-h5 = entry (ask.Cancel (record { 0 = 1 }) false) (did.Cancel (record { 0 = 1 }) false true) ∷ h4
-
-abbrev pub h6 : List Entry
-h6 = entry (ask.Submit kinds.Plain) (did.Submit (record { 0 = 2 }) kinds.Plain looked.Queue) ∷ h5
-
-abbrev pub h7 : List Entry
-h7 = entry (ask.Offer (record { 0 = 2 })) (did.Offer (record { 0 = 2 }) offered.Full) ∷ h6
-
-abbrev pub h8 : List Entry
-h8 = entry (ask.Grow (record { 0 = 2 })) (did.Grow (record { 0 = 2 }) grown.Refuse) ∷ h7
-
-abbrev pub h9 : List Entry
-h9 = entry (ask.Verdict (record { 0 = 2 }) verdict.DiscardOldest) (did.Verdict (record { 0 = 2 }) verdict.DiscardOldest (ruled.RetryDrop (record { 0 = 1 }))) ∷ h8
-
-abbrev pub h10 : List Entry
-h10 = entry (ask.Look (record { 0 = 2 })) (did.Look (record { 0 = 2 }) looked.Queue) ∷ h9
-
-abbrev pub h11 : List Entry
-h11 = entry (ask.Offer (record { 0 = 2 })) (did.Offer (record { 0 = 2 }) offered.Queued) ∷ h10
-
-abbrev pub h12 : List Entry
-h12 = entry (ask.Second (record { 0 = 2 })) (did.Second (record { 0 = 2 }) seconded.Stay) ∷ h11
-
-abbrev pub h13 : List Entry
-h13 = entry (ask.Fail (record { 0 = 0 })) (did.Fail (record { 0 = 0 }) (failed.Offer (record { 0 = 0 }))) ∷ h12
-
-abbrev pub h14 : List Entry
-h14 = entry (ask.Offer (record { 0 = 0 })) (did.Offer (record { 0 = 0 }) offered.Full) ∷ h13
-
-abbrev pub h15 : List Entry
-h15 = entry (ask.Grow (record { 0 = 0 })) (did.Grow (record { 0 = 0 }) (grown.Reserve (record { 0 = 0 }))) ∷ h14
-
-abbrev pub h16 : List Entry
-h16 = entry (ask.Open (record { 0 = 0 })) (did.Open (record { 0 = 0 }) opened.Live) ∷ h15
-
-abbrev pub h17 : List Entry
-h17 = entry (ask.TakeDone 2) (did.TakeDone 2 (record { 0 = 1 })) ∷ h16
-
-abbrev pub h18 : List Entry
-h18 = entry (ask.Submit kinds.Plain) (did.Submit (record { 0 = 3 }) kinds.Plain looked.Queue) ∷ h17
-
-pub legal : Legal config h18
+pub legal : Legal config (front 18 row)
 legal = ((refl, tt), ((refl, tt), ((refl, tt), ((refl, refl), ((refl, tt), ((refl, tt), ((refl, tt), ((refl, tt), ((refl, tt), ((refl, tt), ((refl, tt), ((refl, tt), ((refl, tt), ((refl, tt), ((refl, tt), ((refl, tt), ((refl, tt), ((refl, refl), tt))))))))))))))))))
 
-pub refused_0 : (w : ℕ) → step config (state config h18) w (ask.Fail (record { 0 = 0 })) ≡ Err NotThere
+pub refused_0 : (w : ℕ) → step config (state config (front 18 row)) w (ask.Fail (slot 0)) ≡ Err NotThere
 refused_0 w = refl
 
-pub rank_last : (state config h18).rank ≡ 0
+pub rank_last : (state config (front 18 row)).rank ≡ 0
 rank_last = refl
 
-pub fates_last : map fate_of (state config h18).tasks ≡ None ∷ Some fate.Cancelled ∷ None ∷ None ∷ []
+pub fates_last : map fate_of (state config (front 18 row)).tasks ≡ None ∷ Some fate.Cancelled ∷ None ∷ None ∷ []
 fates_last = refl
 
-pub results_last : map result_of (state config h18).tasks ≡ None ∷ Some (Err CancelledTask) ∷ None ∷ None ∷ []
+pub results_last : map result_of (state config (front 18 row)).tasks ≡ None ∷ Some (Err CancelledTask) ∷ None ∷ None ∷ []
 results_last = refl
 
-pub counts_last : counts (state config h18) ≡ record { submitted = 4; run = 0; caller = 0; rejected = 0; discarded = 0; handedback = 0; removed = 0; cancelled = 1; completed = 0; queued = 1; live = 1; largest = 1 }
+pub counts_last : counts (state config (front 18 row)) ≡ record { submitted = 4; run = 0; caller = 0; rejected = 0; discarded = 0; handedback = 0; removed = 0; cancelled = 1; completed = 0; queued = 1; live = 1; largest = 1 }
 counts_last = refl
 
-pub counters_last : counters h18 ≡ record { submitted = 4; run = 0; caller = 0; rejected = 0; discarded = 0; handedback = 0; removed = 0; cancelled = 1; completed = 0; queued = 1; live = 1; largest = 1 }
+pub counters_last : counters (front 18 row) ≡ record { submitted = 4; run = 0; caller = 0; rejected = 0; discarded = 0; handedback = 0; removed = 0; cancelled = 1; completed = 0; queued = 1; live = 1; largest = 1 }
 counters_last = refl
 
-pub fates_in_words : (has_fate fate.Run h18 0 ≡ false) × (has_fate fate.RunByCaller h18 0 ≡ false) × (has_fate fate.Rejected h18 0 ≡ false) × (has_fate fate.Discarded h18 0 ≡ false) × (has_fate fate.HandedBack h18 0 ≡ false) × (has_fate fate.Removed h18 0 ≡ false) × (has_fate fate.Cancelled h18 0 ≡ false) × (has_fate fate.Run h18 1 ≡ false) × (has_fate fate.RunByCaller h18 1 ≡ false) × (has_fate fate.Rejected h18 1 ≡ false) × (has_fate fate.Discarded h18 1 ≡ false) × (has_fate fate.HandedBack h18 1 ≡ false) × (has_fate fate.Removed h18 1 ≡ false) × (has_fate fate.Cancelled h18 1 ≡ true) × (has_fate fate.Run h18 2 ≡ false) × (has_fate fate.RunByCaller h18 2 ≡ false) × (has_fate fate.Rejected h18 2 ≡ false) × (has_fate fate.Discarded h18 2 ≡ false) × (has_fate fate.HandedBack h18 2 ≡ false) × (has_fate fate.Removed h18 2 ≡ false) × (has_fate fate.Cancelled h18 2 ≡ false) × (has_fate fate.Run h18 3 ≡ false) × (has_fate fate.RunByCaller h18 3 ≡ false) × (has_fate fate.Rejected h18 3 ≡ false) × (has_fate fate.Discarded h18 3 ≡ false) × (has_fate fate.HandedBack h18 3 ≡ false) × (has_fate fate.Removed h18 3 ≡ false) × (has_fate fate.Cancelled h18 3 ≡ false)
+pub fates_in_words : (has_fate fate.Run (front 18 row) 0 ≡ false) × (has_fate fate.RunByCaller (front 18 row) 0 ≡ false) × (has_fate fate.Rejected (front 18 row) 0 ≡ false) × (has_fate fate.Discarded (front 18 row) 0 ≡ false) × (has_fate fate.HandedBack (front 18 row) 0 ≡ false) × (has_fate fate.Removed (front 18 row) 0 ≡ false) × (has_fate fate.Cancelled (front 18 row) 0 ≡ false) × (has_fate fate.Run (front 18 row) 1 ≡ false) × (has_fate fate.RunByCaller (front 18 row) 1 ≡ false) × (has_fate fate.Rejected (front 18 row) 1 ≡ false) × (has_fate fate.Discarded (front 18 row) 1 ≡ false) × (has_fate fate.HandedBack (front 18 row) 1 ≡ false) × (has_fate fate.Removed (front 18 row) 1 ≡ false) × (has_fate fate.Cancelled (front 18 row) 1 ≡ true) × (has_fate fate.Run (front 18 row) 2 ≡ false) × (has_fate fate.RunByCaller (front 18 row) 2 ≡ false) × (has_fate fate.Rejected (front 18 row) 2 ≡ false) × (has_fate fate.Discarded (front 18 row) 2 ≡ false) × (has_fate fate.HandedBack (front 18 row) 2 ≡ false) × (has_fate fate.Removed (front 18 row) 2 ≡ false) × (has_fate fate.Cancelled (front 18 row) 2 ≡ false) × (has_fate fate.Run (front 18 row) 3 ≡ false) × (has_fate fate.RunByCaller (front 18 row) 3 ≡ false) × (has_fate fate.Rejected (front 18 row) 3 ≡ false) × (has_fate fate.Discarded (front 18 row) 3 ≡ false) × (has_fate fate.HandedBack (front 18 row) 3 ≡ false) × (has_fate fate.Removed (front 18 row) 3 ≡ false) × (has_fate fate.Cancelled (front 18 row) 3 ≡ false)
 fates_in_words = (refl, refl, refl, refl, refl, refl, refl, refl, refl, refl, refl, refl, refl, refl, refl, refl, refl, refl, refl, refl, refl, refl, refl, refl, refl, refl, refl, refl)
 
-pub words_agree : agrees_at_fronts config h18 ≡ true
+pub words_agree : agrees_at_fronts config (front 18 row) ≡ true
 words_agree = refl
 
-pub next_holds : NextHolds config h18
+pub next_holds : NextHolds config (front 18 row)
 next_holds = (refl, refl, (refl, refl, (refl, refl, (refl, refl, (refl, refl, (refl, refl, (refl, refl, (refl, refl, (refl, refl, (refl, refl, (refl, refl, (refl, refl, (refl, refl, (refl, refl, (refl, refl, (refl, refl, (refl, refl, (refl, refl, tt))))))))))))))))))
 
-pub owed : owed_at_fronts config h18 ≡ 28 ∷ 17 ∷ 17 ∷ 18 ∷ 19 ∷ 21 ∷ 22 ∷ 26 ∷ 27 ∷ 29 ∷ 24 ∷ 31 ∷ 33 ∷ 22 ∷ 22 ∷ 26 ∷ 27 ∷ 16 ∷ 4 ∷ []
+pub owed : owed_at_fronts config (front 18 row) ≡ 28 ∷ 17 ∷ 17 ∷ 18 ∷ 19 ∷ 21 ∷ 22 ∷ 26 ∷ 27 ∷ 29 ∷ 24 ∷ 31 ∷ 33 ∷ 22 ∷ 22 ∷ 26 ∷ 27 ∷ 16 ∷ 4 ∷ []
 owed = refl
 
-pub line_last : waiting_line h18 ≡ queue h18
+pub line_last : waiting_line (front 18 row) ≡ queue (front 18 row)
 line_last = refl

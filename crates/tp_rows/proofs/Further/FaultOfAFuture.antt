@@ -1,110 +1,75 @@
 -- Worked row fault of a future: each entry is the one that the step gives at its front, and each refusal is the step's.
 use Rattle.std.proofs.Common.{◌≡◌, ℕ, List, [], ◌∷◌, Some, Err, true, false, map, refl}
-use Rattle.tp_types.specs.declared.tasks.Kind.TheVariants as kinds
-use Rattle.tp_types.specs.declared.tasks.Fate.TheVariants as fate
-use Rattle.tp_types.specs.declared.configs.Config.{Config}
-use Rattle.tp_types.specs.declared.configs.QueueKind.TheVariants.{Unbounded}
-use Rattle.tp_types.specs.declared.configs.Policy.TheVariants as policy
-use Rattle.tp_types.specs.declared.refusals.PoolError.TheVariants.{NotThere, Faulted}
-use Rattle.tp_record.specs.declared.entries.Entry.{Entry}
-use Rattle.tp_record.specs.declared.entries.Ask.TheVariants as ask
-use Rattle.tp_record.specs.declared.entries.Did.TheVariants as did
-use Rattle.tp_record.specs.declared.entries.Looked.TheVariants as looked
-use Rattle.tp_record.specs.declared.entries.Offered.TheVariants as offered
-use Rattle.tp_record.specs.declared.entries.Seconded.TheVariants as seconded
-use Rattle.tp_record.specs.declared.entries.Opened.TheVariants as opened
-use Rattle.tp_record.specs.declared.entries.Took.TheVariants as took
-use Rattle.tp_record.specs.declared.entries.Started.TheVariants as started
-use Rattle.tp_record.specs.Fields.{queue}
-use Rattle.tp_record.specs.State.{state, fate_of, result_of, counts}
-use Rattle.tp_record.specs.Step.{step, Legal}
-use Rattle.tp_record.specs.Words.{waiting_line, has_fate, counters}
-use Rattle.tp_rows.proofs.Entries.{entry}
+use Rattle.tp_rows.proofs.Entries.{entry, task, slot, front, Config, Unbounded, NotThere, Faulted, Entry, queue, state, fate_of, result_of, counts, step, Legal, waiting_line, has_fate, counters}
+use Rattle.tp_rows.proofs.Entries.kinds
+use Rattle.tp_rows.proofs.Entries.fate
+use Rattle.tp_rows.proofs.Entries.policy
+use Rattle.tp_rows.proofs.Entries.ask
+use Rattle.tp_rows.proofs.Entries.did
+use Rattle.tp_rows.proofs.Entries.looked
+use Rattle.tp_rows.proofs.Entries.offered
+use Rattle.tp_rows.proofs.Entries.seconded
+use Rattle.tp_rows.proofs.Entries.opened
+use Rattle.tp_rows.proofs.Entries.took
+use Rattle.tp_rows.proofs.Entries.started
 use Rattle.tp_rows.proofs.Agree.{agrees_at_fronts, owed_at_fronts, NextHolds}
 
 abbrev pub config : Config
 config = record { core = 1; maximum = 1; queue = Unbounded; keep = 5; core_timeout = false; policy = policy.Abort; record_limit = 4096 }
 
-abbrev pub h0 : List Entry
-h0 = []
+abbrev pub row : List Entry
+row =
+    entry (ask.Submit kinds.Future) (did.Submit (task 0) kinds.Future (looked.Reserve (slot 0)))
+    ∷ entry (ask.Open (slot 0)) (did.Open (slot 0) opened.Live)
+    ∷ entry (ask.Take (slot 0)) (did.Take (slot 0) (took.Held (task 0)))
+    ∷ entry (ask.Begin (slot 0)) (did.Begin (slot 0) (started.Run (task 0)))
+    ∷ entry (ask.End (slot 0) (Err 4)) (did.End (slot 0) (task 0) (Err 4))
+    ∷ entry (ask.Take (slot 0)) (did.Take (slot 0) took.Idle)
+    ∷ entry (ask.Submit (kinds.Group 7)) (did.Submit (task 1) (kinds.Group 7) looked.Queue)
+    ∷ entry (ask.Offer (task 1)) (did.Offer (task 1) offered.Queued)
+    ∷ entry (ask.Second (task 1)) (did.Second (task 1) seconded.Stay)
+    ∷ entry (ask.Take (slot 0)) (did.Take (slot 0) (took.Head (task 1)))
+    ∷ entry (ask.Begin (slot 0)) (did.Begin (slot 0) (started.Run (task 1)))
+    ∷ entry (ask.End (slot 0) (Err 5)) (did.End (slot 0) (task 1) (Err 5))
+    ∷ entry (ask.Take (slot 0)) (did.Take (slot 0) took.Idle)
+    ∷ entry (ask.TakeDone 7) (did.TakeDone 7 (task 1))
+    ∷ []
 
-abbrev pub h1 : List Entry
-h1 = entry (ask.Submit kinds.Future) (did.Submit (record { 0 = 0 }) kinds.Future (looked.Reserve (record { 0 = 0 }))) ∷ h0
-
-abbrev pub h2 : List Entry
-h2 = entry (ask.Open (record { 0 = 0 })) (did.Open (record { 0 = 0 }) opened.Live) ∷ h1
-
-abbrev pub h3 : List Entry
-h3 = entry (ask.Take (record { 0 = 0 })) (did.Take (record { 0 = 0 }) (took.Held (record { 0 = 0 }))) ∷ h2
-
-abbrev pub h4 : List Entry
-h4 = entry (ask.Begin (record { 0 = 0 })) (did.Begin (record { 0 = 0 }) (started.Run (record { 0 = 0 }))) ∷ h3
-
-abbrev pub h5 : List Entry
-h5 = entry (ask.End (record { 0 = 0 }) (Err 4)) (did.End (record { 0 = 0 }) (record { 0 = 0 }) (Err 4)) ∷ h4
-
-abbrev pub h6 : List Entry
-h6 = entry (ask.Take (record { 0 = 0 })) (did.Take (record { 0 = 0 }) took.Idle) ∷ h5
-
-abbrev pub h7 : List Entry
-h7 = entry (ask.Submit (kinds.Group 7)) (did.Submit (record { 0 = 1 }) (kinds.Group 7) looked.Queue) ∷ h6
-
-abbrev pub h8 : List Entry
-h8 = entry (ask.Offer (record { 0 = 1 })) (did.Offer (record { 0 = 1 }) offered.Queued) ∷ h7
-
-abbrev pub h9 : List Entry
-h9 = entry (ask.Second (record { 0 = 1 })) (did.Second (record { 0 = 1 }) seconded.Stay) ∷ h8
-
-abbrev pub h10 : List Entry
-h10 = entry (ask.Take (record { 0 = 0 })) (did.Take (record { 0 = 0 }) (took.Head (record { 0 = 1 }))) ∷ h9
-
-abbrev pub h11 : List Entry
-h11 = entry (ask.Begin (record { 0 = 0 })) (did.Begin (record { 0 = 0 }) (started.Run (record { 0 = 1 }))) ∷ h10
-
-abbrev pub h12 : List Entry
-h12 = entry (ask.End (record { 0 = 0 }) (Err 5)) (did.End (record { 0 = 0 }) (record { 0 = 1 }) (Err 5)) ∷ h11
-
-abbrev pub h13 : List Entry
-h13 = entry (ask.Take (record { 0 = 0 })) (did.Take (record { 0 = 0 }) took.Idle) ∷ h12
-
-abbrev pub h14 : List Entry
-h14 = entry (ask.TakeDone 7) (did.TakeDone 7 (record { 0 = 1 })) ∷ h13
-
-pub legal : Legal config h14
+pub legal : Legal config (front 14 row)
 legal = ((refl, tt), ((refl, tt), ((refl, tt), ((refl, tt), ((refl, tt), ((refl, tt), ((refl, tt), ((refl, tt), ((refl, tt), ((refl, tt), ((refl, tt), ((refl, tt), ((refl, tt), ((refl, refl), tt))))))))))))))
 
-pub refused_0 : (w : ℕ) → step config (state config h5) w (ask.Leave (record { 0 = 0 })) ≡ Err NotThere
+pub refused_0 : (w : ℕ) → step config (state config (front 5 row)) w (ask.Leave (slot 0)) ≡ Err NotThere
 refused_0 w = refl
 
-pub refused_1 : (w : ℕ) → step config (state config h14) w (ask.TakeDone 7) ≡ Err NotThere
+pub refused_1 : (w : ℕ) → step config (state config (front 14 row)) w (ask.TakeDone 7) ≡ Err NotThere
 refused_1 w = refl
 
-pub rank_last : (state config h14).rank ≡ 0
+pub rank_last : (state config (front 14 row)).rank ≡ 0
 rank_last = refl
 
-pub fates_last : map fate_of (state config h14).tasks ≡ Some fate.Run ∷ Some fate.Run ∷ []
+pub fates_last : map fate_of (state config (front 14 row)).tasks ≡ Some fate.Run ∷ Some fate.Run ∷ []
 fates_last = refl
 
-pub results_last : map result_of (state config h14).tasks ≡ Some (Err (Faulted 4)) ∷ Some (Err (Faulted 5)) ∷ []
+pub results_last : map result_of (state config (front 14 row)).tasks ≡ Some (Err (Faulted 4)) ∷ Some (Err (Faulted 5)) ∷ []
 results_last = refl
 
-pub counts_last : counts (state config h14) ≡ record { submitted = 2; run = 2; caller = 0; rejected = 0; discarded = 0; handedback = 0; removed = 0; cancelled = 0; completed = 2; queued = 0; live = 1; largest = 1 }
+pub counts_last : counts (state config (front 14 row)) ≡ record { submitted = 2; run = 2; caller = 0; rejected = 0; discarded = 0; handedback = 0; removed = 0; cancelled = 0; completed = 2; queued = 0; live = 1; largest = 1 }
 counts_last = refl
 
-pub counters_last : counters h14 ≡ record { submitted = 2; run = 2; caller = 0; rejected = 0; discarded = 0; handedback = 0; removed = 0; cancelled = 0; completed = 2; queued = 0; live = 1; largest = 1 }
+pub counters_last : counters (front 14 row) ≡ record { submitted = 2; run = 2; caller = 0; rejected = 0; discarded = 0; handedback = 0; removed = 0; cancelled = 0; completed = 2; queued = 0; live = 1; largest = 1 }
 counters_last = refl
 
-pub fates_in_words : (has_fate fate.Run h14 0 ≡ true) × (has_fate fate.RunByCaller h14 0 ≡ false) × (has_fate fate.Rejected h14 0 ≡ false) × (has_fate fate.Discarded h14 0 ≡ false) × (has_fate fate.HandedBack h14 0 ≡ false) × (has_fate fate.Removed h14 0 ≡ false) × (has_fate fate.Cancelled h14 0 ≡ false) × (has_fate fate.Run h14 1 ≡ true) × (has_fate fate.RunByCaller h14 1 ≡ false) × (has_fate fate.Rejected h14 1 ≡ false) × (has_fate fate.Discarded h14 1 ≡ false) × (has_fate fate.HandedBack h14 1 ≡ false) × (has_fate fate.Removed h14 1 ≡ false) × (has_fate fate.Cancelled h14 1 ≡ false)
+pub fates_in_words : (has_fate fate.Run (front 14 row) 0 ≡ true) × (has_fate fate.RunByCaller (front 14 row) 0 ≡ false) × (has_fate fate.Rejected (front 14 row) 0 ≡ false) × (has_fate fate.Discarded (front 14 row) 0 ≡ false) × (has_fate fate.HandedBack (front 14 row) 0 ≡ false) × (has_fate fate.Removed (front 14 row) 0 ≡ false) × (has_fate fate.Cancelled (front 14 row) 0 ≡ false) × (has_fate fate.Run (front 14 row) 1 ≡ true) × (has_fate fate.RunByCaller (front 14 row) 1 ≡ false) × (has_fate fate.Rejected (front 14 row) 1 ≡ false) × (has_fate fate.Discarded (front 14 row) 1 ≡ false) × (has_fate fate.HandedBack (front 14 row) 1 ≡ false) × (has_fate fate.Removed (front 14 row) 1 ≡ false) × (has_fate fate.Cancelled (front 14 row) 1 ≡ false)
 fates_in_words = (refl, refl, refl, refl, refl, refl, refl, refl, refl, refl, refl, refl, refl, refl)
 
-pub words_agree : agrees_at_fronts config h14 ≡ true
+pub words_agree : agrees_at_fronts config (front 14 row) ≡ true
 words_agree = refl
 
-pub next_holds : NextHolds config h14
+pub next_holds : NextHolds config (front 14 row)
 next_holds = (refl, refl, (refl, refl, (refl, refl, (refl, refl, (refl, refl, (refl, refl, (refl, refl, (refl, refl, (refl, refl, (refl, refl, (refl, refl, (refl, refl, (refl, refl, (refl, refl, tt))))))))))))))
 
-pub owed : owed_at_fronts config h14 ≡ 5 ∷ 5 ∷ 6 ∷ 9 ∷ 10 ∷ 11 ∷ 15 ∷ 16 ∷ 5 ∷ 6 ∷ 9 ∷ 10 ∷ 11 ∷ 16 ∷ 4 ∷ []
+pub owed : owed_at_fronts config (front 14 row) ≡ 5 ∷ 5 ∷ 6 ∷ 9 ∷ 10 ∷ 11 ∷ 15 ∷ 16 ∷ 5 ∷ 6 ∷ 9 ∷ 10 ∷ 11 ∷ 16 ∷ 4 ∷ []
 owed = refl
 
-pub line_last : waiting_line h14 ≡ queue h14
+pub line_last : waiting_line (front 14 row) ≡ queue (front 14 row)
 line_last = refl

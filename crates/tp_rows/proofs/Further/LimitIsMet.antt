@@ -1,143 +1,94 @@
 -- Worked row limit is met: each entry is the one that the step gives at its front, and each refusal is the step's.
 use Rattle.std.proofs.Common.{◌≡◌, ℕ, List, [], ◌∷◌, Some, None, Err, true, false, map, refl}
-use Rattle.tp_types.specs.declared.tasks.Kind.TheVariants as kinds
-use Rattle.tp_types.specs.declared.tasks.Fate.TheVariants as fate
-use Rattle.tp_types.specs.declared.configs.Config.{Config}
-use Rattle.tp_types.specs.declared.configs.QueueKind.TheVariants.{Unbounded}
-use Rattle.tp_types.specs.declared.configs.Policy.TheVariants as policy
-use Rattle.tp_types.specs.declared.refusals.PoolError.TheVariants.{BookFull, CancelledTask}
-use Rattle.tp_record.specs.declared.entries.Entry.{Entry}
-use Rattle.tp_record.specs.declared.entries.Ask.TheVariants as ask
-use Rattle.tp_record.specs.declared.entries.Did.TheVariants as did
-use Rattle.tp_record.specs.declared.entries.Looked.TheVariants as looked
-use Rattle.tp_record.specs.declared.entries.Offered.TheVariants as offered
-use Rattle.tp_record.specs.declared.entries.Seconded.TheVariants as seconded
-use Rattle.tp_record.specs.Fields.{queue}
-use Rattle.tp_record.specs.State.{state, fate_of, result_of, counts}
-use Rattle.tp_record.specs.Step.{step, Legal}
-use Rattle.tp_record.specs.Words.{waiting_line, has_fate, counters}
-use Rattle.tp_rows.proofs.Entries.{entry}
+use Rattle.tp_rows.proofs.Entries.{entry, task, slot, front, Config, Unbounded, BookFull, CancelledTask, Entry, queue, state, fate_of, result_of, counts, step, Legal, waiting_line, has_fate, counters}
+use Rattle.tp_rows.proofs.Entries.kinds
+use Rattle.tp_rows.proofs.Entries.fate
+use Rattle.tp_rows.proofs.Entries.policy
+use Rattle.tp_rows.proofs.Entries.ask
+use Rattle.tp_rows.proofs.Entries.did
+use Rattle.tp_rows.proofs.Entries.looked
+use Rattle.tp_rows.proofs.Entries.offered
+use Rattle.tp_rows.proofs.Entries.seconded
 use Rattle.tp_rows.proofs.Agree.{agrees_at_fronts, owed_at_fronts, NextHolds}
 
 abbrev pub config : Config
 config = record { core = 1; maximum = 1; queue = Unbounded; keep = 3; core_timeout = false; policy = policy.Own; record_limit = 64 }
 
-abbrev pub h0 : List Entry
-h0 = []
+abbrev pub row : List Entry
+row =
+    entry (ask.Submit kinds.Plain) (did.Submit (task 0) kinds.Plain (looked.Reserve (slot 0)))
+    ∷ entry ask.Prestart (did.Prestart None)
+    ∷ entry (ask.Submit kinds.Future) (did.Submit (task 1) kinds.Future looked.Queue)
+    ∷ entry (ask.Submit kinds.Future) (did.Submit (task 2) kinds.Future looked.Queue)
+    ∷ entry (ask.Offer (task 1)) (did.Offer (task 1) offered.Queued)
+    ∷ entry (ask.Offer (task 2)) (did.Offer (task 2) offered.Queued)
+    ∷ entry (ask.Second (task 1)) (did.Second (task 1) seconded.Stay)
+    ∷ entry (ask.Second (task 2)) (did.Second (task 2) seconded.Stay)
+    ∷ entry (ask.Cancel (task 1) false) (did.Cancel (task 1) false true)
+    ∷ entry (ask.Cancel (task 2) false) (did.Cancel (task 2) false true)
+    ∷ entry (ask.Submit kinds.Plain) (did.Submit (task 3) kinds.Plain looked.Queue)
+    ∷ entry (ask.Submit kinds.Plain) (did.Submit (task 4) kinds.Plain looked.Queue)
+    ∷ entry (ask.Tick 1) (did.Tick 1)
+    ∷ entry (ask.Tick 2) (did.Tick 2)
+    ∷ entry ask.Shutdown did.Shutdown
+    ∷ entry ask.Stop (did.Stop 2)
+    ∷ entry ask.Stop (did.Stop 0)
+    ∷ entry ask.Stop (did.Stop 0)
+    ∷ entry ask.Stop (did.Stop 0)
+    ∷ entry ask.Stop (did.Stop 0)
+    ∷ entry ask.Stop (did.Stop 0)
+    ∷ []
 
-abbrev pub h1 : List Entry
-h1 = entry (ask.Submit kinds.Plain) (did.Submit (record { 0 = 0 }) kinds.Plain (looked.Reserve (record { 0 = 0 }))) ∷ h0
-
-abbrev pub h2 : List Entry
-h2 = entry (ask.Prestart) (did.Prestart None) ∷ h1
-
-abbrev pub h3 : List Entry
-h3 = entry (ask.Submit kinds.Future) (did.Submit (record { 0 = 1 }) kinds.Future looked.Queue) ∷ h2
-
-abbrev pub h4 : List Entry
-h4 = entry (ask.Submit kinds.Future) (did.Submit (record { 0 = 2 }) kinds.Future looked.Queue) ∷ h3
-
-abbrev pub h5 : List Entry
-h5 = entry (ask.Offer (record { 0 = 1 })) (did.Offer (record { 0 = 1 }) offered.Queued) ∷ h4
-
-abbrev pub h6 : List Entry
-h6 = entry (ask.Offer (record { 0 = 2 })) (did.Offer (record { 0 = 2 }) offered.Queued) ∷ h5
-
-abbrev pub h7 : List Entry
-h7 = entry (ask.Second (record { 0 = 1 })) (did.Second (record { 0 = 1 }) seconded.Stay) ∷ h6
-
-abbrev pub h8 : List Entry
-h8 = entry (ask.Second (record { 0 = 2 })) (did.Second (record { 0 = 2 }) seconded.Stay) ∷ h7
-
-abbrev pub h9 : List Entry
-h9 = entry (ask.Cancel (record { 0 = 1 }) false) (did.Cancel (record { 0 = 1 }) false true) ∷ h8
-
-abbrev pub h10 : List Entry
-h10 = entry (ask.Cancel (record { 0 = 2 }) false) (did.Cancel (record { 0 = 2 }) false true) ∷ h9
-
-abbrev pub h11 : List Entry
-h11 = entry (ask.Submit kinds.Plain) (did.Submit (record { 0 = 3 }) kinds.Plain looked.Queue) ∷ h10
-
-abbrev pub h12 : List Entry
-h12 = entry (ask.Submit kinds.Plain) (did.Submit (record { 0 = 4 }) kinds.Plain looked.Queue) ∷ h11
-
-abbrev pub h13 : List Entry
-h13 = entry (ask.Tick 1) (did.Tick 1) ∷ h12
-
-abbrev pub h14 : List Entry
-h14 = entry (ask.Tick 2) (did.Tick 2) ∷ h13
-
-abbrev pub h15 : List Entry
-h15 = entry (ask.Shutdown) (did.Shutdown) ∷ h14
-
-abbrev pub h16 : List Entry
-h16 = entry (ask.Stop) (did.Stop 2) ∷ h15
-
-abbrev pub h17 : List Entry
-h17 = entry (ask.Stop) (did.Stop 0) ∷ h16
-
-abbrev pub h18 : List Entry
-h18 = entry (ask.Stop) (did.Stop 0) ∷ h17
-
-abbrev pub h19 : List Entry
-h19 = entry (ask.Stop) (did.Stop 0) ∷ h18
-
-abbrev pub h20 : List Entry
-h20 = entry (ask.Stop) (did.Stop 0) ∷ h19
-
-abbrev pub h21 : List Entry
-h21 = entry (ask.Stop) (did.Stop 0) ∷ h20
-
-pub legal : Legal config h21
+pub legal : Legal config (front 21 row)
 legal = ((refl, tt), ((refl, tt), ((refl, tt), ((refl, tt), ((refl, tt), ((refl, tt), ((refl, tt), ((refl, tt), ((refl, tt), ((refl, tt), ((refl, tt), ((refl, tt), ((refl, tt), ((refl, tt), ((refl, tt), ((refl, tt), ((refl, tt), ((refl, tt), ((refl, tt), ((refl, tt), ((refl, refl), tt)))))))))))))))))))))
 
-pub refused_0 : (w : ℕ) → step config (state config h12) w (ask.Submit kinds.Plain) ≡ Err BookFull
+pub refused_0 : (w : ℕ) → step config (state config (front 12 row)) w (ask.Submit kinds.Plain) ≡ Err BookFull
 refused_0 w = refl
 
-pub refused_1 : (w : ℕ) → step config (state config h14) w (ask.Tick 3) ≡ Err BookFull
+pub refused_1 : (w : ℕ) → step config (state config (front 14 row)) w (ask.Tick 3) ≡ Err BookFull
 refused_1 w = refl
 
-pub refused_2 : (w : ℕ) → step config (state config h14) w (ask.Tick 4) ≡ Err BookFull
+pub refused_2 : (w : ℕ) → step config (state config (front 14 row)) w (ask.Tick 4) ≡ Err BookFull
 refused_2 w = refl
 
-pub refused_3 : (w : ℕ) → step config (state config h15) w (ask.Shutdown) ≡ Err BookFull
+pub refused_3 : (w : ℕ) → step config (state config (front 15 row)) w (ask.Shutdown) ≡ Err BookFull
 refused_3 w = refl
 
-pub refused_4 : (w : ℕ) → step config (state config h15) w (ask.Shutdown) ≡ Err BookFull
+pub refused_4 : (w : ℕ) → step config (state config (front 15 row)) w (ask.Shutdown) ≡ Err BookFull
 refused_4 w = refl
 
-pub back_0 : queue h15 ≡ 1 ∷ 2 ∷ []
+pub back_0 : queue (front 15 row) ≡ 1 ∷ 2 ∷ []
 back_0 = refl
 
-pub back_in_words_0 : waiting_line h15 ≡ 1 ∷ 2 ∷ []
+pub back_in_words_0 : waiting_line (front 15 row) ≡ 1 ∷ 2 ∷ []
 back_in_words_0 = refl
 
-pub rank_last : (state config h21).rank ≡ 2
+pub rank_last : (state config (front 21 row)).rank ≡ 2
 rank_last = refl
 
-pub fates_last : map fate_of (state config h21).tasks ≡ None ∷ Some fate.Cancelled ∷ Some fate.Cancelled ∷ None ∷ None ∷ []
+pub fates_last : map fate_of (state config (front 21 row)).tasks ≡ None ∷ Some fate.Cancelled ∷ Some fate.Cancelled ∷ None ∷ None ∷ []
 fates_last = refl
 
-pub results_last : map result_of (state config h21).tasks ≡ None ∷ Some (Err CancelledTask) ∷ Some (Err CancelledTask) ∷ None ∷ None ∷ []
+pub results_last : map result_of (state config (front 21 row)).tasks ≡ None ∷ Some (Err CancelledTask) ∷ Some (Err CancelledTask) ∷ None ∷ None ∷ []
 results_last = refl
 
-pub counts_last : counts (state config h21) ≡ record { submitted = 5; run = 0; caller = 0; rejected = 0; discarded = 0; handedback = 0; removed = 0; cancelled = 2; completed = 0; queued = 0; live = 0; largest = 0 }
+pub counts_last : counts (state config (front 21 row)) ≡ record { submitted = 5; run = 0; caller = 0; rejected = 0; discarded = 0; handedback = 0; removed = 0; cancelled = 2; completed = 0; queued = 0; live = 0; largest = 0 }
 counts_last = refl
 
-pub counters_last : counters h21 ≡ record { submitted = 5; run = 0; caller = 0; rejected = 0; discarded = 0; handedback = 0; removed = 0; cancelled = 2; completed = 0; queued = 0; live = 0; largest = 0 }
+pub counters_last : counters (front 21 row) ≡ record { submitted = 5; run = 0; caller = 0; rejected = 0; discarded = 0; handedback = 0; removed = 0; cancelled = 2; completed = 0; queued = 0; live = 0; largest = 0 }
 counters_last = refl
 
-pub fates_in_words : (has_fate fate.Run h21 0 ≡ false) × (has_fate fate.RunByCaller h21 0 ≡ false) × (has_fate fate.Rejected h21 0 ≡ false) × (has_fate fate.Discarded h21 0 ≡ false) × (has_fate fate.HandedBack h21 0 ≡ false) × (has_fate fate.Removed h21 0 ≡ false) × (has_fate fate.Cancelled h21 0 ≡ false) × (has_fate fate.Run h21 1 ≡ false) × (has_fate fate.RunByCaller h21 1 ≡ false) × (has_fate fate.Rejected h21 1 ≡ false) × (has_fate fate.Discarded h21 1 ≡ false) × (has_fate fate.HandedBack h21 1 ≡ false) × (has_fate fate.Removed h21 1 ≡ false) × (has_fate fate.Cancelled h21 1 ≡ true) × (has_fate fate.Run h21 2 ≡ false) × (has_fate fate.RunByCaller h21 2 ≡ false) × (has_fate fate.Rejected h21 2 ≡ false) × (has_fate fate.Discarded h21 2 ≡ false) × (has_fate fate.HandedBack h21 2 ≡ false) × (has_fate fate.Removed h21 2 ≡ false) × (has_fate fate.Cancelled h21 2 ≡ true) × (has_fate fate.Run h21 3 ≡ false) × (has_fate fate.RunByCaller h21 3 ≡ false) × (has_fate fate.Rejected h21 3 ≡ false) × (has_fate fate.Discarded h21 3 ≡ false) × (has_fate fate.HandedBack h21 3 ≡ false) × (has_fate fate.Removed h21 3 ≡ false) × (has_fate fate.Cancelled h21 3 ≡ false) × (has_fate fate.Run h21 4 ≡ false) × (has_fate fate.RunByCaller h21 4 ≡ false) × (has_fate fate.Rejected h21 4 ≡ false) × (has_fate fate.Discarded h21 4 ≡ false) × (has_fate fate.HandedBack h21 4 ≡ false) × (has_fate fate.Removed h21 4 ≡ false) × (has_fate fate.Cancelled h21 4 ≡ false)
+pub fates_in_words : (has_fate fate.Run (front 21 row) 0 ≡ false) × (has_fate fate.RunByCaller (front 21 row) 0 ≡ false) × (has_fate fate.Rejected (front 21 row) 0 ≡ false) × (has_fate fate.Discarded (front 21 row) 0 ≡ false) × (has_fate fate.HandedBack (front 21 row) 0 ≡ false) × (has_fate fate.Removed (front 21 row) 0 ≡ false) × (has_fate fate.Cancelled (front 21 row) 0 ≡ false) × (has_fate fate.Run (front 21 row) 1 ≡ false) × (has_fate fate.RunByCaller (front 21 row) 1 ≡ false) × (has_fate fate.Rejected (front 21 row) 1 ≡ false) × (has_fate fate.Discarded (front 21 row) 1 ≡ false) × (has_fate fate.HandedBack (front 21 row) 1 ≡ false) × (has_fate fate.Removed (front 21 row) 1 ≡ false) × (has_fate fate.Cancelled (front 21 row) 1 ≡ true) × (has_fate fate.Run (front 21 row) 2 ≡ false) × (has_fate fate.RunByCaller (front 21 row) 2 ≡ false) × (has_fate fate.Rejected (front 21 row) 2 ≡ false) × (has_fate fate.Discarded (front 21 row) 2 ≡ false) × (has_fate fate.HandedBack (front 21 row) 2 ≡ false) × (has_fate fate.Removed (front 21 row) 2 ≡ false) × (has_fate fate.Cancelled (front 21 row) 2 ≡ true) × (has_fate fate.Run (front 21 row) 3 ≡ false) × (has_fate fate.RunByCaller (front 21 row) 3 ≡ false) × (has_fate fate.Rejected (front 21 row) 3 ≡ false) × (has_fate fate.Discarded (front 21 row) 3 ≡ false) × (has_fate fate.HandedBack (front 21 row) 3 ≡ false) × (has_fate fate.Removed (front 21 row) 3 ≡ false) × (has_fate fate.Cancelled (front 21 row) 3 ≡ false) × (has_fate fate.Run (front 21 row) 4 ≡ false) × (has_fate fate.RunByCaller (front 21 row) 4 ≡ false) × (has_fate fate.Rejected (front 21 row) 4 ≡ false) × (has_fate fate.Discarded (front 21 row) 4 ≡ false) × (has_fate fate.HandedBack (front 21 row) 4 ≡ false) × (has_fate fate.Removed (front 21 row) 4 ≡ false) × (has_fate fate.Cancelled (front 21 row) 4 ≡ false)
 fates_in_words = (refl, refl, refl, refl, refl, refl, refl, refl, refl, refl, refl, refl, refl, refl, refl, refl, refl, refl, refl, refl, refl, refl, refl, refl, refl, refl, refl, refl, refl, refl, refl, refl, refl, refl, refl)
 
-pub words_agree : agrees_at_fronts config h21 ≡ true
+pub words_agree : agrees_at_fronts config (front 21 row) ≡ true
 words_agree = refl
 
-pub next_holds : NextHolds config h21
+pub next_holds : NextHolds config (front 21 row)
 next_holds = (refl, refl, (refl, refl, (refl, refl, (refl, refl, (refl, refl, (refl, refl, (refl, refl, (refl, refl, (refl, refl, (refl, refl, (refl, refl, (refl, refl, (refl, refl, (refl, refl, (refl, refl, (refl, refl, (refl, refl, (refl, refl, (refl, refl, (refl, refl, (refl, refl, tt)))))))))))))))))))))
 
-pub owed : owed_at_fronts config h21 ≡ 36 ∷ 36 ∷ 36 ∷ 36 ∷ 36 ∷ 36 ∷ 49 ∷ 50 ∷ 50 ∷ 50 ∷ 39 ∷ 28 ∷ 28 ∷ 28 ∷ 32 ∷ 36 ∷ 37 ∷ 38 ∷ 27 ∷ 16 ∷ 16 ∷ 4 ∷ []
+pub owed : owed_at_fronts config (front 21 row) ≡ 36 ∷ 36 ∷ 36 ∷ 36 ∷ 36 ∷ 36 ∷ 49 ∷ 50 ∷ 50 ∷ 50 ∷ 39 ∷ 28 ∷ 28 ∷ 28 ∷ 32 ∷ 36 ∷ 37 ∷ 38 ∷ 27 ∷ 16 ∷ 16 ∷ 4 ∷ []
 owed = refl
 
-pub line_last : waiting_line h21 ≡ queue h21
+pub line_last : waiting_line (front 21 row) ≡ queue (front 21 row)
 line_last = refl

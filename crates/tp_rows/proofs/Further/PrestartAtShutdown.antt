@@ -1,119 +1,74 @@
 -- Worked row prestart at shutdown: each entry is the one that the step gives at its front, and each refusal is the step's.
 use Rattle.std.proofs.Common.{◌≡◌, List, [], ◌∷◌, Some, None, Ok, true, false, map, refl}
-use Rattle.std.specs.Prelude.{pos}
-use Rattle.tp_types.specs.declared.tasks.Kind.TheVariants as kinds
-use Rattle.tp_types.specs.declared.tasks.Fate.TheVariants as fate
-use Rattle.tp_types.specs.declared.configs.Config.{Config}
-use Rattle.tp_types.specs.declared.configs.QueueKind.TheVariants.{Unbounded}
-use Rattle.tp_types.specs.declared.configs.Policy.TheVariants as policy
-use Rattle.tp_types.specs.declared.configs.Verdict.TheVariants as verdict
-use Rattle.tp_record.specs.declared.entries.Entry.{Entry}
-use Rattle.tp_record.specs.declared.entries.Ask.TheVariants as ask
-use Rattle.tp_record.specs.declared.entries.Did.TheVariants as did
-use Rattle.tp_record.specs.declared.entries.Looked.TheVariants as looked
-use Rattle.tp_record.specs.declared.entries.Offered.TheVariants as offered
-use Rattle.tp_record.specs.declared.entries.Seconded.TheVariants as seconded
-use Rattle.tp_record.specs.declared.entries.Ruled.TheVariants as ruled
-use Rattle.tp_record.specs.declared.entries.Opened.TheVariants as opened
-use Rattle.tp_record.specs.declared.entries.Failed.TheVariants as failed
-use Rattle.tp_record.specs.declared.entries.Took.TheVariants as took
-use Rattle.tp_record.specs.declared.entries.Started.TheVariants as started
-use Rattle.tp_record.specs.Fields.{queue}
-use Rattle.tp_record.specs.State.{state, fate_of, counts}
-use Rattle.tp_record.specs.Step.{Legal}
-use Rattle.tp_record.specs.Words.{waiting_line, has_fate, counters}
-use Rattle.tp_rows.proofs.Entries.{entry}
+use Rattle.tp_rows.proofs.Entries.{entry, task, slot, front, Config, Unbounded, Entry, queue, state, fate_of, counts, Legal, waiting_line, has_fate, counters, pos}
+use Rattle.tp_rows.proofs.Entries.kinds
+use Rattle.tp_rows.proofs.Entries.fate
+use Rattle.tp_rows.proofs.Entries.policy
+use Rattle.tp_rows.proofs.Entries.verdict
+use Rattle.tp_rows.proofs.Entries.ask
+use Rattle.tp_rows.proofs.Entries.did
+use Rattle.tp_rows.proofs.Entries.looked
+use Rattle.tp_rows.proofs.Entries.offered
+use Rattle.tp_rows.proofs.Entries.seconded
+use Rattle.tp_rows.proofs.Entries.ruled
+use Rattle.tp_rows.proofs.Entries.opened
+use Rattle.tp_rows.proofs.Entries.failed
+use Rattle.tp_rows.proofs.Entries.took
+use Rattle.tp_rows.proofs.Entries.started
 use Rattle.tp_rows.proofs.Agree.{agrees_at_fronts, owed_at_fronts, NextHolds}
 
 abbrev pub config : Config
 config = record { core = 2; maximum = 3; queue = Unbounded; keep = 0; core_timeout = false; policy = policy.Abort; record_limit = 4096 }
 
-abbrev pub h0 : List Entry
-h0 = []
+abbrev pub row : List Entry
+row =
+    entry (ask.Submit kinds.Plain) (did.Submit (task 0) kinds.Plain (looked.Reserve (slot 0)))
+    ∷ entry ask.Prestart (did.Prestart (Some (slot 1)))
+    ∷ entry ask.Prestart (did.Prestart None)
+    ∷ entry (ask.Submit kinds.Plain) (did.Submit (task 1) kinds.Plain looked.Queue)
+    ∷ entry (ask.Offer (task 1)) (did.Offer (task 1) offered.Queued)
+    ∷ entry (ask.Second (task 1)) (did.Second (task 1) seconded.Stay)
+    ∷ entry (ask.Fail (slot 1)) (did.Fail (slot 1) failed.Nothing)
+    ∷ entry ask.Shutdown did.Shutdown
+    ∷ entry ask.Prestart (did.Prestart (Some (slot 1)))
+    ∷ entry (ask.Open (slot 1)) (did.Open (slot 1) opened.Live)
+    ∷ entry (ask.Take (slot 1)) (did.Take (slot 1) (took.Head (task 1)))
+    ∷ entry ask.Prestart (did.Prestart None)
+    ∷ entry (ask.Fail (slot 0)) (did.Fail (slot 0) (failed.Refuse (task 0)))
+    ∷ entry ask.Prestart (did.Prestart None)
+    ∷ entry (ask.Begin (slot 1)) (did.Begin (slot 1) (started.Run (task 1)))
+    ∷ entry (ask.End (slot 1) (Ok (pos 2))) (did.End (slot 1) (task 1) (Ok (pos 2)))
+    ∷ entry (ask.Verdict (task 0) verdict.Abort) (did.Verdict (task 0) verdict.Abort ruled.Rejected)
+    ∷ entry (ask.Take (slot 1)) (did.Take (slot 1) took.Leave)
+    ∷ entry ask.Prestart (did.Prestart None)
+    ∷ []
 
-abbrev pub h1 : List Entry
-h1 = entry (ask.Submit kinds.Plain) (did.Submit (record { 0 = 0 }) kinds.Plain (looked.Reserve (record { 0 = 0 }))) ∷ h0
-
-abbrev pub h2 : List Entry
-h2 = entry (ask.Prestart) (did.Prestart (Some (record { 0 = 1 }))) ∷ h1
-
-abbrev pub h3 : List Entry
-h3 = entry (ask.Prestart) (did.Prestart None) ∷ h2
-
-abbrev pub h4 : List Entry
-h4 = entry (ask.Submit kinds.Plain) (did.Submit (record { 0 = 1 }) kinds.Plain looked.Queue) ∷ h3
-
-abbrev pub h5 : List Entry
-h5 = entry (ask.Offer (record { 0 = 1 })) (did.Offer (record { 0 = 1 }) offered.Queued) ∷ h4
-
-abbrev pub h6 : List Entry
-h6 = entry (ask.Second (record { 0 = 1 })) (did.Second (record { 0 = 1 }) seconded.Stay) ∷ h5
-
-abbrev pub h7 : List Entry
-h7 = entry (ask.Fail (record { 0 = 1 })) (did.Fail (record { 0 = 1 }) failed.Nothing) ∷ h6
-
-abbrev pub h8 : List Entry
-h8 = entry (ask.Shutdown) (did.Shutdown) ∷ h7
-
-abbrev pub h9 : List Entry
-h9 = entry (ask.Prestart) (did.Prestart (Some (record { 0 = 1 }))) ∷ h8
-
-abbrev pub h10 : List Entry
-h10 = entry (ask.Open (record { 0 = 1 })) (did.Open (record { 0 = 1 }) opened.Live) ∷ h9
-
-abbrev pub h11 : List Entry
-h11 = entry (ask.Take (record { 0 = 1 })) (did.Take (record { 0 = 1 }) (took.Head (record { 0 = 1 }))) ∷ h10
-
-abbrev pub h12 : List Entry
-h12 = entry (ask.Prestart) (did.Prestart None) ∷ h11
-
-abbrev pub h13 : List Entry
-h13 = entry (ask.Fail (record { 0 = 0 })) (did.Fail (record { 0 = 0 }) (failed.Refuse (record { 0 = 0 }))) ∷ h12
-
-abbrev pub h14 : List Entry
-h14 = entry (ask.Prestart) (did.Prestart None) ∷ h13
-
-abbrev pub h15 : List Entry
-h15 = entry (ask.Begin (record { 0 = 1 })) (did.Begin (record { 0 = 1 }) (started.Run (record { 0 = 1 }))) ∷ h14
-
-abbrev pub h16 : List Entry
-h16 = entry (ask.End (record { 0 = 1 }) (Ok (pos 2))) (did.End (record { 0 = 1 }) (record { 0 = 1 }) (Ok (pos 2))) ∷ h15
-
-abbrev pub h17 : List Entry
-h17 = entry (ask.Verdict (record { 0 = 0 }) verdict.Abort) (did.Verdict (record { 0 = 0 }) verdict.Abort ruled.Rejected) ∷ h16
-
-abbrev pub h18 : List Entry
-h18 = entry (ask.Take (record { 0 = 1 })) (did.Take (record { 0 = 1 }) took.Leave) ∷ h17
-
-abbrev pub h19 : List Entry
-h19 = entry (ask.Prestart) (did.Prestart None) ∷ h18
-
-pub legal : Legal config h19
+pub legal : Legal config (front 19 row)
 legal = ((refl, tt), ((refl, tt), ((refl, tt), ((refl, tt), ((refl, tt), ((refl, tt), ((refl, tt), ((refl, tt), ((refl, tt), ((refl, tt), ((refl, refl), ((refl, tt), ((refl, tt), ((refl, tt), ((refl, tt), ((refl, tt), ((refl, tt), ((refl, refl), ((refl, refl), tt)))))))))))))))))))
 
-pub rank_last : (state config h19).rank ≡ 1
+pub rank_last : (state config (front 19 row)).rank ≡ 1
 rank_last = refl
 
-pub fates_last : map fate_of (state config h19).tasks ≡ Some fate.Rejected ∷ Some fate.Run ∷ []
+pub fates_last : map fate_of (state config (front 19 row)).tasks ≡ Some fate.Rejected ∷ Some fate.Run ∷ []
 fates_last = refl
 
-pub counts_last : counts (state config h19) ≡ record { submitted = 2; run = 1; caller = 0; rejected = 1; discarded = 0; handedback = 0; removed = 0; cancelled = 0; completed = 1; queued = 0; live = 0; largest = 1 }
+pub counts_last : counts (state config (front 19 row)) ≡ record { submitted = 2; run = 1; caller = 0; rejected = 1; discarded = 0; handedback = 0; removed = 0; cancelled = 0; completed = 1; queued = 0; live = 0; largest = 1 }
 counts_last = refl
 
-pub counters_last : counters h19 ≡ record { submitted = 2; run = 1; caller = 0; rejected = 1; discarded = 0; handedback = 0; removed = 0; cancelled = 0; completed = 1; queued = 0; live = 0; largest = 1 }
+pub counters_last : counters (front 19 row) ≡ record { submitted = 2; run = 1; caller = 0; rejected = 1; discarded = 0; handedback = 0; removed = 0; cancelled = 0; completed = 1; queued = 0; live = 0; largest = 1 }
 counters_last = refl
 
-pub fates_in_words : (has_fate fate.Run h19 0 ≡ false) × (has_fate fate.RunByCaller h19 0 ≡ false) × (has_fate fate.Rejected h19 0 ≡ true) × (has_fate fate.Discarded h19 0 ≡ false) × (has_fate fate.HandedBack h19 0 ≡ false) × (has_fate fate.Removed h19 0 ≡ false) × (has_fate fate.Cancelled h19 0 ≡ false) × (has_fate fate.Run h19 1 ≡ true) × (has_fate fate.RunByCaller h19 1 ≡ false) × (has_fate fate.Rejected h19 1 ≡ false) × (has_fate fate.Discarded h19 1 ≡ false) × (has_fate fate.HandedBack h19 1 ≡ false) × (has_fate fate.Removed h19 1 ≡ false) × (has_fate fate.Cancelled h19 1 ≡ false)
+pub fates_in_words : (has_fate fate.Run (front 19 row) 0 ≡ false) × (has_fate fate.RunByCaller (front 19 row) 0 ≡ false) × (has_fate fate.Rejected (front 19 row) 0 ≡ true) × (has_fate fate.Discarded (front 19 row) 0 ≡ false) × (has_fate fate.HandedBack (front 19 row) 0 ≡ false) × (has_fate fate.Removed (front 19 row) 0 ≡ false) × (has_fate fate.Cancelled (front 19 row) 0 ≡ false) × (has_fate fate.Run (front 19 row) 1 ≡ true) × (has_fate fate.RunByCaller (front 19 row) 1 ≡ false) × (has_fate fate.Rejected (front 19 row) 1 ≡ false) × (has_fate fate.Discarded (front 19 row) 1 ≡ false) × (has_fate fate.HandedBack (front 19 row) 1 ≡ false) × (has_fate fate.Removed (front 19 row) 1 ≡ false) × (has_fate fate.Cancelled (front 19 row) 1 ≡ false)
 fates_in_words = (refl, refl, refl, refl, refl, refl, refl, refl, refl, refl, refl, refl, refl, refl)
 
-pub words_agree : agrees_at_fronts config h19 ≡ true
+pub words_agree : agrees_at_fronts config (front 19 row) ≡ true
 words_agree = refl
 
-pub next_holds : NextHolds config h19
+pub next_holds : NextHolds config (front 19 row)
 next_holds = (refl, refl, (refl, refl, (refl, refl, (refl, refl, (refl, refl, (refl, refl, (refl, refl, (refl, refl, (refl, refl, (refl, refl, (refl, refl, (refl, refl, (refl, refl, (refl, refl, (refl, refl, (refl, refl, (refl, refl, (refl, refl, (refl, refl, tt)))))))))))))))))))
 
-pub owed : owed_at_fronts config h19 ≡ 3 ∷ 3 ∷ 4 ∷ 6 ∷ 10 ∷ 11 ∷ 11 ∷ 21 ∷ 21 ∷ 22 ∷ 24 ∷ 21 ∷ 22 ∷ 25 ∷ 29 ∷ 30 ∷ 19 ∷ 19 ∷ 16 ∷ 4 ∷ []
+pub owed : owed_at_fronts config (front 19 row) ≡ 3 ∷ 3 ∷ 4 ∷ 6 ∷ 10 ∷ 11 ∷ 11 ∷ 21 ∷ 21 ∷ 22 ∷ 24 ∷ 21 ∷ 22 ∷ 25 ∷ 29 ∷ 30 ∷ 19 ∷ 19 ∷ 16 ∷ 4 ∷ []
 owed = refl
 
-pub line_last : waiting_line h19 ≡ queue h19
+pub line_last : waiting_line (front 19 row) ≡ queue (front 19 row)
 line_last = refl

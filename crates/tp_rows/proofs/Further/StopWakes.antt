@@ -1,123 +1,75 @@
 -- Worked row stop wakes: each entry is the one that the step gives at its front, and each refusal is the step's.
 use Rattle.std.proofs.Common.{◌≡◌, ℕ, List, [], ◌∷◌, Some, None, Ok, Err, true, false, map, refl}
-use Rattle.std.specs.Prelude.{pos}
-use Rattle.tp_types.specs.declared.tasks.Kind.TheVariants as kinds
-use Rattle.tp_types.specs.declared.tasks.Fate.TheVariants as fate
-use Rattle.tp_types.specs.declared.configs.Config.{Config}
-use Rattle.tp_types.specs.declared.configs.QueueKind.TheVariants.{Handoff}
-use Rattle.tp_types.specs.declared.configs.Policy.TheVariants as policy
-use Rattle.tp_types.specs.declared.refusals.PoolError.TheVariants.{NotThere}
-use Rattle.tp_record.specs.declared.entries.Entry.{Entry}
-use Rattle.tp_record.specs.declared.entries.Ask.TheVariants as ask
-use Rattle.tp_record.specs.declared.entries.Did.TheVariants as did
-use Rattle.tp_record.specs.declared.entries.Looked.TheVariants as looked
-use Rattle.tp_record.specs.declared.entries.Offered.TheVariants as offered
-use Rattle.tp_record.specs.declared.entries.Seconded.TheVariants as seconded
-use Rattle.tp_record.specs.declared.entries.Opened.TheVariants as opened
-use Rattle.tp_record.specs.declared.entries.Took.TheVariants as took
-use Rattle.tp_record.specs.declared.entries.Started.TheVariants as started
-use Rattle.tp_record.specs.Fields.{queue}
-use Rattle.tp_record.specs.State.{state, fate_of, counts}
-use Rattle.tp_record.specs.Step.{step, Legal}
-use Rattle.tp_record.specs.Words.{waiting_line, has_fate, counters}
-use Rattle.tp_rows.proofs.Entries.{entry}
+use Rattle.tp_rows.proofs.Entries.{entry, task, slot, front, Config, Handoff, NotThere, Entry, queue, state, fate_of, counts, step, Legal, waiting_line, has_fate, counters, pos}
+use Rattle.tp_rows.proofs.Entries.kinds
+use Rattle.tp_rows.proofs.Entries.fate
+use Rattle.tp_rows.proofs.Entries.policy
+use Rattle.tp_rows.proofs.Entries.ask
+use Rattle.tp_rows.proofs.Entries.did
+use Rattle.tp_rows.proofs.Entries.looked
+use Rattle.tp_rows.proofs.Entries.offered
+use Rattle.tp_rows.proofs.Entries.seconded
+use Rattle.tp_rows.proofs.Entries.opened
+use Rattle.tp_rows.proofs.Entries.took
+use Rattle.tp_rows.proofs.Entries.started
 use Rattle.tp_rows.proofs.Agree.{agrees_at_fronts, owed_at_fronts, NextHolds}
 
 abbrev pub config : Config
 config = record { core = 2; maximum = 2; queue = Handoff; keep = 5; core_timeout = false; policy = policy.Abort; record_limit = 4096 }
 
-abbrev pub h0 : List Entry
-h0 = []
+abbrev pub row : List Entry
+row =
+    entry ask.Prestart (did.Prestart (Some (slot 0)))
+    ∷ entry ask.Prestart (did.Prestart (Some (slot 1)))
+    ∷ entry ask.Prestart (did.Prestart None)
+    ∷ entry (ask.Open (slot 0)) (did.Open (slot 0) opened.Live)
+    ∷ entry (ask.Open (slot 1)) (did.Open (slot 1) opened.Live)
+    ∷ entry (ask.Take (slot 0)) (did.Take (slot 0) took.Idle)
+    ∷ entry (ask.Take (slot 1)) (did.Take (slot 1) took.Idle)
+    ∷ entry (ask.Submit kinds.Plain) (did.Submit (task 0) kinds.Plain looked.Queue)
+    ∷ entry (ask.Offer (task 0)) (did.Offer (task 0) (offered.Hand (slot 0)))
+    ∷ entry ask.Stop (did.Stop 0)
+    ∷ entry (ask.Second (task 0)) (did.Second (task 0) seconded.Stay)
+    ∷ entry (ask.Take (slot 1)) (did.Take (slot 1) took.Leave)
+    ∷ entry (ask.Take (slot 0)) (did.Take (slot 0) (took.Held (task 0)))
+    ∷ entry (ask.Begin (slot 0)) (did.Begin (slot 0) (started.Run (task 0)))
+    ∷ entry (ask.End (slot 0) (Ok (pos 1))) (did.End (slot 0) (task 0) (Ok (pos 1)))
+    ∷ entry (ask.Take (slot 0)) (did.Take (slot 0) took.Leave)
+    ∷ entry ask.Tidy did.Tidy
+    ∷ entry ask.Stop (did.Stop 0)
+    ∷ entry ask.Ended did.Ended
+    ∷ entry ask.Shutdown did.Shutdown
+    ∷ []
 
-abbrev pub h1 : List Entry
-h1 = entry (ask.Prestart) (did.Prestart (Some (record { 0 = 0 }))) ∷ h0
-
-abbrev pub h2 : List Entry
-h2 = entry (ask.Prestart) (did.Prestart (Some (record { 0 = 1 }))) ∷ h1
-
-abbrev pub h3 : List Entry
-h3 = entry (ask.Prestart) (did.Prestart None) ∷ h2
-
-abbrev pub h4 : List Entry
-h4 = entry (ask.Open (record { 0 = 0 })) (did.Open (record { 0 = 0 }) opened.Live) ∷ h3
-
-abbrev pub h5 : List Entry
-h5 = entry (ask.Open (record { 0 = 1 })) (did.Open (record { 0 = 1 }) opened.Live) ∷ h4
-
-abbrev pub h6 : List Entry
-h6 = entry (ask.Take (record { 0 = 0 })) (did.Take (record { 0 = 0 }) took.Idle) ∷ h5
-
-abbrev pub h7 : List Entry
-h7 = entry (ask.Take (record { 0 = 1 })) (did.Take (record { 0 = 1 }) took.Idle) ∷ h6
-
-abbrev pub h8 : List Entry
-h8 = entry (ask.Submit kinds.Plain) (did.Submit (record { 0 = 0 }) kinds.Plain looked.Queue) ∷ h7
-
-abbrev pub h9 : List Entry
-h9 = entry (ask.Offer (record { 0 = 0 })) (did.Offer (record { 0 = 0 }) (offered.Hand (record { 0 = 0 }))) ∷ h8
-
-abbrev pub h10 : List Entry
-h10 = entry (ask.Stop) (did.Stop 0) ∷ h9
-
-abbrev pub h11 : List Entry
-h11 = entry (ask.Second (record { 0 = 0 })) (did.Second (record { 0 = 0 }) seconded.Stay) ∷ h10
-
-abbrev pub h12 : List Entry
-h12 = entry (ask.Take (record { 0 = 1 })) (did.Take (record { 0 = 1 }) took.Leave) ∷ h11
-
-abbrev pub h13 : List Entry
-h13 = entry (ask.Take (record { 0 = 0 })) (did.Take (record { 0 = 0 }) (took.Held (record { 0 = 0 }))) ∷ h12
-
-abbrev pub h14 : List Entry
-h14 = entry (ask.Begin (record { 0 = 0 })) (did.Begin (record { 0 = 0 }) (started.Run (record { 0 = 0 }))) ∷ h13
-
-abbrev pub h15 : List Entry
-h15 = entry (ask.End (record { 0 = 0 }) (Ok (pos 1))) (did.End (record { 0 = 0 }) (record { 0 = 0 }) (Ok (pos 1))) ∷ h14
-
-abbrev pub h16 : List Entry
-h16 = entry (ask.Take (record { 0 = 0 })) (did.Take (record { 0 = 0 }) took.Leave) ∷ h15
-
-abbrev pub h17 : List Entry
-h17 = entry (ask.Tidy) (did.Tidy) ∷ h16
-
-abbrev pub h18 : List Entry
-h18 = entry (ask.Stop) (did.Stop 0) ∷ h17
-
-abbrev pub h19 : List Entry
-h19 = entry (ask.Ended) (did.Ended) ∷ h18
-
-abbrev pub h20 : List Entry
-h20 = entry (ask.Shutdown) (did.Shutdown) ∷ h19
-
-pub legal : Legal config h20
+pub legal : Legal config (front 20 row)
 legal = ((refl, tt), ((refl, tt), ((refl, tt), ((refl, tt), ((refl, tt), ((refl, tt), ((refl, tt), ((refl, tt), ((refl, tt), ((refl, tt), ((refl, tt), ((refl, tt), ((refl, tt), ((refl, tt), ((refl, tt), ((refl, tt), ((refl, tt), ((refl, tt), ((refl, refl), ((refl, refl), tt))))))))))))))))))))
 
-pub refused_0 : (w : ℕ) → step config (state config h15) w (ask.Tidy) ≡ Err NotThere
+pub refused_0 : (w : ℕ) → step config (state config (front 15 row)) w (ask.Tidy) ≡ Err NotThere
 refused_0 w = refl
 
-pub rank_last : (state config h20).rank ≡ 4
+pub rank_last : (state config (front 20 row)).rank ≡ 4
 rank_last = refl
 
-pub fates_last : map fate_of (state config h20).tasks ≡ Some fate.Run ∷ []
+pub fates_last : map fate_of (state config (front 20 row)).tasks ≡ Some fate.Run ∷ []
 fates_last = refl
 
-pub counts_last : counts (state config h20) ≡ record { submitted = 1; run = 1; caller = 0; rejected = 0; discarded = 0; handedback = 0; removed = 0; cancelled = 0; completed = 1; queued = 0; live = 0; largest = 2 }
+pub counts_last : counts (state config (front 20 row)) ≡ record { submitted = 1; run = 1; caller = 0; rejected = 0; discarded = 0; handedback = 0; removed = 0; cancelled = 0; completed = 1; queued = 0; live = 0; largest = 2 }
 counts_last = refl
 
-pub counters_last : counters h20 ≡ record { submitted = 1; run = 1; caller = 0; rejected = 0; discarded = 0; handedback = 0; removed = 0; cancelled = 0; completed = 1; queued = 0; live = 0; largest = 2 }
+pub counters_last : counters (front 20 row) ≡ record { submitted = 1; run = 1; caller = 0; rejected = 0; discarded = 0; handedback = 0; removed = 0; cancelled = 0; completed = 1; queued = 0; live = 0; largest = 2 }
 counters_last = refl
 
-pub fates_in_words : (has_fate fate.Run h20 0 ≡ true) × (has_fate fate.RunByCaller h20 0 ≡ false) × (has_fate fate.Rejected h20 0 ≡ false) × (has_fate fate.Discarded h20 0 ≡ false) × (has_fate fate.HandedBack h20 0 ≡ false) × (has_fate fate.Removed h20 0 ≡ false) × (has_fate fate.Cancelled h20 0 ≡ false)
+pub fates_in_words : (has_fate fate.Run (front 20 row) 0 ≡ true) × (has_fate fate.RunByCaller (front 20 row) 0 ≡ false) × (has_fate fate.Rejected (front 20 row) 0 ≡ false) × (has_fate fate.Discarded (front 20 row) 0 ≡ false) × (has_fate fate.HandedBack (front 20 row) 0 ≡ false) × (has_fate fate.Removed (front 20 row) 0 ≡ false) × (has_fate fate.Cancelled (front 20 row) 0 ≡ false)
 fates_in_words = (refl, refl, refl, refl, refl, refl, refl)
 
-pub words_agree : agrees_at_fronts config h20 ≡ true
+pub words_agree : agrees_at_fronts config (front 20 row) ≡ true
 words_agree = refl
 
-pub next_holds : NextHolds config h20
+pub next_holds : NextHolds config (front 20 row)
 next_holds = (refl, refl, (refl, refl, (refl, refl, (refl, refl, (refl, refl, (refl, refl, (refl, refl, (refl, refl, (refl, refl, (refl, refl, (refl, refl, (refl, refl, (refl, refl, (refl, refl, (refl, refl, (refl, refl, (refl, refl, (refl, refl, (refl, refl, (refl, refl, tt))))))))))))))))))))
 
-pub owed : owed_at_fronts config h20 ≡ 0 ∷ 0 ∷ 1 ∷ 1 ∷ 2 ∷ 3 ∷ 7 ∷ 8 ∷ 9 ∷ 10 ∷ 14 ∷ 16 ∷ 17 ∷ 6 ∷ 7 ∷ 8 ∷ 9 ∷ 10 ∷ 10 ∷ 7 ∷ 4 ∷ []
+pub owed : owed_at_fronts config (front 20 row) ≡ 0 ∷ 0 ∷ 1 ∷ 1 ∷ 2 ∷ 3 ∷ 7 ∷ 8 ∷ 9 ∷ 10 ∷ 14 ∷ 16 ∷ 17 ∷ 6 ∷ 7 ∷ 8 ∷ 9 ∷ 10 ∷ 10 ∷ 7 ∷ 4 ∷ []
 owed = refl
 
-pub line_last : waiting_line h20 ≡ queue h20
+pub line_last : waiting_line (front 20 row) ≡ queue (front 20 row)
 line_last = refl

@@ -1,88 +1,62 @@
 -- Worked row tidy after stop: each entry is the one that the step gives at its front, and each refusal is the step's.
 use Rattle.std.proofs.Common.{◌≡◌, List, [], ◌∷◌, Some, true, false, map, refl}
-use Rattle.tp_types.specs.declared.tasks.Kind.TheVariants as kinds
-use Rattle.tp_types.specs.declared.tasks.Fate.TheVariants as fate
-use Rattle.tp_types.specs.declared.configs.Config.{Config}
-use Rattle.tp_types.specs.declared.configs.QueueKind.TheVariants.{Unbounded}
-use Rattle.tp_types.specs.declared.configs.Policy.TheVariants as policy
-use Rattle.tp_types.specs.declared.configs.Verdict.TheVariants as verdict
-use Rattle.tp_record.specs.declared.entries.Entry.{Entry}
-use Rattle.tp_record.specs.declared.entries.Ask.TheVariants as ask
-use Rattle.tp_record.specs.declared.entries.Did.TheVariants as did
-use Rattle.tp_record.specs.declared.entries.Looked.TheVariants as looked
-use Rattle.tp_record.specs.declared.entries.Offered.TheVariants as offered
-use Rattle.tp_record.specs.declared.entries.Seconded.TheVariants as seconded
-use Rattle.tp_record.specs.declared.entries.Ruled.TheVariants as ruled
-use Rattle.tp_record.specs.declared.entries.Opened.TheVariants as opened
-use Rattle.tp_record.specs.Fields.{queue}
-use Rattle.tp_record.specs.State.{state, fate_of, counts}
-use Rattle.tp_record.specs.Step.{Legal}
-use Rattle.tp_record.specs.Words.{waiting_line, has_fate, counters}
-use Rattle.tp_rows.proofs.Entries.{entry}
+use Rattle.tp_rows.proofs.Entries.{entry, task, slot, front, Config, Unbounded, Entry, queue, state, fate_of, counts, Legal, waiting_line, has_fate, counters}
+use Rattle.tp_rows.proofs.Entries.kinds
+use Rattle.tp_rows.proofs.Entries.fate
+use Rattle.tp_rows.proofs.Entries.policy
+use Rattle.tp_rows.proofs.Entries.verdict
+use Rattle.tp_rows.proofs.Entries.ask
+use Rattle.tp_rows.proofs.Entries.did
+use Rattle.tp_rows.proofs.Entries.looked
+use Rattle.tp_rows.proofs.Entries.offered
+use Rattle.tp_rows.proofs.Entries.seconded
+use Rattle.tp_rows.proofs.Entries.ruled
+use Rattle.tp_rows.proofs.Entries.opened
 use Rattle.tp_rows.proofs.Agree.{agrees_at_fronts, owed_at_fronts, NextHolds}
 
 abbrev pub config : Config
 config = record { core = 1; maximum = 1; queue = Unbounded; keep = 0; core_timeout = false; policy = policy.Abort; record_limit = 4096 }
 
-abbrev pub h0 : List Entry
-h0 = []
+abbrev pub row : List Entry
+row =
+    entry (ask.Submit kinds.Plain) (did.Submit (task 0) kinds.Plain (looked.Reserve (slot 0)))
+    ∷ entry (ask.Submit kinds.Plain) (did.Submit (task 1) kinds.Plain looked.Queue)
+    ∷ entry ask.Stop (did.Stop 0)
+    ∷ entry (ask.Open (slot 0)) (did.Open (slot 0) (opened.GivenUpRefuse (task 0)))
+    ∷ entry (ask.Offer (task 1)) (did.Offer (task 1) offered.Queued)
+    ∷ entry ask.Tidy did.Tidy
+    ∷ entry (ask.Second (task 1)) (did.Second (task 1) seconded.Back)
+    ∷ entry (ask.Verdict (task 1) verdict.Abort) (did.Verdict (task 1) verdict.Abort ruled.Rejected)
+    ∷ entry (ask.Verdict (task 0) verdict.Abort) (did.Verdict (task 0) verdict.Abort ruled.Rejected)
+    ∷ entry ask.Ended did.Ended
+    ∷ []
 
-abbrev pub h1 : List Entry
-h1 = entry (ask.Submit kinds.Plain) (did.Submit (record { 0 = 0 }) kinds.Plain (looked.Reserve (record { 0 = 0 }))) ∷ h0
-
-abbrev pub h2 : List Entry
-h2 = entry (ask.Submit kinds.Plain) (did.Submit (record { 0 = 1 }) kinds.Plain looked.Queue) ∷ h1
-
-abbrev pub h3 : List Entry
-h3 = entry (ask.Stop) (did.Stop 0) ∷ h2
-
-abbrev pub h4 : List Entry
-h4 = entry (ask.Open (record { 0 = 0 })) (did.Open (record { 0 = 0 }) (opened.GivenUpRefuse (record { 0 = 0 }))) ∷ h3
-
-abbrev pub h5 : List Entry
-h5 = entry (ask.Offer (record { 0 = 1 })) (did.Offer (record { 0 = 1 }) offered.Queued) ∷ h4
-
-abbrev pub h6 : List Entry
-h6 = entry (ask.Tidy) (did.Tidy) ∷ h5
-
-abbrev pub h7 : List Entry
-h7 = entry (ask.Second (record { 0 = 1 })) (did.Second (record { 0 = 1 }) seconded.Back) ∷ h6
-
-abbrev pub h8 : List Entry
-h8 = entry (ask.Verdict (record { 0 = 1 }) verdict.Abort) (did.Verdict (record { 0 = 1 }) verdict.Abort ruled.Rejected) ∷ h7
-
-abbrev pub h9 : List Entry
-h9 = entry (ask.Verdict (record { 0 = 0 }) verdict.Abort) (did.Verdict (record { 0 = 0 }) verdict.Abort ruled.Rejected) ∷ h8
-
-abbrev pub h10 : List Entry
-h10 = entry (ask.Ended) (did.Ended) ∷ h9
-
-pub legal : Legal config h10
+pub legal : Legal config (front 10 row)
 legal = ((refl, tt), ((refl, tt), ((refl, tt), ((refl, tt), ((refl, tt), ((refl, tt), ((refl, tt), ((refl, tt), ((refl, tt), ((refl, refl), tt))))))))))
 
-pub rank_last : (state config h10).rank ≡ 4
+pub rank_last : (state config (front 10 row)).rank ≡ 4
 rank_last = refl
 
-pub fates_last : map fate_of (state config h10).tasks ≡ Some fate.Rejected ∷ Some fate.Rejected ∷ []
+pub fates_last : map fate_of (state config (front 10 row)).tasks ≡ Some fate.Rejected ∷ Some fate.Rejected ∷ []
 fates_last = refl
 
-pub counts_last : counts (state config h10) ≡ record { submitted = 2; run = 0; caller = 0; rejected = 2; discarded = 0; handedback = 0; removed = 0; cancelled = 0; completed = 0; queued = 0; live = 0; largest = 0 }
+pub counts_last : counts (state config (front 10 row)) ≡ record { submitted = 2; run = 0; caller = 0; rejected = 2; discarded = 0; handedback = 0; removed = 0; cancelled = 0; completed = 0; queued = 0; live = 0; largest = 0 }
 counts_last = refl
 
-pub counters_last : counters h10 ≡ record { submitted = 2; run = 0; caller = 0; rejected = 2; discarded = 0; handedback = 0; removed = 0; cancelled = 0; completed = 0; queued = 0; live = 0; largest = 0 }
+pub counters_last : counters (front 10 row) ≡ record { submitted = 2; run = 0; caller = 0; rejected = 2; discarded = 0; handedback = 0; removed = 0; cancelled = 0; completed = 0; queued = 0; live = 0; largest = 0 }
 counters_last = refl
 
-pub fates_in_words : (has_fate fate.Run h10 0 ≡ false) × (has_fate fate.RunByCaller h10 0 ≡ false) × (has_fate fate.Rejected h10 0 ≡ true) × (has_fate fate.Discarded h10 0 ≡ false) × (has_fate fate.HandedBack h10 0 ≡ false) × (has_fate fate.Removed h10 0 ≡ false) × (has_fate fate.Cancelled h10 0 ≡ false) × (has_fate fate.Run h10 1 ≡ false) × (has_fate fate.RunByCaller h10 1 ≡ false) × (has_fate fate.Rejected h10 1 ≡ true) × (has_fate fate.Discarded h10 1 ≡ false) × (has_fate fate.HandedBack h10 1 ≡ false) × (has_fate fate.Removed h10 1 ≡ false) × (has_fate fate.Cancelled h10 1 ≡ false)
+pub fates_in_words : (has_fate fate.Run (front 10 row) 0 ≡ false) × (has_fate fate.RunByCaller (front 10 row) 0 ≡ false) × (has_fate fate.Rejected (front 10 row) 0 ≡ true) × (has_fate fate.Discarded (front 10 row) 0 ≡ false) × (has_fate fate.HandedBack (front 10 row) 0 ≡ false) × (has_fate fate.Removed (front 10 row) 0 ≡ false) × (has_fate fate.Cancelled (front 10 row) 0 ≡ false) × (has_fate fate.Run (front 10 row) 1 ≡ false) × (has_fate fate.RunByCaller (front 10 row) 1 ≡ false) × (has_fate fate.Rejected (front 10 row) 1 ≡ true) × (has_fate fate.Discarded (front 10 row) 1 ≡ false) × (has_fate fate.HandedBack (front 10 row) 1 ≡ false) × (has_fate fate.Removed (front 10 row) 1 ≡ false) × (has_fate fate.Cancelled (front 10 row) 1 ≡ false)
 fates_in_words = (refl, refl, refl, refl, refl, refl, refl, refl, refl, refl, refl, refl, refl, refl)
 
-pub words_agree : agrees_at_fronts config h10 ≡ true
+pub words_agree : agrees_at_fronts config (front 10 row) ≡ true
 words_agree = refl
 
-pub next_holds : NextHolds config h10
+pub next_holds : NextHolds config (front 10 row)
 next_holds = (refl, refl, (refl, refl, (refl, refl, (refl, refl, (refl, refl, (refl, refl, (refl, refl, (refl, refl, (refl, refl, (refl, refl, tt))))))))))
 
-pub owed : owed_at_fronts config h10 ≡ 0 ∷ 1 ∷ 3 ∷ 5 ∷ 13 ∷ 14 ∷ 15 ∷ 25 ∷ 27 ∷ 16 ∷ 4 ∷ []
+pub owed : owed_at_fronts config (front 10 row) ≡ 0 ∷ 1 ∷ 3 ∷ 5 ∷ 13 ∷ 14 ∷ 15 ∷ 25 ∷ 27 ∷ 16 ∷ 4 ∷ []
 owed = refl
 
-pub line_last : waiting_line h10 ≡ queue h10
+pub line_last : waiting_line (front 10 row) ≡ queue (front 10 row)
 line_last = refl

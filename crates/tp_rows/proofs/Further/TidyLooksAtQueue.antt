@@ -1,101 +1,72 @@
 -- Worked row tidy looks at queue: each entry is the one that the step gives at its front, and each refusal is the step's.
 use Rattle.std.proofs.Common.{◌≡◌, ℕ, List, [], ◌∷◌, Some, None, Err, true, false, map, refl}
-use Rattle.tp_types.specs.declared.tasks.Kind.TheVariants as kinds
-use Rattle.tp_types.specs.declared.tasks.Fate.TheVariants as fate
-use Rattle.tp_types.specs.declared.configs.Config.{Config}
-use Rattle.tp_types.specs.declared.configs.QueueKind.TheVariants.{Unbounded}
-use Rattle.tp_types.specs.declared.configs.Policy.TheVariants as policy
-use Rattle.tp_types.specs.declared.configs.Verdict.TheVariants as verdict
-use Rattle.tp_types.specs.declared.refusals.PoolError.TheVariants.{NotThere}
-use Rattle.tp_record.specs.declared.entries.Entry.{Entry}
-use Rattle.tp_record.specs.declared.entries.Ask.TheVariants as ask
-use Rattle.tp_record.specs.declared.entries.Did.TheVariants as did
-use Rattle.tp_record.specs.declared.entries.Looked.TheVariants as looked
-use Rattle.tp_record.specs.declared.entries.Offered.TheVariants as offered
-use Rattle.tp_record.specs.declared.entries.Seconded.TheVariants as seconded
-use Rattle.tp_record.specs.declared.entries.Ruled.TheVariants as ruled
-use Rattle.tp_record.specs.declared.entries.Failed.TheVariants as failed
-use Rattle.tp_record.specs.Fields.{queue}
-use Rattle.tp_record.specs.State.{state, fate_of, counts}
-use Rattle.tp_record.specs.Step.{step, Legal}
-use Rattle.tp_record.specs.Words.{waiting_line, has_fate, counters}
-use Rattle.tp_rows.proofs.Entries.{entry}
+use Rattle.tp_rows.proofs.Entries.{entry, task, slot, front, Config, Unbounded, NotThere, Entry, queue, state, fate_of, counts, step, Legal, waiting_line, has_fate, counters}
+use Rattle.tp_rows.proofs.Entries.kinds
+use Rattle.tp_rows.proofs.Entries.fate
+use Rattle.tp_rows.proofs.Entries.policy
+use Rattle.tp_rows.proofs.Entries.verdict
+use Rattle.tp_rows.proofs.Entries.ask
+use Rattle.tp_rows.proofs.Entries.did
+use Rattle.tp_rows.proofs.Entries.looked
+use Rattle.tp_rows.proofs.Entries.offered
+use Rattle.tp_rows.proofs.Entries.seconded
+use Rattle.tp_rows.proofs.Entries.ruled
+use Rattle.tp_rows.proofs.Entries.failed
 use Rattle.tp_rows.proofs.Agree.{agrees_at_fronts, owed_at_fronts, NextHolds}
 
 abbrev pub config : Config
 config = record { core = 0; maximum = 1; queue = Unbounded; keep = 0; core_timeout = false; policy = policy.Abort; record_limit = 4096 }
 
-abbrev pub h0 : List Entry
-h0 = []
+abbrev pub row : List Entry
+row =
+    entry (ask.Submit kinds.Plain) (did.Submit (task 0) kinds.Plain looked.Queue)
+    ∷ entry (ask.Offer (task 0)) (did.Offer (task 0) offered.Queued)
+    ∷ entry (ask.Second (task 0)) (did.Second (task 0) (seconded.StayReserve (slot 0)))
+    ∷ entry (ask.Fail (slot 0)) (did.Fail (slot 0) failed.Nothing)
+    ∷ entry ask.Shutdown did.Shutdown
+    ∷ entry ask.Prestart (did.Prestart None)
+    ∷ entry (ask.Submit kinds.Plain) (did.Submit (task 1) kinds.Plain looked.Refuse)
+    ∷ entry (ask.Verdict (task 1) verdict.Abort) (did.Verdict (task 1) verdict.Abort ruled.Rejected)
+    ∷ entry ask.Stop (did.Stop 1)
+    ∷ entry ask.Tidy did.Tidy
+    ∷ entry ask.Ended did.Ended
+    ∷ []
 
-abbrev pub h1 : List Entry
-h1 = entry (ask.Submit kinds.Plain) (did.Submit (record { 0 = 0 }) kinds.Plain looked.Queue) ∷ h0
-
-abbrev pub h2 : List Entry
-h2 = entry (ask.Offer (record { 0 = 0 })) (did.Offer (record { 0 = 0 }) offered.Queued) ∷ h1
-
-abbrev pub h3 : List Entry
-h3 = entry (ask.Second (record { 0 = 0 })) (did.Second (record { 0 = 0 }) (seconded.StayReserve (record { 0 = 0 }))) ∷ h2
-
-abbrev pub h4 : List Entry
-h4 = entry (ask.Fail (record { 0 = 0 })) (did.Fail (record { 0 = 0 }) failed.Nothing) ∷ h3
-
-abbrev pub h5 : List Entry
-h5 = entry (ask.Shutdown) (did.Shutdown) ∷ h4
-
-abbrev pub h6 : List Entry
-h6 = entry (ask.Prestart) (did.Prestart None) ∷ h5
-
-abbrev pub h7 : List Entry
-h7 = entry (ask.Submit kinds.Plain) (did.Submit (record { 0 = 1 }) kinds.Plain looked.Refuse) ∷ h6
-
-abbrev pub h8 : List Entry
-h8 = entry (ask.Verdict (record { 0 = 1 }) verdict.Abort) (did.Verdict (record { 0 = 1 }) verdict.Abort ruled.Rejected) ∷ h7
-
-abbrev pub h9 : List Entry
-h9 = entry (ask.Stop) (did.Stop 1) ∷ h8
-
-abbrev pub h10 : List Entry
-h10 = entry (ask.Tidy) (did.Tidy) ∷ h9
-
-abbrev pub h11 : List Entry
-h11 = entry (ask.Ended) (did.Ended) ∷ h10
-
-pub legal : Legal config h11
+pub legal : Legal config (front 11 row)
 legal = ((refl, tt), ((refl, tt), ((refl, tt), ((refl, tt), ((refl, tt), ((refl, tt), ((refl, tt), ((refl, tt), ((refl, refl), ((refl, tt), ((refl, tt), tt)))))))))))
 
-pub refused_0 : (w : ℕ) → step config (state config h5) w (ask.Tidy) ≡ Err NotThere
+pub refused_0 : (w : ℕ) → step config (state config (front 5 row)) w (ask.Tidy) ≡ Err NotThere
 refused_0 w = refl
 
-pub back_0 : queue h8 ≡ 0 ∷ []
+pub back_0 : queue (front 8 row) ≡ 0 ∷ []
 back_0 = refl
 
-pub back_in_words_0 : waiting_line h8 ≡ 0 ∷ []
+pub back_in_words_0 : waiting_line (front 8 row) ≡ 0 ∷ []
 back_in_words_0 = refl
 
-pub rank_last : (state config h11).rank ≡ 4
+pub rank_last : (state config (front 11 row)).rank ≡ 4
 rank_last = refl
 
-pub fates_last : map fate_of (state config h11).tasks ≡ Some fate.HandedBack ∷ Some fate.Rejected ∷ []
+pub fates_last : map fate_of (state config (front 11 row)).tasks ≡ Some fate.HandedBack ∷ Some fate.Rejected ∷ []
 fates_last = refl
 
-pub counts_last : counts (state config h11) ≡ record { submitted = 2; run = 0; caller = 0; rejected = 1; discarded = 0; handedback = 1; removed = 0; cancelled = 0; completed = 0; queued = 0; live = 0; largest = 0 }
+pub counts_last : counts (state config (front 11 row)) ≡ record { submitted = 2; run = 0; caller = 0; rejected = 1; discarded = 0; handedback = 1; removed = 0; cancelled = 0; completed = 0; queued = 0; live = 0; largest = 0 }
 counts_last = refl
 
-pub counters_last : counters h11 ≡ record { submitted = 2; run = 0; caller = 0; rejected = 1; discarded = 0; handedback = 1; removed = 0; cancelled = 0; completed = 0; queued = 0; live = 0; largest = 0 }
+pub counters_last : counters (front 11 row) ≡ record { submitted = 2; run = 0; caller = 0; rejected = 1; discarded = 0; handedback = 1; removed = 0; cancelled = 0; completed = 0; queued = 0; live = 0; largest = 0 }
 counters_last = refl
 
-pub fates_in_words : (has_fate fate.Run h11 0 ≡ false) × (has_fate fate.RunByCaller h11 0 ≡ false) × (has_fate fate.Rejected h11 0 ≡ false) × (has_fate fate.Discarded h11 0 ≡ false) × (has_fate fate.HandedBack h11 0 ≡ true) × (has_fate fate.Removed h11 0 ≡ false) × (has_fate fate.Cancelled h11 0 ≡ false) × (has_fate fate.Run h11 1 ≡ false) × (has_fate fate.RunByCaller h11 1 ≡ false) × (has_fate fate.Rejected h11 1 ≡ true) × (has_fate fate.Discarded h11 1 ≡ false) × (has_fate fate.HandedBack h11 1 ≡ false) × (has_fate fate.Removed h11 1 ≡ false) × (has_fate fate.Cancelled h11 1 ≡ false)
+pub fates_in_words : (has_fate fate.Run (front 11 row) 0 ≡ false) × (has_fate fate.RunByCaller (front 11 row) 0 ≡ false) × (has_fate fate.Rejected (front 11 row) 0 ≡ false) × (has_fate fate.Discarded (front 11 row) 0 ≡ false) × (has_fate fate.HandedBack (front 11 row) 0 ≡ true) × (has_fate fate.Removed (front 11 row) 0 ≡ false) × (has_fate fate.Cancelled (front 11 row) 0 ≡ false) × (has_fate fate.Run (front 11 row) 1 ≡ false) × (has_fate fate.RunByCaller (front 11 row) 1 ≡ false) × (has_fate fate.Rejected (front 11 row) 1 ≡ true) × (has_fate fate.Discarded (front 11 row) 1 ≡ false) × (has_fate fate.HandedBack (front 11 row) 1 ≡ false) × (has_fate fate.Removed (front 11 row) 1 ≡ false) × (has_fate fate.Cancelled (front 11 row) 1 ≡ false)
 fates_in_words = (refl, refl, refl, refl, refl, refl, refl, refl, refl, refl, refl, refl, refl, refl)
 
-pub words_agree : agrees_at_fronts config h11 ≡ true
+pub words_agree : agrees_at_fronts config (front 11 row) ≡ true
 words_agree = refl
 
-pub next_holds : NextHolds config h11
+pub next_holds : NextHolds config (front 11 row)
 next_holds = (refl, refl, (refl, refl, (refl, refl, (refl, refl, (refl, refl, (refl, refl, (refl, refl, (refl, refl, (refl, refl, (refl, refl, (refl, refl, tt)))))))))))
 
-pub owed : owed_at_fronts config h11 ≡ 0 ∷ 1 ∷ 2 ∷ 9 ∷ 11 ∷ 9 ∷ 9 ∷ 10 ∷ 13 ∷ 14 ∷ 15 ∷ 4 ∷ []
+pub owed : owed_at_fronts config (front 11 row) ≡ 0 ∷ 1 ∷ 2 ∷ 9 ∷ 11 ∷ 9 ∷ 9 ∷ 10 ∷ 13 ∷ 14 ∷ 15 ∷ 4 ∷ []
 owed = refl
 
-pub line_last : waiting_line h11 ≡ queue h11
+pub line_last : waiting_line (front 11 row) ≡ queue (front 11 row)
 line_last = refl

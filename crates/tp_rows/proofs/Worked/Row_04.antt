@@ -1,91 +1,63 @@
 -- Worked row 04: each entry is the one that the step gives at its front, and each refusal is the step's.
 use Rattle.std.proofs.Common.{◌≡◌, List, [], ◌∷◌, Some, None, true, false, map, refl}
-use Rattle.tp_types.specs.declared.tasks.Kind.TheVariants as kinds
-use Rattle.tp_types.specs.declared.tasks.Fate.TheVariants as fate
-use Rattle.tp_types.specs.declared.configs.Config.{Config}
-use Rattle.tp_types.specs.declared.configs.QueueKind.TheVariants.{Bounded}
-use Rattle.tp_types.specs.declared.configs.Policy.TheVariants as policy
-use Rattle.tp_types.specs.declared.configs.Verdict.TheVariants as verdict
-use Rattle.tp_record.specs.declared.entries.Entry.{Entry}
-use Rattle.tp_record.specs.declared.entries.Ask.TheVariants as ask
-use Rattle.tp_record.specs.declared.entries.Did.TheVariants as did
-use Rattle.tp_record.specs.declared.entries.Looked.TheVariants as looked
-use Rattle.tp_record.specs.declared.entries.Offered.TheVariants as offered
-use Rattle.tp_record.specs.declared.entries.Seconded.TheVariants as seconded
-use Rattle.tp_record.specs.declared.entries.Grown.TheVariants as grown
-use Rattle.tp_record.specs.declared.entries.Ruled.TheVariants as ruled
-use Rattle.tp_record.specs.Fields.{queue}
-use Rattle.tp_record.specs.State.{state, fate_of, counts}
-use Rattle.tp_record.specs.Step.{Legal}
-use Rattle.tp_record.specs.Words.{waiting_line, has_fate, counters}
-use Rattle.tp_rows.proofs.Entries.{entry}
+use Rattle.tp_rows.proofs.Entries.{entry, task, slot, front, Config, Bounded, Entry, queue, state, fate_of, counts, Legal, waiting_line, has_fate, counters}
+use Rattle.tp_rows.proofs.Entries.kinds
+use Rattle.tp_rows.proofs.Entries.fate
+use Rattle.tp_rows.proofs.Entries.policy
+use Rattle.tp_rows.proofs.Entries.verdict
+use Rattle.tp_rows.proofs.Entries.ask
+use Rattle.tp_rows.proofs.Entries.did
+use Rattle.tp_rows.proofs.Entries.looked
+use Rattle.tp_rows.proofs.Entries.offered
+use Rattle.tp_rows.proofs.Entries.seconded
+use Rattle.tp_rows.proofs.Entries.grown
+use Rattle.tp_rows.proofs.Entries.ruled
 use Rattle.tp_rows.proofs.Agree.{agrees_at_fronts, owed_at_fronts, NextHolds}
 
 abbrev pub config : Config
 config = record { core = 1; maximum = 2; queue = Bounded 1; keep = 0; core_timeout = false; policy = policy.Abort; record_limit = 4096 }
 
-abbrev pub h0 : List Entry
-h0 = []
+abbrev pub row : List Entry
+row =
+    entry (ask.Submit kinds.Plain) (did.Submit (task 0) kinds.Plain (looked.Reserve (slot 0)))
+    ∷ entry (ask.Submit kinds.Plain) (did.Submit (task 1) kinds.Plain looked.Queue)
+    ∷ entry (ask.Offer (task 1)) (did.Offer (task 1) offered.Queued)
+    ∷ entry (ask.Second (task 1)) (did.Second (task 1) seconded.Stay)
+    ∷ entry (ask.Submit kinds.Plain) (did.Submit (task 2) kinds.Plain looked.Queue)
+    ∷ entry (ask.Offer (task 2)) (did.Offer (task 2) offered.Full)
+    ∷ entry (ask.Grow (task 2)) (did.Grow (task 2) (grown.Reserve (slot 1)))
+    ∷ entry (ask.Submit kinds.Plain) (did.Submit (task 3) kinds.Plain looked.Queue)
+    ∷ entry (ask.Offer (task 3)) (did.Offer (task 3) offered.Full)
+    ∷ entry (ask.Grow (task 3)) (did.Grow (task 3) grown.Refuse)
+    ∷ entry (ask.Verdict (task 3) verdict.Abort) (did.Verdict (task 3) verdict.Abort ruled.Rejected)
+    ∷ []
 
-abbrev pub h1 : List Entry
-h1 = entry (ask.Submit kinds.Plain) (did.Submit (record { 0 = 0 }) kinds.Plain (looked.Reserve (record { 0 = 0 }))) ∷ h0
-
-abbrev pub h2 : List Entry
-h2 = entry (ask.Submit kinds.Plain) (did.Submit (record { 0 = 1 }) kinds.Plain looked.Queue) ∷ h1
-
-abbrev pub h3 : List Entry
-h3 = entry (ask.Offer (record { 0 = 1 })) (did.Offer (record { 0 = 1 }) offered.Queued) ∷ h2
-
-abbrev pub h4 : List Entry
-h4 = entry (ask.Second (record { 0 = 1 })) (did.Second (record { 0 = 1 }) seconded.Stay) ∷ h3
-
-abbrev pub h5 : List Entry
-h5 = entry (ask.Submit kinds.Plain) (did.Submit (record { 0 = 2 }) kinds.Plain looked.Queue) ∷ h4
-
-abbrev pub h6 : List Entry
-h6 = entry (ask.Offer (record { 0 = 2 })) (did.Offer (record { 0 = 2 }) offered.Full) ∷ h5
-
-abbrev pub h7 : List Entry
-h7 = entry (ask.Grow (record { 0 = 2 })) (did.Grow (record { 0 = 2 }) (grown.Reserve (record { 0 = 1 }))) ∷ h6
-
-abbrev pub h8 : List Entry
-h8 = entry (ask.Submit kinds.Plain) (did.Submit (record { 0 = 3 }) kinds.Plain looked.Queue) ∷ h7
-
-abbrev pub h9 : List Entry
-h9 = entry (ask.Offer (record { 0 = 3 })) (did.Offer (record { 0 = 3 }) offered.Full) ∷ h8
-
-abbrev pub h10 : List Entry
-h10 = entry (ask.Grow (record { 0 = 3 })) (did.Grow (record { 0 = 3 }) grown.Refuse) ∷ h9
-
-abbrev pub h11 : List Entry
-h11 = entry (ask.Verdict (record { 0 = 3 }) verdict.Abort) (did.Verdict (record { 0 = 3 }) verdict.Abort ruled.Rejected) ∷ h10
-
-pub legal : Legal config h11
+pub legal : Legal config (front 11 row)
 legal = ((refl, tt), ((refl, tt), ((refl, tt), ((refl, tt), ((refl, refl), ((refl, tt), ((refl, tt), ((refl, tt), ((refl, tt), ((refl, tt), ((refl, refl), tt)))))))))))
 
-pub rank_last : (state config h11).rank ≡ 0
+pub rank_last : (state config (front 11 row)).rank ≡ 0
 rank_last = refl
 
-pub fates_last : map fate_of (state config h11).tasks ≡ None ∷ None ∷ None ∷ Some fate.Rejected ∷ []
+pub fates_last : map fate_of (state config (front 11 row)).tasks ≡ None ∷ None ∷ None ∷ Some fate.Rejected ∷ []
 fates_last = refl
 
-pub counts_last : counts (state config h11) ≡ record { submitted = 4; run = 0; caller = 0; rejected = 1; discarded = 0; handedback = 0; removed = 0; cancelled = 0; completed = 0; queued = 1; live = 0; largest = 0 }
+pub counts_last : counts (state config (front 11 row)) ≡ record { submitted = 4; run = 0; caller = 0; rejected = 1; discarded = 0; handedback = 0; removed = 0; cancelled = 0; completed = 0; queued = 1; live = 0; largest = 0 }
 counts_last = refl
 
-pub counters_last : counters h11 ≡ record { submitted = 4; run = 0; caller = 0; rejected = 1; discarded = 0; handedback = 0; removed = 0; cancelled = 0; completed = 0; queued = 1; live = 0; largest = 0 }
+pub counters_last : counters (front 11 row) ≡ record { submitted = 4; run = 0; caller = 0; rejected = 1; discarded = 0; handedback = 0; removed = 0; cancelled = 0; completed = 0; queued = 1; live = 0; largest = 0 }
 counters_last = refl
 
-pub fates_in_words : (has_fate fate.Run h11 0 ≡ false) × (has_fate fate.RunByCaller h11 0 ≡ false) × (has_fate fate.Rejected h11 0 ≡ false) × (has_fate fate.Discarded h11 0 ≡ false) × (has_fate fate.HandedBack h11 0 ≡ false) × (has_fate fate.Removed h11 0 ≡ false) × (has_fate fate.Cancelled h11 0 ≡ false) × (has_fate fate.Run h11 1 ≡ false) × (has_fate fate.RunByCaller h11 1 ≡ false) × (has_fate fate.Rejected h11 1 ≡ false) × (has_fate fate.Discarded h11 1 ≡ false) × (has_fate fate.HandedBack h11 1 ≡ false) × (has_fate fate.Removed h11 1 ≡ false) × (has_fate fate.Cancelled h11 1 ≡ false) × (has_fate fate.Run h11 2 ≡ false) × (has_fate fate.RunByCaller h11 2 ≡ false) × (has_fate fate.Rejected h11 2 ≡ false) × (has_fate fate.Discarded h11 2 ≡ false) × (has_fate fate.HandedBack h11 2 ≡ false) × (has_fate fate.Removed h11 2 ≡ false) × (has_fate fate.Cancelled h11 2 ≡ false) × (has_fate fate.Run h11 3 ≡ false) × (has_fate fate.RunByCaller h11 3 ≡ false) × (has_fate fate.Rejected h11 3 ≡ true) × (has_fate fate.Discarded h11 3 ≡ false) × (has_fate fate.HandedBack h11 3 ≡ false) × (has_fate fate.Removed h11 3 ≡ false) × (has_fate fate.Cancelled h11 3 ≡ false)
+pub fates_in_words : (has_fate fate.Run (front 11 row) 0 ≡ false) × (has_fate fate.RunByCaller (front 11 row) 0 ≡ false) × (has_fate fate.Rejected (front 11 row) 0 ≡ false) × (has_fate fate.Discarded (front 11 row) 0 ≡ false) × (has_fate fate.HandedBack (front 11 row) 0 ≡ false) × (has_fate fate.Removed (front 11 row) 0 ≡ false) × (has_fate fate.Cancelled (front 11 row) 0 ≡ false) × (has_fate fate.Run (front 11 row) 1 ≡ false) × (has_fate fate.RunByCaller (front 11 row) 1 ≡ false) × (has_fate fate.Rejected (front 11 row) 1 ≡ false) × (has_fate fate.Discarded (front 11 row) 1 ≡ false) × (has_fate fate.HandedBack (front 11 row) 1 ≡ false) × (has_fate fate.Removed (front 11 row) 1 ≡ false) × (has_fate fate.Cancelled (front 11 row) 1 ≡ false) × (has_fate fate.Run (front 11 row) 2 ≡ false) × (has_fate fate.RunByCaller (front 11 row) 2 ≡ false) × (has_fate fate.Rejected (front 11 row) 2 ≡ false) × (has_fate fate.Discarded (front 11 row) 2 ≡ false) × (has_fate fate.HandedBack (front 11 row) 2 ≡ false) × (has_fate fate.Removed (front 11 row) 2 ≡ false) × (has_fate fate.Cancelled (front 11 row) 2 ≡ false) × (has_fate fate.Run (front 11 row) 3 ≡ false) × (has_fate fate.RunByCaller (front 11 row) 3 ≡ false) × (has_fate fate.Rejected (front 11 row) 3 ≡ true) × (has_fate fate.Discarded (front 11 row) 3 ≡ false) × (has_fate fate.HandedBack (front 11 row) 3 ≡ false) × (has_fate fate.Removed (front 11 row) 3 ≡ false) × (has_fate fate.Cancelled (front 11 row) 3 ≡ false)
 fates_in_words = (refl, refl, refl, refl, refl, refl, refl, refl, refl, refl, refl, refl, refl, refl, refl, refl, refl, refl, refl, refl, refl, refl, refl, refl, refl, refl, refl, refl)
 
-pub words_agree : agrees_at_fronts config h11 ≡ true
+pub words_agree : agrees_at_fronts config (front 11 row) ≡ true
 words_agree = refl
 
-pub next_holds : NextHolds config h11
+pub next_holds : NextHolds config (front 11 row)
 next_holds = (refl, refl, (refl, refl, (refl, refl, (refl, refl, (refl, refl, (refl, refl, (refl, refl, (refl, refl, (refl, refl, (refl, refl, (refl, refl, tt)))))))))))
 
-pub owed : owed_at_fronts config h11 ≡ 30 ∷ 32 ∷ 39 ∷ 41 ∷ 30 ∷ 31 ∷ 33 ∷ 22 ∷ 26 ∷ 27 ∷ 16 ∷ 4 ∷ []
+pub owed : owed_at_fronts config (front 11 row) ≡ 30 ∷ 32 ∷ 39 ∷ 41 ∷ 30 ∷ 31 ∷ 33 ∷ 22 ∷ 26 ∷ 27 ∷ 16 ∷ 4 ∷ []
 owed = refl
 
-pub line_last : waiting_line h11 ≡ queue h11
+pub line_last : waiting_line (front 11 row) ≡ queue (front 11 row)
 line_last = refl

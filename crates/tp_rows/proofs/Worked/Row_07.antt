@@ -1,95 +1,64 @@
 -- Worked row 07: each entry is the one that the step gives at its front, and each refusal is the step's.
 use Rattle.std.proofs.Common.{◌≡◌, List, [], ◌∷◌, Some, Ok, true, false, map, refl}
-use Rattle.std.specs.Prelude.{pos}
-use Rattle.tp_types.specs.declared.tasks.Kind.TheVariants as kinds
-use Rattle.tp_types.specs.declared.tasks.Fate.TheVariants as fate
-use Rattle.tp_types.specs.declared.configs.Config.{Config}
-use Rattle.tp_types.specs.declared.configs.QueueKind.TheVariants.{Unbounded}
-use Rattle.tp_types.specs.declared.configs.Policy.TheVariants as policy
-use Rattle.tp_record.specs.declared.entries.Entry.{Entry}
-use Rattle.tp_record.specs.declared.entries.Ask.TheVariants as ask
-use Rattle.tp_record.specs.declared.entries.Did.TheVariants as did
-use Rattle.tp_record.specs.declared.entries.Looked.TheVariants as looked
-use Rattle.tp_record.specs.declared.entries.Offered.TheVariants as offered
-use Rattle.tp_record.specs.declared.entries.Seconded.TheVariants as seconded
-use Rattle.tp_record.specs.declared.entries.Opened.TheVariants as opened
-use Rattle.tp_record.specs.declared.entries.Took.TheVariants as took
-use Rattle.tp_record.specs.declared.entries.Started.TheVariants as started
-use Rattle.tp_record.specs.Fields.{queue}
-use Rattle.tp_record.specs.State.{state, fate_of, counts}
-use Rattle.tp_record.specs.Step.{Legal}
-use Rattle.tp_record.specs.Words.{waiting_line, has_fate, counters}
-use Rattle.tp_rows.proofs.Entries.{entry}
+use Rattle.tp_rows.proofs.Entries.{entry, task, slot, front, Config, Unbounded, Entry, queue, state, fate_of, counts, Legal, waiting_line, has_fate, counters, pos}
+use Rattle.tp_rows.proofs.Entries.kinds
+use Rattle.tp_rows.proofs.Entries.fate
+use Rattle.tp_rows.proofs.Entries.policy
+use Rattle.tp_rows.proofs.Entries.ask
+use Rattle.tp_rows.proofs.Entries.did
+use Rattle.tp_rows.proofs.Entries.looked
+use Rattle.tp_rows.proofs.Entries.offered
+use Rattle.tp_rows.proofs.Entries.seconded
+use Rattle.tp_rows.proofs.Entries.opened
+use Rattle.tp_rows.proofs.Entries.took
+use Rattle.tp_rows.proofs.Entries.started
 use Rattle.tp_rows.proofs.Agree.{agrees_at_fronts, owed_at_fronts, NextHolds}
 
 abbrev pub config : Config
 config = record { core = 1; maximum = 1; queue = Unbounded; keep = 0; core_timeout = false; policy = policy.Abort; record_limit = 4096 }
 
-abbrev pub h0 : List Entry
-h0 = []
+abbrev pub row : List Entry
+row =
+    entry (ask.Submit kinds.Plain) (did.Submit (task 0) kinds.Plain (looked.Reserve (slot 0)))
+    ∷ entry (ask.Open (slot 0)) (did.Open (slot 0) opened.Live)
+    ∷ entry (ask.Take (slot 0)) (did.Take (slot 0) (took.Held (task 0)))
+    ∷ entry (ask.Begin (slot 0)) (did.Begin (slot 0) (started.Run (task 0)))
+    ∷ entry (ask.End (slot 0) (Ok (pos 1))) (did.End (slot 0) (task 0) (Ok (pos 1)))
+    ∷ entry (ask.Submit kinds.Plain) (did.Submit (task 1) kinds.Plain looked.Queue)
+    ∷ entry ask.Shutdown did.Shutdown
+    ∷ entry (ask.Offer (task 1)) (did.Offer (task 1) offered.Queued)
+    ∷ entry (ask.Take (slot 0)) (did.Take (slot 0) (took.Head (task 1)))
+    ∷ entry (ask.Second (task 1)) (did.Second (task 1) seconded.Stay)
+    ∷ entry (ask.Begin (slot 0)) (did.Begin (slot 0) (started.Run (task 1)))
+    ∷ entry (ask.End (slot 0) (Ok (pos 2))) (did.End (slot 0) (task 1) (Ok (pos 2)))
+    ∷ []
 
-abbrev pub h1 : List Entry
-h1 = entry (ask.Submit kinds.Plain) (did.Submit (record { 0 = 0 }) kinds.Plain (looked.Reserve (record { 0 = 0 }))) ∷ h0
-
-abbrev pub h2 : List Entry
-h2 = entry (ask.Open (record { 0 = 0 })) (did.Open (record { 0 = 0 }) opened.Live) ∷ h1
-
-abbrev pub h3 : List Entry
-h3 = entry (ask.Take (record { 0 = 0 })) (did.Take (record { 0 = 0 }) (took.Held (record { 0 = 0 }))) ∷ h2
-
-abbrev pub h4 : List Entry
-h4 = entry (ask.Begin (record { 0 = 0 })) (did.Begin (record { 0 = 0 }) (started.Run (record { 0 = 0 }))) ∷ h3
-
-abbrev pub h5 : List Entry
-h5 = entry (ask.End (record { 0 = 0 }) (Ok (pos 1))) (did.End (record { 0 = 0 }) (record { 0 = 0 }) (Ok (pos 1))) ∷ h4
-
-abbrev pub h6 : List Entry
-h6 = entry (ask.Submit kinds.Plain) (did.Submit (record { 0 = 1 }) kinds.Plain looked.Queue) ∷ h5
-
-abbrev pub h7 : List Entry
-h7 = entry (ask.Shutdown) (did.Shutdown) ∷ h6
-
-abbrev pub h8 : List Entry
-h8 = entry (ask.Offer (record { 0 = 1 })) (did.Offer (record { 0 = 1 }) offered.Queued) ∷ h7
-
-abbrev pub h9 : List Entry
-h9 = entry (ask.Take (record { 0 = 0 })) (did.Take (record { 0 = 0 }) (took.Head (record { 0 = 1 }))) ∷ h8
-
-abbrev pub h10 : List Entry
-h10 = entry (ask.Second (record { 0 = 1 })) (did.Second (record { 0 = 1 }) seconded.Stay) ∷ h9
-
-abbrev pub h11 : List Entry
-h11 = entry (ask.Begin (record { 0 = 0 })) (did.Begin (record { 0 = 0 }) (started.Run (record { 0 = 1 }))) ∷ h10
-
-abbrev pub h12 : List Entry
-h12 = entry (ask.End (record { 0 = 0 }) (Ok (pos 2))) (did.End (record { 0 = 0 }) (record { 0 = 1 }) (Ok (pos 2))) ∷ h11
-
-pub legal : Legal config h12
+pub legal : Legal config (front 12 row)
 legal = ((refl, tt), ((refl, tt), ((refl, tt), ((refl, tt), ((refl, tt), ((refl, tt), ((refl, tt), ((refl, tt), ((refl, tt), ((refl, tt), ((refl, tt), ((refl, refl), tt))))))))))))
 
-pub rank_last : (state config h12).rank ≡ 1
+pub rank_last : (state config (front 12 row)).rank ≡ 1
 rank_last = refl
 
-pub fates_last : map fate_of (state config h12).tasks ≡ Some fate.Run ∷ Some fate.Run ∷ []
+pub fates_last : map fate_of (state config (front 12 row)).tasks ≡ Some fate.Run ∷ Some fate.Run ∷ []
 fates_last = refl
 
-pub counts_last : counts (state config h12) ≡ record { submitted = 2; run = 2; caller = 0; rejected = 0; discarded = 0; handedback = 0; removed = 0; cancelled = 0; completed = 2; queued = 0; live = 1; largest = 1 }
+pub counts_last : counts (state config (front 12 row)) ≡ record { submitted = 2; run = 2; caller = 0; rejected = 0; discarded = 0; handedback = 0; removed = 0; cancelled = 0; completed = 2; queued = 0; live = 1; largest = 1 }
 counts_last = refl
 
-pub counters_last : counters h12 ≡ record { submitted = 2; run = 2; caller = 0; rejected = 0; discarded = 0; handedback = 0; removed = 0; cancelled = 0; completed = 2; queued = 0; live = 1; largest = 1 }
+pub counters_last : counters (front 12 row) ≡ record { submitted = 2; run = 2; caller = 0; rejected = 0; discarded = 0; handedback = 0; removed = 0; cancelled = 0; completed = 2; queued = 0; live = 1; largest = 1 }
 counters_last = refl
 
-pub fates_in_words : (has_fate fate.Run h12 0 ≡ true) × (has_fate fate.RunByCaller h12 0 ≡ false) × (has_fate fate.Rejected h12 0 ≡ false) × (has_fate fate.Discarded h12 0 ≡ false) × (has_fate fate.HandedBack h12 0 ≡ false) × (has_fate fate.Removed h12 0 ≡ false) × (has_fate fate.Cancelled h12 0 ≡ false) × (has_fate fate.Run h12 1 ≡ true) × (has_fate fate.RunByCaller h12 1 ≡ false) × (has_fate fate.Rejected h12 1 ≡ false) × (has_fate fate.Discarded h12 1 ≡ false) × (has_fate fate.HandedBack h12 1 ≡ false) × (has_fate fate.Removed h12 1 ≡ false) × (has_fate fate.Cancelled h12 1 ≡ false)
+pub fates_in_words : (has_fate fate.Run (front 12 row) 0 ≡ true) × (has_fate fate.RunByCaller (front 12 row) 0 ≡ false) × (has_fate fate.Rejected (front 12 row) 0 ≡ false) × (has_fate fate.Discarded (front 12 row) 0 ≡ false) × (has_fate fate.HandedBack (front 12 row) 0 ≡ false) × (has_fate fate.Removed (front 12 row) 0 ≡ false) × (has_fate fate.Cancelled (front 12 row) 0 ≡ false) × (has_fate fate.Run (front 12 row) 1 ≡ true) × (has_fate fate.RunByCaller (front 12 row) 1 ≡ false) × (has_fate fate.Rejected (front 12 row) 1 ≡ false) × (has_fate fate.Discarded (front 12 row) 1 ≡ false) × (has_fate fate.HandedBack (front 12 row) 1 ≡ false) × (has_fate fate.Removed (front 12 row) 1 ≡ false) × (has_fate fate.Cancelled (front 12 row) 1 ≡ false)
 fates_in_words = (refl, refl, refl, refl, refl, refl, refl, refl, refl, refl, refl, refl, refl, refl)
 
-pub words_agree : agrees_at_fronts config h12 ≡ true
+pub words_agree : agrees_at_fronts config (front 12 row) ≡ true
 words_agree = refl
 
-pub next_holds : NextHolds config h12
+pub next_holds : NextHolds config (front 12 row)
 next_holds = (refl, refl, (refl, refl, (refl, refl, (refl, refl, (refl, refl, (refl, refl, (refl, refl, (refl, refl, (refl, refl, (refl, refl, (refl, refl, (refl, refl, tt))))))))))))
 
-pub owed : owed_at_fronts config h12 ≡ 4 ∷ 8 ∷ 9 ∷ 13 ∷ 14 ∷ 15 ∷ 17 ∷ 6 ∷ 9 ∷ 10 ∷ 11 ∷ 16 ∷ 4 ∷ []
+pub owed : owed_at_fronts config (front 12 row) ≡ 4 ∷ 8 ∷ 9 ∷ 13 ∷ 14 ∷ 15 ∷ 17 ∷ 6 ∷ 9 ∷ 10 ∷ 11 ∷ 16 ∷ 4 ∷ []
 owed = refl
 
-pub line_last : waiting_line h12 ≡ queue h12
+pub line_last : waiting_line (front 12 row) ≡ queue (front 12 row)
 line_last = refl

@@ -1,100 +1,59 @@
 -- Worked row 08: each entry is the one that the step gives at its front, and each refusal is the step's.
-use Rattle.std.proofs.Common.{◌≡◌, List, [], ◌∷◌, Some, Ok, true, false, map, refl}
-use Rattle.std.specs.Prelude.{pos}
-use Rattle.tp_types.specs.declared.tasks.Kind.TheVariants as kinds
-use Rattle.tp_types.specs.declared.tasks.Fate.TheVariants as fate
-use Rattle.tp_types.specs.declared.configs.Config.{Config}
-use Rattle.tp_types.specs.declared.configs.QueueKind.TheVariants.{Unbounded}
-use Rattle.tp_types.specs.declared.configs.Policy.TheVariants as policy
-use Rattle.tp_types.specs.declared.configs.Verdict.TheVariants as verdict
-use Rattle.tp_record.specs.declared.entries.Entry.{Entry}
-use Rattle.tp_record.specs.declared.entries.Ask.TheVariants as ask
-use Rattle.tp_record.specs.declared.entries.Did.TheVariants as did
-use Rattle.tp_record.specs.declared.entries.Looked.TheVariants as looked
-use Rattle.tp_record.specs.declared.entries.Offered.TheVariants as offered
-use Rattle.tp_record.specs.declared.entries.Seconded.TheVariants as seconded
-use Rattle.tp_record.specs.declared.entries.Ruled.TheVariants as ruled
-use Rattle.tp_record.specs.declared.entries.Opened.TheVariants as opened
-use Rattle.tp_record.specs.declared.entries.Took.TheVariants as took
-use Rattle.tp_record.specs.declared.entries.Started.TheVariants as started
-use Rattle.tp_record.specs.Fields.{queue}
-use Rattle.tp_record.specs.State.{state, fate_of, counts}
-use Rattle.tp_record.specs.Step.{Legal}
-use Rattle.tp_record.specs.Words.{waiting_line, has_fate, counters}
-use Rattle.tp_rows.proofs.Entries.{entry}
+use Rattle.std.proofs.Common.{◌≡◌, List, [], ◌∷◌, ◌++◌, Some, true, false, map, refl}
+use Rattle.tp_rows.proofs.Entries.{entry, task, slot, front, start, Config, Unbounded, Entry, queue, state, fate_of, counts, Legal, waiting_line, has_fate, counters}
+use Rattle.tp_rows.proofs.Entries.fate
+use Rattle.tp_rows.proofs.Entries.policy
+use Rattle.tp_rows.proofs.Entries.verdict
+use Rattle.tp_rows.proofs.Entries.ask
+use Rattle.tp_rows.proofs.Entries.did
+use Rattle.tp_rows.proofs.Entries.offered
+use Rattle.tp_rows.proofs.Entries.seconded
+use Rattle.tp_rows.proofs.Entries.ruled
+use Rattle.tp_rows.proofs.Entries.took
+use Rattle.tp_rows.proofs.Worked.Row_07 as begun
 use Rattle.tp_rows.proofs.Agree.{agrees_at_fronts, owed_at_fronts, NextHolds}
 
 abbrev pub config : Config
 config = record { core = 1; maximum = 1; queue = Unbounded; keep = 0; core_timeout = false; policy = policy.Abort; record_limit = 4096 }
 
-abbrev pub h0 : List Entry
-h0 = []
+abbrev pub row : List Entry
+row =
+    start 6 begun.row
+    ++ entry ask.Stop (did.Stop 0)
+    ∷ entry (ask.Offer (task 1)) (did.Offer (task 1) offered.Queued)
+    ∷ entry (ask.Take (slot 0)) (did.Take (slot 0) took.Leave)
+    ∷ entry (ask.Second (task 1)) (did.Second (task 1) seconded.Back)
+    ∷ entry (ask.Verdict (task 1) verdict.Abort) (did.Verdict (task 1) verdict.Abort ruled.Rejected)
+    ∷ entry ask.Tidy did.Tidy
+    ∷ entry ask.Ended did.Ended
+    ∷ []
 
-abbrev pub h1 : List Entry
-h1 = entry (ask.Submit kinds.Plain) (did.Submit (record { 0 = 0 }) kinds.Plain (looked.Reserve (record { 0 = 0 }))) ∷ h0
-
-abbrev pub h2 : List Entry
-h2 = entry (ask.Open (record { 0 = 0 })) (did.Open (record { 0 = 0 }) opened.Live) ∷ h1
-
-abbrev pub h3 : List Entry
-h3 = entry (ask.Take (record { 0 = 0 })) (did.Take (record { 0 = 0 }) (took.Held (record { 0 = 0 }))) ∷ h2
-
-abbrev pub h4 : List Entry
-h4 = entry (ask.Begin (record { 0 = 0 })) (did.Begin (record { 0 = 0 }) (started.Run (record { 0 = 0 }))) ∷ h3
-
-abbrev pub h5 : List Entry
-h5 = entry (ask.End (record { 0 = 0 }) (Ok (pos 1))) (did.End (record { 0 = 0 }) (record { 0 = 0 }) (Ok (pos 1))) ∷ h4
-
-abbrev pub h6 : List Entry
-h6 = entry (ask.Submit kinds.Plain) (did.Submit (record { 0 = 1 }) kinds.Plain looked.Queue) ∷ h5
-
-abbrev pub h7 : List Entry
-h7 = entry (ask.Stop) (did.Stop 0) ∷ h6
-
-abbrev pub h8 : List Entry
-h8 = entry (ask.Offer (record { 0 = 1 })) (did.Offer (record { 0 = 1 }) offered.Queued) ∷ h7
-
-abbrev pub h9 : List Entry
-h9 = entry (ask.Take (record { 0 = 0 })) (did.Take (record { 0 = 0 }) took.Leave) ∷ h8
-
-abbrev pub h10 : List Entry
-h10 = entry (ask.Second (record { 0 = 1 })) (did.Second (record { 0 = 1 }) seconded.Back) ∷ h9
-
-abbrev pub h11 : List Entry
-h11 = entry (ask.Verdict (record { 0 = 1 }) verdict.Abort) (did.Verdict (record { 0 = 1 }) verdict.Abort ruled.Rejected) ∷ h10
-
-abbrev pub h12 : List Entry
-h12 = entry (ask.Tidy) (did.Tidy) ∷ h11
-
-abbrev pub h13 : List Entry
-h13 = entry (ask.Ended) (did.Ended) ∷ h12
-
-pub legal : Legal config h13
+pub legal : Legal config (front 13 row)
 legal = ((refl, tt), ((refl, tt), ((refl, tt), ((refl, tt), ((refl, tt), ((refl, tt), ((refl, tt), ((refl, tt), ((refl, tt), ((refl, tt), ((refl, tt), ((refl, tt), ((refl, refl), tt)))))))))))))
 
-pub rank_last : (state config h13).rank ≡ 4
+pub rank_last : (state config (front 13 row)).rank ≡ 4
 rank_last = refl
 
-pub fates_last : map fate_of (state config h13).tasks ≡ Some fate.Run ∷ Some fate.Rejected ∷ []
+pub fates_last : map fate_of (state config (front 13 row)).tasks ≡ Some fate.Run ∷ Some fate.Rejected ∷ []
 fates_last = refl
 
-pub counts_last : counts (state config h13) ≡ record { submitted = 2; run = 1; caller = 0; rejected = 1; discarded = 0; handedback = 0; removed = 0; cancelled = 0; completed = 1; queued = 0; live = 0; largest = 1 }
+pub counts_last : counts (state config (front 13 row)) ≡ record { submitted = 2; run = 1; caller = 0; rejected = 1; discarded = 0; handedback = 0; removed = 0; cancelled = 0; completed = 1; queued = 0; live = 0; largest = 1 }
 counts_last = refl
 
-pub counters_last : counters h13 ≡ record { submitted = 2; run = 1; caller = 0; rejected = 1; discarded = 0; handedback = 0; removed = 0; cancelled = 0; completed = 1; queued = 0; live = 0; largest = 1 }
+pub counters_last : counters (front 13 row) ≡ record { submitted = 2; run = 1; caller = 0; rejected = 1; discarded = 0; handedback = 0; removed = 0; cancelled = 0; completed = 1; queued = 0; live = 0; largest = 1 }
 counters_last = refl
 
-pub fates_in_words : (has_fate fate.Run h13 0 ≡ true) × (has_fate fate.RunByCaller h13 0 ≡ false) × (has_fate fate.Rejected h13 0 ≡ false) × (has_fate fate.Discarded h13 0 ≡ false) × (has_fate fate.HandedBack h13 0 ≡ false) × (has_fate fate.Removed h13 0 ≡ false) × (has_fate fate.Cancelled h13 0 ≡ false) × (has_fate fate.Run h13 1 ≡ false) × (has_fate fate.RunByCaller h13 1 ≡ false) × (has_fate fate.Rejected h13 1 ≡ true) × (has_fate fate.Discarded h13 1 ≡ false) × (has_fate fate.HandedBack h13 1 ≡ false) × (has_fate fate.Removed h13 1 ≡ false) × (has_fate fate.Cancelled h13 1 ≡ false)
+pub fates_in_words : (has_fate fate.Run (front 13 row) 0 ≡ true) × (has_fate fate.RunByCaller (front 13 row) 0 ≡ false) × (has_fate fate.Rejected (front 13 row) 0 ≡ false) × (has_fate fate.Discarded (front 13 row) 0 ≡ false) × (has_fate fate.HandedBack (front 13 row) 0 ≡ false) × (has_fate fate.Removed (front 13 row) 0 ≡ false) × (has_fate fate.Cancelled (front 13 row) 0 ≡ false) × (has_fate fate.Run (front 13 row) 1 ≡ false) × (has_fate fate.RunByCaller (front 13 row) 1 ≡ false) × (has_fate fate.Rejected (front 13 row) 1 ≡ true) × (has_fate fate.Discarded (front 13 row) 1 ≡ false) × (has_fate fate.HandedBack (front 13 row) 1 ≡ false) × (has_fate fate.Removed (front 13 row) 1 ≡ false) × (has_fate fate.Cancelled (front 13 row) 1 ≡ false)
 fates_in_words = (refl, refl, refl, refl, refl, refl, refl, refl, refl, refl, refl, refl, refl, refl)
 
-pub words_agree : agrees_at_fronts config h13 ≡ true
+pub words_agree : agrees_at_fronts config (front 13 row) ≡ true
 words_agree = refl
 
-pub next_holds : NextHolds config h13
+pub next_holds : NextHolds config (front 13 row)
 next_holds = (refl, refl, (refl, refl, (refl, refl, (refl, refl, (refl, refl, (refl, refl, (refl, refl, (refl, refl, (refl, refl, (refl, refl, (refl, refl, (refl, refl, (refl, refl, tt)))))))))))))
 
-pub owed : owed_at_fronts config h13 ≡ 0 ∷ 1 ∷ 2 ∷ 4 ∷ 12 ∷ 13 ∷ 14 ∷ 17 ∷ 6 ∷ 9 ∷ 10 ∷ 11 ∷ 16 ∷ 4 ∷ []
+pub owed : owed_at_fronts config (front 13 row) ≡ 0 ∷ 1 ∷ 2 ∷ 4 ∷ 12 ∷ 13 ∷ 14 ∷ 17 ∷ 6 ∷ 9 ∷ 10 ∷ 11 ∷ 16 ∷ 4 ∷ []
 owed = refl
 
-pub line_last : waiting_line h13 ≡ queue h13
+pub line_last : waiting_line (front 13 row) ≡ queue (front 13 row)
 line_last = refl

@@ -1,91 +1,62 @@
 -- Worked row 11: each entry is the one that the step gives at its front, and each refusal is the step's.
 use Rattle.std.proofs.Common.{◌≡◌, List, [], ◌∷◌, Some, None, Ok, true, false, map, refl}
-use Rattle.std.specs.Prelude.{pos}
-use Rattle.tp_types.specs.declared.tasks.Kind.TheVariants as kinds
-use Rattle.tp_types.specs.declared.tasks.Fate.TheVariants as fate
-use Rattle.tp_types.specs.declared.configs.Config.{Config}
-use Rattle.tp_types.specs.declared.configs.QueueKind.TheVariants.{Handoff}
-use Rattle.tp_types.specs.declared.configs.Policy.TheVariants as policy
-use Rattle.tp_types.specs.declared.configs.Verdict.TheVariants as verdict
-use Rattle.tp_record.specs.declared.entries.Entry.{Entry}
-use Rattle.tp_record.specs.declared.entries.Ask.TheVariants as ask
-use Rattle.tp_record.specs.declared.entries.Did.TheVariants as did
-use Rattle.tp_record.specs.declared.entries.Looked.TheVariants as looked
-use Rattle.tp_record.specs.declared.entries.Offered.TheVariants as offered
-use Rattle.tp_record.specs.declared.entries.Grown.TheVariants as grown
-use Rattle.tp_record.specs.declared.entries.Ruled.TheVariants as ruled
-use Rattle.tp_record.specs.Fields.{queue}
-use Rattle.tp_record.specs.State.{state, fate_of, counts}
-use Rattle.tp_record.specs.Step.{Legal}
-use Rattle.tp_record.specs.Words.{waiting_line, has_fate, counters}
-use Rattle.tp_rows.proofs.Entries.{entry}
+use Rattle.tp_rows.proofs.Entries.{entry, task, slot, front, Config, Handoff, Entry, queue, state, fate_of, counts, Legal, waiting_line, has_fate, counters, pos}
+use Rattle.tp_rows.proofs.Entries.kinds
+use Rattle.tp_rows.proofs.Entries.fate
+use Rattle.tp_rows.proofs.Entries.policy
+use Rattle.tp_rows.proofs.Entries.verdict
+use Rattle.tp_rows.proofs.Entries.ask
+use Rattle.tp_rows.proofs.Entries.did
+use Rattle.tp_rows.proofs.Entries.looked
+use Rattle.tp_rows.proofs.Entries.offered
+use Rattle.tp_rows.proofs.Entries.grown
+use Rattle.tp_rows.proofs.Entries.ruled
 use Rattle.tp_rows.proofs.Agree.{agrees_at_fronts, owed_at_fronts, NextHolds}
 
 abbrev pub config : Config
 config = record { core = 0; maximum = 1; queue = Handoff; keep = 0; core_timeout = false; policy = policy.CallerRuns; record_limit = 4096 }
 
-abbrev pub h0 : List Entry
-h0 = []
+abbrev pub row : List Entry
+row =
+    entry (ask.Submit kinds.Plain) (did.Submit (task 0) kinds.Plain looked.Queue)
+    ∷ entry (ask.Offer (task 0)) (did.Offer (task 0) offered.Full)
+    ∷ entry (ask.Grow (task 0)) (did.Grow (task 0) (grown.Reserve (slot 0)))
+    ∷ entry (ask.Submit kinds.Plain) (did.Submit (task 1) kinds.Plain looked.Queue)
+    ∷ entry (ask.Offer (task 1)) (did.Offer (task 1) offered.Full)
+    ∷ entry (ask.Grow (task 1)) (did.Grow (task 1) grown.Refuse)
+    ∷ entry (ask.Verdict (task 1) verdict.CallerRuns) (did.Verdict (task 1) verdict.CallerRuns ruled.Caller)
+    ∷ entry (ask.CallerEnd (task 1) (Ok (pos 2))) (did.CallerEnd (task 1) (Ok (pos 2)))
+    ∷ entry ask.Shutdown did.Shutdown
+    ∷ entry (ask.Submit kinds.Plain) (did.Submit (task 2) kinds.Plain looked.Refuse)
+    ∷ entry (ask.Verdict (task 2) verdict.CallerRuns) (did.Verdict (task 2) verdict.CallerRuns ruled.Discarded)
+    ∷ []
 
-abbrev pub h1 : List Entry
-h1 = entry (ask.Submit kinds.Plain) (did.Submit (record { 0 = 0 }) kinds.Plain looked.Queue) ∷ h0
-
-abbrev pub h2 : List Entry
-h2 = entry (ask.Offer (record { 0 = 0 })) (did.Offer (record { 0 = 0 }) offered.Full) ∷ h1
-
-abbrev pub h3 : List Entry
-h3 = entry (ask.Grow (record { 0 = 0 })) (did.Grow (record { 0 = 0 }) (grown.Reserve (record { 0 = 0 }))) ∷ h2
-
-abbrev pub h4 : List Entry
-h4 = entry (ask.Submit kinds.Plain) (did.Submit (record { 0 = 1 }) kinds.Plain looked.Queue) ∷ h3
-
-abbrev pub h5 : List Entry
-h5 = entry (ask.Offer (record { 0 = 1 })) (did.Offer (record { 0 = 1 }) offered.Full) ∷ h4
-
-abbrev pub h6 : List Entry
-h6 = entry (ask.Grow (record { 0 = 1 })) (did.Grow (record { 0 = 1 }) grown.Refuse) ∷ h5
-
-abbrev pub h7 : List Entry
-h7 = entry (ask.Verdict (record { 0 = 1 }) verdict.CallerRuns) (did.Verdict (record { 0 = 1 }) verdict.CallerRuns ruled.Caller) ∷ h6
-
-abbrev pub h8 : List Entry
-h8 = entry (ask.CallerEnd (record { 0 = 1 }) (Ok (pos 2))) (did.CallerEnd (record { 0 = 1 }) (Ok (pos 2))) ∷ h7
-
-abbrev pub h9 : List Entry
-h9 = entry (ask.Shutdown) (did.Shutdown) ∷ h8
-
-abbrev pub h10 : List Entry
-h10 = entry (ask.Submit kinds.Plain) (did.Submit (record { 0 = 2 }) kinds.Plain looked.Refuse) ∷ h9
-
-abbrev pub h11 : List Entry
-h11 = entry (ask.Verdict (record { 0 = 2 }) verdict.CallerRuns) (did.Verdict (record { 0 = 2 }) verdict.CallerRuns ruled.Discarded) ∷ h10
-
-pub legal : Legal config h11
+pub legal : Legal config (front 11 row)
 legal = ((refl, tt), ((refl, tt), ((refl, tt), ((refl, tt), ((refl, tt), ((refl, tt), ((refl, tt), ((refl, tt), ((refl, refl), ((refl, tt), ((refl, tt), tt)))))))))))
 
-pub rank_last : (state config h11).rank ≡ 1
+pub rank_last : (state config (front 11 row)).rank ≡ 1
 rank_last = refl
 
-pub fates_last : map fate_of (state config h11).tasks ≡ None ∷ Some fate.RunByCaller ∷ Some fate.Discarded ∷ []
+pub fates_last : map fate_of (state config (front 11 row)).tasks ≡ None ∷ Some fate.RunByCaller ∷ Some fate.Discarded ∷ []
 fates_last = refl
 
-pub counts_last : counts (state config h11) ≡ record { submitted = 3; run = 0; caller = 1; rejected = 0; discarded = 1; handedback = 0; removed = 0; cancelled = 0; completed = 0; queued = 0; live = 0; largest = 0 }
+pub counts_last : counts (state config (front 11 row)) ≡ record { submitted = 3; run = 0; caller = 1; rejected = 0; discarded = 1; handedback = 0; removed = 0; cancelled = 0; completed = 0; queued = 0; live = 0; largest = 0 }
 counts_last = refl
 
-pub counters_last : counters h11 ≡ record { submitted = 3; run = 0; caller = 1; rejected = 0; discarded = 1; handedback = 0; removed = 0; cancelled = 0; completed = 0; queued = 0; live = 0; largest = 0 }
+pub counters_last : counters (front 11 row) ≡ record { submitted = 3; run = 0; caller = 1; rejected = 0; discarded = 1; handedback = 0; removed = 0; cancelled = 0; completed = 0; queued = 0; live = 0; largest = 0 }
 counters_last = refl
 
-pub fates_in_words : (has_fate fate.Run h11 0 ≡ false) × (has_fate fate.RunByCaller h11 0 ≡ false) × (has_fate fate.Rejected h11 0 ≡ false) × (has_fate fate.Discarded h11 0 ≡ false) × (has_fate fate.HandedBack h11 0 ≡ false) × (has_fate fate.Removed h11 0 ≡ false) × (has_fate fate.Cancelled h11 0 ≡ false) × (has_fate fate.Run h11 1 ≡ false) × (has_fate fate.RunByCaller h11 1 ≡ true) × (has_fate fate.Rejected h11 1 ≡ false) × (has_fate fate.Discarded h11 1 ≡ false) × (has_fate fate.HandedBack h11 1 ≡ false) × (has_fate fate.Removed h11 1 ≡ false) × (has_fate fate.Cancelled h11 1 ≡ false) × (has_fate fate.Run h11 2 ≡ false) × (has_fate fate.RunByCaller h11 2 ≡ false) × (has_fate fate.Rejected h11 2 ≡ false) × (has_fate fate.Discarded h11 2 ≡ true) × (has_fate fate.HandedBack h11 2 ≡ false) × (has_fate fate.Removed h11 2 ≡ false) × (has_fate fate.Cancelled h11 2 ≡ false)
+pub fates_in_words : (has_fate fate.Run (front 11 row) 0 ≡ false) × (has_fate fate.RunByCaller (front 11 row) 0 ≡ false) × (has_fate fate.Rejected (front 11 row) 0 ≡ false) × (has_fate fate.Discarded (front 11 row) 0 ≡ false) × (has_fate fate.HandedBack (front 11 row) 0 ≡ false) × (has_fate fate.Removed (front 11 row) 0 ≡ false) × (has_fate fate.Cancelled (front 11 row) 0 ≡ false) × (has_fate fate.Run (front 11 row) 1 ≡ false) × (has_fate fate.RunByCaller (front 11 row) 1 ≡ true) × (has_fate fate.Rejected (front 11 row) 1 ≡ false) × (has_fate fate.Discarded (front 11 row) 1 ≡ false) × (has_fate fate.HandedBack (front 11 row) 1 ≡ false) × (has_fate fate.Removed (front 11 row) 1 ≡ false) × (has_fate fate.Cancelled (front 11 row) 1 ≡ false) × (has_fate fate.Run (front 11 row) 2 ≡ false) × (has_fate fate.RunByCaller (front 11 row) 2 ≡ false) × (has_fate fate.Rejected (front 11 row) 2 ≡ false) × (has_fate fate.Discarded (front 11 row) 2 ≡ true) × (has_fate fate.HandedBack (front 11 row) 2 ≡ false) × (has_fate fate.Removed (front 11 row) 2 ≡ false) × (has_fate fate.Cancelled (front 11 row) 2 ≡ false)
 fates_in_words = (refl, refl, refl, refl, refl, refl, refl, refl, refl, refl, refl, refl, refl, refl, refl, refl, refl, refl, refl, refl, refl)
 
-pub words_agree : agrees_at_fronts config h11 ≡ true
+pub words_agree : agrees_at_fronts config (front 11 row) ≡ true
 words_agree = refl
 
-pub next_holds : NextHolds config h11
+pub next_holds : NextHolds config (front 11 row)
 next_holds = (refl, refl, (refl, refl, (refl, refl, (refl, refl, (refl, refl, (refl, refl, (refl, refl, (refl, refl, (refl, refl, (refl, refl, (refl, refl, tt)))))))))))
 
-pub owed : owed_at_fronts config h11 ≡ 11 ∷ 13 ∷ 11 ∷ 12 ∷ 13 ∷ 14 ∷ 21 ∷ 23 ∷ 12 ∷ 13 ∷ 15 ∷ 4 ∷ []
+pub owed : owed_at_fronts config (front 11 row) ≡ 11 ∷ 13 ∷ 11 ∷ 12 ∷ 13 ∷ 14 ∷ 21 ∷ 23 ∷ 12 ∷ 13 ∷ 15 ∷ 4 ∷ []
 owed = refl
 
-pub line_last : waiting_line h11 ≡ queue h11
+pub line_last : waiting_line (front 11 row) ≡ queue (front 11 row)
 line_last = refl

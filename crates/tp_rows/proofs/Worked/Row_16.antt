@@ -1,144 +1,82 @@
 -- Worked row 16: each entry is the one that the step gives at its front, and each refusal is the step's.
 use Rattle.std.proofs.Common.{◌≡◌, ℕ, List, [], ◌∷◌, Some, Ok, Err, true, false, map, refl}
-use Rattle.std.specs.Prelude.{pos}
-use Rattle.tp_types.specs.declared.tasks.Kind.TheVariants as kinds
-use Rattle.tp_types.specs.declared.tasks.Fate.TheVariants as fate
-use Rattle.tp_types.specs.declared.configs.Config.{Config}
-use Rattle.tp_types.specs.declared.configs.QueueKind.TheVariants.{Unbounded}
-use Rattle.tp_types.specs.declared.configs.Policy.TheVariants as policy
-use Rattle.tp_types.specs.declared.refusals.PoolError.TheVariants.{BookFull}
-use Rattle.tp_record.specs.declared.entries.Entry.{Entry}
-use Rattle.tp_record.specs.declared.entries.Ask.TheVariants as ask
-use Rattle.tp_record.specs.declared.entries.Did.TheVariants as did
-use Rattle.tp_record.specs.declared.entries.Looked.TheVariants as looked
-use Rattle.tp_record.specs.declared.entries.Offered.TheVariants as offered
-use Rattle.tp_record.specs.declared.entries.Seconded.TheVariants as seconded
-use Rattle.tp_record.specs.declared.entries.Opened.TheVariants as opened
-use Rattle.tp_record.specs.declared.entries.Took.TheVariants as took
-use Rattle.tp_record.specs.declared.entries.Started.TheVariants as started
-use Rattle.tp_record.specs.Fields.{queue}
-use Rattle.tp_record.specs.State.{state, fate_of, counts}
-use Rattle.tp_record.specs.Step.{step, Legal}
-use Rattle.tp_record.specs.Words.{waiting_line, has_fate, counters}
-use Rattle.tp_rows.proofs.Entries.{entry}
+use Rattle.tp_rows.proofs.Entries.{entry, task, slot, front, Config, Unbounded, BookFull, Entry, queue, state, fate_of, counts, step, Legal, waiting_line, has_fate, counters, pos}
+use Rattle.tp_rows.proofs.Entries.kinds
+use Rattle.tp_rows.proofs.Entries.fate
+use Rattle.tp_rows.proofs.Entries.policy
+use Rattle.tp_rows.proofs.Entries.ask
+use Rattle.tp_rows.proofs.Entries.did
+use Rattle.tp_rows.proofs.Entries.looked
+use Rattle.tp_rows.proofs.Entries.offered
+use Rattle.tp_rows.proofs.Entries.seconded
+use Rattle.tp_rows.proofs.Entries.opened
+use Rattle.tp_rows.proofs.Entries.took
+use Rattle.tp_rows.proofs.Entries.started
 use Rattle.tp_rows.proofs.Agree.{agrees_at_fronts, owed_at_fronts, NextHolds}
 
 abbrev pub config : Config
 config = record { core = 1; maximum = 1; queue = Unbounded; keep = 0; core_timeout = false; policy = policy.Abort; record_limit = 64 }
 
-abbrev pub h0 : List Entry
-h0 = []
+abbrev pub row : List Entry
+row =
+    entry (ask.Submit kinds.Plain) (did.Submit (task 0) kinds.Plain (looked.Reserve (slot 0)))
+    ∷ entry (ask.Submit kinds.Plain) (did.Submit (task 1) kinds.Plain looked.Queue)
+    ∷ entry (ask.Submit kinds.Plain) (did.Submit (task 2) kinds.Plain looked.Queue)
+    ∷ entry (ask.Submit kinds.Plain) (did.Submit (task 3) kinds.Plain looked.Queue)
+    ∷ entry (ask.Open (slot 0)) (did.Open (slot 0) opened.Live)
+    ∷ entry (ask.Take (slot 0)) (did.Take (slot 0) (took.Held (task 0)))
+    ∷ entry (ask.Begin (slot 0)) (did.Begin (slot 0) (started.Run (task 0)))
+    ∷ entry (ask.End (slot 0) (Ok (pos 0))) (did.End (slot 0) (task 0) (Ok (pos 0)))
+    ∷ entry (ask.Offer (task 1)) (did.Offer (task 1) offered.Queued)
+    ∷ entry (ask.Second (task 1)) (did.Second (task 1) seconded.Stay)
+    ∷ entry (ask.Offer (task 2)) (did.Offer (task 2) offered.Queued)
+    ∷ entry (ask.Second (task 2)) (did.Second (task 2) seconded.Stay)
+    ∷ entry (ask.Offer (task 3)) (did.Offer (task 3) offered.Queued)
+    ∷ entry (ask.Second (task 3)) (did.Second (task 3) seconded.Stay)
+    ∷ entry (ask.Take (slot 0)) (did.Take (slot 0) (took.Head (task 1)))
+    ∷ entry (ask.Begin (slot 0)) (did.Begin (slot 0) (started.Run (task 1)))
+    ∷ entry (ask.End (slot 0) (Ok (pos 1))) (did.End (slot 0) (task 1) (Ok (pos 1)))
+    ∷ entry (ask.Take (slot 0)) (did.Take (slot 0) (took.Head (task 2)))
+    ∷ entry (ask.Begin (slot 0)) (did.Begin (slot 0) (started.Run (task 2)))
+    ∷ entry (ask.End (slot 0) (Ok (pos 2))) (did.End (slot 0) (task 2) (Ok (pos 2)))
+    ∷ entry (ask.Take (slot 0)) (did.Take (slot 0) (took.Head (task 3)))
+    ∷ entry (ask.Begin (slot 0)) (did.Begin (slot 0) (started.Run (task 3)))
+    ∷ entry (ask.End (slot 0) (Ok (pos 3))) (did.End (slot 0) (task 3) (Ok (pos 3)))
+    ∷ entry ask.Shutdown did.Shutdown
+    ∷ entry (ask.Take (slot 0)) (did.Take (slot 0) took.Leave)
+    ∷ entry ask.Tidy did.Tidy
+    ∷ entry ask.Ended did.Ended
+    ∷ []
 
-abbrev pub h1 : List Entry
-h1 = entry (ask.Submit kinds.Plain) (did.Submit (record { 0 = 0 }) kinds.Plain (looked.Reserve (record { 0 = 0 }))) ∷ h0
-
-abbrev pub h2 : List Entry
-h2 = entry (ask.Submit kinds.Plain) (did.Submit (record { 0 = 1 }) kinds.Plain looked.Queue) ∷ h1
-
-abbrev pub h3 : List Entry
-h3 = entry (ask.Submit kinds.Plain) (did.Submit (record { 0 = 2 }) kinds.Plain looked.Queue) ∷ h2
-
-abbrev pub h4 : List Entry
-h4 = entry (ask.Submit kinds.Plain) (did.Submit (record { 0 = 3 }) kinds.Plain looked.Queue) ∷ h3
-
-abbrev pub h5 : List Entry
-h5 = entry (ask.Open (record { 0 = 0 })) (did.Open (record { 0 = 0 }) opened.Live) ∷ h4
-
-abbrev pub h6 : List Entry
-h6 = entry (ask.Take (record { 0 = 0 })) (did.Take (record { 0 = 0 }) (took.Held (record { 0 = 0 }))) ∷ h5
-
-abbrev pub h7 : List Entry
-h7 = entry (ask.Begin (record { 0 = 0 })) (did.Begin (record { 0 = 0 }) (started.Run (record { 0 = 0 }))) ∷ h6
-
-abbrev pub h8 : List Entry
-h8 = entry (ask.End (record { 0 = 0 }) (Ok (pos 0))) (did.End (record { 0 = 0 }) (record { 0 = 0 }) (Ok (pos 0))) ∷ h7
-
-abbrev pub h9 : List Entry
-h9 = entry (ask.Offer (record { 0 = 1 })) (did.Offer (record { 0 = 1 }) offered.Queued) ∷ h8
-
-abbrev pub h10 : List Entry
-h10 = entry (ask.Second (record { 0 = 1 })) (did.Second (record { 0 = 1 }) seconded.Stay) ∷ h9
-
-abbrev pub h11 : List Entry
-h11 = entry (ask.Offer (record { 0 = 2 })) (did.Offer (record { 0 = 2 }) offered.Queued) ∷ h10
-
-abbrev pub h12 : List Entry
-h12 = entry (ask.Second (record { 0 = 2 })) (did.Second (record { 0 = 2 }) seconded.Stay) ∷ h11
-
-abbrev pub h13 : List Entry
-h13 = entry (ask.Offer (record { 0 = 3 })) (did.Offer (record { 0 = 3 }) offered.Queued) ∷ h12
-
-abbrev pub h14 : List Entry
-h14 = entry (ask.Second (record { 0 = 3 })) (did.Second (record { 0 = 3 }) seconded.Stay) ∷ h13
-
-abbrev pub h15 : List Entry
-h15 = entry (ask.Take (record { 0 = 0 })) (did.Take (record { 0 = 0 }) (took.Head (record { 0 = 1 }))) ∷ h14
-
-abbrev pub h16 : List Entry
-h16 = entry (ask.Begin (record { 0 = 0 })) (did.Begin (record { 0 = 0 }) (started.Run (record { 0 = 1 }))) ∷ h15
-
-abbrev pub h17 : List Entry
-h17 = entry (ask.End (record { 0 = 0 }) (Ok (pos 1))) (did.End (record { 0 = 0 }) (record { 0 = 1 }) (Ok (pos 1))) ∷ h16
-
-abbrev pub h18 : List Entry
-h18 = entry (ask.Take (record { 0 = 0 })) (did.Take (record { 0 = 0 }) (took.Head (record { 0 = 2 }))) ∷ h17
-
-abbrev pub h19 : List Entry
-h19 = entry (ask.Begin (record { 0 = 0 })) (did.Begin (record { 0 = 0 }) (started.Run (record { 0 = 2 }))) ∷ h18
-
-abbrev pub h20 : List Entry
-h20 = entry (ask.End (record { 0 = 0 }) (Ok (pos 2))) (did.End (record { 0 = 0 }) (record { 0 = 2 }) (Ok (pos 2))) ∷ h19
-
-abbrev pub h21 : List Entry
-h21 = entry (ask.Take (record { 0 = 0 })) (did.Take (record { 0 = 0 }) (took.Head (record { 0 = 3 }))) ∷ h20
-
-abbrev pub h22 : List Entry
-h22 = entry (ask.Begin (record { 0 = 0 })) (did.Begin (record { 0 = 0 }) (started.Run (record { 0 = 3 }))) ∷ h21
-
-abbrev pub h23 : List Entry
-h23 = entry (ask.End (record { 0 = 0 }) (Ok (pos 3))) (did.End (record { 0 = 0 }) (record { 0 = 3 }) (Ok (pos 3))) ∷ h22
-
-abbrev pub h24 : List Entry
-h24 = entry (ask.Shutdown) (did.Shutdown) ∷ h23
-
-abbrev pub h25 : List Entry
-h25 = entry (ask.Take (record { 0 = 0 })) (did.Take (record { 0 = 0 }) took.Leave) ∷ h24
-
-abbrev pub h26 : List Entry
-h26 = entry (ask.Tidy) (did.Tidy) ∷ h25
-
-abbrev pub h27 : List Entry
-h27 = entry (ask.Ended) (did.Ended) ∷ h26
-
-pub legal : Legal config h27
+pub legal : Legal config (front 27 row)
 legal = ((refl, tt), ((refl, tt), ((refl, tt), ((refl, tt), ((refl, tt), ((refl, tt), ((refl, tt), ((refl, tt), ((refl, tt), ((refl, tt), ((refl, tt), ((refl, tt), ((refl, tt), ((refl, tt), ((refl, tt), ((refl, tt), ((refl, tt), ((refl, tt), ((refl, tt), ((refl, tt), ((refl, tt), ((refl, tt), ((refl, tt), ((refl, tt), ((refl, tt), ((refl, tt), ((refl, refl), tt)))))))))))))))))))))))))))
 
-pub refused_0 : (w : ℕ) → step config (state config h4) w (ask.Submit kinds.Plain) ≡ Err BookFull
+pub refused_0 : (w : ℕ) → step config (state config (front 4 row)) w (ask.Submit kinds.Plain) ≡ Err BookFull
 refused_0 w = refl
 
-pub rank_last : (state config h27).rank ≡ 4
+pub rank_last : (state config (front 27 row)).rank ≡ 4
 rank_last = refl
 
-pub fates_last : map fate_of (state config h27).tasks ≡ Some fate.Run ∷ Some fate.Run ∷ Some fate.Run ∷ Some fate.Run ∷ []
+pub fates_last : map fate_of (state config (front 27 row)).tasks ≡ Some fate.Run ∷ Some fate.Run ∷ Some fate.Run ∷ Some fate.Run ∷ []
 fates_last = refl
 
-pub counts_last : counts (state config h27) ≡ record { submitted = 4; run = 4; caller = 0; rejected = 0; discarded = 0; handedback = 0; removed = 0; cancelled = 0; completed = 4; queued = 0; live = 0; largest = 1 }
+pub counts_last : counts (state config (front 27 row)) ≡ record { submitted = 4; run = 4; caller = 0; rejected = 0; discarded = 0; handedback = 0; removed = 0; cancelled = 0; completed = 4; queued = 0; live = 0; largest = 1 }
 counts_last = refl
 
-pub counters_last : counters h27 ≡ record { submitted = 4; run = 4; caller = 0; rejected = 0; discarded = 0; handedback = 0; removed = 0; cancelled = 0; completed = 4; queued = 0; live = 0; largest = 1 }
+pub counters_last : counters (front 27 row) ≡ record { submitted = 4; run = 4; caller = 0; rejected = 0; discarded = 0; handedback = 0; removed = 0; cancelled = 0; completed = 4; queued = 0; live = 0; largest = 1 }
 counters_last = refl
 
-pub fates_in_words : (has_fate fate.Run h27 0 ≡ true) × (has_fate fate.RunByCaller h27 0 ≡ false) × (has_fate fate.Rejected h27 0 ≡ false) × (has_fate fate.Discarded h27 0 ≡ false) × (has_fate fate.HandedBack h27 0 ≡ false) × (has_fate fate.Removed h27 0 ≡ false) × (has_fate fate.Cancelled h27 0 ≡ false) × (has_fate fate.Run h27 1 ≡ true) × (has_fate fate.RunByCaller h27 1 ≡ false) × (has_fate fate.Rejected h27 1 ≡ false) × (has_fate fate.Discarded h27 1 ≡ false) × (has_fate fate.HandedBack h27 1 ≡ false) × (has_fate fate.Removed h27 1 ≡ false) × (has_fate fate.Cancelled h27 1 ≡ false) × (has_fate fate.Run h27 2 ≡ true) × (has_fate fate.RunByCaller h27 2 ≡ false) × (has_fate fate.Rejected h27 2 ≡ false) × (has_fate fate.Discarded h27 2 ≡ false) × (has_fate fate.HandedBack h27 2 ≡ false) × (has_fate fate.Removed h27 2 ≡ false) × (has_fate fate.Cancelled h27 2 ≡ false) × (has_fate fate.Run h27 3 ≡ true) × (has_fate fate.RunByCaller h27 3 ≡ false) × (has_fate fate.Rejected h27 3 ≡ false) × (has_fate fate.Discarded h27 3 ≡ false) × (has_fate fate.HandedBack h27 3 ≡ false) × (has_fate fate.Removed h27 3 ≡ false) × (has_fate fate.Cancelled h27 3 ≡ false)
+pub fates_in_words : (has_fate fate.Run (front 27 row) 0 ≡ true) × (has_fate fate.RunByCaller (front 27 row) 0 ≡ false) × (has_fate fate.Rejected (front 27 row) 0 ≡ false) × (has_fate fate.Discarded (front 27 row) 0 ≡ false) × (has_fate fate.HandedBack (front 27 row) 0 ≡ false) × (has_fate fate.Removed (front 27 row) 0 ≡ false) × (has_fate fate.Cancelled (front 27 row) 0 ≡ false) × (has_fate fate.Run (front 27 row) 1 ≡ true) × (has_fate fate.RunByCaller (front 27 row) 1 ≡ false) × (has_fate fate.Rejected (front 27 row) 1 ≡ false) × (has_fate fate.Discarded (front 27 row) 1 ≡ false) × (has_fate fate.HandedBack (front 27 row) 1 ≡ false) × (has_fate fate.Removed (front 27 row) 1 ≡ false) × (has_fate fate.Cancelled (front 27 row) 1 ≡ false) × (has_fate fate.Run (front 27 row) 2 ≡ true) × (has_fate fate.RunByCaller (front 27 row) 2 ≡ false) × (has_fate fate.Rejected (front 27 row) 2 ≡ false) × (has_fate fate.Discarded (front 27 row) 2 ≡ false) × (has_fate fate.HandedBack (front 27 row) 2 ≡ false) × (has_fate fate.Removed (front 27 row) 2 ≡ false) × (has_fate fate.Cancelled (front 27 row) 2 ≡ false) × (has_fate fate.Run (front 27 row) 3 ≡ true) × (has_fate fate.RunByCaller (front 27 row) 3 ≡ false) × (has_fate fate.Rejected (front 27 row) 3 ≡ false) × (has_fate fate.Discarded (front 27 row) 3 ≡ false) × (has_fate fate.HandedBack (front 27 row) 3 ≡ false) × (has_fate fate.Removed (front 27 row) 3 ≡ false) × (has_fate fate.Cancelled (front 27 row) 3 ≡ false)
 fates_in_words = (refl, refl, refl, refl, refl, refl, refl, refl, refl, refl, refl, refl, refl, refl, refl, refl, refl, refl, refl, refl, refl, refl, refl, refl, refl, refl, refl, refl)
 
-pub words_agree : agrees_at_fronts config h27 ≡ true
+pub words_agree : agrees_at_fronts config (front 27 row) ≡ true
 words_agree = refl
 
-pub next_holds : NextHolds config h27
+pub next_holds : NextHolds config (front 27 row)
 next_holds = (refl, refl, (refl, refl, (refl, refl, (refl, refl, (refl, refl, (refl, refl, (refl, refl, (refl, refl, (refl, refl, (refl, refl, (refl, refl, (refl, refl, (refl, refl, (refl, refl, (refl, refl, (refl, refl, (refl, refl, (refl, refl, (refl, refl, (refl, refl, (refl, refl, (refl, refl, (refl, refl, (refl, refl, (refl, refl, (refl, refl, (refl, refl, tt)))))))))))))))))))))))))))
 
-pub owed : owed_at_fronts config h27 ≡ 0 ∷ 1 ∷ 3 ∷ 4 ∷ 6 ∷ 9 ∷ 10 ∷ 12 ∷ 15 ∷ 16 ∷ 18 ∷ 21 ∷ 22 ∷ 24 ∷ 28 ∷ 29 ∷ 33 ∷ 34 ∷ 38 ∷ 39 ∷ 42 ∷ 43 ∷ 44 ∷ 49 ∷ 38 ∷ 27 ∷ 16 ∷ 4 ∷ []
+pub owed : owed_at_fronts config (front 27 row) ≡ 0 ∷ 1 ∷ 3 ∷ 4 ∷ 6 ∷ 9 ∷ 10 ∷ 12 ∷ 15 ∷ 16 ∷ 18 ∷ 21 ∷ 22 ∷ 24 ∷ 28 ∷ 29 ∷ 33 ∷ 34 ∷ 38 ∷ 39 ∷ 42 ∷ 43 ∷ 44 ∷ 49 ∷ 38 ∷ 27 ∷ 16 ∷ 4 ∷ []
 owed = refl
 
-pub line_last : waiting_line h27 ≡ queue h27
+pub line_last : waiting_line (front 27 row) ≡ queue (front 27 row)
 line_last = refl

@@ -1,138 +1,68 @@
 -- Worked row 17: each entry is the one that the step gives at its front, and each refusal is the step's.
-use Rattle.std.proofs.Common.{◌≡◌, List, [], ◌∷◌, Some, None, Ok, true, false, map, refl}
-use Rattle.std.specs.Prelude.{pos}
-use Rattle.tp_types.specs.declared.tasks.Kind.TheVariants as kinds
-use Rattle.tp_types.specs.declared.tasks.Fate.TheVariants as fate
-use Rattle.tp_types.specs.declared.configs.Config.{Config}
-use Rattle.tp_types.specs.declared.configs.QueueKind.TheVariants.{Bounded}
-use Rattle.tp_types.specs.declared.configs.Policy.TheVariants as policy
-use Rattle.tp_record.specs.declared.entries.Entry.{Entry}
-use Rattle.tp_record.specs.declared.entries.Ask.TheVariants as ask
-use Rattle.tp_record.specs.declared.entries.Did.TheVariants as did
-use Rattle.tp_record.specs.declared.entries.Looked.TheVariants as looked
-use Rattle.tp_record.specs.declared.entries.Offered.TheVariants as offered
-use Rattle.tp_record.specs.declared.entries.Seconded.TheVariants as seconded
-use Rattle.tp_record.specs.declared.entries.Grown.TheVariants as grown
-use Rattle.tp_record.specs.declared.entries.Opened.TheVariants as opened
-use Rattle.tp_record.specs.declared.entries.Took.TheVariants as took
-use Rattle.tp_record.specs.declared.entries.Started.TheVariants as started
-use Rattle.tp_record.specs.Fields.{queue}
-use Rattle.tp_record.specs.State.{state, fate_of, counts}
-use Rattle.tp_record.specs.Step.{Legal}
-use Rattle.tp_record.specs.Words.{waiting_line, has_fate, counters}
-use Rattle.tp_rows.proofs.Entries.{entry}
+use Rattle.std.proofs.Common.{◌≡◌, List, [], ◌∷◌, ◌++◌, Some, None, Ok, true, false, map, refl}
+use Rattle.tp_rows.proofs.Entries.{entry, task, slot, front, start, Config, Bounded, Entry, queue, state, fate_of, counts, Legal, waiting_line, has_fate, counters, pos}
+use Rattle.tp_rows.proofs.Entries.fate
+use Rattle.tp_rows.proofs.Entries.policy
+use Rattle.tp_rows.proofs.Entries.ask
+use Rattle.tp_rows.proofs.Entries.did
+use Rattle.tp_rows.proofs.Entries.grown
+use Rattle.tp_rows.proofs.Entries.opened
+use Rattle.tp_rows.proofs.Entries.took
+use Rattle.tp_rows.proofs.Entries.started
+use Rattle.tp_rows.proofs.Worked.Row_04 as begun
 use Rattle.tp_rows.proofs.Agree.{agrees_at_fronts, owed_at_fronts, NextHolds}
 
 abbrev pub config : Config
 config = record { core = 1; maximum = 3; queue = Bounded 1; keep = 0; core_timeout = false; policy = policy.Abort; record_limit = 4096 }
 
-abbrev pub h0 : List Entry
-h0 = []
+abbrev pub row : List Entry
+row =
+    start 9 begun.row
+    ++ entry (ask.Grow (task 3)) (did.Grow (task 3) (grown.Reserve (slot 2)))
+    ∷ entry (ask.Open (slot 0)) (did.Open (slot 0) opened.Live)
+    ∷ entry (ask.Open (slot 1)) (did.Open (slot 1) opened.Live)
+    ∷ entry (ask.Open (slot 2)) (did.Open (slot 2) opened.Live)
+    ∷ entry (ask.Take (slot 0)) (did.Take (slot 0) (took.Held (task 0)))
+    ∷ entry (ask.Begin (slot 0)) (did.Begin (slot 0) (started.Run (task 0)))
+    ∷ entry (ask.End (slot 0) (Ok (pos 0))) (did.End (slot 0) (task 0) (Ok (pos 0)))
+    ∷ entry (ask.Take (slot 1)) (did.Take (slot 1) (took.Held (task 2)))
+    ∷ entry (ask.Begin (slot 1)) (did.Begin (slot 1) (started.Run (task 2)))
+    ∷ entry (ask.End (slot 1) (Ok (pos 2))) (did.End (slot 1) (task 2) (Ok (pos 2)))
+    ∷ entry (ask.Take (slot 2)) (did.Take (slot 2) (took.Held (task 3)))
+    ∷ entry (ask.Begin (slot 2)) (did.Begin (slot 2) (started.Run (task 3)))
+    ∷ entry (ask.End (slot 2) (Ok (pos 3))) (did.End (slot 2) (task 3) (Ok (pos 3)))
+    ∷ entry (ask.Maximum 1) (did.Maximum 1)
+    ∷ entry (ask.Take (slot 0)) (did.Take (slot 0) took.Leave)
+    ∷ entry (ask.Take (slot 1)) (did.Take (slot 1) took.Leave)
+    ∷ entry (ask.Take (slot 2)) (did.Take (slot 2) (took.Head (task 1)))
+    ∷ []
 
-abbrev pub h1 : List Entry
-h1 = entry (ask.Submit kinds.Plain) (did.Submit (record { 0 = 0 }) kinds.Plain (looked.Reserve (record { 0 = 0 }))) ∷ h0
-
-abbrev pub h2 : List Entry
-h2 = entry (ask.Submit kinds.Plain) (did.Submit (record { 0 = 1 }) kinds.Plain looked.Queue) ∷ h1
-
-abbrev pub h3 : List Entry
-h3 = entry (ask.Offer (record { 0 = 1 })) (did.Offer (record { 0 = 1 }) offered.Queued) ∷ h2
-
-abbrev pub h4 : List Entry
-h4 = entry (ask.Second (record { 0 = 1 })) (did.Second (record { 0 = 1 }) seconded.Stay) ∷ h3
-
-abbrev pub h5 : List Entry
-h5 = entry (ask.Submit kinds.Plain) (did.Submit (record { 0 = 2 }) kinds.Plain looked.Queue) ∷ h4
-
-abbrev pub h6 : List Entry
-h6 = entry (ask.Offer (record { 0 = 2 })) (did.Offer (record { 0 = 2 }) offered.Full) ∷ h5
-
-abbrev pub h7 : List Entry
-h7 = entry (ask.Grow (record { 0 = 2 })) (did.Grow (record { 0 = 2 }) (grown.Reserve (record { 0 = 1 }))) ∷ h6
-
-abbrev pub h8 : List Entry
-h8 = entry (ask.Submit kinds.Plain) (did.Submit (record { 0 = 3 }) kinds.Plain looked.Queue) ∷ h7
-
-abbrev pub h9 : List Entry
-h9 = entry (ask.Offer (record { 0 = 3 })) (did.Offer (record { 0 = 3 }) offered.Full) ∷ h8
-
-abbrev pub h10 : List Entry
-h10 = entry (ask.Grow (record { 0 = 3 })) (did.Grow (record { 0 = 3 }) (grown.Reserve (record { 0 = 2 }))) ∷ h9
-
-abbrev pub h11 : List Entry
-h11 = entry (ask.Open (record { 0 = 0 })) (did.Open (record { 0 = 0 }) opened.Live) ∷ h10
-
-abbrev pub h12 : List Entry
-h12 = entry (ask.Open (record { 0 = 1 })) (did.Open (record { 0 = 1 }) opened.Live) ∷ h11
-
-abbrev pub h13 : List Entry
-h13 = entry (ask.Open (record { 0 = 2 })) (did.Open (record { 0 = 2 }) opened.Live) ∷ h12
-
-abbrev pub h14 : List Entry
-h14 = entry (ask.Take (record { 0 = 0 })) (did.Take (record { 0 = 0 }) (took.Held (record { 0 = 0 }))) ∷ h13
-
-abbrev pub h15 : List Entry
-h15 = entry (ask.Begin (record { 0 = 0 })) (did.Begin (record { 0 = 0 }) (started.Run (record { 0 = 0 }))) ∷ h14
-
-abbrev pub h16 : List Entry
-h16 = entry (ask.End (record { 0 = 0 }) (Ok (pos 0))) (did.End (record { 0 = 0 }) (record { 0 = 0 }) (Ok (pos 0))) ∷ h15
-
-abbrev pub h17 : List Entry
-h17 = entry (ask.Take (record { 0 = 1 })) (did.Take (record { 0 = 1 }) (took.Held (record { 0 = 2 }))) ∷ h16
-
-abbrev pub h18 : List Entry
-h18 = entry (ask.Begin (record { 0 = 1 })) (did.Begin (record { 0 = 1 }) (started.Run (record { 0 = 2 }))) ∷ h17
-
-abbrev pub h19 : List Entry
-h19 = entry (ask.End (record { 0 = 1 }) (Ok (pos 2))) (did.End (record { 0 = 1 }) (record { 0 = 2 }) (Ok (pos 2))) ∷ h18
-
-abbrev pub h20 : List Entry
-h20 = entry (ask.Take (record { 0 = 2 })) (did.Take (record { 0 = 2 }) (took.Held (record { 0 = 3 }))) ∷ h19
-
-abbrev pub h21 : List Entry
-h21 = entry (ask.Begin (record { 0 = 2 })) (did.Begin (record { 0 = 2 }) (started.Run (record { 0 = 3 }))) ∷ h20
-
-abbrev pub h22 : List Entry
-h22 = entry (ask.End (record { 0 = 2 }) (Ok (pos 3))) (did.End (record { 0 = 2 }) (record { 0 = 3 }) (Ok (pos 3))) ∷ h21
-
-abbrev pub h23 : List Entry
-h23 = entry (ask.Maximum 1) (did.Maximum 1) ∷ h22
-
-abbrev pub h24 : List Entry
-h24 = entry (ask.Take (record { 0 = 0 })) (did.Take (record { 0 = 0 }) took.Leave) ∷ h23
-
-abbrev pub h25 : List Entry
-h25 = entry (ask.Take (record { 0 = 1 })) (did.Take (record { 0 = 1 }) took.Leave) ∷ h24
-
-abbrev pub h26 : List Entry
-h26 = entry (ask.Take (record { 0 = 2 })) (did.Take (record { 0 = 2 }) (took.Head (record { 0 = 1 }))) ∷ h25
-
-pub legal : Legal config h26
+pub legal : Legal config (front 26 row)
 legal = ((refl, tt), ((refl, tt), ((refl, tt), ((refl, tt), ((refl, tt), ((refl, tt), ((refl, tt), ((refl, tt), ((refl, tt), ((refl, tt), ((refl, tt), ((refl, tt), ((refl, tt), ((refl, tt), ((refl, tt), ((refl, tt), ((refl, refl), ((refl, tt), ((refl, tt), ((refl, refl), ((refl, tt), ((refl, tt), ((refl, tt), ((refl, tt), ((refl, tt), ((refl, refl), tt))))))))))))))))))))))))))
 
-pub rank_last : (state config h26).rank ≡ 0
+pub rank_last : (state config (front 26 row)).rank ≡ 0
 rank_last = refl
 
-pub fates_last : map fate_of (state config h26).tasks ≡ Some fate.Run ∷ None ∷ Some fate.Run ∷ Some fate.Run ∷ []
+pub fates_last : map fate_of (state config (front 26 row)).tasks ≡ Some fate.Run ∷ None ∷ Some fate.Run ∷ Some fate.Run ∷ []
 fates_last = refl
 
-pub counts_last : counts (state config h26) ≡ record { submitted = 4; run = 3; caller = 0; rejected = 0; discarded = 0; handedback = 0; removed = 0; cancelled = 0; completed = 3; queued = 0; live = 1; largest = 3 }
+pub counts_last : counts (state config (front 26 row)) ≡ record { submitted = 4; run = 3; caller = 0; rejected = 0; discarded = 0; handedback = 0; removed = 0; cancelled = 0; completed = 3; queued = 0; live = 1; largest = 3 }
 counts_last = refl
 
-pub counters_last : counters h26 ≡ record { submitted = 4; run = 3; caller = 0; rejected = 0; discarded = 0; handedback = 0; removed = 0; cancelled = 0; completed = 3; queued = 0; live = 1; largest = 3 }
+pub counters_last : counters (front 26 row) ≡ record { submitted = 4; run = 3; caller = 0; rejected = 0; discarded = 0; handedback = 0; removed = 0; cancelled = 0; completed = 3; queued = 0; live = 1; largest = 3 }
 counters_last = refl
 
-pub fates_in_words : (has_fate fate.Run h26 0 ≡ true) × (has_fate fate.RunByCaller h26 0 ≡ false) × (has_fate fate.Rejected h26 0 ≡ false) × (has_fate fate.Discarded h26 0 ≡ false) × (has_fate fate.HandedBack h26 0 ≡ false) × (has_fate fate.Removed h26 0 ≡ false) × (has_fate fate.Cancelled h26 0 ≡ false) × (has_fate fate.Run h26 1 ≡ false) × (has_fate fate.RunByCaller h26 1 ≡ false) × (has_fate fate.Rejected h26 1 ≡ false) × (has_fate fate.Discarded h26 1 ≡ false) × (has_fate fate.HandedBack h26 1 ≡ false) × (has_fate fate.Removed h26 1 ≡ false) × (has_fate fate.Cancelled h26 1 ≡ false) × (has_fate fate.Run h26 2 ≡ true) × (has_fate fate.RunByCaller h26 2 ≡ false) × (has_fate fate.Rejected h26 2 ≡ false) × (has_fate fate.Discarded h26 2 ≡ false) × (has_fate fate.HandedBack h26 2 ≡ false) × (has_fate fate.Removed h26 2 ≡ false) × (has_fate fate.Cancelled h26 2 ≡ false) × (has_fate fate.Run h26 3 ≡ true) × (has_fate fate.RunByCaller h26 3 ≡ false) × (has_fate fate.Rejected h26 3 ≡ false) × (has_fate fate.Discarded h26 3 ≡ false) × (has_fate fate.HandedBack h26 3 ≡ false) × (has_fate fate.Removed h26 3 ≡ false) × (has_fate fate.Cancelled h26 3 ≡ false)
+pub fates_in_words : (has_fate fate.Run (front 26 row) 0 ≡ true) × (has_fate fate.RunByCaller (front 26 row) 0 ≡ false) × (has_fate fate.Rejected (front 26 row) 0 ≡ false) × (has_fate fate.Discarded (front 26 row) 0 ≡ false) × (has_fate fate.HandedBack (front 26 row) 0 ≡ false) × (has_fate fate.Removed (front 26 row) 0 ≡ false) × (has_fate fate.Cancelled (front 26 row) 0 ≡ false) × (has_fate fate.Run (front 26 row) 1 ≡ false) × (has_fate fate.RunByCaller (front 26 row) 1 ≡ false) × (has_fate fate.Rejected (front 26 row) 1 ≡ false) × (has_fate fate.Discarded (front 26 row) 1 ≡ false) × (has_fate fate.HandedBack (front 26 row) 1 ≡ false) × (has_fate fate.Removed (front 26 row) 1 ≡ false) × (has_fate fate.Cancelled (front 26 row) 1 ≡ false) × (has_fate fate.Run (front 26 row) 2 ≡ true) × (has_fate fate.RunByCaller (front 26 row) 2 ≡ false) × (has_fate fate.Rejected (front 26 row) 2 ≡ false) × (has_fate fate.Discarded (front 26 row) 2 ≡ false) × (has_fate fate.HandedBack (front 26 row) 2 ≡ false) × (has_fate fate.Removed (front 26 row) 2 ≡ false) × (has_fate fate.Cancelled (front 26 row) 2 ≡ false) × (has_fate fate.Run (front 26 row) 3 ≡ true) × (has_fate fate.RunByCaller (front 26 row) 3 ≡ false) × (has_fate fate.Rejected (front 26 row) 3 ≡ false) × (has_fate fate.Discarded (front 26 row) 3 ≡ false) × (has_fate fate.HandedBack (front 26 row) 3 ≡ false) × (has_fate fate.Removed (front 26 row) 3 ≡ false) × (has_fate fate.Cancelled (front 26 row) 3 ≡ false)
 fates_in_words = (refl, refl, refl, refl, refl, refl, refl, refl, refl, refl, refl, refl, refl, refl, refl, refl, refl, refl, refl, refl, refl, refl, refl, refl, refl, refl, refl, refl)
 
-pub words_agree : agrees_at_fronts config h26 ≡ true
+pub words_agree : agrees_at_fronts config (front 26 row) ≡ true
 words_agree = refl
 
-pub next_holds : NextHolds config h26
+pub next_holds : NextHolds config (front 26 row)
 next_holds = (refl, refl, (refl, refl, (refl, refl, (refl, refl, (refl, refl, (refl, refl, (refl, refl, (refl, refl, (refl, refl, (refl, refl, (refl, refl, (refl, refl, (refl, refl, (refl, refl, (refl, refl, (refl, refl, (refl, refl, (refl, refl, (refl, refl, (refl, refl, (refl, refl, (refl, refl, (refl, refl, (refl, refl, (refl, refl, (refl, refl, tt))))))))))))))))))))))))))
 
-pub owed : owed_at_fronts config h26 ≡ 10 ∷ 12 ∷ 14 ∷ 16 ∷ 16 ∷ 19 ∷ 20 ∷ 21 ∷ 24 ∷ 25 ∷ 26 ∷ 29 ∷ 30 ∷ 31 ∷ 32 ∷ 33 ∷ 38 ∷ 39 ∷ 41 ∷ 30 ∷ 31 ∷ 33 ∷ 22 ∷ 26 ∷ 27 ∷ 16 ∷ 4 ∷ []
+pub owed : owed_at_fronts config (front 26 row) ≡ 10 ∷ 12 ∷ 14 ∷ 16 ∷ 16 ∷ 19 ∷ 20 ∷ 21 ∷ 24 ∷ 25 ∷ 26 ∷ 29 ∷ 30 ∷ 31 ∷ 32 ∷ 33 ∷ 38 ∷ 39 ∷ 41 ∷ 30 ∷ 31 ∷ 33 ∷ 22 ∷ 26 ∷ 27 ∷ 16 ∷ 4 ∷ []
 owed = refl
 
-pub line_last : waiting_line h26 ≡ queue h26
+pub line_last : waiting_line (front 26 row) ≡ queue (front 26 row)
 line_last = refl

@@ -1,98 +1,54 @@
 -- Worked row 25: each entry is the one that the step gives at its front, and each refusal is the step's.
-use Rattle.std.proofs.Common.{◌≡◌, ℕ, List, [], ◌∷◌, Some, None, Ok, Err, true, false, map, refl}
-use Rattle.std.specs.Prelude.{pos}
-use Rattle.tp_types.specs.declared.tasks.Kind.TheVariants as kinds
-use Rattle.tp_types.specs.declared.tasks.Fate.TheVariants as fate
-use Rattle.tp_types.specs.declared.configs.Config.{Config}
-use Rattle.tp_types.specs.declared.configs.QueueKind.TheVariants.{Handoff}
-use Rattle.tp_types.specs.declared.configs.Policy.TheVariants as policy
-use Rattle.tp_types.specs.declared.configs.Verdict.TheVariants as verdict
-use Rattle.tp_types.specs.declared.refusals.PoolError.TheVariants.{NotThere}
-use Rattle.tp_record.specs.declared.entries.Entry.{Entry}
-use Rattle.tp_record.specs.declared.entries.Ask.TheVariants as ask
-use Rattle.tp_record.specs.declared.entries.Did.TheVariants as did
-use Rattle.tp_record.specs.declared.entries.Looked.TheVariants as looked
-use Rattle.tp_record.specs.declared.entries.Offered.TheVariants as offered
-use Rattle.tp_record.specs.declared.entries.Grown.TheVariants as grown
-use Rattle.tp_record.specs.declared.entries.Ruled.TheVariants as ruled
-use Rattle.tp_record.specs.Fields.{queue}
-use Rattle.tp_record.specs.State.{state, fate_of, counts}
-use Rattle.tp_record.specs.Step.{step, Legal}
-use Rattle.tp_record.specs.Words.{waiting_line, has_fate, counters}
-use Rattle.tp_rows.proofs.Entries.{entry}
+use Rattle.std.proofs.Common.{◌≡◌, ℕ, List, [], ◌∷◌, ◌++◌, Some, None, Ok, Err, true, false, map, refl}
+use Rattle.tp_rows.proofs.Entries.{entry, task, front, start, Config, Handoff, NotThere, Entry, queue, state, fate_of, counts, step, Legal, waiting_line, has_fate, counters, pos}
+use Rattle.tp_rows.proofs.Entries.fate
+use Rattle.tp_rows.proofs.Entries.policy
+use Rattle.tp_rows.proofs.Entries.verdict
+use Rattle.tp_rows.proofs.Entries.ask
+use Rattle.tp_rows.proofs.Entries.did
+use Rattle.tp_rows.proofs.Entries.ruled
+use Rattle.tp_rows.proofs.Worked.Row_12b as begun
 use Rattle.tp_rows.proofs.Agree.{agrees_at_fronts, owed_at_fronts, NextHolds}
 
 abbrev pub config : Config
 config = record { core = 0; maximum = 1; queue = Handoff; keep = 0; core_timeout = false; policy = policy.Own; record_limit = 4096 }
 
-abbrev pub h0 : List Entry
-h0 = []
+abbrev pub row : List Entry
+row =
+    start 10 begun.row
+    ++ entry (ask.Verdict (task 1) verdict.CallerRuns) (did.Verdict (task 1) verdict.CallerRuns ruled.Caller)
+    ∷ entry (ask.CallerEnd (task 1) (Ok (pos 2))) (did.CallerEnd (task 1) (Ok (pos 2)))
+    ∷ []
 
-abbrev pub h1 : List Entry
-h1 = entry (ask.Submit kinds.Plain) (did.Submit (record { 0 = 0 }) kinds.Plain looked.Queue) ∷ h0
-
-abbrev pub h2 : List Entry
-h2 = entry (ask.Offer (record { 0 = 0 })) (did.Offer (record { 0 = 0 }) offered.Full) ∷ h1
-
-abbrev pub h3 : List Entry
-h3 = entry (ask.Grow (record { 0 = 0 })) (did.Grow (record { 0 = 0 }) (grown.Reserve (record { 0 = 0 }))) ∷ h2
-
-abbrev pub h4 : List Entry
-h4 = entry (ask.Submit kinds.Plain) (did.Submit (record { 0 = 1 }) kinds.Plain looked.Queue) ∷ h3
-
-abbrev pub h5 : List Entry
-h5 = entry (ask.Offer (record { 0 = 1 })) (did.Offer (record { 0 = 1 }) offered.Full) ∷ h4
-
-abbrev pub h6 : List Entry
-h6 = entry (ask.Grow (record { 0 = 1 })) (did.Grow (record { 0 = 1 }) grown.Refuse) ∷ h5
-
-abbrev pub h7 : List Entry
-h7 = entry (ask.Verdict (record { 0 = 1 }) verdict.DiscardOldest) (did.Verdict (record { 0 = 1 }) verdict.DiscardOldest ruled.Retry) ∷ h6
-
-abbrev pub h8 : List Entry
-h8 = entry (ask.Look (record { 0 = 1 })) (did.Look (record { 0 = 1 }) looked.Queue) ∷ h7
-
-abbrev pub h9 : List Entry
-h9 = entry (ask.Offer (record { 0 = 1 })) (did.Offer (record { 0 = 1 }) offered.Full) ∷ h8
-
-abbrev pub h10 : List Entry
-h10 = entry (ask.Grow (record { 0 = 1 })) (did.Grow (record { 0 = 1 }) grown.Refuse) ∷ h9
-
-abbrev pub h11 : List Entry
-h11 = entry (ask.Verdict (record { 0 = 1 }) verdict.CallerRuns) (did.Verdict (record { 0 = 1 }) verdict.CallerRuns ruled.Caller) ∷ h10
-
-abbrev pub h12 : List Entry
-h12 = entry (ask.CallerEnd (record { 0 = 1 }) (Ok (pos 2))) (did.CallerEnd (record { 0 = 1 }) (Ok (pos 2))) ∷ h11
-
-pub legal : Legal config h12
+pub legal : Legal config (front 12 row)
 legal = ((refl, tt), ((refl, tt), ((refl, tt), ((refl, tt), ((refl, tt), ((refl, tt), ((refl, tt), ((refl, tt), ((refl, tt), ((refl, refl), ((refl, tt), ((refl, tt), tt))))))))))))
 
-pub refused_0 : (w : ℕ) → step config (state config h12) w (ask.Verdict (record { 0 = 1 }) verdict.Abort) ≡ Err NotThere
+pub refused_0 : (w : ℕ) → step config (state config (front 12 row)) w (ask.Verdict (task 1) verdict.Abort) ≡ Err NotThere
 refused_0 w = refl
 
-pub rank_last : (state config h12).rank ≡ 0
+pub rank_last : (state config (front 12 row)).rank ≡ 0
 rank_last = refl
 
-pub fates_last : map fate_of (state config h12).tasks ≡ None ∷ Some fate.RunByCaller ∷ []
+pub fates_last : map fate_of (state config (front 12 row)).tasks ≡ None ∷ Some fate.RunByCaller ∷ []
 fates_last = refl
 
-pub counts_last : counts (state config h12) ≡ record { submitted = 2; run = 0; caller = 1; rejected = 0; discarded = 0; handedback = 0; removed = 0; cancelled = 0; completed = 0; queued = 0; live = 0; largest = 0 }
+pub counts_last : counts (state config (front 12 row)) ≡ record { submitted = 2; run = 0; caller = 1; rejected = 0; discarded = 0; handedback = 0; removed = 0; cancelled = 0; completed = 0; queued = 0; live = 0; largest = 0 }
 counts_last = refl
 
-pub counters_last : counters h12 ≡ record { submitted = 2; run = 0; caller = 1; rejected = 0; discarded = 0; handedback = 0; removed = 0; cancelled = 0; completed = 0; queued = 0; live = 0; largest = 0 }
+pub counters_last : counters (front 12 row) ≡ record { submitted = 2; run = 0; caller = 1; rejected = 0; discarded = 0; handedback = 0; removed = 0; cancelled = 0; completed = 0; queued = 0; live = 0; largest = 0 }
 counters_last = refl
 
-pub fates_in_words : (has_fate fate.Run h12 0 ≡ false) × (has_fate fate.RunByCaller h12 0 ≡ false) × (has_fate fate.Rejected h12 0 ≡ false) × (has_fate fate.Discarded h12 0 ≡ false) × (has_fate fate.HandedBack h12 0 ≡ false) × (has_fate fate.Removed h12 0 ≡ false) × (has_fate fate.Cancelled h12 0 ≡ false) × (has_fate fate.Run h12 1 ≡ false) × (has_fate fate.RunByCaller h12 1 ≡ true) × (has_fate fate.Rejected h12 1 ≡ false) × (has_fate fate.Discarded h12 1 ≡ false) × (has_fate fate.HandedBack h12 1 ≡ false) × (has_fate fate.Removed h12 1 ≡ false) × (has_fate fate.Cancelled h12 1 ≡ false)
+pub fates_in_words : (has_fate fate.Run (front 12 row) 0 ≡ false) × (has_fate fate.RunByCaller (front 12 row) 0 ≡ false) × (has_fate fate.Rejected (front 12 row) 0 ≡ false) × (has_fate fate.Discarded (front 12 row) 0 ≡ false) × (has_fate fate.HandedBack (front 12 row) 0 ≡ false) × (has_fate fate.Removed (front 12 row) 0 ≡ false) × (has_fate fate.Cancelled (front 12 row) 0 ≡ false) × (has_fate fate.Run (front 12 row) 1 ≡ false) × (has_fate fate.RunByCaller (front 12 row) 1 ≡ true) × (has_fate fate.Rejected (front 12 row) 1 ≡ false) × (has_fate fate.Discarded (front 12 row) 1 ≡ false) × (has_fate fate.HandedBack (front 12 row) 1 ≡ false) × (has_fate fate.Removed (front 12 row) 1 ≡ false) × (has_fate fate.Cancelled (front 12 row) 1 ≡ false)
 fates_in_words = (refl, refl, refl, refl, refl, refl, refl, refl, refl, refl, refl, refl, refl, refl)
 
-pub words_agree : agrees_at_fronts config h12 ≡ true
+pub words_agree : agrees_at_fronts config (front 12 row) ≡ true
 words_agree = refl
 
-pub next_holds : NextHolds config h12
+pub next_holds : NextHolds config (front 12 row)
 next_holds = (refl, refl, (refl, refl, (refl, refl, (refl, refl, (refl, refl, (refl, refl, (refl, refl, (refl, refl, (refl, refl, (refl, refl, (refl, refl, (refl, refl, tt))))))))))))
 
-pub owed : owed_at_fronts config h12 ≡ 12 ∷ 13 ∷ 14 ∷ 21 ∷ 23 ∷ 25 ∷ 14 ∷ 21 ∷ 23 ∷ 12 ∷ 13 ∷ 15 ∷ 4 ∷ []
+pub owed : owed_at_fronts config (front 12 row) ≡ 12 ∷ 13 ∷ 14 ∷ 21 ∷ 23 ∷ 25 ∷ 14 ∷ 21 ∷ 23 ∷ 12 ∷ 13 ∷ 15 ∷ 4 ∷ []
 owed = refl
 
-pub line_last : waiting_line h12 ≡ queue h12
+pub line_last : waiting_line (front 12 row) ≡ queue (front 12 row)
 line_last = refl

@@ -1,80 +1,61 @@
 -- Worked row 28: each entry is the one that the step gives at its front, and each refusal is the step's.
 use Rattle.std.proofs.Common.{◌≡◌, ℕ, List, [], ◌∷◌, Some, Err, true, false, map, refl}
-use Rattle.tp_types.specs.declared.tasks.Kind.TheVariants as kinds
-use Rattle.tp_types.specs.declared.tasks.Fate.TheVariants as fate
-use Rattle.tp_types.specs.declared.configs.Config.{Config}
-use Rattle.tp_types.specs.declared.configs.QueueKind.TheVariants.{Unbounded}
-use Rattle.tp_types.specs.declared.configs.Policy.TheVariants as policy
-use Rattle.tp_types.specs.declared.configs.Verdict.TheVariants as verdict
-use Rattle.tp_types.specs.declared.refusals.PoolError.TheVariants.{NotThere}
-use Rattle.tp_record.specs.declared.entries.Entry.{Entry}
-use Rattle.tp_record.specs.declared.entries.Ask.TheVariants as ask
-use Rattle.tp_record.specs.declared.entries.Did.TheVariants as did
-use Rattle.tp_record.specs.declared.entries.Looked.TheVariants as looked
-use Rattle.tp_record.specs.declared.entries.Ruled.TheVariants as ruled
-use Rattle.tp_record.specs.Fields.{queue}
-use Rattle.tp_record.specs.State.{state, fate_of, counts}
-use Rattle.tp_record.specs.Step.{step, Legal}
-use Rattle.tp_record.specs.Words.{waiting_line, has_fate, counters}
-use Rattle.tp_rows.proofs.Entries.{entry}
+use Rattle.tp_rows.proofs.Entries.{entry, task, front, Config, Unbounded, NotThere, Entry, queue, state, fate_of, counts, step, Legal, waiting_line, has_fate, counters}
+use Rattle.tp_rows.proofs.Entries.kinds
+use Rattle.tp_rows.proofs.Entries.fate
+use Rattle.tp_rows.proofs.Entries.policy
+use Rattle.tp_rows.proofs.Entries.verdict
+use Rattle.tp_rows.proofs.Entries.ask
+use Rattle.tp_rows.proofs.Entries.did
+use Rattle.tp_rows.proofs.Entries.looked
+use Rattle.tp_rows.proofs.Entries.ruled
 use Rattle.tp_rows.proofs.Agree.{agrees_at_fronts, owed_at_fronts, NextHolds}
 
 abbrev pub config : Config
 config = record { core = 1; maximum = 1; queue = Unbounded; keep = 0; core_timeout = false; policy = policy.Abort; record_limit = 4096 }
 
-abbrev pub h0 : List Entry
-h0 = []
+abbrev pub row : List Entry
+row =
+    entry ask.Shutdown did.Shutdown
+    ∷ entry ask.Shutdown did.Shutdown
+    ∷ entry ask.Tidy did.Tidy
+    ∷ entry ask.Ended did.Ended
+    ∷ entry (ask.Submit kinds.Plain) (did.Submit (task 0) kinds.Plain looked.Refuse)
+    ∷ entry (ask.Verdict (task 0) verdict.Abort) (did.Verdict (task 0) verdict.Abort ruled.Rejected)
+    ∷ []
 
-abbrev pub h1 : List Entry
-h1 = entry (ask.Shutdown) (did.Shutdown) ∷ h0
-
-abbrev pub h2 : List Entry
-h2 = entry (ask.Shutdown) (did.Shutdown) ∷ h1
-
-abbrev pub h3 : List Entry
-h3 = entry (ask.Tidy) (did.Tidy) ∷ h2
-
-abbrev pub h4 : List Entry
-h4 = entry (ask.Ended) (did.Ended) ∷ h3
-
-abbrev pub h5 : List Entry
-h5 = entry (ask.Submit kinds.Plain) (did.Submit (record { 0 = 0 }) kinds.Plain looked.Refuse) ∷ h4
-
-abbrev pub h6 : List Entry
-h6 = entry (ask.Verdict (record { 0 = 0 }) verdict.Abort) (did.Verdict (record { 0 = 0 }) verdict.Abort ruled.Rejected) ∷ h5
-
-pub legal : Legal config h6
+pub legal : Legal config (front 6 row)
 legal = ((refl, tt), ((refl, tt), ((refl, tt), ((refl, tt), ((refl, tt), ((refl, tt), tt))))))
 
-pub refused_0 : (w : ℕ) → step config (state config h0) w (ask.Tidy) ≡ Err NotThere
+pub refused_0 : (w : ℕ) → step config (state config (front 0 row)) w (ask.Tidy) ≡ Err NotThere
 refused_0 w = refl
 
-pub refused_1 : (w : ℕ) → step config (state config h4) w (ask.Ended) ≡ Err NotThere
+pub refused_1 : (w : ℕ) → step config (state config (front 4 row)) w (ask.Ended) ≡ Err NotThere
 refused_1 w = refl
 
-pub rank_last : (state config h6).rank ≡ 4
+pub rank_last : (state config (front 6 row)).rank ≡ 4
 rank_last = refl
 
-pub fates_last : map fate_of (state config h6).tasks ≡ Some fate.Rejected ∷ []
+pub fates_last : map fate_of (state config (front 6 row)).tasks ≡ Some fate.Rejected ∷ []
 fates_last = refl
 
-pub counts_last : counts (state config h6) ≡ record { submitted = 1; run = 0; caller = 0; rejected = 1; discarded = 0; handedback = 0; removed = 0; cancelled = 0; completed = 0; queued = 0; live = 0; largest = 0 }
+pub counts_last : counts (state config (front 6 row)) ≡ record { submitted = 1; run = 0; caller = 0; rejected = 1; discarded = 0; handedback = 0; removed = 0; cancelled = 0; completed = 0; queued = 0; live = 0; largest = 0 }
 counts_last = refl
 
-pub counters_last : counters h6 ≡ record { submitted = 1; run = 0; caller = 0; rejected = 1; discarded = 0; handedback = 0; removed = 0; cancelled = 0; completed = 0; queued = 0; live = 0; largest = 0 }
+pub counters_last : counters (front 6 row) ≡ record { submitted = 1; run = 0; caller = 0; rejected = 1; discarded = 0; handedback = 0; removed = 0; cancelled = 0; completed = 0; queued = 0; live = 0; largest = 0 }
 counters_last = refl
 
-pub fates_in_words : (has_fate fate.Run h6 0 ≡ false) × (has_fate fate.RunByCaller h6 0 ≡ false) × (has_fate fate.Rejected h6 0 ≡ true) × (has_fate fate.Discarded h6 0 ≡ false) × (has_fate fate.HandedBack h6 0 ≡ false) × (has_fate fate.Removed h6 0 ≡ false) × (has_fate fate.Cancelled h6 0 ≡ false)
+pub fates_in_words : (has_fate fate.Run (front 6 row) 0 ≡ false) × (has_fate fate.RunByCaller (front 6 row) 0 ≡ false) × (has_fate fate.Rejected (front 6 row) 0 ≡ true) × (has_fate fate.Discarded (front 6 row) 0 ≡ false) × (has_fate fate.HandedBack (front 6 row) 0 ≡ false) × (has_fate fate.Removed (front 6 row) 0 ≡ false) × (has_fate fate.Cancelled (front 6 row) 0 ≡ false)
 fates_in_words = (refl, refl, refl, refl, refl, refl, refl)
 
-pub words_agree : agrees_at_fronts config h6 ≡ true
+pub words_agree : agrees_at_fronts config (front 6 row) ≡ true
 words_agree = refl
 
-pub next_holds : NextHolds config h6
+pub next_holds : NextHolds config (front 6 row)
 next_holds = (refl, refl, (refl, refl, (refl, refl, (refl, refl, (refl, refl, (refl, refl, tt))))))
 
-pub owed : owed_at_fronts config h6 ≡ 0 ∷ 2 ∷ 0 ∷ 1 ∷ 3 ∷ 3 ∷ 4 ∷ []
+pub owed : owed_at_fronts config (front 6 row) ≡ 0 ∷ 2 ∷ 0 ∷ 1 ∷ 3 ∷ 3 ∷ 4 ∷ []
 owed = refl
 
-pub line_last : waiting_line h6 ≡ queue h6
+pub line_last : waiting_line (front 6 row) ≡ queue (front 6 row)
 line_last = refl

@@ -1,73 +1,51 @@
 -- Worked row 29: each entry is the one that the step gives at its front, and each refusal is the step's.
 use Rattle.std.proofs.Common.{◌≡◌, List, [], ◌∷◌, Some, true, map, refl}
-use Rattle.tp_types.specs.declared.configs.Config.{Config}
-use Rattle.tp_types.specs.declared.configs.QueueKind.TheVariants.{Unbounded}
-use Rattle.tp_types.specs.declared.configs.Policy.TheVariants as policy
-use Rattle.tp_record.specs.declared.entries.Entry.{Entry}
-use Rattle.tp_record.specs.declared.entries.Ask.TheVariants as ask
-use Rattle.tp_record.specs.declared.entries.Did.TheVariants as did
-use Rattle.tp_record.specs.declared.entries.Opened.TheVariants as opened
-use Rattle.tp_record.specs.declared.entries.Took.TheVariants as took
-use Rattle.tp_record.specs.Fields.{queue}
-use Rattle.tp_record.specs.State.{state, fate_of, counts}
-use Rattle.tp_record.specs.Step.{Legal}
-use Rattle.tp_record.specs.Words.{waiting_line, counters}
-use Rattle.tp_rows.proofs.Entries.{entry}
+use Rattle.tp_rows.proofs.Entries.{entry, slot, front, Config, Unbounded, Entry, queue, state, fate_of, counts, Legal, waiting_line, counters}
+use Rattle.tp_rows.proofs.Entries.policy
+use Rattle.tp_rows.proofs.Entries.ask
+use Rattle.tp_rows.proofs.Entries.did
+use Rattle.tp_rows.proofs.Entries.opened
+use Rattle.tp_rows.proofs.Entries.took
 use Rattle.tp_rows.proofs.Agree.{agrees_at_fronts, owed_at_fronts, NextHolds}
 
 abbrev pub config : Config
 config = record { core = 1; maximum = 1; queue = Unbounded; keep = 5; core_timeout = true; policy = policy.Abort; record_limit = 4096 }
 
-abbrev pub h0 : List Entry
-h0 = []
+abbrev pub row : List Entry
+row =
+    entry ask.Prestart (did.Prestart (Some (slot 0)))
+    ∷ entry (ask.Open (slot 0)) (did.Open (slot 0) opened.Live)
+    ∷ entry (ask.Take (slot 0)) (did.Take (slot 0) took.Idle)
+    ∷ entry (ask.Tick 5) (did.Tick 5)
+    ∷ entry (ask.Take (slot 0)) (did.Take (slot 0) took.Leave)
+    ∷ entry ask.Prestart (did.Prestart (Some (slot 0)))
+    ∷ entry ask.Stop (did.Stop 0)
+    ∷ entry (ask.Open (slot 0)) (did.Open (slot 0) opened.GivenUp)
+    ∷ []
 
-abbrev pub h1 : List Entry
-h1 = entry (ask.Prestart) (did.Prestart (Some (record { 0 = 0 }))) ∷ h0
-
-abbrev pub h2 : List Entry
-h2 = entry (ask.Open (record { 0 = 0 })) (did.Open (record { 0 = 0 }) opened.Live) ∷ h1
-
-abbrev pub h3 : List Entry
-h3 = entry (ask.Take (record { 0 = 0 })) (did.Take (record { 0 = 0 }) took.Idle) ∷ h2
-
-abbrev pub h4 : List Entry
-h4 = entry (ask.Tick 5) (did.Tick 5) ∷ h3
-
-abbrev pub h5 : List Entry
-h5 = entry (ask.Take (record { 0 = 0 })) (did.Take (record { 0 = 0 }) took.Leave) ∷ h4
-
-abbrev pub h6 : List Entry
-h6 = entry (ask.Prestart) (did.Prestart (Some (record { 0 = 0 }))) ∷ h5
-
-abbrev pub h7 : List Entry
-h7 = entry (ask.Stop) (did.Stop 0) ∷ h6
-
-abbrev pub h8 : List Entry
-h8 = entry (ask.Open (record { 0 = 0 })) (did.Open (record { 0 = 0 }) opened.GivenUp) ∷ h7
-
-pub legal : Legal config h8
+pub legal : Legal config (front 8 row)
 legal = ((refl, tt), ((refl, tt), ((refl, refl), ((refl, tt), ((refl, tt), ((refl, tt), ((refl, tt), ((refl, refl), tt))))))))
 
-pub rank_last : (state config h8).rank ≡ 2
+pub rank_last : (state config (front 8 row)).rank ≡ 2
 rank_last = refl
 
-pub fates_last : map fate_of (state config h8).tasks ≡ []
+pub fates_last : map fate_of (state config (front 8 row)).tasks ≡ []
 fates_last = refl
 
-pub counts_last : counts (state config h8) ≡ record { submitted = 0; run = 0; caller = 0; rejected = 0; discarded = 0; handedback = 0; removed = 0; cancelled = 0; completed = 0; queued = 0; live = 0; largest = 1 }
+pub counts_last : counts (state config (front 8 row)) ≡ record { submitted = 0; run = 0; caller = 0; rejected = 0; discarded = 0; handedback = 0; removed = 0; cancelled = 0; completed = 0; queued = 0; live = 0; largest = 1 }
 counts_last = refl
 
-pub counters_last : counters h8 ≡ record { submitted = 0; run = 0; caller = 0; rejected = 0; discarded = 0; handedback = 0; removed = 0; cancelled = 0; completed = 0; queued = 0; live = 0; largest = 1 }
+pub counters_last : counters (front 8 row) ≡ record { submitted = 0; run = 0; caller = 0; rejected = 0; discarded = 0; handedback = 0; removed = 0; cancelled = 0; completed = 0; queued = 0; live = 0; largest = 1 }
 counters_last = refl
 
-pub words_agree : agrees_at_fronts config h8 ≡ true
+pub words_agree : agrees_at_fronts config (front 8 row) ≡ true
 words_agree = refl
 
-pub next_holds : NextHolds config h8
+pub next_holds : NextHolds config (front 8 row)
 next_holds = (refl, refl, (refl, refl, (refl, refl, (refl, refl, (refl, refl, (refl, refl, (refl, refl, (refl, refl, tt))))))))
 
-pub owed : owed_at_fronts config h8 ≡ 2 ∷ 5 ∷ 7 ∷ 4 ∷ 5 ∷ 5 ∷ 6 ∷ 7 ∷ 4 ∷ []
+pub owed : owed_at_fronts config (front 8 row) ≡ 2 ∷ 5 ∷ 7 ∷ 4 ∷ 5 ∷ 5 ∷ 6 ∷ 7 ∷ 4 ∷ []
 owed = refl
 
-pub line_last : waiting_line h8 ≡ queue h8
+pub line_last : waiting_line (front 8 row) ≡ queue (front 8 row)
 line_last = refl

@@ -1,103 +1,66 @@
 -- Worked row 33: each entry is the one that the step gives at its front, and each refusal is the step's.
 use Rattle.std.proofs.Common.{◌≡◌, List, [], ◌∷◌, Some, None, Ok, true, false, map, refl}
-use Rattle.std.specs.Prelude.{pos}
-use Rattle.tp_types.specs.declared.tasks.Kind.TheVariants as kinds
-use Rattle.tp_types.specs.declared.tasks.Fate.TheVariants as fate
-use Rattle.tp_types.specs.declared.configs.Config.{Config}
-use Rattle.tp_types.specs.declared.configs.QueueKind.TheVariants.{Bounded}
-use Rattle.tp_types.specs.declared.configs.Policy.TheVariants as policy
-use Rattle.tp_record.specs.declared.entries.Entry.{Entry}
-use Rattle.tp_record.specs.declared.entries.Ask.TheVariants as ask
-use Rattle.tp_record.specs.declared.entries.Did.TheVariants as did
-use Rattle.tp_record.specs.declared.entries.Looked.TheVariants as looked
-use Rattle.tp_record.specs.declared.entries.Offered.TheVariants as offered
-use Rattle.tp_record.specs.declared.entries.Opened.TheVariants as opened
-use Rattle.tp_record.specs.declared.entries.Took.TheVariants as took
-use Rattle.tp_record.specs.declared.entries.Started.TheVariants as started
-use Rattle.tp_record.specs.Fields.{queue}
-use Rattle.tp_record.specs.State.{state, fate_of, counts}
-use Rattle.tp_record.specs.Step.{Legal}
-use Rattle.tp_record.specs.Words.{waiting_line, has_fate, counters}
-use Rattle.tp_rows.proofs.Entries.{entry}
+use Rattle.tp_rows.proofs.Entries.{entry, task, slot, front, Config, Bounded, Entry, queue, state, fate_of, counts, Legal, waiting_line, has_fate, counters, pos}
+use Rattle.tp_rows.proofs.Entries.kinds
+use Rattle.tp_rows.proofs.Entries.fate
+use Rattle.tp_rows.proofs.Entries.policy
+use Rattle.tp_rows.proofs.Entries.ask
+use Rattle.tp_rows.proofs.Entries.did
+use Rattle.tp_rows.proofs.Entries.looked
+use Rattle.tp_rows.proofs.Entries.offered
+use Rattle.tp_rows.proofs.Entries.opened
+use Rattle.tp_rows.proofs.Entries.took
+use Rattle.tp_rows.proofs.Entries.started
 use Rattle.tp_rows.proofs.Agree.{agrees_at_fronts, owed_at_fronts, NextHolds}
 
 abbrev pub config : Config
 config = record { core = 1; maximum = 1; queue = Bounded 3; keep = 0; core_timeout = false; policy = policy.Abort; record_limit = 4096 }
 
-abbrev pub h0 : List Entry
-h0 = []
+abbrev pub row : List Entry
+row =
+    entry (ask.Submit kinds.Plain) (did.Submit (task 0) kinds.Plain (looked.Reserve (slot 0)))
+    ∷ entry (ask.Submit kinds.Plain) (did.Submit (task 1) kinds.Plain looked.Queue)
+    ∷ entry (ask.Offer (task 1)) (did.Offer (task 1) offered.Queued)
+    ∷ entry (ask.Submit kinds.Plain) (did.Submit (task 2) kinds.Plain looked.Queue)
+    ∷ entry (ask.Offer (task 2)) (did.Offer (task 2) offered.Queued)
+    ∷ entry (ask.Submit kinds.Plain) (did.Submit (task 3) kinds.Plain looked.Queue)
+    ∷ entry (ask.Offer (task 3)) (did.Offer (task 3) offered.Queued)
+    ∷ entry (ask.Submit kinds.Plain) (did.Submit (task 4) kinds.Plain looked.Queue)
+    ∷ entry (ask.Remove (task 2)) (did.Remove (task 2) true)
+    ∷ entry (ask.Offer (task 4)) (did.Offer (task 4) offered.Queued)
+    ∷ entry (ask.Open (slot 0)) (did.Open (slot 0) opened.Live)
+    ∷ entry (ask.Take (slot 0)) (did.Take (slot 0) (took.Held (task 0)))
+    ∷ entry (ask.Begin (slot 0)) (did.Begin (slot 0) (started.Run (task 0)))
+    ∷ entry (ask.End (slot 0) (Ok (pos 0))) (did.End (slot 0) (task 0) (Ok (pos 0)))
+    ∷ entry (ask.Take (slot 0)) (did.Take (slot 0) (took.Head (task 1)))
+    ∷ []
 
-abbrev pub h1 : List Entry
-h1 = entry (ask.Submit kinds.Plain) (did.Submit (record { 0 = 0 }) kinds.Plain (looked.Reserve (record { 0 = 0 }))) ∷ h0
-
-abbrev pub h2 : List Entry
-h2 = entry (ask.Submit kinds.Plain) (did.Submit (record { 0 = 1 }) kinds.Plain looked.Queue) ∷ h1
-
-abbrev pub h3 : List Entry
-h3 = entry (ask.Offer (record { 0 = 1 })) (did.Offer (record { 0 = 1 }) offered.Queued) ∷ h2
-
-abbrev pub h4 : List Entry
-h4 = entry (ask.Submit kinds.Plain) (did.Submit (record { 0 = 2 }) kinds.Plain looked.Queue) ∷ h3
-
-abbrev pub h5 : List Entry
-h5 = entry (ask.Offer (record { 0 = 2 })) (did.Offer (record { 0 = 2 }) offered.Queued) ∷ h4
-
-abbrev pub h6 : List Entry
-h6 = entry (ask.Submit kinds.Plain) (did.Submit (record { 0 = 3 }) kinds.Plain looked.Queue) ∷ h5
-
-abbrev pub h7 : List Entry
-h7 = entry (ask.Offer (record { 0 = 3 })) (did.Offer (record { 0 = 3 }) offered.Queued) ∷ h6
-
-abbrev pub h8 : List Entry
-h8 = entry (ask.Submit kinds.Plain) (did.Submit (record { 0 = 4 }) kinds.Plain looked.Queue) ∷ h7
-
-abbrev pub h9 : List Entry
-h9 = entry (ask.Remove (record { 0 = 2 })) (did.Remove (record { 0 = 2 }) true) ∷ h8
-
-abbrev pub h10 : List Entry
-h10 = entry (ask.Offer (record { 0 = 4 })) (did.Offer (record { 0 = 4 }) offered.Queued) ∷ h9
-
-abbrev pub h11 : List Entry
-h11 = entry (ask.Open (record { 0 = 0 })) (did.Open (record { 0 = 0 }) opened.Live) ∷ h10
-
-abbrev pub h12 : List Entry
-h12 = entry (ask.Take (record { 0 = 0 })) (did.Take (record { 0 = 0 }) (took.Held (record { 0 = 0 }))) ∷ h11
-
-abbrev pub h13 : List Entry
-h13 = entry (ask.Begin (record { 0 = 0 })) (did.Begin (record { 0 = 0 }) (started.Run (record { 0 = 0 }))) ∷ h12
-
-abbrev pub h14 : List Entry
-h14 = entry (ask.End (record { 0 = 0 }) (Ok (pos 0))) (did.End (record { 0 = 0 }) (record { 0 = 0 }) (Ok (pos 0))) ∷ h13
-
-abbrev pub h15 : List Entry
-h15 = entry (ask.Take (record { 0 = 0 })) (did.Take (record { 0 = 0 }) (took.Head (record { 0 = 1 }))) ∷ h14
-
-pub legal : Legal config h15
+pub legal : Legal config (front 15 row)
 legal = ((refl, tt), ((refl, tt), ((refl, tt), ((refl, tt), ((refl, tt), ((refl, tt), ((refl, tt), ((refl, tt), ((refl, tt), ((refl, tt), ((refl, tt), ((refl, tt), ((refl, tt), ((refl, tt), ((refl, refl), tt)))))))))))))))
 
-pub rank_last : (state config h15).rank ≡ 0
+pub rank_last : (state config (front 15 row)).rank ≡ 0
 rank_last = refl
 
-pub fates_last : map fate_of (state config h15).tasks ≡ Some fate.Run ∷ None ∷ Some fate.Removed ∷ None ∷ None ∷ []
+pub fates_last : map fate_of (state config (front 15 row)).tasks ≡ Some fate.Run ∷ None ∷ Some fate.Removed ∷ None ∷ None ∷ []
 fates_last = refl
 
-pub counts_last : counts (state config h15) ≡ record { submitted = 5; run = 1; caller = 0; rejected = 0; discarded = 0; handedback = 0; removed = 1; cancelled = 0; completed = 1; queued = 2; live = 1; largest = 1 }
+pub counts_last : counts (state config (front 15 row)) ≡ record { submitted = 5; run = 1; caller = 0; rejected = 0; discarded = 0; handedback = 0; removed = 1; cancelled = 0; completed = 1; queued = 2; live = 1; largest = 1 }
 counts_last = refl
 
-pub counters_last : counters h15 ≡ record { submitted = 5; run = 1; caller = 0; rejected = 0; discarded = 0; handedback = 0; removed = 1; cancelled = 0; completed = 1; queued = 2; live = 1; largest = 1 }
+pub counters_last : counters (front 15 row) ≡ record { submitted = 5; run = 1; caller = 0; rejected = 0; discarded = 0; handedback = 0; removed = 1; cancelled = 0; completed = 1; queued = 2; live = 1; largest = 1 }
 counters_last = refl
 
-pub fates_in_words : (has_fate fate.Run h15 0 ≡ true) × (has_fate fate.RunByCaller h15 0 ≡ false) × (has_fate fate.Rejected h15 0 ≡ false) × (has_fate fate.Discarded h15 0 ≡ false) × (has_fate fate.HandedBack h15 0 ≡ false) × (has_fate fate.Removed h15 0 ≡ false) × (has_fate fate.Cancelled h15 0 ≡ false) × (has_fate fate.Run h15 1 ≡ false) × (has_fate fate.RunByCaller h15 1 ≡ false) × (has_fate fate.Rejected h15 1 ≡ false) × (has_fate fate.Discarded h15 1 ≡ false) × (has_fate fate.HandedBack h15 1 ≡ false) × (has_fate fate.Removed h15 1 ≡ false) × (has_fate fate.Cancelled h15 1 ≡ false) × (has_fate fate.Run h15 2 ≡ false) × (has_fate fate.RunByCaller h15 2 ≡ false) × (has_fate fate.Rejected h15 2 ≡ false) × (has_fate fate.Discarded h15 2 ≡ false) × (has_fate fate.HandedBack h15 2 ≡ false) × (has_fate fate.Removed h15 2 ≡ true) × (has_fate fate.Cancelled h15 2 ≡ false) × (has_fate fate.Run h15 3 ≡ false) × (has_fate fate.RunByCaller h15 3 ≡ false) × (has_fate fate.Rejected h15 3 ≡ false) × (has_fate fate.Discarded h15 3 ≡ false) × (has_fate fate.HandedBack h15 3 ≡ false) × (has_fate fate.Removed h15 3 ≡ false) × (has_fate fate.Cancelled h15 3 ≡ false) × (has_fate fate.Run h15 4 ≡ false) × (has_fate fate.RunByCaller h15 4 ≡ false) × (has_fate fate.Rejected h15 4 ≡ false) × (has_fate fate.Discarded h15 4 ≡ false) × (has_fate fate.HandedBack h15 4 ≡ false) × (has_fate fate.Removed h15 4 ≡ false) × (has_fate fate.Cancelled h15 4 ≡ false)
+pub fates_in_words : (has_fate fate.Run (front 15 row) 0 ≡ true) × (has_fate fate.RunByCaller (front 15 row) 0 ≡ false) × (has_fate fate.Rejected (front 15 row) 0 ≡ false) × (has_fate fate.Discarded (front 15 row) 0 ≡ false) × (has_fate fate.HandedBack (front 15 row) 0 ≡ false) × (has_fate fate.Removed (front 15 row) 0 ≡ false) × (has_fate fate.Cancelled (front 15 row) 0 ≡ false) × (has_fate fate.Run (front 15 row) 1 ≡ false) × (has_fate fate.RunByCaller (front 15 row) 1 ≡ false) × (has_fate fate.Rejected (front 15 row) 1 ≡ false) × (has_fate fate.Discarded (front 15 row) 1 ≡ false) × (has_fate fate.HandedBack (front 15 row) 1 ≡ false) × (has_fate fate.Removed (front 15 row) 1 ≡ false) × (has_fate fate.Cancelled (front 15 row) 1 ≡ false) × (has_fate fate.Run (front 15 row) 2 ≡ false) × (has_fate fate.RunByCaller (front 15 row) 2 ≡ false) × (has_fate fate.Rejected (front 15 row) 2 ≡ false) × (has_fate fate.Discarded (front 15 row) 2 ≡ false) × (has_fate fate.HandedBack (front 15 row) 2 ≡ false) × (has_fate fate.Removed (front 15 row) 2 ≡ true) × (has_fate fate.Cancelled (front 15 row) 2 ≡ false) × (has_fate fate.Run (front 15 row) 3 ≡ false) × (has_fate fate.RunByCaller (front 15 row) 3 ≡ false) × (has_fate fate.Rejected (front 15 row) 3 ≡ false) × (has_fate fate.Discarded (front 15 row) 3 ≡ false) × (has_fate fate.HandedBack (front 15 row) 3 ≡ false) × (has_fate fate.Removed (front 15 row) 3 ≡ false) × (has_fate fate.Cancelled (front 15 row) 3 ≡ false) × (has_fate fate.Run (front 15 row) 4 ≡ false) × (has_fate fate.RunByCaller (front 15 row) 4 ≡ false) × (has_fate fate.Rejected (front 15 row) 4 ≡ false) × (has_fate fate.Discarded (front 15 row) 4 ≡ false) × (has_fate fate.HandedBack (front 15 row) 4 ≡ false) × (has_fate fate.Removed (front 15 row) 4 ≡ false) × (has_fate fate.Cancelled (front 15 row) 4 ≡ false)
 fates_in_words = (refl, refl, refl, refl, refl, refl, refl, refl, refl, refl, refl, refl, refl, refl, refl, refl, refl, refl, refl, refl, refl, refl, refl, refl, refl, refl, refl, refl, refl, refl, refl, refl, refl, refl, refl)
 
-pub words_agree : agrees_at_fronts config h15 ≡ true
+pub words_agree : agrees_at_fronts config (front 15 row) ≡ true
 words_agree = refl
 
-pub next_holds : NextHolds config h15
+pub next_holds : NextHolds config (front 15 row)
 next_holds = (refl, refl, (refl, refl, (refl, refl, (refl, refl, (refl, refl, (refl, refl, (refl, refl, (refl, refl, (refl, refl, (refl, refl, (refl, refl, (refl, refl, (refl, refl, (refl, refl, (refl, refl, tt)))))))))))))))
 
-pub owed : owed_at_fronts config h15 ≡ 38 ∷ 40 ∷ 43 ∷ 44 ∷ 45 ∷ 50 ∷ 51 ∷ 57 ∷ 46 ∷ 47 ∷ 36 ∷ 37 ∷ 26 ∷ 27 ∷ 16 ∷ 4 ∷ []
+pub owed : owed_at_fronts config (front 15 row) ≡ 38 ∷ 40 ∷ 43 ∷ 44 ∷ 45 ∷ 50 ∷ 51 ∷ 57 ∷ 46 ∷ 47 ∷ 36 ∷ 37 ∷ 26 ∷ 27 ∷ 16 ∷ 4 ∷ []
 owed = refl
 
-pub line_last : waiting_line h15 ≡ queue h15
+pub line_last : waiting_line (front 15 row) ≡ queue (front 15 row)
 line_last = refl
