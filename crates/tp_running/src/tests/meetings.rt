@@ -10,12 +10,13 @@ use tp_stage::users::MANNER;
 use tp_types::configs::Config;
 use tp_types::tasks::Kind;
 
-// A job of this number that meets all of so many.
+// A job that meets all of so many, and answers its number.
 fn meets(number: u8, all: u64) -> Step {
     Step::Hand(Kind::Plain, Deed::Meet(number, all), Answer::Accepted)
 }
 
-// Each of so many jobs goes on once all of them are in their bodies.
+// Each of so many jobs goes on once all of them are in their bodies, and then answers its number; one that meets the
+// others in vain faults.
 #[test]
 fn bodies_run_at_once(rt: HostRuntime) -> Result<(), Fail> {
     let four = Config {
@@ -23,17 +24,29 @@ fn bodies_run_at_once(rt: HostRuntime) -> Result<(), Fail> {
         maximum: 4,
         ..SETTINGS
     };
-    let steps = [meets(0, 2), meets(1, 2), SHUTS_DOWN];
-    let findings = [Finding::Noted(Signal::Met, 2), Finding::Run(2)];
+    let steps = [meets(1, 2), meets(2, 2), SHUTS_DOWN];
+    let findings = [
+        Finding::Ended(0, Ok(1)),
+        Finding::Ended(1, Ok(2)),
+        Finding::Noted(Signal::Met, 2),
+        Finding::Run(2),
+    ];
     lives_twice(rt, rt.alloc(), SETTINGS, MANNER, alone(&steps), &findings)?;
     let steps = [
-        meets(0, 4),
         meets(1, 4),
         meets(2, 4),
         meets(3, 4),
+        meets(4, 4),
         SHUTS_DOWN,
     ];
-    let findings = [Finding::Noted(Signal::Met, 4), Finding::Run(4)];
+    let findings = [
+        Finding::Ended(0, Ok(1)),
+        Finding::Ended(1, Ok(2)),
+        Finding::Ended(2, Ok(3)),
+        Finding::Ended(3, Ok(4)),
+        Finding::Noted(Signal::Met, 4),
+        Finding::Run(4),
+    ];
     lives_twice(rt, rt.alloc(), four, MANNER, alone(&steps), &findings)
 }
 
