@@ -1,5 +1,6 @@
 //! Settings at the ends of what is allowed, and the names of policies and verdicts.
 
+use std::process::Abort;
 use tp_types::configs::{Config, Policy, QueueKind, Verdict};
 use tp_types::refusals::PoolError;
 
@@ -13,110 +14,103 @@ const USUAL: Config = Config {
     record_limit: 4_096,
 };
 
-fn sizes(core: u32, maximum: u32) -> Result<(), PoolError> {
+/// Checks each of these settings, and compares what is answered.
+fn check_all(rt: &impl Abort, cases: &[(Config, Result<(), PoolError>)]) {
+    for (at, (config, answer)) in cases.iter().enumerate() {
+        assert_eq!(rt; config.check(), *answer, "settings {at}");
+    }
+}
+
+fn sized(core: u32, maximum: u32) -> Config {
     Config {
         core,
         maximum,
         ..USUAL
     }
-    .check()
 }
 
-fn queue(queue: QueueKind) -> Result<(), PoolError> {
-    Config { queue, ..USUAL }.check()
+fn bounded(places: u32) -> Config {
+    Config {
+        queue: QueueKind::Bounded(places),
+        ..USUAL
+    }
 }
 
-fn limit(record_limit: u32) -> Result<(), PoolError> {
+fn limited(record_limit: u32) -> Config {
     Config {
         record_limit,
         ..USUAL
     }
-    .check()
 }
 
-fn keep(keep: u64, core_timeout: bool) -> Result<(), PoolError> {
+fn kept(keep: u64, core_timeout: bool) -> Config {
     Config {
         keep,
         core_timeout,
         ..USUAL
     }
-    .check()
 }
 
 #[test]
-fn checks_sizes(rt: HostRuntime) {
-    for (core, maximum) in [(0, 1), (1, 1), (0, 1024), (1024, 1024)] {
-        assert_eq!(rt;
-            sizes(core, maximum),
-            Ok(()),
-            "core {core}, maximum {maximum}"
-        );
-    }
-    for (core, maximum) in [(0, 0), (2, 1), (0, 1025), (1025, 1024)] {
-        let refused = Err(PoolError::BadSizes);
-        assert_eq!(rt;
-            sizes(core, maximum),
-            refused,
-            "core {core}, maximum {maximum}"
-        );
-    }
-}
-
-#[test]
-fn checks_capacity(rt: HostRuntime) {
-    assert_eq!(rt; queue(QueueKind::Handoff), Ok(()));
-    for (places, answer) in [
-        (0, Err(PoolError::BadCapacity)),
-        (1, Ok(())),
-        (65_536, Ok(())),
-        (65_537, Err(PoolError::BadCapacity)),
-    ] {
-        assert_eq!(rt;
-            queue(QueueKind::Bounded(places)),
-            answer,
-            "{places} places"
-        );
-    }
-}
-
-#[test]
-fn checks_limit(rt: HostRuntime) {
-    for (entries, answer) in [
-        (63, Err(PoolError::BadLimit)),
-        (64, Ok(())),
-        (1_048_576, Ok(())),
-        (1_048_577, Err(PoolError::BadLimit)),
-    ] {
-        assert_eq!(rt; limit(entries), answer, "{entries} entries");
-    }
-}
-
-#[test]
-fn checks_keep(rt: HostRuntime) {
-    assert_eq!(rt; keep(0, true), Err(PoolError::KeepZero));
-    assert_eq!(rt; keep(0, false), Ok(()));
-    assert_eq!(rt; keep(1, true), Ok(()));
-    assert_eq!(rt; keep(u64::MAX, true), Ok(()));
+fn checks_each_setting(rt: HostRuntime) {
+    let handoff = Config {
+        queue: QueueKind::Handoff,
+        ..USUAL
+    };
+    let cases = [
+        (sized(0, 1), Ok(())),
+        (sized(1, 1), Ok(())),
+        (sized(0, 1024), Ok(())),
+        (sized(1024, 1024), Ok(())),
+        (sized(0, 0), Err(PoolError::BadSizes)),
+        (sized(2, 1), Err(PoolError::BadSizes)),
+        (sized(0, 1025), Err(PoolError::BadSizes)),
+        (sized(1025, 1024), Err(PoolError::BadSizes)),
+        (handoff, Ok(())),
+        (bounded(0), Err(PoolError::BadCapacity)),
+        (bounded(1), Ok(())),
+        (bounded(65_536), Ok(())),
+        (bounded(65_537), Err(PoolError::BadCapacity)),
+        (limited(63), Err(PoolError::BadLimit)),
+        (limited(64), Ok(())),
+        (limited(1_048_576), Ok(())),
+        (limited(1_048_577), Err(PoolError::BadLimit)),
+        (kept(0, true), Err(PoolError::KeepZero)),
+        (kept(0, false), Ok(())),
+        (kept(1, true), Ok(())),
+        (kept(u64::MAX, true), Ok(())),
+    ];
+    check_all(&rt, &cases);
 }
 
 #[test]
 fn refuses_the_first_fault(rt: HostRuntime) {
-    let mut config = Config {
+    let all = Config {
         maximum: 0,
         queue: QueueKind::Bounded(0),
         core_timeout: true,
         record_limit: 63,
         ..USUAL
     };
-    assert_eq!(rt; config.check(), Err(PoolError::BadSizes));
-    config.maximum = 1;
-    assert_eq!(rt; config.check(), Err(PoolError::BadCapacity));
-    config.queue = QueueKind::Bounded(1);
-    assert_eq!(rt; config.check(), Err(PoolError::BadLimit));
-    config.record_limit = 64;
-    assert_eq!(rt; config.check(), Err(PoolError::KeepZero));
-    config.keep = 1;
-    assert_eq!(rt; config.check(), Ok(()));
+    let but_sizes = Config { maximum: 1, ..all };
+    let queue = QueueKind::Bounded(1);
+    let but_capacity = Config { queue, ..but_sizes };
+    let keep_alone = Config {
+        record_limit: 64,
+        ..but_capacity
+    };
+    let none = Config {
+        keep: 1,
+        ..keep_alone
+    };
+    let cases = [
+        (all, Err(PoolError::BadSizes)),
+        (but_sizes, Err(PoolError::BadCapacity)),
+        (but_capacity, Err(PoolError::BadLimit)),
+        (keep_alone, Err(PoolError::KeepZero)),
+        (none, Ok(())),
+    ];
+    check_all(&rt, &cases);
 }
 
 #[test]

@@ -1,68 +1,120 @@
 //! The sleepers with ample memory: each call, and in which order they are woken, which no contract promises.
 
+use Answer::{Count, Done, Holds, Rests, Slot};
+use std::process::Abort;
 use tp_sleepers::sleepers::{Rest, Sleepers};
 use tp_types::ids::SlotId;
+
+/// A call of the sleepers, with the slot that it names.
+#[derive(Clone, Copy)]
+enum Call {
+    List(usize),
+    Wake(usize),
+    WakeOne,
+    WakeAll,
+    Settle(bool),
+    EndSearch(usize),
+    Rest(usize),
+    Searching,
+}
+
+/// What a call answers.
+#[derive(Clone, Copy, Debug, PartialEq)]
+enum Answer {
+    Done,
+    Slot(Option<SlotId>),
+    Rests(Rest),
+    Count(usize),
+    Holds(bool),
+}
+
+/// Makes one call.
+fn perform(sleepers: &mut Sleepers, call: Call) -> Answer {
+    match call {
+        Call::List(w) => sleepers.list(SlotId(w)),
+        Call::Wake(w) => return Holds(sleepers.call(SlotId(w))),
+        Call::WakeOne => return Slot(sleepers.call_one()),
+        Call::WakeAll => sleepers.call_all(),
+        Call::Settle(waits) => return Slot(sleepers.settle(waits)),
+        Call::EndSearch(w) => sleepers.end_search(SlotId(w)),
+        Call::Rest(w) => return Rests(sleepers.rest(SlotId(w))),
+        Call::Searching => return Count(sleepers.searching()),
+    }
+    Done
+}
+
+/// Makes each call in turn, and compares what it answers.
+fn play(rt: &impl Abort, sleepers: &mut Sleepers, calls: &[(Call, Answer)]) {
+    for (at, (call, want)) in calls.iter().enumerate() {
+        assert_eq!(rt; perform(sleepers, *call), *want, "call {at}");
+    }
+}
+
+/// Lists the workers below this number, each so many times.
+fn list_all(rt: &impl Abort, sleepers: &mut Sleepers, slots: usize, times: usize) {
+    for w in 0..slots {
+        for _ in 0..times {
+            assert_eq!(rt; perform(sleepers, Call::List(w)), Done);
+        }
+    }
+}
 
 #[test]
 fn last_asleep_is_woken_first(rt: HostRuntime) {
     let mut sleepers = Sleepers::new(rt.alloc(), 3).expect(&rt, "memory");
-    for w in 0..3 {
-        sleepers.list(SlotId(w));
-    }
+    list_all(&rt, &mut sleepers, 3, 1);
     for w in [2, 1, 0] {
-        assert_eq!(rt; sleepers.settle(false), None);
-        assert_eq!(rt; sleepers.settle(true), Some(SlotId(w)));
-        assert_eq!(rt; sleepers.settle(true), None, "{w} searches");
-        assert_eq!(rt; sleepers.searching(), 1);
-        sleepers.end_search(SlotId(w));
+        let calls = [
+            (Call::Settle(false), Slot(None)),
+            (Call::Settle(true), Slot(Some(SlotId(w)))),
+            // The woken one searches.
+            (Call::Settle(true), Slot(None)),
+            (Call::Searching, Count(1)),
+            (Call::EndSearch(w), Done),
+        ];
+        play(&rt, &mut sleepers, &calls);
     }
-    assert_eq!(rt; sleepers.call_one(), None);
+    assert_eq!(rt; perform(&mut sleepers, Call::WakeOne), Slot(None));
 }
 
 #[test]
 fn wakes_out_of_the_middle(rt: HostRuntime) {
     let mut sleepers = Sleepers::new(rt.alloc(), 4).expect(&rt, "memory");
-    for w in 0..6 {
-        sleepers.list(SlotId(w));
-        sleepers.list(SlotId(w));
-    }
-    assert!(rt; sleepers.call(SlotId(1)));
-    assert!(rt; !sleepers.call(SlotId(1)));
-    assert!(rt; !sleepers.call(SlotId(4)));
-    sleepers.list(SlotId(1));
-    for (w, rest) in [
-        Rest::Listed,
-        Rest::Marked,
-        Rest::Listed,
-        Rest::Listed,
-        Rest::Away,
-    ]
-    .iter()
-    .enumerate()
-    {
-        assert_eq!(rt; sleepers.rest(SlotId(w)), *rest, "{w}");
-    }
+    list_all(&rt, &mut sleepers, 6, 2);
+    let calls = [
+        (Call::Wake(1), Holds(true)),
+        (Call::Wake(1), Holds(false)),
+        (Call::Wake(4), Holds(false)),
+        (Call::List(1), Done),
+        (Call::Rest(0), Rests(Rest::Listed)),
+        (Call::Rest(1), Rests(Rest::Marked)),
+        (Call::Rest(2), Rests(Rest::Listed)),
+        (Call::Rest(3), Rests(Rest::Listed)),
+        (Call::Rest(4), Rests(Rest::Away)),
+    ];
+    play(&rt, &mut sleepers, &calls);
     for _ in 0..3 {
-        assert!(rt; sleepers.call_one().is_some());
+        assert_ne!(rt; perform(&mut sleepers, Call::WakeOne), Slot(None));
     }
-    assert_eq!(rt; sleepers.call_one(), None);
-    assert_eq!(rt; sleepers.searching(), 4);
+    let calls = [(Call::WakeOne, Slot(None)), (Call::Searching, Count(4))];
+    play(&rt, &mut sleepers, &calls);
 }
 
 #[test]
 fn wakes_all(rt: HostRuntime) {
     for slots in [0, 1, 2, 1024] {
         let mut sleepers = Sleepers::new(rt.alloc(), slots).expect(&rt, "memory");
+        list_all(&rt, &mut sleepers, slots, 1);
+        let calls = [(Call::WakeAll, Done), (Call::Searching, Count(slots))];
+        play(&rt, &mut sleepers, &calls);
         for w in 0..slots {
-            sleepers.list(SlotId(w));
+            let calls = [
+                (Call::Rest(w), Rests(Rest::Marked)),
+                (Call::EndSearch(w), Done),
+                (Call::EndSearch(w), Done),
+            ];
+            play(&rt, &mut sleepers, &calls);
         }
-        sleepers.call_all();
-        assert_eq!(rt; sleepers.searching(), slots);
-        for w in 0..slots {
-            assert_eq!(rt; sleepers.rest(SlotId(w)), Rest::Marked, "{w} of {slots}");
-            sleepers.end_search(SlotId(w));
-            sleepers.end_search(SlotId(w));
-        }
-        assert_eq!(rt; sleepers.searching(), 0);
+        assert_eq!(rt; perform(&mut sleepers, Call::Searching), Count(0));
     }
 }

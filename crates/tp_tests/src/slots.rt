@@ -1,8 +1,9 @@
 //! Tables with ample memory: each call, at small and at larger sizes.
 
-ghost use Rattle.std.specs.Prelude.{◌≡◌, ◌+◌, ◌<◌, ◌≤◌, true};
-ghost use Rattle.tp_record.specs.Step.{is_reserved};
+ghost use Rattle.std.specs.Prelude.{◌≤◌};
 
+use Answer::{Count, Done, Refused, Row, Slot};
+use std::alloc::{AllocError, Global};
 use std::process::Abort;
 use tp_record::rows::{SlotRow, Stage};
 use tp_slots::slots::Slots;
@@ -13,216 +14,118 @@ const AT_WORK: SlotRow = SlotRow {
     task: None,
 };
 
-/// Reserves a slot.
-fn reserve(rt: &impl Abort, slots: &mut Slots, stage: Stage, task: Option<TaskId>) -> SlotId
-    requires { is_reserved stage ≡ true }
-    ensures { slots.new.idlings ≡ slots.old.idlings }
-{
-    assert!(rt; slots.len() < slots.places());
-    let next = slots.next_number();
-    let w = slots.reserve(stage, task);
-    assert_eq!(rt; w, next);
-    w
+/// A call that changes a table, with the slot that it names first.
+#[derive(Clone, Copy)]
+enum Call {
+    Reserve(Stage, Option<TaskId>),
+    Open(usize),
+    GiveUp(usize),
+    Set(usize, SlotRow),
+    Idle(usize, u64),
+    Wake(usize, Option<TaskId>),
+    WakeAll,
+    Free(usize),
+    Grow(usize),
+    Next,
+    Get(usize),
+    LongestIdle,
+    Live,
+    Len,
+    Places,
 }
 
-/// Reserves a bare slot, and opens it.
-fn open(rt: &impl Abort, slots: &mut Slots) -> SlotId
-    ensures { slots.new.idlings ≡ slots.old.idlings }
-{
-    let w = reserve(rt, slots, Stage::ReservedBare, None);
-    match slots.get(w) {
-        Some(
-            SlotRow {
-                stage: Stage::ReservedBare,
-                task: None,
-            },
-        ) => slots.open(w),
-        _ => assert!(rt; false, "{w:?} is not reserved"),
-    }
-    w
+/// What a call answers.
+#[derive(Clone, Copy, Debug, PartialEq)]
+enum Answer {
+    Done,
+    Slot(Option<SlotId>),
+    Row(Option<SlotRow>),
+    Count(usize),
+    /// The table is not as the call requires it, or memory was wanting.
+    Refused,
 }
 
-/// The worker is idle from this moment on.
-fn idle(rt: &impl Abort, slots: &mut Slots, w: SlotId, moment: u64)
-    requires { slots.old.idlings < 100 }
-    ensures { slots.new.idlings ≤ slots.old.idlings + 1 }
-{
-    match slots.get(w) {
-        Some(
-            SlotRow {
-                stage: Stage::Working,
-                task: None,
-            },
-        ) => slots.idle(w, moment),
-        _ => assert!(rt; false, "{w:?} is not at work"),
-    }
+/// A table, with how often a worker became idle in it.
+#[derive(Drop)]
+struct Table {
+    slots: Slots,
+    idlings: u64,
+    ghost few: { slots.idlings ≤ idlings },
 }
 
-/// The idle worker works.
-fn wake(rt: &impl Abort, slots: &mut Slots, w: SlotId, task: Option<TaskId>)
-    ensures { slots.new.idlings ≡ slots.old.idlings }
-{
-    match slots.get(w) {
-        Some(
-            SlotRow {
-                stage: Stage::Idle(_),
-                task: _,
-            },
-        ) => slots.wake(w, task),
-        _ => assert!(rt; false, "{w:?} is not idle"),
-    }
-}
-
-/// Frees the slot of a worker that is idle or at work.
-fn free(rt: &impl Abort, slots: &mut Slots, w: SlotId) -> SlotRow
-    ensures { slots.new.idlings ≡ slots.old.idlings }
-{
-    let row = slots.get(w).expect(rt, "a slot");
-    match row.stage {
-        Stage::Idle(_) | Stage::Working => {
-            slots.free(w);
-        }
-        _ => assert!(rt; false, "{w:?} is not live"),
-    }
-    row
-}
-
-/// A table of this many workers, each idle since the moment of its number.
-fn idle_workers(rt: &(impl Abort + AllocGlobal), places: usize) -> Slots
-    requires { places < 100 }
-    ensures { result.idlings ≤ places }
-{
-    let mut slots = Slots::new(rt.alloc(), places).expect(rt, "memory");
-    for i in 0..places {
-        let w = open(rt, &mut slots);
-        assert_eq!(rt; w, SlotId(i), "of {places}");
-        idle(rt, &mut slots, w, i as u64);
-    }
-    slots
-}
-
-#[test]
-fn fills_and_empties(rt: HostRuntime) {
-    for places in [1, 2, 3, 64] {
-        let mut slots = idle_workers(&rt, places);
-        assert_eq!(rt; slots.places(), places);
-        assert_eq!(rt; slots.len(), places);
-        assert_eq!(rt; slots.live(), places);
-        for i in 0..places {
-            assert_eq!(rt; slots.longest_idle(), Some(SlotId(i)), "of {places}");
-            wake(&rt, &mut slots, SlotId(i), Some(TaskId(7)));
-            assert_eq!(rt;
-                slots.get(SlotId(i)),
-                Some(SlotRow {
-                    stage: Stage::Working,
-                    task: Some(TaskId(7)),
-                })
-            );
-        }
-        assert_eq!(rt; slots.longest_idle(), None);
-        for i in 0..places {
-            free(&rt, &mut slots, SlotId(i));
-            assert_eq!(rt; slots.get(SlotId(i)), None);
-            assert_eq!(rt; slots.live(), places - i - 1);
-        }
-        assert_eq!(rt; slots.len(), 0);
-    }
-}
-
-#[test]
-fn wakes_out_of_the_middle(rt: HostRuntime) {
-    let mut slots = idle_workers(&rt, 3);
-    wake(&rt, &mut slots, SlotId(1), None);
-    assert_eq!(rt; slots.get(SlotId(1)), Some(AT_WORK));
-    assert_eq!(rt; slots.longest_idle(), Some(SlotId(0)));
-    wake(&rt, &mut slots, SlotId(0), None);
-    assert_eq!(rt; slots.longest_idle(), Some(SlotId(2)));
-    idle(&rt, &mut slots, SlotId(1), 9);
-    assert_eq!(rt; slots.longest_idle(), Some(SlotId(2)));
-    let left = free(&rt, &mut slots, SlotId(2));
-    assert_eq!(rt;
-        left,
-        SlotRow {
-            stage: Stage::Idle(2),
-            task: None,
-        }
-    );
-    assert_eq!(rt; slots.longest_idle(), Some(SlotId(1)));
-}
-
-#[test]
-fn wakes_all(rt: HostRuntime) {
-    for places in [1, 2, 3, 64] {
-        let mut slots = idle_workers(&rt, places);
-        let busy = SlotId(places / 2);
-        wake(&rt, &mut slots, busy, Some(TaskId(4)));
-        slots.wake_all();
-        assert_eq!(rt; slots.longest_idle(), None);
-        assert_eq!(rt; slots.live(), places);
-        for i in 0..places {
-            let task = if i == busy.0 { Some(TaskId(4)) } else { None };
-            assert_eq!(rt;
-                slots.get(SlotId(i)),
-                Some(SlotRow {
-                    stage: Stage::Working,
-                    task,
-                })
-            );
-        }
-    }
-}
-
-#[test]
-fn last_freed_number_comes_first(rt: HostRuntime) {
-    let mut slots = Slots::new(rt.alloc(), 3).expect(&rt, "memory");
-    let first = reserve(&rt, &mut slots, Stage::ReservedCore, Some(TaskId(0)));
-    let second = reserve(&rt, &mut slots, Stage::ReservedMaximum, Some(TaskId(1)));
-    let third = open(&rt, &mut slots);
-    assert_eq!(rt; slots.len(), 3);
-    assert_eq!(rt; slots.live(), 1);
-    match slots.get(first) {
-        Some(
-            SlotRow {
-                stage: Stage::ReservedCore,
-                task,
-            },
-        ) => {
-            assert_eq!(rt; task, Some(TaskId(0)));
-            let was = slots.give_up(first);
-            assert_eq!(rt; was.task, Some(TaskId(0)));
-        }
-        _ => assert!(rt; false, "the first is not reserved"),
-    }
-    free(&rt, &mut slots, third);
-    assert_eq!(rt; slots.len(), 1);
-    assert_eq!(rt; slots.live(), 0);
-    assert_eq!(rt; reserve(&rt, &mut slots, Stage::ReservedBare, None), third);
-    assert_eq!(rt; reserve(&rt, &mut slots, Stage::ReservedBare, None), first);
-    assert_eq!(rt;
-        slots.get(second),
-        Some(SlotRow {
-            stage: Stage::ReservedMaximum,
-            task: Some(TaskId(1)),
+impl Table {
+    fn new(alloc: Global, places: usize) -> Result<Table, AllocError> {
+        Ok(Table {
+            slots: Slots::new(alloc, places)?,
+            idlings: 0,
         })
-    );
-}
+    }
 
-#[test]
-fn sets_rows_of_busy_workers(rt: HostRuntime) {
-    let mut slots = Slots::new(rt.alloc(), 1).expect(&rt, "memory");
-    let w = open(&rt, &mut slots);
-    let rows = [
-        SlotRow {
-            stage: Stage::Working,
-            task: Some(TaskId(3)),
-        },
-        SlotRow {
-            stage: Stage::Dying,
-            task: None,
-        },
-    ];
-    for row in rows {
-        match (slots.get(w), row.stage) {
+    fn call(&mut self, call: Call) -> Answer {
+        match call {
+            Call::Reserve(stage, task) => self.reserve(stage, task),
+            Call::Open(w) => self.open(SlotId(w)),
+            Call::GiveUp(w) => self.give_up(SlotId(w)),
+            Call::Set(w, row) => self.set(SlotId(w), row),
+            Call::Idle(w, moment) => self.idle(SlotId(w), moment),
+            Call::Wake(w, task) => self.wake(SlotId(w), task),
+            Call::WakeAll => {
+                self.slots.wake_all();
+                Done
+            }
+            Call::Free(w) => self.free(SlotId(w)),
+            Call::Grow(places) => match self.slots.grow_to(places) {
+                Ok(()) => Done,
+                Err(_) => Refused,
+            },
+            Call::Next => Slot(Some(self.slots.next_number())),
+            Call::Get(w) => Row(self.slots.get(SlotId(w))),
+            Call::LongestIdle => Slot(self.slots.longest_idle()),
+            Call::Live => Count(self.slots.live()),
+            Call::Len => Count(self.slots.len()),
+            Call::Places => Count(self.slots.places()),
+        }
+    }
+
+    fn reserve(&mut self, stage: Stage, task: Option<TaskId>) -> Answer {
+        if self.slots.len() >= self.slots.places() {
+            return Refused;
+        }
+        match stage {
+            Stage::ReservedCore | Stage::ReservedMaximum | Stage::ReservedBare => {
+                Slot(Some(self.slots.reserve(stage, task)))
+            }
+            _ => Refused,
+        }
+    }
+
+    fn open(&mut self, w: SlotId) -> Answer {
+        match self.slots.get(w) {
+            Some(
+                SlotRow {
+                    stage: Stage::ReservedBare,
+                    task: None,
+                },
+            ) => self.slots.open(w),
+            _ => return Refused,
+        }
+        Done
+    }
+
+    fn give_up(&mut self, w: SlotId) -> Answer {
+        match self.slots.get(w) {
+            Some(
+                SlotRow {
+                    stage: Stage::ReservedCore,
+                    task: _,
+                },
+            ) => Row(Some(self.slots.give_up(w))),
+            _ => Refused,
+        }
+    }
+
+    fn set(&mut self, w: SlotId, row: SlotRow) -> Answer {
+        match (self.slots.get(w), row.stage) {
             (
                 Some(
                     SlotRow {
@@ -231,64 +134,265 @@ fn sets_rows_of_busy_workers(rt: HostRuntime) {
                     },
                 ),
                 Stage::Working | Stage::Dying,
-            ) => slots.set(w, row),
-            _ => assert!(rt; false, "{w:?} is not at work"),
+            ) => self.slots.set(w, row),
+            _ => return Refused,
         }
-        assert_eq!(rt; slots.get(w), Some(row));
-        assert_eq!(rt; slots.live(), 1);
+        Done
+    }
+
+    fn idle(&mut self, w: SlotId, moment: u64) -> Answer {
+        let Some(idlings) = self.idlings.checked_add(1) else {
+            return Refused;
+        };
+        match self.slots.get(w) {
+            Some(
+                SlotRow {
+                    stage: Stage::Working,
+                    task: None,
+                },
+            ) => self.slots.idle(w, moment),
+            _ => return Refused,
+        }
+        self.idlings = idlings;
+        Done
+    }
+
+    fn wake(&mut self, w: SlotId, task: Option<TaskId>) -> Answer {
+        match self.slots.get(w) {
+            Some(
+                SlotRow {
+                    stage: Stage::Idle(_),
+                    task: _,
+                },
+            ) => self.slots.wake(w, task),
+            _ => return Refused,
+        }
+        Done
+    }
+
+    fn free(&mut self, w: SlotId) -> Answer {
+        match self.slots.get(w) {
+            Some(
+                SlotRow {
+                    stage: Stage::Idle(_) | Stage::Working,
+                    task: _,
+                },
+            ) => Row(Some(self.slots.free(w))),
+            _ => Refused,
+        }
+    }
+}
+
+/// Makes each call in turn, and compares what it answers.
+fn play(rt: &impl Abort, table: &mut Table, calls: &[(Call, Answer)]) {
+    for (at, (call, want)) in calls.iter().enumerate() {
+        assert_eq!(rt; table.call(*call), *want, "call {at}");
+    }
+}
+
+/// A worker works with this task.
+fn working(task: Option<TaskId>) -> Answer {
+    Row(Some(SlotRow {
+        stage: Stage::Working,
+        task,
+    }))
+}
+
+/// Opens bare slots up to this number, from the one that the table has as its next.
+fn open_to(rt: &impl Abort, table: &mut Table, from: usize, to: usize) {
+    for w in from..to {
+        let bare = Call::Reserve(Stage::ReservedBare, None);
+        assert_eq!(rt; table.call(bare), Slot(Some(SlotId(w))));
+        assert_eq!(rt; table.call(Call::Open(w)), Done);
+    }
+}
+
+/// A table of this many workers, each idle since the moment of its number.
+fn idle_workers(rt: &(impl Abort + AllocGlobal), places: usize) -> Table {
+    let mut table = Table::new(rt.alloc(), places).expect(rt, "memory");
+    open_to(rt, &mut table, 0, places);
+    for w in 0..places {
+        assert_eq!(rt; table.call(Call::Idle(w, w as u64)), Done);
+    }
+    table
+}
+
+#[test]
+fn fills_and_empties(rt: HostRuntime) {
+    for places in [1, 2, 3, 64] {
+        let mut table = idle_workers(&rt, places);
+        for count in [Call::Places, Call::Len, Call::Live] {
+            assert_eq!(rt; table.call(count), Count(places));
+        }
+        for w in 0..places {
+            let first = table.call(Call::LongestIdle);
+            assert_eq!(rt; first, Slot(Some(SlotId(w))), "of {places}");
+            let task = Some(TaskId(7));
+            assert_eq!(rt; table.call(Call::Wake(w, task)), Done);
+            assert_eq!(rt; table.call(Call::Get(w)), working(task));
+        }
+        assert_eq!(rt; table.call(Call::LongestIdle), Slot(None));
+        for w in 0..places {
+            assert_ne!(rt; table.call(Call::Free(w)), Refused);
+            assert_eq!(rt; table.call(Call::Get(w)), Row(None));
+            assert_eq!(rt; table.call(Call::Live), Count(places - w - 1));
+        }
+        assert_eq!(rt; table.call(Call::Len), Count(0));
+    }
+}
+
+#[test]
+fn wakes_out_of_the_middle(rt: HostRuntime) {
+    let left = SlotRow {
+        stage: Stage::Idle(2),
+        task: None,
+    };
+    let calls = [
+        (Call::Wake(1, None), Done),
+        (Call::Get(1), Row(Some(AT_WORK))),
+        (Call::LongestIdle, Slot(Some(SlotId(0)))),
+        (Call::Wake(0, None), Done),
+        (Call::LongestIdle, Slot(Some(SlotId(2)))),
+        (Call::Idle(1, 9), Done),
+        (Call::LongestIdle, Slot(Some(SlotId(2)))),
+        (Call::Free(2), Row(Some(left))),
+        (Call::LongestIdle, Slot(Some(SlotId(1)))),
+    ];
+    play(&rt, &mut idle_workers(&rt, 3), &calls);
+}
+
+#[test]
+fn wakes_all(rt: HostRuntime) {
+    for places in [1, 2, 3, 64] {
+        let mut table = idle_workers(&rt, places);
+        let busy = places / 2;
+        let calls = [
+            (Call::Wake(busy, Some(TaskId(4))), Done),
+            (Call::WakeAll, Done),
+            (Call::LongestIdle, Slot(None)),
+            (Call::Live, Count(places)),
+        ];
+        play(&rt, &mut table, &calls);
+        for w in 0..places {
+            let task = if w == busy { Some(TaskId(4)) } else { None };
+            assert_eq!(rt; table.call(Call::Get(w)), working(task));
+        }
+    }
+}
+
+#[test]
+fn last_freed_number_comes_first(rt: HostRuntime) {
+    let mut table = Table::new(rt.alloc(), 3).expect(&rt, "memory");
+    let core = SlotRow {
+        stage: Stage::ReservedCore,
+        task: Some(TaskId(0)),
+    };
+    let maximum = SlotRow {
+        stage: Stage::ReservedMaximum,
+        task: Some(TaskId(1)),
+    };
+    let bare = Call::Reserve(Stage::ReservedBare, None);
+    let calls = [
+        (Call::Reserve(core.stage, core.task), Slot(Some(SlotId(0)))),
+        (
+            Call::Reserve(maximum.stage, maximum.task),
+            Slot(Some(SlotId(1))),
+        ),
+        (Call::Next, Slot(Some(SlotId(2)))),
+        (bare, Slot(Some(SlotId(2)))),
+        (Call::Open(2), Done),
+        (Call::Len, Count(3)),
+        (Call::Live, Count(1)),
+        (Call::Get(0), Row(Some(core))),
+        (Call::GiveUp(0), Row(Some(core))),
+        (Call::Free(2), Row(Some(AT_WORK))),
+        (Call::Len, Count(1)),
+        (Call::Live, Count(0)),
+        (Call::Next, Slot(Some(SlotId(2)))),
+        (bare, Slot(Some(SlotId(2)))),
+        (Call::Next, Slot(Some(SlotId(0)))),
+        (bare, Slot(Some(SlotId(0)))),
+        (Call::Get(1), Row(Some(maximum))),
+    ];
+    play(&rt, &mut table, &calls);
+}
+
+#[test]
+fn sets_rows_of_busy_workers(rt: HostRuntime) {
+    let mut table = Table::new(rt.alloc(), 1).expect(&rt, "memory");
+    open_to(&rt, &mut table, 0, 1);
+    let busy = SlotRow {
+        stage: Stage::Working,
+        task: Some(TaskId(3)),
+    };
+    let dying = SlotRow {
+        stage: Stage::Dying,
+        task: None,
+    };
+    for row in [busy, dying] {
+        let calls = [
+            (Call::Set(0, row), Done),
+            (Call::Get(0), Row(Some(row))),
+            (Call::Live, Count(1)),
+        ];
+        play(&rt, &mut table, &calls);
     }
 }
 
 #[test]
 fn times_out_at_the_keep_alive(rt: HostRuntime) {
-    let slots = idle_workers(&rt, 2);
-    for (core, core_timeout, moment, want) in [
-        (1, false, 14, false),
-        (1, false, 15, true),
-        (2, false, 15, false),
-        (2, true, 15, true),
-        (2, true, 4, false),
+    let table = idle_workers(&rt, 2);
+    for (stage, core, keep, core_timeout, moment, want) in [
+        (Stage::Idle(5), 1, 10, false, 14, false),
+        (Stage::Idle(5), 1, 10, false, 15, true),
+        (Stage::Idle(5), 2, 10, false, 15, false),
+        (Stage::Idle(5), 2, 10, true, 15, true),
+        (Stage::Idle(5), 2, 10, true, 4, false),
+        (Stage::Working, 1, 0, false, 15, true),
+        (Stage::Working, 1, 1, false, 15, false),
     ] {
-        let out = slots.timed_out(Stage::Idle(5), core, 10, core_timeout, moment);
+        let out = table
+            .slots
+            .timed_out(stage, core, keep, core_timeout, moment);
         assert_eq!(rt; out, want, "at {moment} with core {core}");
     }
-    assert!(rt; slots.timed_out(Stage::Working, 1, 0, false, 15));
-    assert!(rt; !slots.timed_out(Stage::Working, 1, 1, false, 15));
 }
 
 #[test]
 fn grows_and_never_shrinks(rt: HostRuntime) {
-    let mut slots = idle_workers(&rt, 2);
-    assert!(rt;
-        slots.grow_to(usize::MAX).is_err(),
-        "no memory is that large"
-    );
-    assert_eq!(rt; slots.places(), 2);
-    assert!(rt; slots.grow_to(1).is_ok());
-    assert_eq!(rt; slots.places(), 2);
-    assert!(rt; slots.grow_to(64).is_ok());
-    assert_eq!(rt; slots.places(), 64);
-    for i in 2..64 {
-        assert_eq!(rt; open(&rt, &mut slots), SlotId(i));
-    }
-    assert_eq!(rt; slots.longest_idle(), Some(SlotId(0)));
+    let mut table = idle_workers(&rt, 2);
+    let calls = [
+        // No memory is that large.
+        (Call::Grow(usize::MAX), Refused),
+        (Call::Places, Count(2)),
+        (Call::Grow(1), Done),
+        (Call::Places, Count(2)),
+        (Call::Grow(64), Done),
+        (Call::Places, Count(64)),
+    ];
+    play(&rt, &mut table, &calls);
+    open_to(&rt, &mut table, 2, 64);
+    assert_eq!(rt; table.call(Call::LongestIdle), Slot(Some(SlotId(0))));
 }
 
 /// Any one allocation may fail: `new` then answers so, and a failed `grow_to` changes nothing and works when it is called
 /// again.
 #[test]
 fn want_of_memory_changes_nothing(rt: HostRuntime) {
-    let Ok(mut slots) = Slots::new(rt.alloc(), 1) else {
+    let Ok(mut table) = Table::new(rt.alloc(), 1) else {
         return;
     };
-    let first = open(&rt, &mut slots);
-    if slots.grow_to(64).is_err() {
-        assert_eq!(rt; (slots.places(), slots.len(), slots.live()), (1, 1, 1));
-        assert_eq!(rt; slots.get(first), Some(AT_WORK));
-        assert!(rt; slots.grow_to(64).is_ok());
+    open_to(&rt, &mut table, 0, 1);
+    if table.call(Call::Grow(64)) == Refused {
+        let calls = [
+            (Call::Places, Count(1)),
+            (Call::Len, Count(1)),
+            (Call::Live, Count(1)),
+            (Call::Get(0), Row(Some(AT_WORK))),
+            (Call::Grow(64), Done),
+        ];
+        play(&rt, &mut table, &calls);
     }
-    assert_eq!(rt; slots.places(), 64);
-    for i in 1..64 {
-        assert_eq!(rt; open(&rt, &mut slots), SlotId(i));
-    }
+    assert_eq!(rt; table.call(Call::Places), Count(64));
+    open_to(&rt, &mut table, 1, 64);
 }

@@ -3,10 +3,12 @@
 ghost use Rattle.std.specs.Prelude.{◌≡◌, Some};
 ghost use Rattle.tp_tasks.specs.Tasks.{row_of};
 
+use Answer::{Count, Done, Ended, Fated, Holds, Number, Promised, Refused, Row, Task};
 use std::process::Abort;
 use tp_record::rows::TaskRow;
 use tp_tasks::tasks::Tasks;
 use tp_types::ids::{SlotId, TaskId};
+use tp_types::refusals::PoolError;
 use tp_types::tasks::{Fate, Kind, Outcome, Place, Promise};
 
 /// What each job of these tests promises.
@@ -16,8 +18,78 @@ const ANY: Promise = Promise {
     may_fault: true,
 };
 
+/// A call of the table of tasks, with the number of the task, or of the group, that it names first.
+#[derive(Clone, Copy)]
+enum Call {
+    /// A task of this kind, to be offered, with its payload.
+    Submit(Kind, u64),
+    Submitted,
+    Row(u32),
+    Fate(u32),
+    Result(u32),
+    Promise(u32),
+    PlaceNumber(u32),
+    SetPlaceNumber(u32, u64),
+    /// Sets the task's place, and whether it was looked at a second time.
+    Place(u32, Place, bool),
+    TakePayload(u32),
+    /// A worker runs the task to its end.
+    Run(u32, Outcome),
+    /// The task is gone without having run.
+    Drop(u32, Fate),
+    Cancel(u32),
+    Fated(Fate),
+    IsOpen(u32),
+    HasDone(u32),
+    FirstDone(u32),
+    TakeDone(u32),
+}
+
+/// What a call answers.
+#[derive(Clone, Copy, Debug, PartialEq)]
+enum Answer {
+    Done,
+    Task(Option<TaskId>),
+    Row(Option<TaskRow>),
+    Fated(Option<Fate>),
+    Ended(Option<Result<i64, PoolError>>),
+    Promised(Option<Promise>),
+    Number(Option<u64>),
+    Count(u32),
+    Holds(bool),
+    /// The task is not as the call requires it.
+    Refused,
+}
+
+/// Makes one call.
+fn perform(rt: &impl Abort, tasks: &mut Tasks<u64>, call: Call) -> Answer {
+    match call {
+        Call::Submit(kind, payload) => submit(rt, tasks, kind, payload),
+        Call::Submitted => Count(tasks.submitted()),
+        Call::Row(t) => Row(tasks.row(TaskId(t))),
+        Call::Fate(t) => Fated(tasks.row(TaskId(t)).expect(rt, "a row").fate()),
+        Call::Result(t) => Ended(tasks.row(TaskId(t)).expect(rt, "a row").result()),
+        Call::Promise(t) => Promised(tasks.promise(TaskId(t))),
+        Call::PlaceNumber(t) => Number(tasks.place_number(TaskId(t))),
+        Call::TakePayload(t) => Number(tasks.take_payload(TaskId(t))),
+        Call::Fated(fate) => Count(tasks.fated(fate)),
+        Call::IsOpen(g) => Holds(tasks.is_open(g)),
+        Call::HasDone(g) => Holds(tasks.has_done(g)),
+        Call::FirstDone(g) => Task(tasks.first_done(g)),
+        Call::TakeDone(g) => Task(tasks.take_done(g)),
+        Call::SetPlaceNumber(t, _)
+        | Call::Place(t, _, _)
+        | Call::Run(t, _)
+        | Call::Drop(t, _)
+        | Call::Cancel(t) => match tasks.row(TaskId(t)) {
+            Some(row) => change(tasks, TaskId(t), row, call),
+            None => Refused,
+        },
+    }
+}
+
 /// Submits a task of this kind, to be offered. A want of memory changes nothing and is tried once more.
-fn submit(rt: &impl Abort, tasks: &mut Tasks<u64>, kind: Kind, payload: u64) -> TaskId {
+fn submit(rt: &impl Abort, tasks: &mut Tasks<u64>, kind: Kind, payload: u64) -> Answer {
     let submitted = tasks.submitted();
     if tasks.reserve(kind).is_err() {
         assert_eq!(rt; tasks.submitted(), submitted);
@@ -25,164 +97,167 @@ fn submit(rt: &impl Abort, tasks: &mut Tasks<u64>, kind: Kind, payload: u64) -> 
         tasks.reserve(kind).expect(rt, "memory at the second try");
     }
     assert!(rt; tasks.submitted() < u32::MAX);
-    tasks.put(kind, Place::ToOffer, ANY, payload)
+    Task(Some(tasks.put(kind, Place::ToOffer, ANY, payload)))
 }
 
-/// The row of a task that is kept.
-fn row_now(rt: &impl Abort, tasks: &Tasks<u64>, t: TaskId) -> TaskRow
-    ensures { row_of tasks.now t.0 ≡ Some result }
+/// Makes the call that changes the task with this row.
+fn change(tasks: &mut Tasks<u64>, t: TaskId, row: TaskRow, call: Call) -> Answer
+    requires { row_of tasks.old t.0 ≡ Some row }
 {
-    tasks.row(t).expect(rt, "a row")
-}
-
-/// A worker runs a task to its end.
-fn run(rt: &impl Abort, tasks: &mut Tasks<u64>, t: TaskId, outcome: Outcome) {
-    let row = row_now(rt, tasks, t);
-    match row.ending {
-        None => tasks.complete(t, row, Fate::Run, outcome),
-        Some(_) => assert!(rt; false, "it has ended before"),
+    match (call, row.ending) {
+        (Call::SetPlaceNumber(_, number), _) => tasks.set_place_number(t, number),
+        (Call::Place(_, place, second), _) => tasks.set_row(
+            t,
+            row,
+            TaskRow {
+                place,
+                second,
+                ..row
+            },
+        ),
+        (Call::Run(_, outcome), None) => tasks.complete(t, row, Fate::Run, outcome),
+        (Call::Drop(_, fate), None) => tasks.finish(t, row, fate),
+        (Call::Cancel(_), _) => match row.fate() {
+            None => tasks.cancel(t, row),
+            Some(_) => return Refused,
+        },
+        _ => return Refused,
     }
+    Done
 }
 
-/// A task is gone without having run.
-fn drop_out(rt: &impl Abort, tasks: &mut Tasks<u64>, t: TaskId, fate: Fate) {
-    let row = row_now(rt, tasks, t);
-    match row.ending {
-        None => tasks.finish(t, row, fate),
-        Some(_) => assert!(rt; false, "it has ended before"),
-    }
-}
-
-/// A task is cancelled.
-fn cancel(rt: &impl Abort, tasks: &mut Tasks<u64>, t: TaskId) {
-    let row = row_now(rt, tasks, t);
-    match row.fate() {
-        None => tasks.cancel(t, row),
-        Some(_) => assert!(rt; false, "it has a fate"),
+/// Makes each call in turn, and compares what it answers.
+fn play(rt: &impl Abort, tasks: &mut Tasks<u64>, calls: &[(Call, Answer)]) {
+    for (at, (call, want)) in calls.iter().enumerate() {
+        assert_eq!(rt; perform(rt, tasks, *call), *want, "call {at}");
     }
 }
 
 #[test]
 fn keeps_a_task(rt: HostRuntime) {
-    let mut tasks = Tasks::new(rt.alloc());
-    assert_eq!(rt; tasks.submitted(), 0);
-    assert_eq!(rt; tasks.row(TaskId(0)), None);
-    assert_eq!(rt; tasks.promise(TaskId(0)), None);
-    assert_eq!(rt; tasks.take_payload(TaskId(0)), None);
-    let t = submit(&rt, &mut tasks, Kind::Plain, 5);
-    assert_eq!(rt; t, TaskId(0));
-    assert_eq!(rt;
-        tasks.row(t),
-        Some(TaskRow::new(Kind::Plain, Place::ToOffer))
-    );
-    assert_eq!(rt; tasks.promise(t), Some(ANY));
-    assert_eq!(rt; tasks.place_number(t), None);
-
-    let row = row_now(&rt, &tasks, t);
+    let new = TaskRow::new(Kind::Plain, Place::ToOffer);
     let queued = TaskRow {
         place: Place::Queued,
         second: true,
-        ..row
+        ..new
     };
-    tasks.set_row(t, row, queued);
-    tasks.set_place_number(t, 7);
-    assert_eq!(rt; tasks.row(t), Some(queued));
-    assert_eq!(rt; tasks.place_number(t), Some(7));
-
-    assert_eq!(rt; tasks.take_payload(t), Some(5));
-    assert_eq!(rt; tasks.take_payload(t), None);
-    let queued = row_now(&rt, &tasks, t);
-    tasks.set_row(
-        t,
-        queued,
-        TaskRow {
-            place: Place::Running(SlotId(2)),
-            ..queued
-        },
-    );
-    assert_eq!(rt; tasks.fated(Fate::Run), 0);
-    run(&rt, &mut tasks, t, Ok(-3));
-    let ended = row_now(&rt, &tasks, t);
-    assert_eq!(rt; ended.place, Place::Gone);
-    assert_eq!(rt; ended.fate(), Some(Fate::Run));
-    assert_eq!(rt; ended.result(), Some(Ok(-3)));
-    assert_eq!(rt; tasks.fated(Fate::Run), 1);
-    assert_eq!(rt; tasks.submitted(), 1);
+    let ended = TaskRow {
+        place: Place::Gone,
+        ending: Some(Fate::Run),
+        outcome: Some(Ok(-3)),
+        ..queued
+    };
+    let calls = [
+        (Call::Submitted, Count(0)),
+        (Call::Row(0), Row(None)),
+        (Call::Promise(0), Promised(None)),
+        (Call::TakePayload(0), Number(None)),
+        (Call::Submit(Kind::Plain, 5), Task(Some(TaskId(0)))),
+        (Call::Row(0), Row(Some(new))),
+        (Call::Promise(0), Promised(Some(ANY))),
+        (Call::PlaceNumber(0), Number(None)),
+        (Call::Place(0, Place::Queued, true), Done),
+        (Call::SetPlaceNumber(0, 7), Done),
+        (Call::Row(0), Row(Some(queued))),
+        (Call::PlaceNumber(0), Number(Some(7))),
+        (Call::TakePayload(0), Number(Some(5))),
+        (Call::TakePayload(0), Number(None)),
+        (Call::Place(0, Place::Running(SlotId(2)), true), Done),
+        (Call::Fated(Fate::Run), Count(0)),
+        (Call::Run(0, Ok(-3)), Done),
+        (Call::Row(0), Row(Some(ended))),
+        (Call::Fate(0), Fated(Some(Fate::Run))),
+        (Call::Result(0), Ended(Some(Ok(-3)))),
+        (Call::Fated(Fate::Run), Count(1)),
+        (Call::Submitted, Count(1)),
+    ];
+    play(&rt, &mut Tasks::new(rt.alloc()), &calls);
 }
 
 /// A cancelled task has its place among the completed ones from its cancel.
 #[test]
 fn completes_in_order(rt: HostRuntime) {
-    let mut tasks = Tasks::new(rt.alloc());
-    let first = submit(&rt, &mut tasks, Kind::Group(3), 1);
-    let second = submit(&rt, &mut tasks, Kind::Group(3), 2);
-    let other = submit(&rt, &mut tasks, Kind::Future, 3);
-    assert!(rt; tasks.is_open(3));
-    assert!(rt; !tasks.is_open(2));
-    assert!(rt; !tasks.has_done(3));
-    cancel(&rt, &mut tasks, second);
-    run(&rt, &mut tasks, first, Ok(1));
-    run(&rt, &mut tasks, other, Err(9));
-    assert!(rt; !tasks.is_open(3));
-    assert!(rt; tasks.has_done(3));
-    assert_eq!(rt; tasks.first_done(2), None);
-    assert_eq!(rt; tasks.first_done(3), Some(second));
-    assert_eq!(rt; tasks.take_done(2), None);
-    assert_eq!(rt; tasks.take_done(3), Some(second));
-    assert_eq!(rt; tasks.take_done(3), Some(first));
-    assert_eq!(rt; tasks.take_done(3), None);
-    assert_eq!(rt; tasks.fated(Fate::Run), 2);
-    assert_eq!(rt; tasks.fated(Fate::Cancelled), 1);
+    let calls = [
+        (Call::Submit(Kind::Group(3), 1), Task(Some(TaskId(0)))),
+        (Call::Submit(Kind::Group(3), 2), Task(Some(TaskId(1)))),
+        (Call::Submit(Kind::Future, 3), Task(Some(TaskId(2)))),
+        (Call::IsOpen(3), Holds(true)),
+        (Call::IsOpen(2), Holds(false)),
+        (Call::HasDone(3), Holds(false)),
+        (Call::Cancel(1), Done),
+        (Call::Run(0, Ok(1)), Done),
+        (Call::Run(2, Err(9)), Done),
+        (Call::IsOpen(3), Holds(false)),
+        (Call::HasDone(3), Holds(true)),
+        (Call::FirstDone(2), Task(None)),
+        (Call::FirstDone(3), Task(Some(TaskId(1)))),
+        (Call::TakeDone(2), Task(None)),
+        (Call::TakeDone(3), Task(Some(TaskId(1)))),
+        (Call::TakeDone(3), Task(Some(TaskId(0)))),
+        (Call::TakeDone(3), Task(None)),
+        (Call::Fated(Fate::Run), Count(2)),
+        (Call::Fated(Fate::Cancelled), Count(1)),
+    ];
+    play(&rt, &mut Tasks::new(rt.alloc()), &calls);
 }
 
 /// A cancelled task keeps its fate, and leaves its group's completions as they are, however it goes.
 #[test]
 fn gives_no_second_fate(rt: HostRuntime) {
-    let mut tasks = Tasks::new(rt.alloc());
-    let cancelled = submit(&rt, &mut tasks, Kind::Group(0), 1);
-    let removed = submit(&rt, &mut tasks, Kind::Group(0), 2);
-    let run_out = submit(&rt, &mut tasks, Kind::Group(0), 3);
-    cancel(&rt, &mut tasks, cancelled);
-    cancel(&rt, &mut tasks, run_out);
-    drop_out(&rt, &mut tasks, cancelled, Fate::HandedBack);
-    drop_out(&rt, &mut tasks, removed, Fate::Removed);
-    run(&rt, &mut tasks, run_out, Ok(0));
-    assert_eq!(rt;
-        row_now(&rt, &tasks, cancelled).fate(),
-        Some(Fate::Cancelled)
-    );
-    assert_eq!(rt; row_now(&rt, &tasks, run_out).fate(), Some(Fate::Cancelled));
-    assert_eq!(rt; tasks.fated(Fate::Cancelled), 2);
-    assert_eq!(rt; tasks.fated(Fate::HandedBack), 0);
-    assert_eq!(rt; tasks.fated(Fate::Run), 0);
-    assert_eq!(rt; tasks.fated(Fate::Removed), 1);
-    assert!(rt; !tasks.is_open(0));
-    assert_eq!(rt; tasks.take_done(0), Some(cancelled));
-    assert_eq!(rt; tasks.take_done(0), Some(run_out));
-    assert!(rt; !tasks.has_done(0));
+    let calls = [
+        (Call::Submit(Kind::Group(0), 1), Task(Some(TaskId(0)))),
+        (Call::Submit(Kind::Group(0), 2), Task(Some(TaskId(1)))),
+        (Call::Submit(Kind::Group(0), 3), Task(Some(TaskId(2)))),
+        (Call::Cancel(0), Done),
+        (Call::Cancel(2), Done),
+        (Call::Drop(0, Fate::HandedBack), Done),
+        (Call::Drop(1, Fate::Removed), Done),
+        (Call::Run(2, Ok(0)), Done),
+        (Call::Fate(0), Fated(Some(Fate::Cancelled))),
+        (Call::Fate(2), Fated(Some(Fate::Cancelled))),
+        (Call::Fated(Fate::Cancelled), Count(2)),
+        (Call::Fated(Fate::HandedBack), Count(0)),
+        (Call::Fated(Fate::Run), Count(0)),
+        (Call::Fated(Fate::Removed), Count(1)),
+        (Call::IsOpen(0), Holds(false)),
+        (Call::TakeDone(0), Task(Some(TaskId(0)))),
+        (Call::TakeDone(0), Task(Some(TaskId(2)))),
+        (Call::HasDone(0), Holds(false)),
+    ];
+    play(&rt, &mut Tasks::new(rt.alloc()), &calls);
 }
 
 /// 4,000 tasks of seven groups, which complete with the last first.
 #[test]
 fn keeps_thousands_of_tasks(rt: HostRuntime) {
     let mut tasks = Tasks::new(rt.alloc());
-    for i in 0..4000u32 {
-        let t = submit(&rt, &mut tasks, Kind::Group(i % 7), u64::from(i) + 10);
-        assert_eq!(rt; t, TaskId(i));
+    for t in 0..4000u32 {
+        let submit = Call::Submit(Kind::Group(t % 7), u64::from(t) + 10);
+        assert_eq!(rt; perform(&rt, &mut tasks, submit), Task(Some(TaskId(t))));
     }
-    for i in 0..4000u32 {
-        let t = TaskId(3999 - i);
-        assert_eq!(rt; tasks.take_payload(t), Some(u64::from(t.0) + 10));
-        assert!(rt; tasks.is_open(t.0 % 7));
-        run(&rt, &mut tasks, t, Ok(i64::from(t.0)));
-    }
-    assert_eq!(rt; tasks.fated(Fate::Run), 4000);
     for i in 0..4000u32 {
         let t = 3999 - i;
-        assert_eq!(rt; tasks.take_done(t % 7), Some(TaskId(t)));
+        let calls = [
+            (Call::TakePayload(t), Number(Some(u64::from(t) + 10))),
+            (Call::IsOpen(t % 7), Holds(true)),
+            (Call::Run(t, Ok(i64::from(t))), Done),
+        ];
+        play(&rt, &mut tasks, &calls);
+    }
+    assert_eq!(rt;
+        perform(&rt, &mut tasks, Call::Fated(Fate::Run)),
+        Count(4000)
+    );
+    for i in 0..4000u32 {
+        let t = 3999 - i;
+        let first = perform(&rt, &mut tasks, Call::TakeDone(t % 7));
+        assert_eq!(rt; first, Task(Some(TaskId(t))));
     }
     for group in 0..7 {
-        assert!(rt; !tasks.is_open(group));
-        assert!(rt; !tasks.has_done(group));
+        let calls = [
+            (Call::IsOpen(group), Holds(false)),
+            (Call::HasDone(group), Holds(false)),
+        ];
+        play(&rt, &mut tasks, &calls);
     }
 }
