@@ -54,6 +54,7 @@ impl<P> Tasks<P> {
 
     /// Makes memory for one more task of this kind: its own place, and one among the completed tasks of its group. Want of
     /// memory is NoMemory (4).
+    #[inline(always)]
     pub fn reserve(&mut self, kind: Kind) -> Result<(), PoolError>
         ensures ready { OnOk result (IsReady self.new kind) }
         ensures unchanged { IsUnchanged self.old self.new }
@@ -71,6 +72,7 @@ impl<P> Tasks<P> {
     }
 
     /// How many tasks were submitted: the number of the next one.
+    #[inline(always)]
     pub fn submitted(&self) -> u32
         ensures { result ≡ submissions self.now }
     {
@@ -79,6 +81,7 @@ impl<P> Tasks<P> {
 
     /// Puts a new task of this kind, in this place, with what its job promises and its payload, and gives its number. There
     /// is memory for it.
+    #[inline(always)]
     pub fn put(&mut self, kind: Kind, place: Place, promise: Promise, payload: P) -> TaskId
     where
         P: Drop,
@@ -108,6 +111,7 @@ impl<P> Tasks<P> {
     }
 
     /// The row of a task, None where it is not kept.
+    #[inline(always)]
     pub fn row(&self, t: TaskId) -> Option<TaskRow>
         ensures { result ≡ row_of self.now t.0 }
     {
@@ -115,6 +119,7 @@ impl<P> Tasks<P> {
     }
 
     /// What a task's job promises, None where the task is not kept.
+    #[inline(always)]
     pub fn promise(&self, t: TaskId) -> Option<Promise>
         ensures { result ≡ promise_of self.now t.0 }
     {
@@ -122,6 +127,7 @@ impl<P> Tasks<P> {
     }
 
     /// The number of a task's last place in the work queue, None where it was never queued or is not kept.
+    #[inline(always)]
     pub fn place_number(&self, t: TaskId) -> Option<u64>
         ensures { result ≡ number_of self.now t.0 }
     {
@@ -129,6 +135,7 @@ impl<P> Tasks<P> {
     }
 
     /// Notes the number of the place in the work queue that the task came to.
+    #[inline(always)]
     pub fn set_place_number(&mut self, t: TaskId, number: u64)
         requires { IsSome (row_of self.old t.0) }
         ensures row { row_of self.new t.0 ≡ row_of self.old t.0 }
@@ -144,6 +151,7 @@ impl<P> Tasks<P> {
     }
 
     /// Takes a task's payload out, None where it was taken before or the task is not kept.
+    #[inline(always)]
     pub fn take_payload(&mut self, t: TaskId) -> Option<P>
         ensures out { result ≡ payload_of self.old t.0 }
         ensures gone { payload_of self.new t.0 ≡ None }
@@ -170,6 +178,39 @@ impl<P> Tasks<P> {
         table::set_row(&mut self.tasks, t.0, to);
     }
 
+    /// The task is in another place from now on.
+    #[inline(always)]
+    pub fn set_place(&mut self, t: TaskId, place: Place)
+        requires { IsSome (row_of self.old t.0) }
+        ensures set { (r : TaskRow) → row_of self.old t.0 ≡ Some r → SetsRow self.old self.new t.0 (record r { place = place }) }
+        ensures done { KeepsDone self.old self.new }
+        ensures fates { KeepsFates self.old self.new }
+    {
+        table::set_place(&mut self.tasks, t.0, place);
+    }
+
+    /// The task is in another place from now on, and its submitter owes it a second look.
+    #[inline(always)]
+    pub fn hand(&mut self, t: TaskId, place: Place)
+        requires { IsSome (row_of self.old t.0) }
+        ensures set { (r : TaskRow) → row_of self.old t.0 ≡ Some r → SetsRow self.old self.new t.0 (record r { place = place; second = true }) }
+        ensures done { KeepsDone self.old self.new }
+        ensures fates { KeepsFates self.old self.new }
+    {
+        table::hand(&mut self.tasks, t.0, place);
+    }
+
+    /// The task is not owed its second look any more, and is where it was.
+    #[inline(always)]
+    pub fn settle(&mut self, t: TaskId)
+        requires { IsSome (row_of self.old t.0) }
+        ensures set { (r : TaskRow) → row_of self.old t.0 ≡ Some r → SetsRow self.old self.new t.0 (record r { second = false }) }
+        ensures done { KeepsDone self.old self.new }
+        ensures fates { KeepsFates self.old self.new }
+    {
+        table::settle(&mut self.tasks, t.0);
+    }
+
     /// Gives an open task its fate, with the row that it has then; `completed` says that this completes it, where it is of a
     /// group.
     fn end(&mut self, t: TaskId, from: TaskRow, to: TaskRow, fate: Fate, completed: bool)
@@ -188,6 +229,20 @@ impl<P> Tasks<P> {
         );
         self.fates.raise(fate);
         table::set_row(&mut self.tasks, t.0, to);
+    }
+
+    /// An open task has run to its end, with this fate and outcome: it is gone, and completed where it is of a group.
+    #[inline(always)]
+    fn end_run(&mut self, t: TaskId, from: TaskRow, fate: Fate, outcome: Outcome)
+        requires now { row_of self.old t.0 ≡ Some from }
+        requires was_open { fate_of from ≡ None }
+        ensures set { SetsRow self.old self.new t.0 (record from { place = Place.Gone; ending = Some fate; outcome = Some outcome }) }
+        ensures done { (g : ℕ) → done_of self.new g ≡ done_of self.old g ++ (if is_of_group g from.kind then t.0 ∷ [] else []) }
+        ensures fates { (f : Fate) → fated_of self.new f ≡ fated_of self.old f + (if is_fate f (Some fate) then 1 else 0) }
+    {
+        groups::close(&mut self.groups, from.kind, Some(t.0));
+        self.fates.raise(fate);
+        table::conclude(&mut self.tasks, t.0, fate, outcome);
     }
 
     /// The task is gone without having run, with this fate, unless it was cancelled.
@@ -212,6 +267,7 @@ impl<P> Tasks<P> {
 
     /// The task has run to its end, with this fate and outcome: it is gone, and completed where it is of a group, unless it
     /// was cancelled.
+    #[inline(always)]
     pub fn complete(&mut self, t: TaskId, row: TaskRow, fate: Fate, outcome: Outcome)
         requires now { row_of self.old t.0 ≡ Some row }
         requires unended { row.ending ≡ None }
@@ -219,16 +275,16 @@ impl<P> Tasks<P> {
         ensures done { (g : ℕ) → done_of self.new g ≡ done_of self.old g ++ (if is_of_group g row.kind && not row.cancelled then t.0 ∷ [] else []) }
         ensures fates { (f : Fate) → fated_of self.new f ≡ fated_of self.old f + (if not row.cancelled && is_fate f (Some fate) then 1 else 0) }
     {
-        let to = TaskRow {
-            place: Place::Gone,
-            ending: Some(fate),
-            outcome: Some(outcome),
-            ..row
-        };
         if row.cancelled {
+            let to = TaskRow {
+                place: Place::Gone,
+                ending: Some(fate),
+                outcome: Some(outcome),
+                ..row
+            };
             self.set_row(t, row, to);
         } else {
-            self.end(t, row, to, fate, true);
+            self.end_run(t, row, fate, outcome);
         }
     }
 
@@ -248,6 +304,7 @@ impl<P> Tasks<P> {
     }
 
     /// How many tasks came to this fate.
+    #[inline(always)]
     pub fn fated(&self, fate: Fate) -> u32
         ensures { result ≡ fated_of self.now fate }
     {
