@@ -10,6 +10,7 @@ use crate::parts::Parts;
 
 impl<P> Parts<P> {
     /// One more entry was made, and so many fewer are owed.
+    #[inline(always)]
     pub fn count_entry(&mut self, fall: u64)
         requires few { self.old.steps < 2 ^ 32 - 1 }
         requires fall { fall ≤ self.old.due }
@@ -21,6 +22,7 @@ impl<P> Parts<P> {
         self.due -= fall;
     }
     /// One more entry was made, and so many more are owed.
+    #[inline(always)]
     pub fn count_rising_entry(&mut self, rise: u64)
         requires few { self.old.steps < 2 ^ 32 - 1 }
         requires rise { self.old.due + rise < 2 ^ 64 }

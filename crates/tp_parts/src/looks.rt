@@ -13,6 +13,7 @@ use tp_types::states::RunState;
 impl<P> Parts<P> {
     /// What a look for a core slot answers, as the first branch of `execute`: above running the task is refused, below the core
     /// size the next slot is reserved for it, and else it is to be offered.
+    #[inline(always)]
     pub fn look(&self) -> Looked
         ensures looked { (s : State) → Shows self.now s → result ≡ look s self.now.slots.next }
         ensures next { IfSome (reserved_looked result) (λ w. w ≡ self.now.slots.next) }

@@ -21,6 +21,7 @@ use tp_types::tasks::Place;
 
 impl<P> Parts<P> {
     /// Puts a task that waits at the queue's end. Its submitter owes it a second look.
+    #[inline(always)]
     pub fn enqueue(&mut self, t: TaskId)
         requires known { (r : TaskRow) × (row_of self.old.tasks t.0 ≡ Some r) × (is_before r.place ≡ true) }
         requires absent { Contains (numbers (waiting_of self.old.queue).items) t.0 → ⊥ }
@@ -31,20 +32,12 @@ impl<P> Parts<P> {
         ensures rest { self.new ≡ record self.old { tasks = self.new.tasks; queue = self.new.queue } }
         ensures payloads { Keeps self.old.tasks self.new.tasks }
     {
-        let Some(row) = self.tasks.row(t) else {
-            unreachable!()
-        };
         self.queue.is_lawful();
         let Ok(number) = self.queue.offer(t) else {
             unreachable!()
         };
         self.tasks.set_place_number(t, number);
-        let to = TaskRow {
-            place: Place::Queued,
-            second: true,
-            ..row
-        };
-        self.tasks.set_row(t, row, to);
+        self.tasks.hand(t, Place::Queued);
     }
 
     /// Takes a queued task out of the queue, wherever it stands there. Its row stays.
@@ -63,6 +56,7 @@ impl<P> Parts<P> {
     }
 
     /// A task that waits is held by this slot from now on, and its submitter owes it a second look.
+    #[inline(always)]
     pub fn hand_task(&mut self, t: TaskId, w: SlotId)
         requires known { (r : TaskRow) × (row_of self.old.tasks t.0 ≡ Some r) × (is_before r.place ≡ true) }
         ensures views { (v : View) → Views self.old v → Views self.new (record v { tasks = put t.0 (record (v.tasks t.0) { place = Place.Held w; second = true }) v.tasks }) }
@@ -70,18 +64,11 @@ impl<P> Parts<P> {
         ensures rest { self.new ≡ record self.old { tasks = self.new.tasks } }
         ensures payloads { Keeps self.old.tasks self.new.tasks }
     {
-        let Some(row) = self.tasks.row(t) else {
-            unreachable!()
-        };
-        let to = TaskRow {
-            place: Place::Held(w),
-            second: true,
-            ..row
-        };
-        self.tasks.set_row(t, row, to);
+        self.tasks.hand(t, Place::Held(w));
     }
 
     /// A task is not owed its second look any more, and is where it was.
+    #[inline(always)]
     pub fn settle_task(&mut self, t: TaskId)
         requires known { (r : TaskRow) × (row_of self.old.tasks t.0 ≡ Some r) }
         ensures views { (v : View) → Views self.old v → Views self.new (record v { tasks = put t.0 (record (v.tasks t.0) { second = false }) v.tasks }) }
@@ -89,14 +76,7 @@ impl<P> Parts<P> {
         ensures rest { self.new ≡ record self.old { tasks = self.new.tasks } }
         ensures payloads { Keeps self.old.tasks self.new.tasks }
     {
-        let Some(row) = self.tasks.row(t) else {
-            unreachable!()
-        };
-        let to = TaskRow {
-            second: false,
-            ..row
-        };
-        self.tasks.set_row(t, row, to);
+        self.tasks.settle(t);
     }
 
     /// A task that waits is refused by its second look, which it is not owed any more.

@@ -12,6 +12,7 @@ use tp_queue::work::WorkQueue;
 
 impl<P> Parts<P> {
     /// Takes the task out of the queue that waits longest.
+    #[inline(always)]
     pub fn dequeue(&mut self)
         ensures views { (v : View) → Views self.old v → Views self.new (record v { queue = drop 1 v.queue }) }
         ensures tied { (c : Config) (n : ℕ) → IsTied c n self.old → IsTied c n self.new }

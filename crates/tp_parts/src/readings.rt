@@ -12,6 +12,7 @@ use tp_types::states::RunState;
 impl<P> Parts<P> {
     /// Whether the pool wants a worker for the work that is left: while it runs, and while it is shut down with tasks in its
     /// queue, as `addWorker` and `processWorkerExit` have it.
+    #[inline(always)]
     pub fn wants_worker(&self) -> bool
         ensures { (s : State) → Shows self.now s → result ≡ wants_worker s }
     {

@@ -17,6 +17,7 @@ use tp_types::ids::{SlotId, TaskId};
 
 impl<P> Parts<P> {
     /// Reserves a slot, under the next number, for a worker that is still to be made: for a first task or, with none, bare.
+    #[inline(always)]
     pub fn reserve(&mut self, stage: Stage, task: Option<TaskId>) -> SlotId
         requires room { count_by is_some self.old.slots.slots < self.old.slots.places }
         requires reserved { is_reserved stage ≡ true }
@@ -41,6 +42,7 @@ impl<P> Parts<P> {
     }
 
     /// A worker without a task is idle from now on.
+    #[inline(always)]
     pub fn idle(&mut self, w: SlotId)
         requires working { slot_at self.old.slots.slots w.0 ≡ Some (record { stage = Stage.Working; task = None }) }
         requires few { self.old.slots.idlings < 2 ^ 64 - 1 }
@@ -52,6 +54,7 @@ impl<P> Parts<P> {
     }
 
     /// An idle worker works from now on, on this task if there is one.
+    #[inline(always)]
     pub fn wake(&mut self, w: SlotId, task: Option<TaskId>)
         requires idle { is_idle_row (slot_at self.old.slots.slots w.0) ≡ true }
         ensures views { (v : View) → Views self.old v → Views self.new (record v { slots = put w.0 (Some (record { stage = Stage.Working; task = task })) v.slots; idling = without w.0 v.idling }) }
@@ -62,6 +65,7 @@ impl<P> Parts<P> {
     }
 
     /// Changes the row of a live slot that is not idle, and stays so.
+    #[inline(always)]
     pub fn set_slot(&mut self, w: SlotId, row: SlotRow)
         requires slot { is_awake (slot_at self.old.slots.slots w.0) ≡ true }
         requires row { is_awake (Some row) ≡ true }

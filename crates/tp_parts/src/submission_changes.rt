@@ -22,6 +22,7 @@ use tp_types::tasks::{Kind, Place, Promise};
 impl<P> Parts<P> {
     /// Makes memory for one more task of this kind, and for its place in an unbounded queue, so that nothing that becomes of
     /// the task takes any. Want of memory is NoMemory (4). Either way the same states are shown.
+    #[inline(always)]
     pub fn make_room(&mut self, kind: Kind) -> Result<(), PoolError>
         ensures memory { OnOk result (HasMemory self.new kind) }
         ensures refused { IsOkUnless result refusals.NoMemory }
@@ -38,6 +39,7 @@ impl<P> Parts<P> {
     }
 
     /// A new task of this kind comes, in a place before its beginning, with what its job promises and its payload.
+    #[inline(always)]
     pub fn put_task(&mut self, kind: Kind, place: Place, promise: Promise, payload: P) -> TaskId
     where
         P: Drop,

@@ -13,12 +13,12 @@ ghost use Rattle.tp_parts.specs.Shows.{Views};
 ghost use Rattle.tp_parts.specs.Tied.{IsTied, is_before, is_waiting};
 
 use crate::parts::Parts;
-use tp_record::rows::TaskRow;
 use tp_types::ids::TaskId;
 use tp_types::tasks::{Fate, Outcome, Place};
 
 impl<P> Parts<P> {
     /// A task is in another place from now on. It waits on, or did not wait.
+    #[inline(always)]
     pub fn place_task(&mut self, t: TaskId, place: Place)
         requires known { (r : TaskRow) × (row_of self.old.tasks t.0 ≡ Some r) × (is_waiting (record r { place = place }) ≡ is_waiting r) }
         ensures views { (v : View) → Views self.old v → Views self.new (record v { tasks = put t.0 (record (v.tasks t.0) { place = place }) v.tasks }) }
@@ -26,13 +26,11 @@ impl<P> Parts<P> {
         ensures rest { self.new ≡ record self.old { tasks = self.new.tasks } }
         ensures payloads { Keeps self.old.tasks self.new.tasks }
     {
-        let Some(row) = self.tasks.row(t) else {
-            unreachable!()
-        };
-        self.tasks.set_row(t, row, TaskRow { place, ..row });
+        self.tasks.set_place(t, place);
     }
 
     /// A task that waited begins in this place, and its payload is handed out.
+    #[inline(always)]
     pub fn begin_task(&mut self, t: TaskId, place: Place) -> P
         requires known { (r : TaskRow) × (row_of self.old.tasks t.0 ≡ Some r) }
         requires paid { is_some (payload_of self.old.tasks t.0) ≡ true }
@@ -42,13 +40,10 @@ impl<P> Parts<P> {
         ensures rest { self.new ≡ record self.old { tasks = self.new.tasks } }
         ensures payloads { HandsOut self.old.tasks self.new.tasks t.0 (Some result) }
     {
-        let Some(row) = self.tasks.row(t) else {
-            unreachable!()
-        };
         let Some(payload) = self.tasks.take_payload(t) else {
             unreachable!()
         };
-        self.tasks.set_row(t, row, TaskRow { place, ..row });
+        self.tasks.set_place(t, place);
         payload
     }
 
@@ -73,6 +68,7 @@ impl<P> Parts<P> {
 
     /// A task that had begun ended with this outcome, which is as it promised: it is gone, with this fate unless it was
     /// cancelled, and completed where it is of a group.
+    #[inline(always)]
     pub fn complete_task(&mut self, t: TaskId, fate: Fate, outcome: Outcome)
         requires known { (r : TaskRow) × (row_of self.old.tasks t.0 ≡ Some r) × (r.ending ≡ None) × (is_before r.place ≡ false) }
         requires promised { IfSome (promise_of self.old.tasks t.0) (λ p. FitsPromise p outcome) }
@@ -92,6 +88,7 @@ impl<P> Parts<P> {
     }
 
     /// A worker ended a body, or skipped a cancelled task.
+    #[inline(always)]
     pub fn count_completion(&mut self)
         requires { self.old.completions < 2 ^ 32 - 1 }
         ensures views { (v : View) → Views self.old v → Views self.new (record v { completions = suc v.completions }) }

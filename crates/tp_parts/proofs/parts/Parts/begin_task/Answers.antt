@@ -5,8 +5,8 @@ use Rattle.tp_parts.proofs.parts.Parts.begin_task.Goals as goal
 
 pub returns-clause-tied : goal.returns-clause-tied
 returns-clause-tied g c = λ config n tied.
-    let there = sym c.row.ensures ∙ c.in-Some.is in
+    let k = c.requires.known in
     let p = c.take_payload.ensures in
-    let s = c.set_row.ensures.set in
-    tied_paid config n c.args.self.now tied c.set_row.new.self c.args.t.0 c.in-Some.row _ there s.row (λ u e. s.others u e ∙ p.others u e) (s.submitted ∙ p.submitted) (s.number ∙ p.number) (s.promise ∙ p.promise) refl
-    (ap (λ o. is_some o) (s.payload ∙ p.gone) ∙ sym (ap (λ b. b && not c.in-Some.row.cancelled) c.requires.begun))
+    let s = c.set_place.ensures.set k.0 (p.row ∙ k.1) in
+    tied_paid config n c.args.self.now tied c.set_place.new.self c.args.t.0 k.0 _ k.1 s.row (λ u e. s.others u e ∙ p.others u e) (s.submitted ∙ p.submitted) (s.number ∙ p.number) (s.promise ∙ p.promise) refl
+    (ap (λ o. is_some o) (s.payload ∙ p.gone) ∙ sym (ap (λ b. b && not k.0.cancelled) c.requires.begun))

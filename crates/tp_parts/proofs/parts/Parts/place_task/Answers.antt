@@ -1,13 +1,8 @@
-use Rattle.std.proofs.Common.{◌≡◌, Some, refl, sym, ap, ◌∙◌}
-use Rattle.tp_record.specs.declared.rows.TaskRow.{TaskRow}
+use Rattle.std.proofs.Common.{refl}
 use Rattle.tp_parts.proofs.Ties.{tied_row}
-use Rattle.tp_parts.specs.Tied.{is_waiting}
 use Rattle.tp_parts.proofs.parts.Parts.place_task.Goals as goal
 
 pub returns-clause-tied : goal.returns-clause-tied
 returns-clause-tied g c = λ config n tied.
-    let there = sym c.row.ensures ∙ c.in-Some.is in
-    let same : Some c.requires.known.0 ≡ Some c.in-Some.row = sym c.requires.known.1 ∙ there in
-    let row : c.requires.known.0 ≡ c.in-Some.row = cc in
-    tied_row config n c.args.self.now tied c.set_row.new.self c.args.t.0 c.in-Some.row _ there c.set_row.ensures.set
-    (let F : TaskRow → TaskRow = λ r. record r { place = c.args.place } in ap is_waiting (ap F (sym row)) ∙ c.requires.known.2 ∙ ap is_waiting row) refl
+    let k = c.requires.known in
+    tied_row config n c.args.self.now tied c.set_place.new.self c.args.t.0 k.0 _ k.1 (c.set_place.ensures.set k.0 k.1) k.2 refl
