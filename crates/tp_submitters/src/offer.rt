@@ -13,6 +13,7 @@ use tp_types::refusals::PoolError;
 use tp_types::tasks::Place;
 
 /// Whether the queue takes the task, or a worker does, or neither. UnknownTask (6) or NotThere (8).
+#[inline(always)]
 pub fn answer<P>(parts: &Parts<P>, t: TaskId) -> Result<Offered, PoolError>
     ensures fits { IfOk result (λ o. Fits parts.now (Ask.Offer t) (Did.Offer t o)) }
     ensures refuses { IfErr result (λ e. Refuses parts.now (Ask.Offer t) e) }
@@ -36,6 +37,7 @@ pub fn answer<P>(parts: &Parts<P>, t: TaskId) -> Result<Offered, PoolError>
 
 /// Makes an accepted answer: the task is queued, or in the slot of the worker that was idle longest, or its submitter is to
 /// grow the pool.
+#[inline(always)]
 pub fn apply<P>(parts: &mut Parts<P>, t: TaskId, offered: Offered)
     requires stands { Stands parts.old }
     requires fits { Fits parts.old (Ask.Offer t) (Did.Offer t offered) }
@@ -50,6 +52,7 @@ pub fn apply<P>(parts: &mut Parts<P>, t: TaskId, offered: Offered)
 }
 
 /// The task is at the queue's tail.
+#[inline(always)]
 fn queue<P>(parts: &mut Parts<P>, t: TaskId)
     requires stands { Stands parts.old }
     requires fits { Fits parts.old (Ask.Offer t) (Did.Offer t Offered.Queued) }
@@ -61,6 +64,7 @@ fn queue<P>(parts: &mut Parts<P>, t: TaskId)
 }
 
 /// The worker that was idle longest has the task.
+#[inline(always)]
 fn hand<P>(parts: &mut Parts<P>, t: TaskId, w: SlotId)
     requires stands { Stands parts.old }
     requires fits { Fits parts.old (Ask.Offer t) (Did.Offer t (Offered.Hand w)) }
@@ -73,6 +77,7 @@ fn hand<P>(parts: &mut Parts<P>, t: TaskId, w: SlotId)
 }
 
 /// There is no room: the pool is to grow.
+#[inline(never)]
 fn turn_away<P>(parts: &mut Parts<P>, t: TaskId)
     requires stands { Stands parts.old }
     requires fits { Fits parts.old (Ask.Offer t) (Did.Offer t Offered.Full) }

@@ -18,6 +18,7 @@ use tp_types::states::RunState;
 use tp_types::tasks::Place;
 
 /// Whether the task stays, or stays with a slot reserved to serve it, or comes back. UnknownTask (6) or NotThere (8).
+#[inline(always)]
 pub fn answer<P>(parts: &Parts<P>, t: TaskId) -> Result<Seconded, PoolError>
     ensures fits { IfOk result (λ s. Fits parts.now (Ask.Second t) (Did.Second t s)) }
     ensures next { IfOk result (λ s. IfSome (reserves (Did.Second t s)) (λ w. w ≡ parts.now.slots.next)) }
@@ -39,6 +40,7 @@ pub fn answer<P>(parts: &Parts<P>, t: TaskId) -> Result<Seconded, PoolError>
 }
 
 /// Whether a task with this row is still queued after a shutdown.
+#[inline(always)]
 fn comes_back<P>(parts: &Parts<P>, row: TaskRow) -> bool
     ensures { (s : State) → Shows parts.now s → result ≡ (nat_lt 0 s.rank && is_queued_place row.place) }
 {
@@ -48,6 +50,7 @@ fn comes_back<P>(parts: &Parts<P>, row: TaskRow) -> bool
 }
 
 /// Whether there is no slot, and the pool wants a worker.
+#[inline(always)]
 fn is_deserted<P>(parts: &Parts<P>) -> bool
     ensures { (s : State) → Shows parts.now s → result ≡ (slot_count s == 0 && wants_worker s) }
 {
@@ -57,6 +60,7 @@ fn is_deserted<P>(parts: &Parts<P>) -> bool
 
 /// Makes an accepted answer: the task stays, or stays with the next slot to serve it, or is out of the queue and awaits a
 /// verdict.
+#[inline(always)]
 pub fn apply<P>(parts: &mut Parts<P>, t: TaskId, seconded: Seconded)
     requires stands { Stands parts.old }
     requires fits { Fits parts.old (Ask.Second t) (Did.Second t seconded) }
@@ -72,6 +76,7 @@ pub fn apply<P>(parts: &mut Parts<P>, t: TaskId, seconded: Seconded)
 }
 
 /// The task stays where it is.
+#[inline(always)]
 fn stay<P>(parts: &mut Parts<P>, t: TaskId)
     requires stands { Stands parts.old }
     requires fits { Fits parts.old (Ask.Second t) (Did.Second t Seconded.Stay) }
@@ -83,6 +88,7 @@ fn stay<P>(parts: &mut Parts<P>, t: TaskId)
 }
 
 /// The task stays where it is, and a bare slot is reserved.
+#[inline(never)]
 fn reserve<P>(parts: &mut Parts<P>, t: TaskId, w: SlotId)
     requires stands { Stands parts.old }
     requires fits { Fits parts.old (Ask.Second t) (Did.Second t (Seconded.StayReserve w)) }
@@ -96,6 +102,7 @@ fn reserve<P>(parts: &mut Parts<P>, t: TaskId, w: SlotId)
 }
 
 /// The task is out of the queue, and awaits a verdict.
+#[inline(never)]
 fn take_back<P>(parts: &mut Parts<P>, t: TaskId)
     requires stands { Stands parts.old }
     requires fits { Fits parts.old (Ask.Second t) (Did.Second t Seconded.Back) }

@@ -21,6 +21,7 @@ use tp_types::tasks::{Kind, Place, Promise};
 
 /// Whether the next task is held by a new core slot, is to be offered, or is refused. BookFull (5) where the record has no
 /// room for it.
+#[inline(always)]
 pub fn answer<P>(parts: &Parts<P>, kind: Kind) -> Result<Looked, PoolError>
     requires stands { Stands parts.now }
     ensures accepts { IfOk result (λ l. Accepts parts.now (Ask.Submit kind) (Did.Submit (record { 0 = submissions parts.now.tasks }) kind l)) }
@@ -37,6 +38,7 @@ pub fn answer<P>(parts: &Parts<P>, kind: Kind) -> Result<Looked, PoolError>
 
 /// Makes memory for the task of an accepted answer, so that nothing that becomes of it takes any. NoMemory (4). Either way
 /// the same states are shown, and what was accepted is.
+#[inline(always)]
 pub fn prepare<P>(parts: &mut Parts<P>, kind: Kind) -> Result<(), PoolError>
     requires stands { Stands parts.old }
     ensures memory { OnOk result (HasMemory parts.new kind) }
@@ -53,6 +55,7 @@ pub fn prepare<P>(parts: &mut Parts<P>, kind: Kind) -> Result<(), PoolError>
 
 /// Makes an accepted answer, for a job that promises this and has this payload, and gives the new task's number. Memory for
 /// it was made (`prepare`), after the answer.
+#[inline(always)]
 pub fn apply<P>(
     parts: &mut Parts<P>,
     kind: Kind,
@@ -78,6 +81,7 @@ where
 }
 
 /// How many more entries are owed after a submission with this look.
+#[inline(always)]
 fn rise(looked: Looked) -> u64
     ensures rise { result ≡ rise_of looked }
     ensures bound { result ≤ 12 }
@@ -90,6 +94,7 @@ fn rise(looked: Looked) -> u64
 }
 
 /// The next slot is reserved for the core, and holds the task.
+#[inline(never)]
 fn reserve<P>(parts: &mut Parts<P>, kind: Kind, promise: Promise, payload: P, w: SlotId) -> TaskId
 where
     P: Drop,
@@ -108,6 +113,7 @@ where
 }
 
 /// The task is to be offered.
+#[inline(always)]
 fn queue<P>(parts: &mut Parts<P>, kind: Kind, promise: Promise, payload: P) -> TaskId
 where
     P: Drop,
@@ -123,6 +129,7 @@ where
 }
 
 /// The pool is shut down: the task awaits a verdict.
+#[inline(never)]
 fn refuse<P>(parts: &mut Parts<P>, kind: Kind, promise: Promise, payload: P) -> TaskId
 where
     P: Drop,

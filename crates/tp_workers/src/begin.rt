@@ -15,6 +15,7 @@ use tp_types::tasks::Place;
 
 /// What the worker begins: the task that it took, or nothing, where that was cancelled. UnknownSlot (7) where there is no such
 /// slot, NotThere (8) where its worker has taken no task.
+#[inline(always)]
 pub fn answer<P>(parts: &Parts<P>, w: SlotId) -> Result<Started, PoolError>
     ensures fits { IfOk result (λ b. Fits parts.now (Ask.Begin w) (Did.Begin w b)) }
     ensures refuses { IfErr result (λ e. Refuses parts.now (Ask.Begin w) e) }
@@ -43,6 +44,7 @@ pub fn answer<P>(parts: &Parts<P>, w: SlotId) -> Result<Started, PoolError>
 }
 
 /// Makes an accepted answer, and hands out the payload of a task that runs. A skipped task has none.
+#[inline(always)]
 pub fn apply<P>(parts: &mut Parts<P>, w: SlotId, started: Started) -> Option<P>
     requires stands { Stands parts.old }
     requires fits { Fits parts.old (Ask.Begin w) (Did.Begin w started) }
@@ -59,6 +61,7 @@ pub fn apply<P>(parts: &mut Parts<P>, w: SlotId, started: Started) -> Option<P>
 }
 
 /// The worker begins the task, and has its payload.
+#[inline(always)]
 fn run<P>(parts: &mut Parts<P>, w: SlotId, t: TaskId) -> P
     requires stands { Stands parts.old }
     requires fits { Fits parts.old (Ask.Begin w) (Did.Begin w (Started.Run t)) }
@@ -78,6 +81,7 @@ fn run<P>(parts: &mut Parts<P>, w: SlotId, t: TaskId) -> P
 }
 
 /// The worker skips the task, which was cancelled, and is about to take.
+#[inline(never)]
 fn skip<P>(parts: &mut Parts<P>, w: SlotId, t: TaskId)
     requires stands { Stands parts.old }
     requires fits { Fits parts.old (Ask.Begin w) (Did.Begin w (Started.Skip t)) }

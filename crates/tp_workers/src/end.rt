@@ -19,6 +19,7 @@ use tp_types::tasks::{Fate, Kind, Outcome, Place};
 
 /// Which task the worker ends, whatever its outcome. UnknownSlot (7) where there is no such slot, NotThere (8) where its worker
 /// runs no task.
+#[inline(always)]
 pub fn answer<P>(parts: &Parts<P>, w: SlotId) -> Result<TaskId, PoolError>
     ensures fits { (o : Outcome) → IfOk result (λ t. Fits parts.now (Ask.End w o) (Did.End w t o)) }
     ensures refuses { (o : Outcome) → IfErr result (λ e. Refuses parts.now (Ask.End w o) e) }
@@ -42,6 +43,7 @@ pub fn answer<P>(parts: &Parts<P>, w: SlotId) -> Result<TaskId, PoolError>
 }
 
 /// Makes an accepted answer: the worker's task ended with this outcome, which is as it promised.
+#[inline(always)]
 pub fn apply<P>(parts: &mut Parts<P>, w: SlotId, t: TaskId, outcome: Outcome)
     requires stands { Stands parts.old }
     requires fits { Fits parts.old (Ask.End w outcome) (Did.End w t outcome) }
@@ -58,6 +60,7 @@ pub fn apply<P>(parts: &mut Parts<P>, w: SlotId, t: TaskId, outcome: Outcome)
 
 /// Whether the task is plain, so that nobody keeps its fault, and this is one. It ends the worker, as an exception that
 /// leaves `run` does.
+#[inline(always)]
 fn is_plain_fault<P>(parts: &Parts<P>, t: TaskId, outcome: Outcome) -> bool
     ensures { (s : State) (w : SlotId) → Shows parts.now s →
         result ≡ is_plain_fault (Did.End w t outcome) (λ u. (task_at s u).kind) }
@@ -70,6 +73,7 @@ fn is_plain_fault<P>(parts: &Parts<P>, t: TaskId, outcome: Outcome) -> bool
 }
 
 /// The worker ends its task, and is about to take.
+#[inline(always)]
 fn works<P>(parts: &mut Parts<P>, w: SlotId, t: TaskId, outcome: Outcome)
     requires stands { Stands parts.old }
     requires fits { Fits parts.old (Ask.End w outcome) (Did.End w t outcome) }
@@ -92,6 +96,7 @@ fn works<P>(parts: &mut Parts<P>, w: SlotId, t: TaskId, outcome: Outcome)
 }
 
 /// The worker ends a plain task with a fault, and is about to leave.
+#[inline(never)]
 fn dies<P>(parts: &mut Parts<P>, w: SlotId, t: TaskId, outcome: Outcome)
     requires stands { Stands parts.old }
     requires fits { Fits parts.old (Ask.End w outcome) (Did.End w t outcome) }

@@ -1,6 +1,6 @@
 //! A worker asks for its next task, as `getTask`.
 
-ghost use Rattle.std.specs.Prelude.{ℕ, ◌≡◌, ◌==◌, ◌&&◌, ◌||◌, true, false, nat_le, nat_lt, length, IfOk, IfErr};
+ghost use Rattle.std.specs.Prelude.{ℕ, ◌≡◌, ◌==◌, ◌&&◌, ◌||◌, not, true, false, nat_le, nat_lt, length, IfOk, IfErr};
 ghost use Rattle.std.specs.Result.{result_map_both};
 ghost use Rattle.tp_record.specs.Fields.{is_idle_row};
 ghost use Rattle.tp_record.specs.State.{State, task_at, slot_at};
@@ -22,6 +22,7 @@ use tp_types::tasks::Place;
 /// What the worker takes: the task that its slot holds, before all else, and else what the queue has for it. UnknownSlot (7)
 /// where there is no such slot, NotThere (8) where its worker is not made, dying or busy with a task that it took, and where an
 /// idle worker stays idle.
+#[inline(always)]
 pub fn answer<P>(parts: &Parts<P>, w: SlotId) -> Result<Took, PoolError>
     ensures fits { IfOk result (λ k. Fits parts.now (Ask.Take w) (Did.Take w k)) }
     ensures refuses { IfErr result (λ e. Refuses parts.now (Ask.Take w) e) }
@@ -37,6 +38,7 @@ pub fn answer<P>(parts: &Parts<P>, w: SlotId) -> Result<Took, PoolError>
 }
 
 /// What a worker takes whose slot holds this task.
+#[inline(always)]
 fn first_task<P>(parts: &Parts<P>, t: TaskId) -> Result<Took, PoolError>
     ensures { (s : State) (w : SlotId) → Shows parts.now s →
         held_answer w t (task_at s t.0).place ≡ result_map_both (λ k. Did.Take w k) (λ e. e) result }
@@ -51,6 +53,7 @@ fn first_task<P>(parts: &Parts<P>, t: TaskId) -> Result<Took, PoolError>
 }
 
 /// What a worker takes whose slot holds no task.
+#[inline(always)]
 fn next_task<P>(parts: &Parts<P>, stage: Stage) -> Result<Took, PoolError>
     ensures { (s : State) (w : SlotId) → Shows parts.now s →
         take_next s w stage ≡ result_map_both (λ k. Did.Take w k) (λ e. e) result }
@@ -79,6 +82,7 @@ fn next_task<P>(parts: &Parts<P>, stage: Stage) -> Result<Took, PoolError>
 
 /// Whether a worker without a task leaves whatever time it has waited: where its pool is stopped, or shut down with nothing
 /// queued, and where there are more slots than the maximum.
+#[inline(always)]
 fn retires<P>(parts: &Parts<P>) -> bool
     ensures { (s : State) → Shows parts.now s → result ≡
         ((nat_le 2 s.rank || (s.rank == 1 && length s.queue == 0))
@@ -95,7 +99,20 @@ fn retires<P>(parts: &Parts<P>) -> bool
     is_over || (count > parts.maximum as usize && (count > 1 || is_empty))
 }
 
+/// Whether no idle worker leaves now, whichever it is: while the pool runs, has no more slots than its core and its maximum, and
+/// core workers do not time out. It tells sooner than an answer.
+#[inline(always)]
+pub fn keeps_all<P>(parts: &Parts<P>) -> bool
+    ensures { (s : State) → Shows parts.now s → result ≡
+        ((s.rank == 0 && nat_le (slot_count s) s.maximum) && (nat_le (slot_count s) s.core && not s.core_timeout)) }
+{
+    let count = parts.slots.len();
+    let is_within = count <= parts.core as usize && !parts.core_timeout;
+    parts.state == RunState::Running && count <= parts.maximum as usize && is_within
+}
+
 /// Makes an accepted answer. No payload is handed out before the task begins.
+#[inline(always)]
 pub fn apply<P>(parts: &mut Parts<P>, w: SlotId, took: Took)
     requires stands { Stands parts.old }
     requires fits { Fits parts.old (Ask.Take w) (Did.Take w took) }
@@ -113,6 +130,7 @@ pub fn apply<P>(parts: &mut Parts<P>, w: SlotId, took: Took)
 }
 
 /// Whether the slot's worker is idle.
+#[inline(always)]
 fn is_idle<P>(parts: &Parts<P>, w: SlotId) -> bool
     ensures { result ≡ is_idle_row (slot_at parts.now.slots.slots w.0) }
 {
@@ -123,6 +141,7 @@ fn is_idle<P>(parts: &Parts<P>, w: SlotId) -> bool
 }
 
 /// The worker takes the task that its slot holds.
+#[inline(always)]
 fn held<P>(parts: &mut Parts<P>, w: SlotId, t: TaskId)
     requires stands { Stands parts.old }
     requires fits { Fits parts.old (Ask.Take w) (Did.Take w (Took.Held t)) }
@@ -141,6 +160,7 @@ fn held<P>(parts: &mut Parts<P>, w: SlotId, t: TaskId)
 }
 
 /// A worker that was not idle takes the queue's head.
+#[inline(always)]
 fn head<P>(parts: &mut Parts<P>, w: SlotId, t: TaskId)
     requires stands { Stands parts.old }
     requires fits { Fits parts.old (Ask.Take w) (Did.Take w (Took.Head t)) }
@@ -161,6 +181,7 @@ fn head<P>(parts: &mut Parts<P>, w: SlotId, t: TaskId)
 }
 
 /// An idle worker takes the queue's head.
+#[inline(always)]
 fn head_idle<P>(parts: &mut Parts<P>, w: SlotId, t: TaskId)
     requires stands { Stands parts.old }
     requires fits { Fits parts.old (Ask.Take w) (Did.Take w (Took.Head t)) }
@@ -175,6 +196,7 @@ fn head_idle<P>(parts: &mut Parts<P>, w: SlotId, t: TaskId)
 }
 
 /// A worker that was not idle leaves.
+#[inline(never)]
 fn leave<P>(parts: &mut Parts<P>, w: SlotId)
     requires stands { Stands parts.old }
     requires fits { Fits parts.old (Ask.Take w) (Did.Take w Took.Leave) }
@@ -187,6 +209,7 @@ fn leave<P>(parts: &mut Parts<P>, w: SlotId)
 }
 
 /// An idle worker leaves.
+#[inline(never)]
 fn leave_idle<P>(parts: &mut Parts<P>, w: SlotId)
     requires stands { Stands parts.old }
     requires fits { Fits parts.old (Ask.Take w) (Did.Take w Took.Leave) }
@@ -199,6 +222,7 @@ fn leave_idle<P>(parts: &mut Parts<P>, w: SlotId)
 }
 
 /// The worker finds nothing and is idle from now on.
+#[inline(always)]
 fn rest<P>(parts: &mut Parts<P>, w: SlotId)
     requires stands { Stands parts.old }
     requires fits { Fits parts.old (Ask.Take w) (Did.Take w Took.Idle) }

@@ -43,6 +43,7 @@ impl<P, R: Recorder> Machine<P, R> {
     }
 
     /// The step of `submit`, which answers its own part of the entry alone.
+    #[inline(always)]
     pub(crate) fn make_submit(
         &mut self,
         by: u32,
@@ -117,6 +118,7 @@ impl<P, R: Recorder> Machine<P, R> {
     }
 
     /// The step of `offer`, which answers its own part of the entry alone.
+    #[inline(always)]
     pub(crate) fn make_offer(&mut self, by: u32, t: TaskId) -> Result<Offered, PoolError>
         ensures step { IfOk result (λ x. IsStep R.tells self.old self.new by (Ask.Offer t) (Did.Offer t x)) }
         ensures refused { IfErr result (λ e. IsRefusedBy R.tells self.old (Ask.Offer t) e) }
@@ -148,6 +150,7 @@ impl<P, R: Recorder> Machine<P, R> {
     }
 
     /// The step of `second`, which answers its own part of the entry alone.
+    #[inline(always)]
     pub(crate) fn make_second(&mut self, by: u32, t: TaskId) -> Result<Seconded, PoolError>
         ensures step { IfOk result (λ x. IsStep R.tells self.old self.new by (Ask.Second t) (Did.Second t x)) }
         ensures refused { IfErr result (λ e. IsRefusedBy R.tells self.old (Ask.Second t) e) }

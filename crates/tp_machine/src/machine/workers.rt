@@ -94,6 +94,7 @@ impl<P, R: Recorder> Machine<P, R> {
     }
 
     /// The step of `take`, which answers its own part of the entry alone.
+    #[inline(always)]
     pub(crate) fn make_take(&mut self, by: u32, w: SlotId) -> Result<Took, PoolError>
         ensures step { IfOk result (λ x. IsStep R.tells self.old self.new by (Ask.Take w) (Did.Take w x)) }
         ensures refused { IfErr result (λ e. IsRefusedBy R.tells self.old (Ask.Take w) e) }
@@ -144,6 +145,7 @@ impl<P, R: Recorder> Machine<P, R> {
     }
 
     /// The step of `end`, which answers its own part of the entry alone.
+    #[inline(always)]
     pub(crate) fn make_end(
         &mut self,
         by: u32,
