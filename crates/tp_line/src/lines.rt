@@ -78,6 +78,7 @@ impl<T: Copy> Line<T> {
     }
 
     /// The law that place numbers rise along the line, and stay below the number of accepted offers.
+    #[inline(always)]
     pub fn rises(&self)
         ensures { Ordered 0 self.now.items self.now.offers }
     {
@@ -85,6 +86,7 @@ impl<T: Copy> Line<T> {
     }
 
     /// How many may wait.
+    #[inline(always)]
     pub fn capacity(&self) -> usize
         ensures capacity { result ≡ self.now.capacity }
         ensures small { result < 2 ^ 62 }
@@ -93,6 +95,7 @@ impl<T: Copy> Line<T> {
     }
 
     /// How many wait.
+    #[inline(always)]
     pub fn len(&self) -> usize
         ensures len { result ≡ length self.now.items }
         ensures within { result ≤ self.now.capacity }
@@ -108,6 +111,7 @@ impl<T: Copy> Line<T> {
     }
 
     /// Whether there is no room for one more.
+    #[inline(always)]
     pub fn is_full(&self) -> bool
         ensures { IsTrue result ↔ (self.now.capacity ≤ length self.now.items) }
     {
@@ -117,6 +121,7 @@ impl<T: Copy> Line<T> {
     /// Raises the capacity to this one, or further, where it is less: at least to twice what it is, so
     /// that to raise it one by one moves each item but a few times. Where memory is refused nothing
     /// changes.
+    #[inline(always)]
     pub fn reserve(&mut self, capacity: usize) -> Result<(), AllocError>
         ensures ok { OnOk result ((capacity ≤ self.new.capacity) × (self.old.capacity ≤ self.new.capacity)) }
         ensures same { self.new ≡ line self.old.items self.new.capacity self.old.offers }
@@ -133,6 +138,7 @@ impl<T: Copy> Line<T> {
     }
 
     /// Who waits longest, as `Queue.peek`.
+    #[inline(always)]
     pub fn head(&self) -> Option<T>
         ensures { result ≡ option_map (λ x. x.0) (slice_get self.now.items 0) }
     {
@@ -144,6 +150,7 @@ impl<T: Copy> Line<T> {
 
     /// Puts one at the end and answers its place number, or gives it back where the line is full, as
     /// `Queue.offer`. It takes no memory.
+    #[inline(always)]
     pub fn offer(&mut self, id: T) -> Result<u64, T>
         requires { self.old.offers < 2 ^ 64 - 1 }
         ensures room { IsOk result ↔ (length self.old.items < self.old.capacity) }
@@ -166,6 +173,7 @@ impl<T: Copy> Line<T> {
     }
 
     /// Takes out the one that waits longest, as `Queue.poll`.
+    #[inline(always)]
     pub fn take_head(&mut self) -> Option<T>
         ensures head { result ≡ option_map (λ x. x.0) (slice_get self.old.items 0) }
         ensures rest { self.new ≡ line (drop 1 self.old.items) self.old.capacity self.old.offers }

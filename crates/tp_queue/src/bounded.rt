@@ -40,32 +40,39 @@ impl Bounded {
 impl WorkQueue for Bounded {
     ghost waiting = { λ q. q };
 
+    #[inline(always)]
     fn is_lawful(&self) {
         self.line.rises();
         self.line.len();
     }
 
+    #[inline(always)]
     fn len(&self) -> usize {
         self.line.len()
     }
 
+    #[inline(always)]
     fn is_full(&self) -> bool {
         self.line.is_full()
     }
 
+    #[inline(always)]
     fn reserve(&mut self, _places: usize) -> Result<(), AllocError> {
         let _ = &self.line;
         Ok(())
     }
 
+    #[inline(always)]
     fn offer(&mut self, task: TaskId) -> Result<u64, TaskId> {
         self.line.offer(task)
     }
 
+    #[inline(always)]
     fn head(&self) -> Option<TaskId> {
         self.line.head()
     }
 
+    #[inline(always)]
     fn take_head(&mut self) -> Option<TaskId> {
         self.line.take_head()
     }

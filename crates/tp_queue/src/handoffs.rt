@@ -15,28 +15,35 @@ pub struct HandoffQueue;
 impl WorkQueue for HandoffQueue {
     ghost waiting = { λ _. first_waiting NoPlaces };
 
+    #[inline(always)]
     fn is_lawful(&self) {}
 
+    #[inline(always)]
     fn len(&self) -> usize {
         0
     }
 
+    #[inline(always)]
     fn is_full(&self) -> bool {
         true
     }
 
+    #[inline(always)]
     fn reserve(&mut self, _places: usize) -> Result<(), AllocError> {
         Ok(())
     }
 
+    #[inline(always)]
     fn offer(&mut self, task: TaskId) -> Result<u64, TaskId> {
         Err(task)
     }
 
+    #[inline(always)]
     fn head(&self) -> Option<TaskId> {
         None
     }
 
+    #[inline(always)]
     fn take_head(&mut self) -> Option<TaskId> {
         None
     }

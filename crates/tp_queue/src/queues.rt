@@ -42,6 +42,7 @@ impl WorkQueue for Queue {
 
     ghost waiting = { waiting_of };
 
+    #[inline(always)]
     fn is_lawful(&self) {
         match self {
             Queue::Handoff(queue) => queue.is_lawful(),
@@ -50,6 +51,7 @@ impl WorkQueue for Queue {
         }
     }
 
+    #[inline(always)]
     fn len(&self) -> usize {
         match self {
             Queue::Handoff(queue) => queue.len(),
@@ -58,6 +60,7 @@ impl WorkQueue for Queue {
         }
     }
 
+    #[inline(always)]
     fn is_full(&self) -> bool {
         match self {
             Queue::Handoff(queue) => queue.is_full(),
@@ -66,6 +69,7 @@ impl WorkQueue for Queue {
         }
     }
 
+    #[inline(always)]
     fn reserve(&mut self, places: usize) -> Result<(), AllocError> {
         match self {
             Queue::Handoff(queue) => queue.reserve(places),
@@ -74,6 +78,7 @@ impl WorkQueue for Queue {
         }
     }
 
+    #[inline(always)]
     fn offer(&mut self, task: TaskId) -> Result<u64, TaskId> {
         match self {
             Queue::Handoff(queue) => queue.offer(task),
@@ -82,6 +87,7 @@ impl WorkQueue for Queue {
         }
     }
 
+    #[inline(always)]
     fn head(&self) -> Option<TaskId> {
         match self {
             Queue::Handoff(queue) => queue.head(),
@@ -90,6 +96,7 @@ impl WorkQueue for Queue {
         }
     }
 
+    #[inline(always)]
     fn take_head(&mut self) -> Option<TaskId> {
         match self {
             Queue::Handoff(queue) => queue.take_head(),

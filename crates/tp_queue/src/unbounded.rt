@@ -40,31 +40,38 @@ impl Unbounded {
 impl WorkQueue for Unbounded {
     ghost waiting = { λ q. q };
 
+    #[inline(always)]
     fn is_lawful(&self) {
         self.line.rises();
         self.line.len();
     }
 
+    #[inline(always)]
     fn len(&self) -> usize {
         self.line.len()
     }
 
+    #[inline(always)]
     fn is_full(&self) -> bool {
         self.line.is_full()
     }
 
+    #[inline(always)]
     fn reserve(&mut self, places: usize) -> Result<(), AllocError> {
         self.line.reserve(places)
     }
 
+    #[inline(always)]
     fn offer(&mut self, task: TaskId) -> Result<u64, TaskId> {
         self.line.offer(task)
     }
 
+    #[inline(always)]
     fn head(&self) -> Option<TaskId> {
         self.line.head()
     }
 
+    #[inline(always)]
     fn take_head(&mut self) -> Option<TaskId> {
         self.line.take_head()
     }

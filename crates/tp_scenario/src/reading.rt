@@ -17,6 +17,7 @@ use tp_types::ids::{SlotId, TaskId};
 use tp_types::tasks::{Kind, Outcome};
 
 /// What a task's end gives: a value, or a fault's code after an exclamation mark.
+#[inline(always)]
 pub fn outcome(text: &str) -> Option<Outcome>
     ensures { ReadsAs outcome_text FitsOutcome text.now result }
 {
@@ -35,6 +36,7 @@ fn numbered_outcome(text: &str) -> Option<(u32, Outcome)>
 }
 
 /// A task's kind and the outcome that its end gives.
+#[inline(always)]
 fn submission(text: &str) -> Option<(Kind, Outcome)>
     ensures { ReadsAs submission_text FitsSubmission text.now result }
 {
@@ -73,6 +75,7 @@ fn cancellation(text: &str) -> Option<(u32, bool)>
 }
 
 /// The line of a command that arguments follow.
+#[inline(always)]
 fn with_arguments(command: Command, text: &str) -> Option<ScenarioLine>
     ensures { ReadsAfter command (Some text.now) result }
 {
@@ -99,6 +102,7 @@ fn with_arguments(command: Command, text: &str) -> Option<ScenarioLine>
 }
 
 /// The line of a command, and of what follows it after a space.
+#[inline(always)]
 fn after_command(command: Command, rest: Option<&str>) -> Option<ScenarioLine>
     ensures { ReadsAfter command (option_map (λ r. r.now) rest.entry) result }
 {
@@ -110,6 +114,7 @@ fn after_command(command: Command, rest: Option<&str>) -> Option<ScenarioLine>
 }
 
 /// The step that a text asks for.
+#[inline(never)]
 pub fn step_of(text: &str) -> Option<ScenarioLine>
     ensures { ReadsAs line_text FitsLine text.now result }
 {

@@ -23,6 +23,7 @@ pub struct PoolText<L> {
 }
 
 /// What a line is, behind the pool line.
+#[inline(always)]
 pub fn read_line<L: LineForm>(line: &[u8]) -> LineRead<L>
     ensures { ReadsLine L.text_of L.fits line.now result }
 {
@@ -62,6 +63,7 @@ pub fn read_pool_line(line: &[u8]) -> PoolRead
 
 /// What the lines of a text say up to its first bad line, and the number of that line, where there is
 /// one. The first line has the number `first`.
+#[inline(never)]
 fn said<L: LineForm>(
     alloc: Global,
     first: u32,

@@ -6,6 +6,7 @@ ghost use Rattle.tp_text.specs.Lines.{HasNoLineFeed, IsClean};
 use tp_types::limits::MAX_LINE_BYTES;
 
 /// The first line of a text without its line feed, and what follows that; none where the text has no line feed.
+#[inline(always)]
 pub fn next_line(text: &[u8]) -> Option<(&[u8], &[u8])>
     ensures { MatchOption result (HasNoLineFeed text.now) (λ p. (text.now ≡ p.0.now ++ 10 ∷ p.1.now) × HasNoLineFeed p.0.now) }
 {
@@ -14,6 +15,7 @@ pub fn next_line(text: &[u8]) -> Option<(&[u8], &[u8])>
 }
 
 /// Whether the bytes are what each line must be.
+#[inline(always)]
 fn is_clean(line: &[u8]) -> bool
     ensures { IsTrue result ↔ IsClean line.now }
 {
@@ -24,6 +26,11 @@ fn is_clean(line: &[u8]) -> bool
     let mut before = b' ';
     for byte in line {
         let byte = *byte;
+        // Nearly each byte is a visible character, which may stand anywhere.
+        if byte > b' ' && byte < 128 {
+            before = byte;
+            continue;
+        }
         if byte >= 128 || byte == b'\r' {
             return false;
         }
@@ -36,6 +43,7 @@ fn is_clean(line: &[u8]) -> bool
 }
 
 /// The text of a line that is what each line must be.
+#[inline(always)]
 pub fn clean_text(line: &[u8]) -> Option<&str>
     ensures { MatchOption result (IsClean line.now → ⊥) (λ text. (text.now ≡ line.now) × IsClean line.now) }
 {

@@ -6,6 +6,7 @@ ghost use Rattle.tp_text.specs.Reads.{IsPlain, IsPlainValue, ReadsAs};
 ghost use Rattle.tp_text.specs.Fits.{Fits32, Fits64, FitsValue};
 
 /// Whether the text has neither a leading plus nor a leading zero.
+#[inline(always)]
 fn is_plain(text: &str) -> bool
     ensures { IsTrue result ↔ IsPlain text.now }
 {
@@ -13,6 +14,7 @@ fn is_plain(text: &str) -> bool
 }
 
 /// A number of 32 bits.
+#[inline(always)]
 pub fn number(text: &str) -> Option<u32>
     ensures { ReadsAs decimal Fits32 text.now result }
 {
@@ -35,6 +37,7 @@ pub fn long_number(text: &str) -> Option<u64>
 }
 
 /// A number of the size of an address.
+#[inline(always)]
 pub fn index(text: &str) -> Option<usize>
     ensures { ReadsAs decimal Fits64 text.now result }
 {
@@ -46,6 +49,7 @@ pub fn index(text: &str) -> Option<usize>
 }
 
 /// Whether the text has neither a leading plus nor a leading zero, behind a minus if it has one.
+#[inline(always)]
 fn is_plain_value(text: &str) -> bool
     ensures { IsTrue result ↔ IsPlainValue text.now }
 {
@@ -56,6 +60,7 @@ fn is_plain_value(text: &str) -> bool
 }
 
 /// A value, which may have a minus.
+#[inline(always)]
 pub fn value(text: &str) -> Option<i64>
     ensures { ReadsAs signed_decimal FitsValue text.now result }
 {

@@ -11,6 +11,7 @@ use crate::commands::{Command, PoolVerb, SizeVerb, SlotVerb, TaskVerb, TickVerb}
 use tp_types::configs::Verdict;
 
 /// The first word, and what follows it after a space, if a space does.
+#[inline(always)]
 pub fn first_word(text: &str) -> (&str, Option<&str>)
     ensures { FirstWord text.now result.0.now (option_map (λ r. r.now) result.1) }
 {
@@ -27,6 +28,7 @@ pub fn behind<'a>(text: &'a str, word: &str) -> Option<&'a str>
     text.strip_prefix(word)?.strip_prefix(' ')
 }
 
+#[inline(always)]
 fn task_verb(word: &str) -> Option<TaskVerb>
     ensures { ReadsAs task_word Any word.now result }
 {
@@ -41,6 +43,7 @@ fn task_verb(word: &str) -> Option<TaskVerb>
     }
 }
 
+#[inline(always)]
 fn slot_verb(word: &str) -> Option<SlotVerb>
     ensures { ReadsAs slot_word Any word.now result }
 {
@@ -55,6 +58,7 @@ fn slot_verb(word: &str) -> Option<SlotVerb>
     }
 }
 
+#[inline(always)]
 fn pool_verb(word: &str) -> Option<PoolVerb>
     ensures { ReadsAs pool_word Any word.now result }
 {
@@ -69,6 +73,7 @@ fn pool_verb(word: &str) -> Option<PoolVerb>
     }
 }
 
+#[inline(always)]
 fn size_verb(word: &str) -> Option<SizeVerb>
     ensures { ReadsAs size_word Any word.now result }
 {
@@ -80,6 +85,7 @@ fn size_verb(word: &str) -> Option<SizeVerb>
     }
 }
 
+#[inline(always)]
 fn tick_verb(word: &str) -> Option<TickVerb>
     ensures { ReadsAs tick_word Any word.now result }
 {
@@ -91,6 +97,7 @@ fn tick_verb(word: &str) -> Option<TickVerb>
 }
 
 /// The command of four that stand for themselves.
+#[inline(always)]
 fn lone_command(word: &str) -> Option<Command>
     ensures some { IfSome result (λ c. word.now ≡ command_word c) }
     ensures none { IfNone result (IsNoLoneCommand word.now) }
@@ -105,6 +112,7 @@ fn lone_command(word: &str) -> Option<Command>
 }
 
 /// The command that a line begins with.
+#[inline(always)]
 pub fn command(word: &str) -> Option<Command>
     ensures { ReadsAs command_word Any word.now result }
 {

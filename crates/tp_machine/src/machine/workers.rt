@@ -113,6 +113,7 @@ impl<P, R: Recorder> Machine<P, R> {
 
     /// The worker begins the task that it took, as `beforeExecute` and the task's `run`, and gets its payload; or it skips the
     /// task, where that was cancelled. UnknownSlot (7) or NotThere (8).
+    #[inline(always)]
     pub fn begin(&mut self, by: u32, w: SlotId) -> Result<Begun<P>, PoolError>
         ensures step { IfOk result (λ b. IsStep R.tells self.old self.new by (Ask.Begin w) (Did.Begin w (started_of b))) }
         ensures payloads { IfOk result (λ b. Begins self.old.parts.tasks (started_of b) self.new.parts.tasks (payload_begun b)) }

@@ -17,3 +17,8 @@ pub returns-else-is_empty : goal.returns-else-is_empty
 returns-else-is_empty c =
     clean_by_last c.args.line.now c.loop-byte.byte-index c.loop-byte.before c.is_empty.result c.if-line-gt-MAX_LINE_BYTES.false c.loop-byte-test.false c.loop-byte.auto.byte-index-end
     c.if-is_empty.false c.is_empty.ensures c.loop-byte.invariant
+
+pub loop-byte-preserved-then-byte-lt128 : goal.loop-byte-preserved-then-byte-lt128
+loop-byte-preserved-then-byte-lt128 c =
+    let above = c.if-byte-gt32.true in
+    one_more c.args.line.now c.loop-byte.byte-index c.loop-byte.before c.loop-byte.invariant c.if-byte-lt128.true (λ e. omega (arith, e, above)) (λ e. absurd (omega (arith, e, above)))
