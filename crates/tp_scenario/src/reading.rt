@@ -114,7 +114,7 @@ fn after_command(command: Command, rest: Option<&str>) -> Option<ScenarioLine>
 }
 
 /// The step that a text asks for.
-#[inline(never)]
+#[inline(always)]
 pub fn step_of(text: &str) -> Option<ScenarioLine>
     ensures { ReadsAs line_text FitsLine text.now result }
 {

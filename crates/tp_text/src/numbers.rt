@@ -14,7 +14,6 @@ fn is_plain(text: &str) -> bool
 }
 
 /// A number of 32 bits.
-#[inline(always)]
 pub fn number(text: &str) -> Option<u32>
     ensures { ReadsAs decimal Fits32 text.now result }
 {
@@ -37,7 +36,6 @@ pub fn long_number(text: &str) -> Option<u64>
 }
 
 /// A number of the size of an address.
-#[inline(always)]
 pub fn index(text: &str) -> Option<usize>
     ensures { ReadsAs decimal Fits64 text.now result }
 {
@@ -60,7 +58,6 @@ fn is_plain_value(text: &str) -> bool
 }
 
 /// A value, which may have a minus.
-#[inline(always)]
 pub fn value(text: &str) -> Option<i64>
     ensures { ReadsAs signed_decimal FitsValue text.now result }
 {

@@ -11,7 +11,6 @@ use crate::commands::{Command, PoolVerb, SizeVerb, SlotVerb, TaskVerb, TickVerb}
 use tp_types::configs::Verdict;
 
 /// The first word, and what follows it after a space, if a space does.
-#[inline(always)]
 pub fn first_word(text: &str) -> (&str, Option<&str>)
     ensures { FirstWord text.now result.0.now (option_map (λ r. r.now) result.1) }
 {
