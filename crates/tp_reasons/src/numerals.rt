@@ -1,0 +1,80 @@
+//! How a number is misspelled.
+
+use crate::places::Number;
+
+/// What is wrong with a word where a number is wanted.
+#[derive(Clone, Copy, Debug, PartialEq, Eq)]
+pub enum Misspelling<'a> {
+    /// A letter stands before these digits, and they are wanted alone.
+    Lettered(&'a str),
+    /// These are the digits, and this is wanted before them.
+    Unlettered(char),
+    /// A plus sign stands before these digits.
+    Plus(&'a str),
+    /// A zero stands before these digits.
+    LeadingZero(&'a str),
+    /// A minus sign, and only a value may have one.
+    Minus,
+    /// A minus sign before a zero.
+    MinusZero,
+    /// The number is too great, or too small.
+    OutOfRange,
+    /// No number.
+    NoNumber,
+}
+
+fn is_decimal(word: &str) -> bool {
+    !word.is_empty() && word.bytes().all(|byte| byte.is_ascii_digit())
+}
+
+/// The digits behind a letter that names a task, a slot or a pass.
+fn behind_letter(word: &str) -> Option<&str> {
+    let digits = word
+        .strip_prefix('t')
+        .or(word.strip_prefix('w'))
+        .or(word.strip_prefix('p'))?;
+    if is_decimal(digits) {
+        Some(digits)
+    } else {
+        None
+    }
+}
+
+/// What is wrong with the digits of a number.
+fn misspelled_digits(word: &str) -> Misspelling<'_> {
+    if let Some(digits) = word.strip_prefix('+') {
+        return Misspelling::Plus(digits);
+    }
+    if let Some(digits) = word.strip_prefix('-') {
+        return match (is_decimal(digits), digits.starts_with('0')) {
+            (false, _) => Misspelling::NoNumber,
+            (true, true) => Misspelling::MinusZero,
+            (true, false) => Misspelling::OutOfRange,
+        };
+    }
+    if !is_decimal(word) {
+        return Misspelling::NoNumber;
+    }
+    match word.strip_prefix('0') {
+        Some(digits) => Misspelling::LeadingZero(digits.trim_start_matches('0')),
+        None => Misspelling::OutOfRange,
+    }
+}
+
+/// What is wrong with a word that is not such a number.
+pub fn misspelled(kind: Number, word: &str) -> Misspelling<'_> {
+    let Some(prefix) = kind.prefix else {
+        if let Some(digits) = behind_letter(word) {
+            return Misspelling::Lettered(digits);
+        }
+        if !kind.may_have_minus() && word.starts_with('-') {
+            return Misspelling::Minus;
+        }
+        return misspelled_digits(word);
+    };
+    match word.strip_prefix(prefix) {
+        Some(digits) => misspelled_digits(digits),
+        None if is_decimal(word) => Misspelling::Unlettered(prefix),
+        None => Misspelling::NoNumber,
+    }
+}
