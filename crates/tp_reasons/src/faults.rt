@@ -1,6 +1,7 @@
 //! Bytes that may stand in no line, whatever it says.
 
 use crate::lines::Line;
+use std::fmt;
 use tp_types::limits::MAX_LINE_BYTES;
 
 /// What is wrong with the bytes of a line.
@@ -26,6 +27,40 @@ pub enum Fault {
     TooLong(usize),
     /// The text's last line has no line feed.
     NoLineFeed,
+}
+
+impl fmt::Display for Fault {
+    fn fmt<W: fmt::Write>(&self, f: &mut fmt::Formatter<W>) -> fmt::Result {
+        match self {
+            Fault::ByteOrderMark => f.write_str("a byte order mark stands before the text"),
+            Fault::WideText => f.write_str("the text has two bytes a character, as UTF-16"),
+            Fault::NotAscii(byte) => write!(f, "the byte {byte} is above 127"),
+            Fault::WindowsEnd => f.write_str("a carriage return ends the line, as on Windows"),
+            Fault::CarriageReturn => f.write_str("a carriage return stands within the line"),
+            Fault::SpaceFirst => f.write_str("a space stands before the first word"),
+            Fault::TwoSpaces => f.write_str("two spaces stand side by side"),
+            Fault::SpaceLast => f.write_str("a space stands behind the last word"),
+            Fault::TooLong(count) => write!(f, "the line has {count} bytes"),
+            Fault::NoLineFeed => f.write_str("the text's last line has no line feed at its end"),
+        }
+    }
+}
+
+impl Fault {
+    /// How it is mended.
+    pub fn advice(self) -> &'static str {
+        match self {
+            Fault::ByteOrderMark => "save the file without it",
+            Fault::WideText => "save the file as ASCII",
+            Fault::NotAscii(_) => "a text is ASCII, and its comments are too",
+            Fault::WindowsEnd => "save the file with the line ends of Unix (LF)",
+            Fault::CarriageReturn => "take it out",
+            Fault::SpaceFirst | Fault::SpaceLast => "take it out",
+            Fault::TwoSpaces => "write one space between two words",
+            Fault::TooLong(_) => "a line has at most 200",
+            Fault::NoLineFeed => "end the line here; or the text was cut off",
+        }
+    }
 }
 
 /// A fault, and where it begins, counted from 0.

@@ -17,6 +17,13 @@ pub const POOL_FORMS: &[&str] = &[
     "pool CORE MAX bounded PLACES keep TICKS POLICY coretimeout limit ENTRIES",
 ];
 
+/// The forms of a pool line in short, and an example.
+pub const POOL_SUMMARY: &[&str] = &[
+    "form: pool CORE MAX QUEUE keep TICKS POLICY, then maybe coretimeout, then maybe limit ENTRIES",
+    "QUEUE is handoff, unbounded or bounded PLACES",
+    "as: pool 1 4 bounded 16 keep 0 abort",
+];
+
 /// The forms of a scenario's steps.
 pub const STEP_FORMS: &[&str] = &[
     "submit plain V",

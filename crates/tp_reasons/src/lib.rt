@@ -5,11 +5,14 @@
 pub mod faults;
 pub mod forms;
 pub mod lines;
+pub mod messages;
 pub mod mistakes;
 pub mod numerals;
 pub mod places;
+pub mod reasons;
 pub mod records;
 pub mod scenarios;
+pub mod sentences;
 pub mod settings;
 pub mod wordings;
 pub mod words;

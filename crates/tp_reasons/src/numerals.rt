@@ -1,6 +1,7 @@
 //! How a number is misspelled.
 
 use crate::places::Number;
+use std::fmt;
 
 /// What is wrong with a word where a number is wanted.
 #[derive(Clone, Copy, Debug, PartialEq, Eq)]
@@ -21,6 +22,51 @@ pub enum Misspelling<'a> {
     OutOfRange,
     /// No number.
     NoNumber,
+}
+
+impl fmt::Display for Misspelling<'_> {
+    fn fmt<W: fmt::Write>(&self, f: &mut fmt::Formatter<W>) -> fmt::Result {
+        f.write_str(match self {
+            Misspelling::Lettered(_) => "has a letter, and a number alone is wanted",
+            Misspelling::Unlettered(_) => "is a number alone, and a name is wanted",
+            Misspelling::Plus(_) => "has a plus sign",
+            Misspelling::LeadingZero(_) => "begins with a zero",
+            Misspelling::Minus => "has a minus sign, and only a value may have one",
+            Misspelling::MinusZero => "has a minus sign before a zero",
+            Misspelling::OutOfRange => "is out of range",
+            Misspelling::NoNumber => "is no number",
+        })
+    }
+}
+
+/// How a misspelled number is mended.
+#[derive(Clone, Copy)]
+pub struct Spelling<'a> {
+    /// The word.
+    pub word: &'a str,
+    /// What stands before the digits, where something does.
+    pub prefix: Option<char>,
+    /// What is wrong with it.
+    pub misspelling: Misspelling<'a>,
+}
+
+impl fmt::Display for Spelling<'_> {
+    fn fmt<W: fmt::Write>(&self, f: &mut fmt::Formatter<W>) -> fmt::Result {
+        let word = self.word;
+        match self.misspelling {
+            Misspelling::Lettered(digits) => write!(f, "write {digits}"),
+            Misspelling::Unlettered(letter) => write!(f, "write {letter}{word}"),
+            Misspelling::Plus(digits) | Misspelling::LeadingZero(digits) => {
+                f.write_str("write ")?;
+                if let Some(prefix) = self.prefix {
+                    write!(f, "{prefix}")?;
+                }
+                f.write_str(if digits.is_empty() { "0" } else { digits })
+            }
+            Misspelling::MinusZero => f.write_str("write 0"),
+            _ => Ok(()),
+        }
+    }
 }
 
 fn is_decimal(word: &str) -> bool {

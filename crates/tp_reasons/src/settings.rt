@@ -1,5 +1,6 @@
 //! Settings that no pool can have.
 
+use std::fmt;
 use tp_text::pools::PoolLine;
 use tp_types::configs::QueueKind;
 use tp_types::limits::{DEFAULT_RECORD_LIMIT, MAX_WORKERS};
@@ -18,6 +19,33 @@ pub enum Setting {
     Limit(u32),
     /// The keep-alive is 0, and core workers are to time out.
     Keep,
+}
+
+impl fmt::Display for Setting {
+    fn fmt<W: fmt::Write>(&self, f: &mut fmt::Formatter<W>) -> fmt::Result {
+        match self {
+            Setting::Maximum(maximum) => write!(f, "no pool has a MAX of {maximum}"),
+            Setting::Core(core, maximum) => {
+                write!(f, "a CORE of {core} is above the MAX of {maximum}")
+            }
+            Setting::Capacity(places) => write!(f, "no queue is bounded by {places}"),
+            Setting::Limit(entries) => write!(f, "no record has a limit of {entries}"),
+            Setting::Keep => f.write_str("with coretimeout no pool has a keep-alive of 0"),
+        }
+    }
+}
+
+impl Setting {
+    /// Its range.
+    pub fn advice(self) -> &'static str {
+        match self {
+            Setting::Maximum(_) => "MAX is 1 to 1024",
+            Setting::Core(_, _) => "CORE is 0 to MAX",
+            Setting::Capacity(_) => "1 to 65536",
+            Setting::Limit(_) => "64 to 1048576",
+            Setting::Keep => "1 or more, or leave out coretimeout",
+        }
+    }
 }
 
 /// The setting for which a pool line is refused so, and its word, counted from 0.

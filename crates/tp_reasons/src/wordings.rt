@@ -1,8 +1,10 @@
 //! The words of a line beside the forms that it may have.
 
-use crate::places::{POLICIES, Place, VERDICTS, place_of};
+use crate::numerals::{Misspelling, Spelling, misspelled};
+use crate::places::{Number, POLICIES, Place, VERDICTS, place_of};
 use crate::words::{Words, nearest, word_at};
 use std::alloc::{AllocError, Global};
+use std::fmt;
 
 /// A line's words beside some forms, none of which it has: as many of its first words as fit to any of them, fit.
 #[derive(Debug, Drop)]
@@ -132,5 +134,112 @@ impl<'a> Wording<'a> {
     /// Whether the line is of one of the forms.
     pub fn is_whole(&self) -> bool {
         self.found().is_none() && self.may_end
+    }
+}
+
+/// Whether a word looks like a number, however it is written.
+fn is_numeral(word: &str) -> bool {
+    word.bytes().any(|byte| byte.is_ascii_digit() || byte == b'+' || byte == b'-')
+}
+
+impl Wording<'_> {
+    /// The number that is wanted in place of a word: one that begins as the word does, if there is one.
+    fn number_wanted(&self, word: &str) -> Option<Number> {
+        let mut first = None;
+        for wanted in &self.wanted {
+            if let Place::Number(number) = place_of(wanted) {
+                if number.prefix.is_some_and(|prefix| word.starts_with(prefix)) {
+                    return Some(number);
+                }
+                first = first.or(Some(number));
+            }
+        }
+        first
+    }
+
+    /// Whether only numbers are wanted.
+    fn wants_numbers(&self) -> bool {
+        self.wanted.iter().all(|wanted| match place_of(wanted) {
+            Place::Number(_) => true,
+            _ => false,
+        })
+    }
+
+    /// How the word that was found misspells a number.
+    pub fn spelling(&self) -> Option<Spelling<'_>> {
+        let word = self.found()?;
+        let number = self.number_wanted(word)?;
+        if !is_numeral(word) && !self.wants_numbers() {
+            return None;
+        }
+        Some(Spelling {
+            word,
+            prefix: number.prefix,
+            misspelling: misspelled(number, word),
+        })
+    }
+}
+
+impl fmt::Display for Wording<'_> {
+    fn fmt<W: fmt::Write>(&self, f: &mut fmt::Formatter<W>) -> fmt::Result {
+        let Some(word) = self.found() else {
+            return f.write_str("a word is missing");
+        };
+        if self.wanted.is_empty() {
+            return write!(f, "'{word}' is one word too many");
+        }
+        match self.spelling() {
+            Some(spelling) => {
+                let misspelling = spelling.misspelling;
+                write!(f, "'{word}' {misspelling}")
+            }
+            None if self.fitting == 0 => write!(f, "no line begins with '{word}'"),
+            None => write!(f, "'{word}' may not stand here"),
+        }
+    }
+}
+
+/// What is wanted in place of the first word that does not fit.
+#[derive(Clone, Copy)]
+pub struct Wanted<'a>(pub &'a Wording<'a>);
+
+impl fmt::Display for Wanted<'_> {
+    fn fmt<W: fmt::Write>(&self, f: &mut fmt::Formatter<W>) -> fmt::Result {
+        let wording = self.0;
+        for (i, word) in wording.wanted.iter().enumerate() {
+            let between = match (i, i + 1 == wording.wanted.len()) {
+                (0, _) => "",
+                (_, true) if !wording.may_end => " or ",
+                _ => ", ",
+            };
+            write!(f, "{between}{word}")?;
+        }
+        if wording.may_end {
+            f.write_str(" or the end of the line")?;
+        }
+        Ok(())
+    }
+}
+
+/// How a line is mended whose words do not fit.
+#[derive(Clone, Copy)]
+pub struct Advice<'a>(pub &'a Wording<'a>);
+
+impl fmt::Display for Advice<'_> {
+    fn fmt<W: fmt::Write>(&self, f: &mut fmt::Formatter<W>) -> fmt::Result {
+        let wording = self.0;
+        if wording.wanted.is_empty() {
+            return f.write_str("the line should end before it");
+        }
+        if let Some(near) = wording.near {
+            return write!(f, "did you mean '{near}'?");
+        }
+        match wording.spelling() {
+            Some(spelling)
+                if spelling.misspelling != Misspelling::OutOfRange
+                    && spelling.misspelling != Misspelling::NoNumber
+                    && spelling.misspelling != Misspelling::Minus => { write!(f, "{spelling}") }
+            _ => Ok(()),
+        }
     }
 }
