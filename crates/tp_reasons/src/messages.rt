@@ -98,13 +98,21 @@ fn write_excerpt<W: Write>(out: &mut W, finding: &Finding<'_>, style: Style) -> 
     let room = shown.saturating_sub(start).max(1);
     write_times(out, b'^', finding.width.max(1).min(room))?;
     let advice = Advice(&finding.mistake);
-    writeln!(out, " {advice}{end}")
+    writeln!(out, "{advice}{end}")
 }
 
 /// Writes a note under the line.
 fn write_note<W: Write>(out: &mut W, margin: usize, note: &str) -> io::Result<()> {
     write_times(out, b' ', margin)?;
     writeln!(out, " = {note}")
+}
+
+/// Writes what a pool line says.
+fn write_pool_summary<W: Write>(out: &mut W, margin: usize) -> io::Result<()> {
+    for line in POOL_SUMMARY {
+        write_note(out, margin, line)?;
+    }
+    Ok(())
 }
 
 /// Writes what is wanted in place of a word, and the forms that the line may have.
@@ -118,6 +126,9 @@ fn write_wording<W: Write>(out: &mut W, margin: usize, wording: &Wording<'_>) ->
         if let Some(legend) = legend(word) {
             write_note(out, margin, legend)?;
         }
+    }
+    if wording.forms.iter().any(|form| form.starts_with("pool ")) {
+        return write_pool_summary(out, margin);
     }
     if wording.fitting == 0 || wording.forms.len() > FORMS {
         return Ok(());
@@ -134,12 +145,7 @@ fn write_notes<W: Write>(out: &mut W, finding: &Finding<'_>) -> io::Result<()> {
     let margin = digits(finding.line.number);
     match &finding.mistake {
         Mistake::Words(wording) => write_wording(out, margin, wording),
-        Mistake::NoPoolLine | Mistake::EarlyLine(_) => {
-            for line in POOL_SUMMARY {
-                write_note(out, margin, line)?;
-            }
-            Ok(())
-        }
+        Mistake::NoPoolLine | Mistake::EarlyLine(_) => write_pool_summary(out, margin),
         _ => Ok(()),
     }
 }

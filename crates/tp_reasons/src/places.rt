@@ -88,7 +88,7 @@ pub fn place_of(word: &'static str) -> Place {
 /// What a word of a form stands for, in a sentence; None for a word that stands for itself.
 pub fn legend(word: &str) -> Option<&'static str> {
     match word {
-        "T" => Some("T is a task's number alone, 0 for the first that was submitted"),
+        "T" => Some("T is a task's number alone, 0 for the first, to 4294967295"),
         "G" => Some("G is a group's number, 0 to 4294967295"),
         "N" => Some("N is a number, 0 to 4294967295"),
         "SIZE" => Some("SIZE is a number of workers, 0 to 4294967295"),
@@ -96,7 +96,7 @@ pub fn legend(word: &str) -> Option<&'static str> {
         "MAX" => Some("MAX is the number of workers at most, 1 to 1024"),
         "PLACES" => Some("PLACES is the queue's capacity in tasks, 1 to 65536"),
         "ENTRIES" => Some("ENTRIES is the record's limit, 64 to 1048576"),
-        "W" => Some("W is a worker slot's number alone, as 0"),
+        "W" => Some("W is a worker slot's number alone, 0 to 18446744073709551615"),
         "TICKS" => Some("TICKS is a time in ticks, 0 to 18446744073709551615"),
         "V" => Some("V is a value, -9223372036854775808 to 9223372036854775807"),
         "!N" => Some("!N is a fault's code, !0 to !4294967295"),

@@ -85,6 +85,8 @@ fn in_body<'a>(
         if number_of(count).is_some() {
             return Ok(of_word(line, text, 1, Mistake::Miscounted(entries)));
         }
+    }
+    if word == "end" {
         return of_words(alloc, line, 0, END_FORMS, text);
     }
     if command(word).is_some() {

@@ -52,37 +52,41 @@ impl fmt::Display for Mistake<'_> {
     }
 }
 
-/// How a mistake is mended, in the words that stand under it; there may be none.
+/// How a mistake is mended, in the words that stand behind the mark under it, each behind a space; there may be none.
 #[derive(Clone, Copy)]
 pub struct Advice<'a>(pub &'a Mistake<'a>);
+
+fn write_advice<W: fmt::Write>(f: &mut fmt::Formatter<W>, advice: &str) -> fmt::Result {
+    write!(f, " {advice}")
+}
 
 impl fmt::Display for Advice<'_> {
     fn fmt<W: fmt::Write>(&self, f: &mut fmt::Formatter<W>) -> fmt::Result {
         match self.0 {
-            Mistake::Bytes(fault) => f.write_str(fault.advice()),
+            Mistake::Bytes(fault) => write_advice(f, fault.advice()),
             Mistake::Words(wording) => {
                 let advice = wordings::Advice(wording);
                 write!(f, "{advice}")
             }
-            Mistake::Setting(setting) => f.write_str(setting.advice()),
-            Mistake::Tab => f.write_str("write one space between two words"),
-            Mistake::NoPoolLine => f.write_str("the text ends here"),
-            Mistake::EarlyLine(_) => f.write_str("the pool line comes first"),
-            Mistake::SecondPoolLine => f.write_str("a text is of one pool"),
+            Mistake::Setting(setting) => write_advice(f, setting.advice()),
+            Mistake::Tab => f.write_str(" write one space between two words"),
+            Mistake::NoPoolLine => f.write_str(" the text ends here"),
+            Mistake::EarlyLine(_) => f.write_str(" the pool line comes first"),
+            Mistake::SecondPoolLine => f.write_str(" a text is of one pool"),
             Mistake::OtherKind(kind) => {
                 let command = kind.command();
-                write!(f, "it is for `{command}`")
+                write!(f, " it is for `{command}`")
             }
-            Mistake::NoVersion => f.write_str("write 'tprecord 1' here"),
-            Mistake::UsualLimit => f.write_str("leave out 'limit 4096'"),
-            Mistake::Skipped | Mistake::PassNought => f.write_str("take it out"),
-            Mistake::Unnumbered(number) => write!(f, "write {number} before it"),
-            Mistake::Misnumbered(number) => write!(f, "this is entry {number}"),
-            Mistake::Miscounted(entries) => write!(f, "{entries} stand before this line"),
+            Mistake::NoVersion => f.write_str(" write 'tprecord 1' here"),
+            Mistake::UsualLimit => f.write_str(" leave out 'limit 4096'"),
+            Mistake::Skipped | Mistake::PassNought => f.write_str(" take it out"),
+            Mistake::Unnumbered(number) => write!(f, " write {number} before it"),
+            Mistake::Misnumbered(number) => write!(f, " this is entry {number}"),
+            Mistake::Miscounted(entries) => write!(f, " write {entries}: so many stand before it"),
             Mistake::NoEnd(entries) => {
-                write!(f, "write 'end {entries}' here; or the text was cut off")
+                write!(f, " write 'end {entries}' here; or the text was cut off")
             }
-            Mistake::BehindEnd => f.write_str("take it out"),
+            Mistake::BehindEnd => f.write_str(" take it out"),
             Mistake::Unknown => Ok(()),
         }
     }

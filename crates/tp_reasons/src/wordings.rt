@@ -88,6 +88,20 @@ fn add_words(words: &mut Words, place: Place) -> Result<(), AllocError> {
     Ok(())
 }
 
+/// The step that has this name in Java.
+fn called_in_java(name: &str) -> Option<&'static str> {
+    match name {
+        "shutdownNow" => Some("stop"),
+        "setCorePoolSize" => Some("core"),
+        "setMaximumPoolSize" => Some("max"),
+        "setKeepAliveTime" => Some("keep"),
+        "allowCoreThreadTimeOut" => Some("coretimeout"),
+        "prestartCoreThread" => Some("prestart"),
+        "poll" => Some("takedone"),
+        _ => None,
+    }
+}
+
 /// The word that is nearest to this one, among those that may stand there, if one is near.
 fn near_wanted(
     alloc: Global,
@@ -113,7 +127,10 @@ impl<'a> Wording<'a> {
         let wanted = wanted_at(alloc, &forms, most)?;
         let near = match word_at(text, most) {
             None => None,
-            Some(word) => near_wanted(alloc, word, &wanted)?,
+            Some(word) => match called_in_java(word) {
+                Some(step) if wanted.iter().any(|one| *one == step) => Some(step),
+                _ => near_wanted(alloc, word, &wanted)?,
+            },
         };
         let may_end = forms.iter().any(|form| word_at(form, most).is_none());
         Ok(Wording {
@@ -221,7 +238,7 @@ impl fmt::Display for Wanted<'_> {
     }
 }
 
-/// How a line is mended whose words do not fit.
+/// How a line is mended whose words do not fit, behind a space; there may be nothing.
 #[derive(Clone, Copy)]
 pub struct Advice<'a>(pub &'a Wording<'a>);
 
@@ -229,16 +246,16 @@ impl fmt::Display for Advice<'_> {
     fn fmt<W: fmt::Write>(&self, f: &mut fmt::Formatter<W>) -> fmt::Result {
         let wording = self.0;
         if wording.wanted.is_empty() {
-            return f.write_str("the line should end before it");
+            return f.write_str(" the line should end before it");
         }
         if let Some(near) = wording.near {
-            return write!(f, "did you mean '{near}'?");
+            return write!(f, " did you mean '{near}'?");
         }
         match wording.spelling() {
             Some(spelling)
                 if spelling.misspelling != Misspelling::OutOfRange
                     && spelling.misspelling != Misspelling::NoNumber
-                    && spelling.misspelling != Misspelling::Minus => { write!(f, "{spelling}") }
+                    && spelling.misspelling != Misspelling::Minus => { write!(f, " {spelling}") }
             _ => Ok(()),
         }
     }
