@@ -18,7 +18,7 @@ use tp_types::refusals::PoolError;
 
 /// A pool that a scenario is played on, and the auditor of its record.
 #[derive(Drop)]
-pub struct Replay {
+pub struct Replayed {
     config: Config,
     runner: Runner,
     auditor: Auditor,
@@ -28,7 +28,7 @@ pub struct Replay {
     pub refused: u32,
 }
 
-impl Model for Replay {
+impl Model for Replayed {
     ghost use Rattle.std.specs.Prelude.{List};
     ghost use Rattle.tp_record.specs.declared.entries.Entry.{Entry as Told};
     ghost use Rattle.tp_auditor.specs.Audited.{IsJudging};
@@ -47,9 +47,9 @@ fn tell<W: Write>(out: &mut W, number: u32, line: &[u8], cause: Cause<'_>) {
     let _ = writeln!(out, "line {number}: {text}: {refusal} ({cause})");
 }
 
-impl Replay {
+impl Replayed {
     /// A pool with these settings and no tasks. BadSizes (1), BadCapacity (2), BadLimit (3), KeepZero (11) or NoMemory (4).
-    fn new(alloc: Global, config: Config) -> Result<Replay, PoolError> {
+    fn new(alloc: Global, config: Config) -> Result<Replayed, PoolError> {
         if let Err(refusal) = config.check() {
             return Err(refusal);
         }
@@ -61,7 +61,7 @@ impl Replay {
             Ok(auditor) => auditor,
             Err(_) => return Err(PoolError::NoMemory),
         };
-        Ok(Replay {
+        Ok(Replayed {
             config,
             runner,
             auditor,
@@ -139,9 +139,9 @@ fn pool_of(text: &[u8]) -> Result<(Config, u32, &[u8]), PoolError> {
 
 /// Plays a scenario's text, and tells `out` why each step was refused that was. Refused as a run is: 23 at the first bad line, the
 /// refusal of the pool's settings, or 4.
-pub fn replay<W: Write>(alloc: Global, text: &[u8], out: &mut W) -> Result<Replay, PoolError> {
+pub fn replay<W: Write>(alloc: Global, text: &[u8], out: &mut W) -> Result<Replayed, PoolError> {
     let (config, first, behind_pool) = pool_of(text)?;
-    let mut replay = Replay::new(alloc, config)?;
+    let mut replay = Replayed::new(alloc, config)?;
     let mut rest = behind_pool;
     for number in first..u32::MAX {
         let Some((line, behind)) = next_line(rest) else {
