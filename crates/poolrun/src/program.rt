@@ -1,6 +1,5 @@
 //! The program over any files, words and writers.
 
-use crate::choices::{Choice, Unchosen, chosen};
 use crate::statuses::finish;
 use crate::watched::Watched;
 use clap::error::ErrorKind;
@@ -10,29 +9,81 @@ use std::io::{self, Read, Write};
 use std::rt::Files;
 use std::sync::Wait;
 use std::thread::Threads;
+use tp_choices::choices::{Choice, Playing, Unchosen, chosen};
+use tp_long::audits::audit_lines;
+use tp_long::judging::Judgment;
+use tp_reasons::messages::{Style, write_message};
+use tp_reasons::mistakes::Kind;
+use tp_reasons::reasons::reason;
+use tp_replay::replays::replay;
+use tp_text::inputs::read_text;
 use tp_types::refusals::PoolError;
 
 /// What is told of a text that is too long to be read.
 const TOO_LONG: &str = "the text has more than 1,048,576 bytes";
 
-/// Does what was chosen with the text that a reader gives.
-fn run<H: Threads + Wait + Copy + Send + 'static, R: Read, W: Write>(
+/// Plays a scenario: its output, or the text of its record, goes to `out`, and to `errors` why steps are refused, where that is
+/// asked for. The answer says whether the run went to its end, and where that is asked for also without a refused step.
+fn play<W: Write, E: Write>(
+    alloc: Global,
+    playing: Playing,
+    text: &[u8],
+    out: &mut W,
+    errors: &mut E,
+) -> Result<bool, PoolError> {
+    let mut reader = text;
+    let outcome = if playing.prints_record {
+        Ok(())
+    } else {
+        tp_scenario::run::run(alloc, &mut reader, out)
+    };
+    let replayed = match (playing.explains, playing.is_strict || playing.prints_record) {
+        (true, _) => replay(alloc, text, errors),
+        (false, true) => replay(alloc, text, &mut io::sink()),
+        (false, false) => return outcome.map(|()| true),
+    };
+    outcome?;
+    let replayed = replayed?;
+    if playing.prints_record {
+        replayed.write_record(alloc, out)?;
+    }
+    Ok(!playing.is_strict || replayed.refused == 0)
+}
+
+/// Judges a record line by line. The judgment goes to `out`.
+fn audit_any_length<R: Read, W: Write>(
+    alloc: Global,
+    reader: &mut R,
+    out: &mut W,
+) -> Result<Judgment, PoolError> {
+    let judgment = audit_lines(alloc, reader)?;
+    let written = match &judgment {
+        Judgment::Legal(lines) => out.write_all(lines.as_bytes()),
+        Judgment::Flawed(number, _) => writeln!(out, "flaw {number}"),
+    };
+    if written.is_err() || out.flush().is_err() {
+        return Err(PoolError::WriteFailed);
+    }
+    Ok(judgment)
+}
+
+/// Does what was chosen with a text.
+fn run<H: Threads + Wait + Copy + Send + 'static, W: Write, E: Write>(
     rt: H,
     alloc: Global,
     choice: &Choice,
-    reader: &mut R,
+    text: &[u8],
     out: &mut W,
+    errors: &mut E,
 ) -> Result<bool, PoolError> {
+    let mut reader = text;
     match choice {
-        Choice::Steps(_) => {
-            tp_scenario::run::run(alloc, reader, out)?;
+        Choice::Steps(_, playing) => play(alloc, *playing, text, out, errors),
+        Choice::Threads(_, _) => {
+            tp_threads::texts::run_text(rt, alloc, &mut reader, out)?;
             Ok(true)
         }
-        Choice::Threads(_) => {
-            tp_threads::texts::run_text(rt, alloc, reader, out)?;
-            Ok(true)
-        }
-        Choice::Audit(_) => tp_audit_text::audits::audit_text(alloc, reader, out),
+        Choice::Audit(_, _) => tp_audit_text::audits::audit_text(alloc, &mut reader, out),
     }
 }
 
@@ -41,33 +92,146 @@ fn tell<E: Write>(errors: &mut E, name: &str, reason: &io::Error) {
     let _ = writeln!(errors, "poolrun: {name}: {reason}");
 }
 
-/// Does what was chosen with the text of its file. Where the file can't be opened or read, `errors` is
-/// told its path and the reason.
-fn run_file<H: Files + Threads + Wait + Copy + Send + 'static, W: Write, E: Write>(
+/// Tells why a reader with this name failed, or that it gave too much.
+fn tell_unread<R, E: Write>(errors: &mut E, name: &str, reader: &Watched<R>) {
+    match reader.failure() {
+        Some(reason) => tell(errors, name, reason),
+        None => {
+            let _ = writeln!(errors, "poolrun: {name}: {TOO_LONG}");
+        }
+    }
+}
+
+/// The name of what is read at a path: `-` is the standard input.
+fn name_of(path: &str) -> &str {
+    if path == "-" { "standard input" } else { path }
+}
+
+/// The kind of text that is read for a choice.
+fn kind_of(choice: &Choice) -> Kind {
+    match choice {
+        Choice::Steps(_, _) => Kind::Scenario,
+        Choice::Threads(_, _) => Kind::Jobs,
+        Choice::Audit(_, _) => Kind::Record,
+    }
+}
+
+/// Tells what is wrong with a text for which a choice was refused, if the refusal speaks of the text.
+fn tell_reason<E: Write>(
+    alloc: Global,
+    choice: &Choice,
+    text: &[u8],
+    refusal: PoolError,
+    style: Style,
+    errors: &mut E,
+) {
+    if let Ok(Some(finding)) = reason(alloc, kind_of(choice), text, refusal) {
+        let _ = write_message(errors, name_of(choice.path()), &finding, style);
+    }
+}
+
+/// Tells why a record has a flaw.
+fn tell_flaw<E: Write>(errors: &mut E, path: &str, why: &str) {
+    let name = name_of(path);
+    let _ = writeln!(errors, "poolrun: {name}: {why}");
+}
+
+/// Does what was chosen with the whole text of a reader, and gives the status.
+fn run_whole<H: Threads + Wait + Copy + Send + 'static, R: Read + Drop, W: Write, E: Write>(
+    rt: H,
+    alloc: Global,
+    choice: &Choice,
+    reader: R,
+    out: &mut W,
+    errors: &mut E,
+    style: Style,
+) -> u8 {
+    let mut reader = Watched::new(reader);
+    let text = match read_text(alloc, &mut reader) {
+        Ok(text) => text,
+        Err(refusal) => {
+            if refusal == PoolError::ReadFailed {
+                tell_unread(errors, name_of(choice.path()), &reader);
+            }
+            return finish(out, &Err(refusal));
+        }
+    };
+    let outcome = run(rt, alloc, choice, text.as_slice(), out, errors);
+    let status = finish(out, &outcome);
+    match (&outcome, choice) {
+        (Err(refusal), _) => tell_reason(alloc, choice, text.as_slice(), *refusal, style, errors),
+        (Ok(false), Choice::Audit(path, _)) => {
+            let mut again = text.as_slice();
+            if let Ok(Judgment::Flawed(_, why)) = audit_lines(alloc, &mut again) {
+                tell_flaw(errors, path.as_str(), why.as_str());
+            }
+        }
+        _ => {}
+    }
+    status
+}
+
+/// Judges the record of a reader line by line, and gives the status.
+fn run_by_lines<R: Read + Drop, W: Write, E: Write>(
+    alloc: Global,
+    path: &str,
+    reader: R,
+    out: &mut W,
+    errors: &mut E,
+) -> u8 {
+    let mut reader = Watched::new(reader);
+    let judged = audit_any_length(alloc, &mut reader, out);
+    match judged {
+        Ok(Judgment::Legal(_)) => 0,
+        Ok(Judgment::Flawed(_, why)) => {
+            tell_flaw(errors, path, why.as_str());
+            1
+        }
+        Err(refusal) => {
+            if refusal == PoolError::ReadFailed {
+                tell_unread(errors, name_of(path), &reader);
+            }
+            finish(out, &Err(refusal))
+        }
+    }
+}
+
+/// Does what was chosen with what a reader gives.
+fn run_reader<H: Threads + Wait + Copy + Send + 'static, R: Read + Drop, W: Write, E: Write>(
+    rt: H,
+    alloc: Global,
+    choice: &Choice,
+    reader: R,
+    out: &mut W,
+    errors: &mut E,
+    style: Style,
+) -> u8 {
+    match choice {
+        Choice::Audit(path, true) => run_by_lines(alloc, path.as_str(), reader, out, errors),
+        _ => run_whole(rt, alloc, choice, reader, out, errors, style),
+    }
+}
+
+/// Does what was chosen with what stands at its path, `-` being the standard input, and gives the status. The output goes to `out`,
+/// and to `errors` what is told beside.
+fn run_choice<H: Files + Input + Threads + Wait + Copy + Send + 'static, W: Write, E: Write>(
     rt: &H,
     alloc: Global,
     choice: &Choice,
     out: &mut W,
     errors: &mut E,
-) -> Result<bool, PoolError> {
-    let path = choice.path();
-    let mut file = match fs::open(rt, path) {
-        Ok(file) => Watched::new(file),
+    style: Style,
+) -> u8 {
+    if choice.path() == "-" {
+        return run_reader(*rt, alloc, choice, rt.reader(), out, errors, style);
+    }
+    match fs::open(rt, choice.path()) {
+        Ok(file) => run_reader(*rt, alloc, choice, file, out, errors, style),
         Err(reason) => {
-            tell(errors, path, &reason);
-            return Err(PoolError::ReadFailed);
-        }
-    };
-    let outcome = run(*rt, alloc, choice, &mut file, out);
-    if let Err(PoolError::ReadFailed) = outcome {
-        match file.failure() {
-            Some(reason) => tell(errors, path, reason),
-            None => {
-                let _ = writeln!(errors, "poolrun: {path}: {TOO_LONG}");
-            }
+            tell(errors, choice.path(), &reason);
+            finish(out, &Err(PoolError::ReadFailed))
         }
     }
-    outcome
 }
 
 /// Gives the parser's text: the version on `out`, status 0; anything else on `errors`, status 2.
@@ -84,21 +248,19 @@ fn show_usage<W: Write, E: Write>(error: &clap::Error, out: &mut W, errors: &mut
 }
 
 /// The status of the program by the words of its command line, its own name first. The output goes to
-/// `out`, a refusal of the whole run as its last line, and to `errors` what is told beside: the reason
-/// why a file can't be opened or read, or why `out` failed, and the parser's texts.
-pub fn program<H: Files + Threads + Wait + Copy + Send + 'static, W: Write, E: Write>(
+/// `out`, a refusal of the whole run as its last line, and to `errors` what is told beside: what is wrong with a text that is
+/// refused, the reason why a file can't be opened or read, or why `out` failed, and the parser's texts.
+pub fn program<H: Files + Input + Threads + Wait + Copy + Send + 'static, W: Write, E: Write>(
     rt: &H,
     alloc: Global,
     words: &[String],
     out: &mut W,
     errors: &mut E,
+    style: Style,
 ) -> u8 {
     let mut out = Watched::new(out);
     let status = match chosen(alloc, words) {
-        Ok(choice) => {
-            let outcome = run_file(rt, alloc, &choice, &mut out, errors);
-            finish(&mut out, &outcome)
-        }
+        Ok(choice) => run_choice(rt, alloc, &choice, &mut out, errors, style),
         Err(Unchosen::NoMemory) => finish(&mut out, &Err(PoolError::NoMemory)),
         Err(Unchosen::Usage(error)) => show_usage(&error, &mut out, errors),
     };

@@ -99,6 +99,30 @@ impl Auditor {
         }
     }
 
+    /// What the entries told so far say of the pool.
+    pub fn tables(&self) -> &Tables {
+        &self.tables
+    }
+
+    /// What the step gives for an ask after the entries told so far, where a slot that it makes gets the number `made`; else
+    /// its refusal, which is BookFull (5) too where `made` is a slot. Want of memory is NoMemory (4).
+    pub fn answer(&self, ask: Ask, made: SlotId) -> Result<Did, PoolError>
+        requires { IsJudging self.now }
+        ensures given { IfOk result (λ did. (h : List Told) → Judged self.now h
+            → steps.Gives (settings self.now) (states.state (settings self.now) h) ask did) }
+    {
+        let first = self.first_asked(ask);
+        let did = match fitting(self.alloc, &self.config, &self.tables, made, ask, first) {
+            Ok(did) => did,
+            Err(refusal) => return Err(refusal),
+        };
+        match self.is_given(ask, did) {
+            Ok(true) => Ok(did),
+            Ok(false) => Err(PoolError::BookFull),
+            Err(refusal) => Err(refusal),
+        }
+    }
+
     /// Whether the step gives this entry after those told before.
     fn is_given(&self, ask: Ask, did: Did) -> Result<bool, PoolError>
         requires { IsJudging self.now }

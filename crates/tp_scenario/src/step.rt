@@ -15,7 +15,7 @@ use std::alloc::{AllocError, Global};
 use std::marker::Model;
 use tp_machine::machine::Machine;
 use tp_machine::steps::Stepped;
-use tp_record::entries::Entry;
+use tp_record::entries::{Ask, Entry};
 use tp_record::recorders::{Full, Recorder};
 use tp_types::configs::Config;
 use tp_types::ids::TaskId;
@@ -122,6 +122,13 @@ impl Runner {
             machine,
             outcomes: Vec::new(alloc),
         })
+    }
+
+    /// What a line asks of the pool as it stands.
+    pub fn ask(&self, line: &ScenarioLine) -> Ask
+        ensures { result ≡ ask_of (state self.now.config self.now.history) self.now.outcomes line.now }
+    {
+        ask_of(&self.machine, self.outcomes.as_slice(), line)
     }
 
     /// Plays one line: the pool answers what the line asks. An error is want of memory for the runner

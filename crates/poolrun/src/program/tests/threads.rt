@@ -28,7 +28,7 @@ fn printed<H: Abort>(rt: &H, called: Called) -> Result<String, Fail> {
 }
 
 /// Runs the jobs of this text by threads, and has the record judged.
-fn run_jobs<H: Abort + Files + Threads + Wait + Copy + Send + 'static>(
+fn run_jobs<H: Abort + Files + Input + Threads + Wait + Copy + Send + 'static>(
     rt: &H,
     alloc: Global,
     text: &str,
@@ -109,20 +109,26 @@ fn ends_a_run_of_jobs_with_its_refusal(rt: HostRuntime) -> Result<(), Fail> {
     for _ in 0..20 {
         full.push_str("execute 5\n")?;
     }
-    for (text, out) in [
-        (full.as_str(), "refused 5 BookFull\n"),
-        ("", "refused 23 BadLine 1\n"),
+    for (text, out, part) in [
+        (full.as_str(), "refused 5 BookFull\n", ""),
+        (
+            "",
+            "refused 23 BadLine 1\n",
+            "error: the text has no pool line\n",
+        ),
         (
             "pool 2 1 unbounded keep 0 abort\nexecute 5",
             "refused 1 BadSizes\n",
+            "error: a CORE of 2 is above the MAX of 1\n --> refused-jobs.txt:1:6\n",
         ),
         (
             "pool 1 1 unbounded keep 0 abort\nexecute 5\nsubmit plain 5\n",
             "refused 23 BadLine 3\n",
+            "error: this is a line of a scenario\n --> refused-jobs.txt:3:1\n",
         ),
     ] {
         let refused = call_on(&rt, alloc, "threads", "refused-jobs.txt", text)?;
-        assert!(rt; refused.gave(1, out, ""), "{refused:?}");
+        assert!(rt; refused.told(1, out, part), "{refused:?}");
     }
     let unread = call(&rt, alloc, "poolrun threads no-such-file.txt")?;
     let errors = "poolrun: no-such-file.txt: No such file or directory (os error 2)\n";

@@ -1,0 +1,178 @@
+//! A record judged line by line.
+
+ghost use Rattle.tp_auditor.specs.Audited.{IsJudging};
+
+use std::alloc::{AllocError, Global};
+use std::marker::Model;
+use tp_audit::summary::{Flaw, Summary};
+use tp_auditor::auditor::Auditor;
+use tp_causes::flaws::flaw_text;
+use tp_record::entries::Entry;
+use tp_record_text::records::{BodyLine, is_header, read_body_line, read_pool_line};
+use tp_text::ends::{write_counts, write_state};
+use tp_types::configs::Config;
+use tp_types::refusals::PoolError;
+
+/// What is said of a record.
+#[derive(Debug, PartialEq, Eq, Drop)]
+pub enum Judgment {
+    /// Each entry is one that the step gives after those before it. These lines say so, each with its line feed.
+    Legal(String),
+    /// This is the number of the first that is not, and why.
+    Flawed(usize, String),
+}
+
+/// The entries of a record, judged up to the first flaw.
+#[derive(Drop)]
+pub struct Body {
+    config: Config,
+    auditor: Auditor,
+    entries: u32,
+    flaw: Option<(usize, String)>,
+    is_over: bool,
+}
+
+impl Model for Body {
+    ghost use Rattle.std.specs.Prelude.{ℕ};
+    ghost use Rattle.tp_auditor.specs.Audited.{IsJudging};
+
+    ghost Value = { ℕ };
+
+    ghost view = { λ b. b.entries };
+
+    ghost invariant = { λ b. IsJudging b.auditor };
+}
+
+/// How far a record's text is read.
+#[derive(Drop)]
+pub enum Judging {
+    /// To its beginning.
+    Start,
+    /// To its version.
+    Versioned,
+    /// To its pool line, and beyond.
+    InBody(Body),
+}
+
+/// The lines of a legal record: `legal` and the number of its entries, the run state, and the counters.
+fn lines_of(alloc: Global, entries: u32, summary: &Summary) -> Result<String, AllocError> {
+    let mut lines = format!(in alloc; "legal {entries}\n")?;
+    write_state(&mut lines, summary.state)?;
+    write_counts(&mut lines, &summary.counts)?;
+    Ok(lines)
+}
+
+/// The judgment of a legal record of so many entries, which the auditor was told.
+fn legal(alloc: Global, entries: u32, auditor: &Auditor) -> Result<Judgment, PoolError>
+    requires { IsJudging auditor.now }
+{
+    let summary = match auditor.finish() {
+        Ok(summary) => summary,
+        Err(_) => return Err(PoolError::NoMemory),
+    };
+    match lines_of(alloc, entries, &summary) {
+        Ok(lines) => Ok(Judgment::Legal(lines)),
+        Err(_) => Err(PoolError::NoMemory),
+    }
+}
+
+impl Body {
+    /// The body behind a pool line with these settings: BadSizes (1), BadCapacity (2), BadLimit (3), KeepZero (11), NoMemory (4).
+    fn new(alloc: Global, config: Config) -> Result<Body, PoolError> {
+        if let Err(refusal) = config.check() {
+            return Err(refusal);
+        }
+        match Auditor::new(alloc, &config) {
+            Ok(auditor) => Ok(Body {
+                config,
+                auditor,
+                entries: 0,
+                flaw: None,
+                is_over: false,
+            }),
+            Err(_) => Err(PoolError::NoMemory),
+        }
+    }
+
+    /// Judges the next entry, where no flaw stands before it.
+    fn judge(&mut self, alloc: Global, entry: &Entry) -> Result<(), PoolError> {
+        if self.flaw.is_some() {
+            return Ok(());
+        }
+        match self.auditor.push(entry) {
+            Ok(()) => Ok(()),
+            Err(Flaw::NoMemory) => Err(PoolError::NoMemory),
+            Err(Flaw::At(number)) => {
+                match flaw_text(alloc, &self.auditor, &self.config, number, entry) {
+                    Ok(text) => {
+                        self.flaw = Some((number, text));
+                        Ok(())
+                    }
+                    Err(_) => Err(PoolError::NoMemory),
+                }
+            }
+        }
+    }
+
+    /// Takes the next line, which has this number: BadEntry (24) where it is wrong there.
+    fn take(&mut self, alloc: Global, number: u32, line: &[u8]) -> Result<(), PoolError> {
+        let entries = self.entries;
+        if self.is_over || entries >= u32::MAX - 1 {
+            return Err(PoolError::BadEntry(number));
+        }
+        match read_body_line(line, entries) {
+            Some(BodyLine::Entry(entry)) => {
+                self.judge(alloc, &entry)?;
+                self.entries = entries + 1;
+                Ok(())
+            }
+            Some(BodyLine::End) => {
+                self.is_over = true;
+                Ok(())
+            }
+            None => Err(PoolError::BadEntry(number)),
+        }
+    }
+
+    /// The judgment of all the entries.
+    fn judgment(self, alloc: Global) -> Result<Judgment, PoolError> {
+        let Body {
+            config: _,
+            auditor,
+            entries,
+            flaw,
+            is_over: _,
+        } = self;
+        match flaw {
+            Some((number, text)) => Ok(Judgment::Flawed(number, text)),
+            None => legal(alloc, entries, &auditor),
+        }
+    }
+}
+
+impl Judging {
+    /// Takes the next line, which has this number.
+    pub fn take(self, alloc: Global, number: u32, line: &[u8]) -> Result<Judging, PoolError> {
+        match self {
+            Judging::Start if is_header(line) => Ok(Judging::Versioned),
+            Judging::Versioned => match read_pool_line(line) {
+                Some(config) => Ok(Judging::InBody(Body::new(alloc, config)?)),
+                None => Err(PoolError::BadEntry(number)),
+            },
+            Judging::InBody(body) => {
+                let mut body = body;
+                body.take(alloc, number, line)?;
+                Ok(Judging::InBody(body))
+            }
+            _ => Err(PoolError::BadEntry(number)),
+        }
+    }
+
+    /// The judgment, at the text's end; BadEntry (24) with this number where the record is not over.
+    pub fn finish(self, alloc: Global, number: u32) -> Result<Judgment, PoolError> {
+        match self {
+            Judging::InBody(body) if body.is_over => body.judgment(alloc),
+            _ => Err(PoolError::BadEntry(number)),
+        }
+    }
+}

@@ -1,0 +1,143 @@
+//! The forms of lines, in the words of docs/SCENARIOS.md: what is written small stands in the line as it is, and the rest is
+//! told by the module `places`.
+
+/// The forms of a pool line.
+pub const POOL_FORMS: &[&str] = &[
+    "pool CORE MAX handoff keep TICKS POLICY",
+    "pool CORE MAX handoff keep TICKS POLICY coretimeout",
+    "pool CORE MAX handoff keep TICKS POLICY limit ENTRIES",
+    "pool CORE MAX handoff keep TICKS POLICY coretimeout limit ENTRIES",
+    "pool CORE MAX unbounded keep TICKS POLICY",
+    "pool CORE MAX unbounded keep TICKS POLICY coretimeout",
+    "pool CORE MAX unbounded keep TICKS POLICY limit ENTRIES",
+    "pool CORE MAX unbounded keep TICKS POLICY coretimeout limit ENTRIES",
+    "pool CORE MAX bounded PLACES keep TICKS POLICY",
+    "pool CORE MAX bounded PLACES keep TICKS POLICY coretimeout",
+    "pool CORE MAX bounded PLACES keep TICKS POLICY limit ENTRIES",
+    "pool CORE MAX bounded PLACES keep TICKS POLICY coretimeout limit ENTRIES",
+];
+
+/// The forms of a pool line in short, and an example.
+pub const POOL_SUMMARY: &[&str] = &[
+    "form: pool CORE MAX QUEUE keep TICKS POLICY, then maybe coretimeout, then maybe limit ENTRIES",
+    "QUEUE is handoff, unbounded or bounded PLACES",
+    "as: pool 1 4 bounded 16 keep 0 abort",
+];
+
+/// The forms of a scenario's steps.
+pub const STEP_FORMS: &[&str] = &[
+    "submit plain V",
+    "submit plain !N",
+    "submit future V",
+    "submit future !N",
+    "submit group G V",
+    "submit group G !N",
+    "look T",
+    "offer T",
+    "second T",
+    "grow T",
+    "verdict T VERDICT",
+    "callerend T",
+    "open W",
+    "fail W",
+    "take W",
+    "begin W",
+    "end W",
+    "leave W",
+    "shutdown",
+    "stop",
+    "tidy",
+    "ended",
+    "remove T",
+    "purge",
+    "cancel T",
+    "cancel T flag",
+    "takedone G",
+    "core SIZE",
+    "max SIZE",
+    "keep TICKS",
+    "coretimeout on",
+    "coretimeout off",
+    "tick TICKS",
+    "prestart",
+];
+
+/// The forms of the lines of a file of jobs.
+pub const JOB_FORMS: &[&str] = &["execute V", "execute !N", "submit V", "submit !N"];
+
+/// What a record's line begins with, behind the pool line: an entry's number, or `end`.
+pub const BODY_FORMS: &[&str] = &["ENTRY STEP", "end N"];
+
+/// The form of a record's last line.
+pub const END_FORMS: &[&str] = &["end N"];
+
+/// What an entry says behind its number, where that begins with a pass.
+pub const PASS_FORMS: &[&str] = &["pN STEP"];
+
+/// The forms of a record's entries, behind the entry's number and its pass.
+pub const ENTRY_FORMS: &[&str] = &[
+    "submit tN plain reserve wN",
+    "submit tN plain queue",
+    "submit tN plain refuse",
+    "submit tN future reserve wN",
+    "submit tN future queue",
+    "submit tN future refuse",
+    "submit tN group G reserve wN",
+    "submit tN group G queue",
+    "submit tN group G refuse",
+    "look tN reserve wN",
+    "look tN queue",
+    "look tN refuse",
+    "offer tN queued",
+    "offer tN hand wN",
+    "offer tN full",
+    "second tN stay",
+    "second tN stay reserve wN",
+    "second tN back",
+    "grow tN reserve wN",
+    "grow tN refuse",
+    "verdict tN VERDICT rejected",
+    "verdict tN VERDICT caller",
+    "verdict tN VERDICT skip",
+    "verdict tN VERDICT discarded",
+    "verdict tN VERDICT retry",
+    "verdict tN VERDICT retry drop tN",
+    "callerend tN value V",
+    "callerend tN fault N",
+    "open wN live",
+    "open wN givenup",
+    "open wN givenup tN refuse",
+    "fail wN none",
+    "fail wN tN offer",
+    "fail wN tN refuse",
+    "take wN held tN",
+    "take wN head tN",
+    "take wN leave",
+    "take wN idle",
+    "begin wN tN",
+    "begin wN skip tN",
+    "end wN tN value V",
+    "end wN tN fault N",
+    "leave wN",
+    "leave wN reserve wN",
+    "shutdown",
+    "stop drained N",
+    "tidy",
+    "ended",
+    "remove tN yes",
+    "remove tN no",
+    "purge N",
+    "cancel tN yes",
+    "cancel tN no",
+    "cancel tN flag yes",
+    "cancel tN flag no",
+    "takedone G tN",
+    "core SIZE add N",
+    "max SIZE",
+    "keep TICKS",
+    "coretimeout on",
+    "coretimeout off",
+    "tick TICKS",
+    "prestart reserve wN",
+    "prestart none",
+];

@@ -1,0 +1,18 @@
+//! Why a text is refused: which line, at which column, what stands there and what was expected, told in the form of a compiler's
+//! message. Which line it is says the reader that refused the text; here it is only looked up.
+#![tactic(auto)]
+
+pub mod faults;
+pub mod forms;
+pub mod lines;
+pub mod messages;
+pub mod mistakes;
+pub mod numerals;
+pub mod places;
+pub mod reasons;
+pub mod records;
+pub mod scenarios;
+pub mod sentences;
+pub mod settings;
+pub mod wordings;
+pub mod words;

@@ -1,0 +1,37 @@
+//! The lines of a text by their numbers.
+
+use tp_text::lines::next_line;
+
+/// A line of a text.
+#[derive(Clone, Copy, Debug, PartialEq, Eq)]
+pub struct Line<'a> {
+    /// Its number, from 1.
+    pub number: u32,
+    /// What stands in it, without its line feed.
+    pub bytes: &'a [u8],
+    /// Whether it has a line feed at its end.
+    pub is_ended: bool,
+}
+
+/// The line of this number; behind the last line feed what is left, which may be nothing.
+pub fn line_at(text: &[u8], number: u32) -> Line<'_> {
+    let mut rest = text;
+    for _ in 1..number {
+        match next_line(rest) {
+            Some((_, behind)) => rest = behind,
+            None => break,
+        }
+    }
+    match next_line(rest) {
+        Some((bytes, _)) => Line {
+            number,
+            bytes,
+            is_ended: true,
+        },
+        None => Line {
+            number,
+            bytes: rest,
+            is_ended: false,
+        },
+    }
+}

@@ -1,0 +1,93 @@
+//! What is said of a mistake: its sentence, and how it is mended.
+
+use crate::mistakes::{Kind, Mistake};
+use crate::wordings;
+use std::fmt;
+
+impl Kind {
+    /// What a text of this kind is.
+    pub fn name(self) -> &'static str {
+        match self {
+            Kind::Scenario => "a scenario",
+            Kind::Jobs => "a file of jobs",
+            Kind::Record => "a record",
+        }
+    }
+
+    /// The command that takes such a text.
+    pub fn command(self) -> &'static str {
+        match self {
+            Kind::Scenario => "poolrun steps",
+            Kind::Jobs => "poolrun threads",
+            Kind::Record => "poolrun audit",
+        }
+    }
+}
+
+impl fmt::Display for Mistake<'_> {
+    fn fmt<W: fmt::Write>(&self, f: &mut fmt::Formatter<W>) -> fmt::Result {
+        match self {
+            Mistake::Bytes(fault) => write!(f, "{fault}"),
+            Mistake::Words(wording) => write!(f, "{wording}"),
+            Mistake::Setting(setting) => write!(f, "{setting}"),
+            Mistake::Tab => f.write_str("a tab stands in the line"),
+            Mistake::NoPoolLine => f.write_str("the text has no pool line"),
+            Mistake::EarlyLine(word) => write!(f, "'{word}' stands before the pool line"),
+            Mistake::SecondPoolLine => f.write_str("a second pool line"),
+            Mistake::OtherKind(kind) => {
+                let name = kind.name();
+                write!(f, "this is a line of {name}")
+            }
+            Mistake::NoVersion => f.write_str("a record begins with the line 'tprecord 1'"),
+            Mistake::UsualLimit => f.write_str("a record's limit of 4096 is not written"),
+            Mistake::Skipped => f.write_str("a record has no empty lines and no comments"),
+            Mistake::Unnumbered(_) => f.write_str("the entry's number is missing"),
+            Mistake::Misnumbered(_) => f.write_str("the entry has another entry's number"),
+            Mistake::PassNought => f.write_str("pass 0 is not written"),
+            Mistake::Miscounted(_) => f.write_str("the number of entries is wrong"),
+            Mistake::NoEnd(_) => f.write_str("the record's last line is missing"),
+            Mistake::BehindEnd => f.write_str("something stands behind the record's last line"),
+            Mistake::Unknown => f.write_str("the line may not stand here"),
+        }
+    }
+}
+
+/// How a mistake is mended, in the words that stand behind the mark under it, each behind a space; there may be none.
+#[derive(Clone, Copy)]
+pub struct Advice<'a>(pub &'a Mistake<'a>);
+
+fn write_advice<W: fmt::Write>(f: &mut fmt::Formatter<W>, advice: &str) -> fmt::Result {
+    write!(f, " {advice}")
+}
+
+impl fmt::Display for Advice<'_> {
+    fn fmt<W: fmt::Write>(&self, f: &mut fmt::Formatter<W>) -> fmt::Result {
+        match self.0 {
+            Mistake::Bytes(fault) => write_advice(f, fault.advice()),
+            Mistake::Words(wording) => {
+                let advice = wordings::Advice(wording);
+                write!(f, "{advice}")
+            }
+            Mistake::Setting(setting) => write_advice(f, setting.advice()),
+            Mistake::Tab => f.write_str(" write one space between two words"),
+            Mistake::NoPoolLine => f.write_str(" the text ends here"),
+            Mistake::EarlyLine(_) => f.write_str(" the pool line comes first"),
+            Mistake::SecondPoolLine => f.write_str(" a text is of one pool"),
+            Mistake::OtherKind(kind) => {
+                let command = kind.command();
+                write!(f, " it is for `{command}`")
+            }
+            Mistake::NoVersion => f.write_str(" write 'tprecord 1' here"),
+            Mistake::UsualLimit => f.write_str(" leave out 'limit 4096'"),
+            Mistake::Skipped | Mistake::PassNought => f.write_str(" take it out"),
+            Mistake::Unnumbered(number) => write!(f, " write {number} before it"),
+            Mistake::Misnumbered(number) => write!(f, " this is entry {number}"),
+            Mistake::Miscounted(entries) => write!(f, " write {entries}: so many stand before it"),
+            Mistake::NoEnd(entries) => {
+                write!(f, " write 'end {entries}' here; or the text was cut off")
+            }
+            Mistake::BehindEnd => f.write_str(" take it out"),
+            Mistake::Unknown => Ok(()),
+        }
+    }
+}

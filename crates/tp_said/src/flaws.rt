@@ -1,0 +1,145 @@
+//! What is told of a record's flaw; and records that are read line by line.
+
+use std::alloc::Global;
+use std::io::Read;
+use std::test::Fail;
+use tp_audit_text::audits::audit_text;
+use tp_long::audits::audit_lines;
+use tp_long::judging::Judgment;
+
+const HEAD: &str = "tprecord 1
+pool 1 2 bounded 1 keep 0 abort
+1 submit t0 plain reserve w0
+2 open w0 live
+3 take w0 held t0
+";
+
+/// What stands behind these three entries, the number of the flaw, and why it is one.
+const FLAWS: [(&str, usize, &str); 9] = [
+    (
+        "4 begin w1 t0\nend 4\n",
+        4,
+        "line 6: begin w1: refused 7 UnknownSlot (slots: w0), so no such entry stands here",
+    ),
+    (
+        "4 p1 begin w0 t1\nend 4\n",
+        4,
+        "line 6: begin w0: w0 has taken t0, and not begun it, so the entry here is '4 p1 begin w0 t0'",
+    ),
+    (
+        "4 end w0 t0 value 7\nend 4\n",
+        4,
+        "line 6: end w0: refused 8 NotThere (w0 has taken t0, and not begun it), so no such entry stands here",
+    ),
+    (
+        "4 begin w0 t0\n5 end w0 t3 value 7\nend 5\n",
+        5,
+        "line 7: end w0: w0 runs t0, so the entry here is '5 end w0 t0 value 7'",
+    ),
+    (
+        "4 submit t1 plain reserve w1\nend 4\n",
+        4,
+        "line 6: submit plain: 1 tasks were submitted, 1 slots are taken, core is 1 and max is 2, so the entry here is '4 submit t1 plain queue'",
+    ),
+    (
+        "4 submit t2 plain queue\nend 4\n",
+        4,
+        "line 6: submit plain: 1 tasks were submitted, 1 slots are taken, core is 1 and max is 2, so the entry here is '4 submit t1 plain queue'",
+    ),
+    (
+        "4 submit t1 plain queue\n5 offer t1 full\nend 5\n",
+        5,
+        "line 7: offer t1: t1 is to be offered and the queue is empty, so the entry here is '5 offer t1 queued'",
+    ),
+    (
+        "4 stop drained 1\nend 4\n",
+        4,
+        "line 6: stop: 1 tasks were submitted, 1 slots are taken, core is 1 and max is 2, so the entry here is '4 stop drained 0'",
+    ),
+    (
+        "4 max 3\n5 core 3 add 1\nend 5\n",
+        5,
+        "line 7: core 3: 1 tasks were submitted, 1 slots are taken, core is 1 and max is 3, so the entry here is '5 core 3 add 0'",
+    ),
+];
+
+#[test]
+fn tells_why_an_entry_is_a_flaw(rt: HostRuntime) -> Result<(), Fail> {
+    let alloc = rt.alloc();
+    for (rest, number, why) in FLAWS {
+        let text = format!(in alloc; "{HEAD}{rest}")?;
+        let mut reader = text.as_bytes();
+        match audit_lines(alloc, &mut reader) {
+            Ok(Judgment::Flawed(flaw, told)) => {
+                assert_eq!(rt; told.as_str(), why);
+                assert_eq!(rt; flaw, number, "{rest}");
+            }
+            other => assert!(rt; false, "{rest}: {other:?}"),
+        }
+    }
+    Ok(())
+}
+
+/// Gives one byte a call.
+#[derive(Drop)]
+struct Drops {
+    rest: &'static [u8],
+}
+
+impl Read for Drops {
+    fn read(&mut self, buf: &mut [u8]) -> std::io::Result<usize> {
+        if self.rest.is_empty() || buf.is_empty() {
+            return Ok(0);
+        }
+        buf[0] = self.rest[0];
+        self.rest = &self.rest[1..];
+        Ok(1)
+    }
+}
+
+const RECORD: &[u8] =
+    b"tprecord 1\npool 1 2 bounded 1 keep 0 abort\n1 submit t0 plain reserve w0\n2 open w0 live\n3 take w0 held t0\n4 begin w0 t0\n5 end w0 t0 value 7\nend 5\n";
+
+/// What both audits say of a text: by lines, and whole.
+fn are_same(alloc: Global, text: &[u8]) -> bool {
+    let mut by_lines = text;
+    let mut whole = text;
+    let mut out = Vec::new(alloc);
+    match (
+        audit_lines(alloc, &mut by_lines),
+        audit_text(alloc, &mut whole, &mut out),
+    ) {
+        (Ok(Judgment::Legal(lines)), Ok(true)) => lines.as_bytes() == out.as_slice(),
+        (Ok(Judgment::Flawed(_, _)), Ok(false)) => true,
+        (Err(refusal), Err(other)) => refusal == other,
+        _ => false,
+    }
+}
+
+#[test]
+fn reads_line_by_line_as_whole(rt: HostRuntime) -> Result<(), Fail> {
+    let alloc = rt.alloc();
+    let mut drops = Drops { rest: RECORD };
+    match audit_lines(alloc, &mut drops) {
+        Ok(Judgment::Legal(lines)) => assert!(rt;
+            lines
+                .as_str()
+                .starts_with("legal 5\nstate running\ncounts submitted=1 run=1 ")
+        ),
+        other => assert!(rt; false, "{other:?}"),
+    }
+    for end in 0..RECORD.len() {
+        assert!(rt; are_same(alloc, &RECORD[..end]), "{end} bytes");
+    }
+    for place in 0..RECORD.len() {
+        for other in [b' ', b'\n', b'9', b'x', 0, 200] {
+            let mut text = Vec::new(alloc);
+            text.extend_from_slice(RECORD)?;
+            if let Some(byte) = text.get_mut(place) {
+                *byte = other;
+            }
+            assert!(rt; are_same(alloc, text.as_slice()), "byte {place} as {other}");
+        }
+    }
+    Ok(())
+}

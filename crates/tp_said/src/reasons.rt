@@ -1,0 +1,446 @@
+//! Mistakes, and what is told of each. The sentences are written by hand, from what its user has to know to mend it.
+
+use std::alloc::Global;
+use std::process::Abort;
+use std::test::Fail;
+use tp_audit_text::audits::audit_text;
+use tp_reasons::messages::{Style, write_message};
+use tp_reasons::mistakes::Kind;
+use tp_reasons::reasons::reason;
+use tp_scenario::jobs::read_jobs;
+use tp_scenario::run::run;
+use tp_types::refusals::PoolError;
+
+/// A text, the place that is told (`2:8`), the sentence, and what is said under the line or in a note.
+type Row = (&'static [u8], &'static str, &'static str, &'static str);
+
+/// How a text of a kind is refused, if it is.
+pub fn refusal_of(alloc: Global, kind: Kind, text: &[u8]) -> Option<PoolError> {
+    let mut reader = text;
+    let mut out = Vec::new(alloc);
+    match kind {
+        Kind::Scenario => run(alloc, &mut reader, &mut out).err(),
+        Kind::Jobs => read_jobs(alloc, &mut reader).err(),
+        Kind::Record => audit_text(alloc, &mut reader, &mut out).err(),
+    }
+}
+
+/// The message of a text of a kind.
+fn message_of(alloc: Global, kind: Kind, text: &[u8]) -> Result<Vec<u8>, Fail> {
+    let mut message = Vec::new(alloc);
+    if let Some(refusal) = refusal_of(alloc, kind, text) {
+        if let Some(finding) = reason(alloc, kind, text, refusal)? {
+            write_message(&mut message, "FILE", &finding, Style::Plain)?;
+        }
+    }
+    Ok(message)
+}
+
+fn tells(rt: &impl Abort, alloc: Global, kind: Kind, rows: &[Row]) -> Result<(), Fail> {
+    for (text, place, sentence, advice) in rows {
+        let message = message_of(alloc, kind, text)?;
+        let message = str::from_utf8(message.as_slice()).unwrap_or("");
+        let place = format!(in alloc; "--> FILE:{place}\n")?;
+        let sentence = format!(in alloc; "error: {sentence}\n")?;
+        assert!(rt; message.contains(place.as_str()), "{message}");
+        assert!(rt; message.starts_with(sentence.as_str()), "{message}");
+        assert!(rt; message.contains(*advice), "{message}");
+    }
+    Ok(())
+}
+
+const WORDS: [Row; 22] = [
+    (
+        b"pool 1 1 unbounded keep 0 abort\nsubmitt plain 5\n",
+        "2:1",
+        "no line begins with 'submitt'",
+        "^^^^^^^ did you mean 'submit'?",
+    ),
+    (
+        b"pool 1 1 unbounded keep 0 abort\nshutdownNow\n",
+        "2:1",
+        "no line begins with 'shutdownNow'",
+        "did you mean 'stop'?",
+    ),
+    (
+        b"pool 1 1 unbounded keep 0 abort\nsubmit 5\n",
+        "2:8",
+        "'5' may not stand here",
+        "= expected: plain, future or group\n",
+    ),
+    (
+        b"pool 1 1 unbounded keep 0 abort\nsubmit plain\n",
+        "2:14",
+        "a word is missing",
+        "= form: submit plain V\n",
+    ),
+    (
+        b"pool 1 1 unbounded keep 0 abort\nsubmit plain 5 6\n",
+        "2:16",
+        "'6' is one word too many",
+        "^ the line should end before it\n",
+    ),
+    (
+        b"pool 1 1 unbounded keep 0 abort\nopen w0\n",
+        "2:6",
+        "'w0' has a letter, and a number alone is wanted",
+        "^^ write 0\n",
+    ),
+    (
+        b"pool 1 1 unbounded keep 0 abort\nlook 05\n",
+        "2:6",
+        "'05' begins with a zero",
+        "^^ write 5\n",
+    ),
+    (
+        b"pool 1 1 unbounded keep 0 abort\ntick +5\n",
+        "2:6",
+        "'+5' has a plus sign",
+        "^^ write 5\n",
+    ),
+    (
+        b"pool 1 1 unbounded keep 0 abort\ntick -5\n",
+        "2:6",
+        "'-5' has a minus sign, and only a value may have one",
+        "= form: tick TICKS\n",
+    ),
+    (
+        b"pool 1 1 unbounded keep 0 abort\nlook 4294967296\n",
+        "2:6",
+        "'4294967296' is out of range",
+        "0 for the first, to 4294967295\n",
+    ),
+    (
+        b"pool 1 1 unbounded keep 0 abort\nsubmit plain -0\n",
+        "2:14",
+        "'-0' has a minus sign before a zero",
+        "^^ write 0\n",
+    ),
+    (
+        b"pool 1 1 unbounded keep 0 abort\nsubmit plain !07\n",
+        "2:14",
+        "'!07' begins with a zero",
+        "^^^ write !7\n",
+    ),
+    (
+        b"pool 1 1 unbounded keep 0 abort\nverdict 0 dicsard\n",
+        "2:11",
+        "'dicsard' may not stand here",
+        "did you mean 'discard'?",
+    ),
+    (
+        b"pool 1 1 unbounded keep 0 abort\ncancel 0 flags\n",
+        "2:10",
+        "'flags' may not stand here",
+        "= expected: flag or the end of the line\n",
+    ),
+    (
+        b"pool 1 1 unbounded keep 0 abort\nexecute 5\n",
+        "2:1",
+        "this is a line of a file of jobs",
+        "it is for `poolrun threads`",
+    ),
+    (
+        b"pool 1 1 unbounded keep 0 abort\n1 submit t0 plain reserve w0\n",
+        "2:1",
+        "this is a line of a record",
+        "it is for `poolrun audit`",
+    ),
+    (
+        b"pool 1 1 unbounded keep 0 abort\npool 1 1 unbounded keep 0 abort\n",
+        "2:1",
+        "a second pool line",
+        "a text is of one pool",
+    ),
+    (
+        b"submit plain 5\n",
+        "1:1",
+        "'submit' stands before the pool line",
+        "the pool line comes first",
+    ),
+    (
+        b"tprecord 1\npool 1 1 unbounded keep 0 abort\nend 0\n",
+        "1:1",
+        "this is a line of a record",
+        "it is for `poolrun audit`",
+    ),
+    (
+        b"pool 1 1 unbound keep 0 abort\n",
+        "1:10",
+        "'unbound' may not stand here",
+        "did you mean 'unbounded'?",
+    ),
+    (
+        b"pool 1 1 unbounded keep 0\n",
+        "1:27",
+        "a word is missing",
+        "= POLICY is abort, callerruns, discard, discardoldest or own\n",
+    ),
+    (
+        b"pool 1 1 unbounded keep 0 abort limit\n",
+        "1:39",
+        "a word is missing",
+        "= ENTRIES is the record's limit, 64 to 1048576\n",
+    ),
+];
+
+const BYTES: [Row; 12] = [
+    (
+        b"",
+        "1:1",
+        "the text has no pool line",
+        "as: pool 1 4 bounded 16 keep 0 abort\n",
+    ),
+    (
+        b"# nothing\n\n",
+        "3:1",
+        "the text has no pool line",
+        "^ the text ends here",
+    ),
+    (
+        b"pool 1 1 unbounded keep 0 abort\r\nstop\r\n",
+        "1:32",
+        "a carriage return ends the line, as on Windows",
+        "save the file with the line ends of Unix (LF)",
+    ),
+    (
+        b"\xEF\xBB\xBFpool 1 1 unbounded keep 0 abort\n",
+        "1:1",
+        "a byte order mark stands before the text",
+        "^^^ save the file without it",
+    ),
+    (
+        b"\xFF\xFEp\0o\0",
+        "1:1",
+        "the text has two bytes a character, as UTF-16",
+        "^^ save the file as ASCII",
+    ),
+    (
+        b"pool 1 1 unbounded keep 0 abort\nsubmit\tplain 5\n",
+        "2:7",
+        "a tab stands in the line",
+        "write one space between two words",
+    ),
+    (
+        b"pool 1 1 unbounded keep 0 abort\nsubmit  plain 5\n",
+        "2:8",
+        "two spaces stand side by side",
+        "write one space between two words",
+    ),
+    (
+        b"pool 1 1 unbounded keep 0 abort\n stop\n",
+        "2:1",
+        "a space stands before the first word",
+        "^ take it out",
+    ),
+    (
+        b"pool 1 1 unbounded keep 0 abort\nstop \n",
+        "2:5",
+        "a space stands behind the last word",
+        "^ take it out",
+    ),
+    (
+        b"pool 1 1 unbounded keep 0 abort\nstop",
+        "2:5",
+        "the text's last line has no line feed at its end",
+        "end the line here; or the text was cut off",
+    ),
+    (
+        b"pool 1 1 unbounded keep 0 abort\n# caf\xC3\xA9\n",
+        "2:6",
+        "the byte 195 is above 127",
+        "a text is ASCII, and its comments are too",
+    ),
+    (
+        b"# 345678901234567890123456789012345678901234567890123456789012345678901234567890123456789012345678901234567890123456789012345678901234567890123456789012345678901234567890123456789012345678901234567890!\n",
+        "1:201",
+        "the line has 201 bytes",
+        "a line has at most 200",
+    ),
+];
+
+const SETTINGS: [Row; 6] = [
+    (
+        b"pool 3 2 unbounded keep 0 abort\n",
+        "1:6",
+        "a CORE of 3 is above the MAX of 2",
+        "CORE is 0 to MAX",
+    ),
+    (
+        b"pool 0 0 unbounded keep 0 abort\n",
+        "1:8",
+        "no pool has a MAX of 0",
+        "MAX is 1 to 1024",
+    ),
+    (
+        b"# many\npool 1 1025 unbounded keep 0 abort\n",
+        "2:8",
+        "no pool has a MAX of 1025",
+        "MAX is 1 to 1024",
+    ),
+    (
+        b"pool 1 1 bounded 0 keep 0 abort\n",
+        "1:18",
+        "no queue is bounded by 0",
+        "1 to 65536",
+    ),
+    (
+        b"pool 1 1 unbounded keep 0 abort limit 63\n",
+        "1:39",
+        "no record has a limit of 63",
+        "64 to 1048576",
+    ),
+    (
+        b"pool 1 1 bounded 4 keep 0 abort coretimeout limit 64\n",
+        "1:25",
+        "with coretimeout no pool has a keep-alive of 0",
+        "1 or more, or leave out coretimeout",
+    ),
+];
+
+const RECORDS: [Row; 17] = [
+    (
+        b"pool 1 1 unbounded keep 0 abort\nstop\n",
+        "1:1",
+        "this is a line of a scenario",
+        "it is for `poolrun steps`",
+    ),
+    (
+        b"",
+        "1:1",
+        "a record begins with the line 'tprecord 1'",
+        "write 'tprecord 1' here",
+    ),
+    (
+        b"tprecord 2\n",
+        "1:1",
+        "a record begins with the line 'tprecord 1'",
+        "write 'tprecord 1' here",
+    ),
+    (
+        b"tprecord 1\npool 1 1 unbounded keep 0 abort limit 4096\nend 0\n",
+        "2:33",
+        "a record's limit of 4096 is not written",
+        "leave out 'limit 4096'",
+    ),
+    (
+        b"tprecord 1\npool 3 2 unbounded keep 0 abort\nend 0\n",
+        "2:6",
+        "a CORE of 3 is above the MAX of 2",
+        "CORE is 0 to MAX",
+    ),
+    (
+        b"tprecord 1\npool 1 1 unbounded keep 0 abort\n1 submit t0 plain reserve w0\n",
+        "4:1",
+        "the record's last line is missing",
+        "write 'end 1' here; or the text was cut off",
+    ),
+    (
+        b"tprecord 1\npool 1 1 unbounded keep 0 abort\n1 submit t0 plain res",
+        "3:22",
+        "the text's last line has no line feed at its end",
+        "or the text was cut off",
+    ),
+    (
+        b"tprecord 1\npool 1 1 unbounded keep 0 abort\n2 shutdown\nend 1\n",
+        "3:1",
+        "the entry has another entry's number",
+        "this is entry 1",
+    ),
+    (
+        b"tprecord 1\npool 1 1 unbounded keep 0 abort\n1 shutdown\nend 2\n",
+        "4:5",
+        "the number of entries is wrong",
+        "write 1: so many stand before it",
+    ),
+    (
+        b"tprecord 1\npool 1 1 unbounded keep 0 abort\nend 0\nend 0\n",
+        "4:1",
+        "something stands behind the record's last line",
+        "take it out",
+    ),
+    (
+        b"tprecord 1\npool 1 1 unbounded keep 0 abort\nshutdown\nend 1\n",
+        "3:1",
+        "the entry's number is missing",
+        "write 1 before it",
+    ),
+    (
+        b"tprecord 1\npool 1 1 unbounded keep 0 abort\n1 submit 0 plain queue\nend 1\n",
+        "3:10",
+        "'0' is a number alone, and a name is wanted",
+        "write t0",
+    ),
+    (
+        b"tprecord 1\npool 1 1 unbounded keep 0 abort\n1 submit t0 plain\nend 1\n",
+        "3:19",
+        "a word is missing",
+        "= expected: reserve, queue or refuse\n",
+    ),
+    (
+        b"tprecord 1\npool 1 1 unbounded keep 0 abort\n1 p0 shutdown\nend 1\n",
+        "3:3",
+        "pass 0 is not written",
+        "take it out",
+    ),
+    (
+        b"tprecord 1\npool 1 1 unbounded keep 0 abort\n1 p1 take w0 heads t0\nend 1\n",
+        "3:14",
+        "'heads' may not stand here",
+        "did you mean 'head'?",
+    ),
+    (
+        b"tprecord 1\npool 1 1 unbounded keep 0 abort\n# a comment\nend 0\n",
+        "3:1",
+        "a record has no empty lines and no comments",
+        "take it out",
+    ),
+    (
+        b"tprecord 1\npool 1 1 unbounded keep 0 abort\nend\n",
+        "3:5",
+        "a word is missing",
+        "= form: end N\n",
+    ),
+];
+
+const JOBS: [Row; 5] = [
+    (
+        b"pool 1 1 unbounded keep 0 abort\nexecute\n",
+        "2:9",
+        "a word is missing",
+        "= form: execute V\n",
+    ),
+    (
+        b"pool 1 1 unbounded keep 0 abort\nrun 5\n",
+        "2:1",
+        "no line begins with 'run'",
+        "= expected: execute or submit\n",
+    ),
+    (
+        b"pool 1 1 unbounded keep 0 abort\nsubmit plain 5\n",
+        "2:1",
+        "this is a line of a scenario",
+        "it is for `poolrun steps`",
+    ),
+    (
+        b"pool 1 1 unbounded keep 0 abort\nsubmit five\n",
+        "2:8",
+        "'five' is no number",
+        "= V is a value, -9223372036854775808 to 9223372036854775807\n",
+    ),
+    (
+        b"execute 5\n",
+        "1:1",
+        "'execute' stands before the pool line",
+        "the pool line comes first",
+    ),
+];
+
+#[test]
+fn tells_what_is_wrong(rt: HostRuntime) -> Result<(), Fail> {
+    tells(&rt, rt.alloc(), Kind::Scenario, &WORDS)?;
+    tells(&rt, rt.alloc(), Kind::Scenario, &BYTES)?;
+    tells(&rt, rt.alloc(), Kind::Scenario, &SETTINGS)?;
+    tells(&rt, rt.alloc(), Kind::Record, &RECORDS)?;
+    tells(&rt, rt.alloc(), Kind::Jobs, &JOBS)
+}
