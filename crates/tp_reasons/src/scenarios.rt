@@ -111,16 +111,16 @@ pub fn in_settings(text: &[u8], number: u32, refusal: PoolError) -> Option<Findi
 fn job_line(text: &[u8], job: usize) -> u32 {
     let mut rest = text;
     // The pool line comes before the first job.
-    let mut before = 0;
+    let mut before = job;
     for number in 1..u32::MAX {
         let Some((line, behind)) = next_line(rest) else {
             return number;
         };
         if !is_skipped(line) {
-            if before == job {
+            if before == 0 {
                 return number;
             }
-            before += 1;
+            before -= 1;
         }
         rest = behind;
     }
