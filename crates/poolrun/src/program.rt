@@ -13,10 +13,12 @@ use tp_choices::choices::{Choice, Playing, Unchosen, chosen};
 use tp_long::audits::audit_lines;
 use tp_long::judging::Judgment;
 use tp_reasons::messages::{Style, write_message};
-use tp_reasons::mistakes::Kind;
+use tp_reasons::mistakes::{Finding, Kind};
 use tp_reasons::reasons::reason;
+use tp_reasons::scenarios::in_job_refused;
 use tp_replay::replays::replay;
 use tp_text::inputs::read_text;
+use tp_threads::texts::{Unfinished, run_text};
 use tp_types::refusals::PoolError;
 
 /// What is told of a text that is too long to be read.
@@ -67,21 +69,66 @@ fn audit_any_length<R: Read, W: Write>(
     Ok(judgment)
 }
 
-/// Does what was chosen with a text.
-fn run<H: Threads + Wait + Copy + Send + 'static, W: Write, E: Write>(
+/// Where the record of a file of jobs goes, beside the output.
+fn write_file<H: Files, E: Write>(
+    rt: &H,
+    path: Option<&str>,
+    text: &[u8],
+    errors: &mut E,
+) -> Result<(), PoolError> {
+    let Some(path) = path else {
+        return Ok(());
+    };
+    match fs::write(rt, path, text) {
+        Ok(()) => Ok(()),
+        Err(reason) => {
+            tell(errors, path, &reason);
+            Err(PoolError::WriteFailed)
+        }
+    }
+}
+
+/// Runs a file of jobs by threads. The record's text goes to `out`, and to the file at the path, if there is one: there also where
+/// a submission is refused. What is left of such a run is kept.
+fn run_threads<H: Files + Threads + Wait + Copy + Send + 'static, W: Write, E: Write>(
+    rt: H,
+    alloc: Global,
+    record: Option<&str>,
+    text: &[u8],
+    out: &mut W,
+    errors: &mut E,
+    kept: &mut Option<Unfinished>,
+) -> Result<bool, PoolError> {
+    let mut reader = text;
+    let mut written = Vec::new(alloc);
+    let outcome = run_text(rt, alloc, &mut reader, &mut written, kept);
+    if let Some(left) = kept {
+        write_file(&rt, record, left.text.as_slice(), errors)?;
+    }
+    outcome?;
+    write_file(&rt, record, written.as_slice(), errors)?;
+    if out.write_all(written.as_slice()).is_err() || out.flush().is_err() {
+        return Err(PoolError::WriteFailed);
+    }
+    Ok(true)
+}
+
+/// Does what was chosen with a text. What is left of a run of jobs that ended with the refusal of a submission is kept.
+fn run<H: Files + Threads + Wait + Copy + Send + 'static, W: Write, E: Write>(
     rt: H,
     alloc: Global,
     choice: &Choice,
     text: &[u8],
     out: &mut W,
     errors: &mut E,
+    kept: &mut Option<Unfinished>,
 ) -> Result<bool, PoolError> {
     let mut reader = text;
     match choice {
         Choice::Steps(_, playing) => play(alloc, *playing, text, out, errors),
-        Choice::Threads(_, _) => {
-            tp_threads::texts::run_text(rt, alloc, &mut reader, out)?;
-            Ok(true)
+        Choice::Threads(_, record) => {
+            let record = record.as_ref().map(|record| record.as_str());
+            run_threads(rt, alloc, record, text, out, errors, kept)
         }
         Choice::Audit(_, _) => tp_audit_text::audits::audit_text(alloc, &mut reader, out),
     }
@@ -116,17 +163,21 @@ fn kind_of(choice: &Choice) -> Kind {
     }
 }
 
-/// Tells what is wrong with a text for which a choice was refused, if the refusal speaks of the text.
-fn tell_reason<E: Write>(
+/// What is wrong with a text for which a choice was refused, if the refusal speaks of the text: a line of it, or the job whose
+/// submission was refused, where something is left of its run.
+fn finding_of<'a>(
     alloc: Global,
     choice: &Choice,
-    text: &[u8],
+    text: &'a [u8],
     refusal: PoolError,
-    style: Style,
-    errors: &mut E,
-) {
-    if let Ok(Some(finding)) = reason(alloc, kind_of(choice), text, refusal) {
-        let _ = write_message(errors, name_of(choice.path()), &finding, style);
+    left: Option<&Unfinished>,
+) -> Option<Finding<'a>> {
+    match left {
+        Some(left) => {
+            let job = left.submitted.saturating_add(1);
+            Some(in_job_refused(text, job, refusal))
+        }
+        None => reason(alloc, kind_of(choice), text, refusal).unwrap_or(None),
     }
 }
 
@@ -137,7 +188,7 @@ fn tell_flaw<E: Write>(errors: &mut E, path: &str, why: &str) {
 }
 
 /// Does what was chosen with the whole text of a reader, and gives the status.
-fn run_whole<H: Threads + Wait + Copy + Send + 'static, R: Read + Drop, W: Write, E: Write>(
+fn run_whole<H: Files + Threads + Wait + Copy + Send + 'static, R: Read + Drop, W: Write, E: Write>(
     rt: H,
     alloc: Global,
     choice: &Choice,
@@ -156,10 +207,16 @@ fn run_whole<H: Threads + Wait + Copy + Send + 'static, R: Read + Drop, W: Write
             return finish(out, &Err(refusal));
         }
     };
-    let outcome = run(rt, alloc, choice, text.as_slice(), out, errors);
+    let mut left = None;
+    let outcome = run(rt, alloc, choice, text.as_slice(), out, errors, &mut left);
     let status = finish(out, &outcome);
     match (&outcome, choice) {
-        (Err(refusal), _) => tell_reason(alloc, choice, text.as_slice(), *refusal, style, errors),
+        (Err(refusal), _) => {
+            let finding = finding_of(alloc, choice, text.as_slice(), *refusal, left.as_ref());
+            if let Some(finding) = finding {
+                let _ = write_message(errors, name_of(choice.path()), &finding, style);
+            }
+        }
         (Ok(false), Choice::Audit(path, _)) => {
             let mut again = text.as_slice();
             if let Ok(Judgment::Flawed(_, why)) = audit_lines(alloc, &mut again) {
@@ -197,7 +254,12 @@ fn run_by_lines<R: Read + Drop, W: Write, E: Write>(
 }
 
 /// Does what was chosen with what a reader gives.
-fn run_reader<H: Threads + Wait + Copy + Send + 'static, R: Read + Drop, W: Write, E: Write>(
+fn run_reader<
+    H: Files + Threads + Wait + Copy + Send + 'static,
+    R: Read + Drop,
+    W: Write,
+    E: Write,
+>(
     rt: H,
     alloc: Global,
     choice: &Choice,

@@ -1,5 +1,8 @@
 //! The lines of a text by their numbers.
 
+ghost use Rattle.std.specs.Prelude.{◌≤◌, ◌+◌, IsTrue};
+ghost use Rattle.tp_reasons.specs.Lines.{IsLineAt};
+
 use tp_text::lines::next_line;
 
 /// A line of a text.
@@ -14,13 +17,19 @@ pub struct Line<'a> {
 }
 
 /// The line of this number; behind the last line feed what is left, which may be nothing.
-pub fn line_at(text: &[u8], number: u32) -> Line<'_> {
+pub fn line_at(text: &[u8], number: u32) -> Line<'_>
+    ensures { 1 ≤ number → IsTrue result.is_ended → IsLineAt text.now result.bytes.now number }
+{
     let mut rest = text;
-    for _ in 1..number {
-        match next_line(rest) {
-            Some((_, behind)) => rest = behind,
-            None => break,
-        }
+    for next in 1..number {
+        let Some((_, behind)) = next_line(rest) else {
+            return Line {
+                number,
+                bytes: rest,
+                is_ended: false,
+            };
+        };
+        rest = behind;
     }
     match next_line(rest) {
         Some((bytes, _)) => Line {

@@ -6,6 +6,7 @@ use crate::settings::Setting;
 use crate::wordings::Wording;
 use crate::words::{start_of, word_at};
 use std::alloc::{AllocError, Global};
+use tp_types::refusals::PoolError;
 
 /// What a text may be of.
 #[derive(Clone, Copy, Debug, PartialEq, Eq)]
@@ -55,6 +56,8 @@ pub enum Mistake<'a> {
     NoEnd(u32),
     /// Something stands behind a record's last line.
     BehindEnd,
+    /// The submission of this job, counted from 1, is refused so.
+    Job(usize, PoolError),
     /// None of these.
     Unknown,
 }

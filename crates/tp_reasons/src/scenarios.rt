@@ -106,3 +106,31 @@ pub fn in_settings(text: &[u8], number: u32, refusal: PoolError) -> Option<Findi
     let (word, setting) = refused_setting(pool_of(words)?, refusal)?;
     Some(of_word(line, words, word, Mistake::Setting(setting)))
 }
+
+/// The line of a job, counted from 1, in a file of jobs that was read.
+fn job_line(text: &[u8], job: usize) -> u32 {
+    let mut rest = text;
+    // The pool line comes before the first job.
+    let mut before = job;
+    for number in 1..u32::MAX {
+        let Some((line, behind)) = next_line(rest) else {
+            return number;
+        };
+        if !is_skipped(line) {
+            if before == 0 {
+                return number;
+            }
+            before -= 1;
+        }
+        rest = behind;
+    }
+    u32::MAX
+}
+
+/// The job, counted from 1, whose submission was refused so.
+pub fn in_job_refused(text: &[u8], job: usize, refusal: PoolError) -> Finding<'_> {
+    of_line(
+        line_at(text, job_line(text, job)),
+        Mistake::Job(job, refusal),
+    )
+}

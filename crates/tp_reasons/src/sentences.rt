@@ -3,6 +3,7 @@
 use crate::mistakes::{Kind, Mistake};
 use crate::wordings;
 use std::fmt;
+use tp_types::refusals::PoolError;
 
 impl Kind {
     /// What a text of this kind is.
@@ -47,6 +48,7 @@ impl fmt::Display for Mistake<'_> {
             Mistake::Miscounted(_) => f.write_str("the number of entries is wrong"),
             Mistake::NoEnd(_) => f.write_str("the record's last line is missing"),
             Mistake::BehindEnd => f.write_str("something stands behind the record's last line"),
+            Mistake::Job(job, refusal) => write!(f, "job {job} is {refusal}"),
             Mistake::Unknown => f.write_str("the line may not stand here"),
         }
     }
@@ -87,6 +89,11 @@ impl fmt::Display for Advice<'_> {
                 write!(f, " write 'end {entries}' here; or the text was cut off")
             }
             Mistake::BehindEnd => f.write_str(" take it out"),
+            Mistake::Job(_, PoolError::BookFull) => f.write_str(
+                " the record has no room for it: set a greater limit in the pool line, 1048576 at most",
+            ),
+            Mistake::Job(_, PoolError::NoMemory) => f.write_str(" there is no memory for it"),
+            Mistake::Job(_, _) => f.write_str(" the record is torn there"),
             Mistake::Unknown => Ok(()),
         }
     }

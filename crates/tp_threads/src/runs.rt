@@ -70,13 +70,14 @@ fn closed<G: PoolNaming, R: Wait>(
 }
 
 // A pool's life under a name of its own: it runs the jobs, ends and is closed. Where a submission is refused,
-// it is ended and closed all the same.
+// it is ended and closed all the same, and its report is kept.
 fn life<G: PoolNaming + Send + Sync + 'static, R: Threads + Wait + Copy + Send + 'static>(
     rt: R,
     alloc: Global,
     unopened: Unopened,
     settings: Config,
     jobs: &[JobLine],
+    kept: &mut Option<Report>,
 ) -> Result<Report, PoolError>
     requires named { unopened ≡ record { ledger = G.name; parts = G.parts; table = G.table } }
     requires settings { settings ≡ G.config }
@@ -95,7 +96,10 @@ fn life<G: PoolNaming + Send + Sync + 'static, R: Threads + Wait + Copy + Send +
     let report = closed(&rt, pool, pass, passes);
     match submitted {
         Ok(()) => report,
-        Err(error) => Err(error),
+        Err(error) => {
+            *kept = report.ok();
+            Err(error)
+        }
     }
 }
 
@@ -105,12 +109,13 @@ fn life<G: PoolNaming + Send + Sync + 'static, R: Threads + Wait + Copy + Send +
 /// next is submitted.
 ///
 /// NoMemory (4), BookFull (5) and TornRecord (22) at a submission end the run: no further job is submitted, the
-/// pool is shut down and closed, and the refusal is the answer. BadSizes (1), BadCapacity (2), BadLimit (3) and
+/// pool is shut down and closed, its report is kept, and the refusal is the answer. BadSizes (1), BadCapacity (2), BadLimit (3) and
 /// KeepZero (11) where no pool has these settings.
 pub fn run_jobs<R: Threads + Wait + Copy + Send + 'static>(
     rt: R,
     alloc: Global,
     jobs: &Jobs,
+    kept: &mut Option<Report>,
 ) -> Result<Report, PoolError>
     ensures run { IfOk result (IsRun jobs.now.config (kinds jobs.now.jobs.items)) }
     ensures refused { IfErr result (RefusesRun jobs.now.config) }
@@ -119,5 +124,5 @@ pub fn run_jobs<R: Threads + Wait + Copy + Send + 'static>(
         Ok(unopened) => unopened,
         Err(error) => return Err(error),
     };
-    life::<Brand, R>(rt, alloc, unopened, jobs.config, jobs.jobs.as_slice())
+    life::<Brand, R>(rt, alloc, unopened, jobs.config, jobs.jobs.as_slice(), kept)
 }

@@ -8,7 +8,8 @@ use std::alloc::Global;
 use std::io::{Read, Write};
 use std::sync::Wait;
 use std::thread::Threads;
-use tp_record::entries::Entry;
+use tp_pool::closing::Report;
+use tp_record::entries::{Did, Entry};
 use tp_record_text::writing::write_record;
 use tp_scenario::read_jobs;
 use tp_types::configs::Config;
@@ -26,15 +27,42 @@ fn record_text(alloc: Global, config: &Config, entries: &[Entry]) -> Result<Vec<
     }
 }
 
+/// What a run leaves that ended with the refusal of a submission.
+#[derive(Debug, PartialEq, Eq, Drop)]
+pub struct Unfinished {
+    /// How many jobs were submitted before.
+    pub submitted: usize,
+    /// The text of the closed pool's record.
+    pub text: Vec<u8>,
+}
+
+// Whether an entry is a submission.
+fn is_submission(entry: &Entry) -> bool {
+    match entry.did {
+        Did::Submit(_, _, _) => true,
+        _ => false,
+    }
+}
+
+// What is left of a run by the report of its pool, if it was closed and there is memory for the text.
+fn left_of(alloc: Global, config: &Config, report: Option<Report>) -> Option<Unfinished> {
+    let report = report?;
+    let entries = report.entries.as_slice();
+    let submitted = entries.iter().filter(|entry| is_submission(entry)).count();
+    let text = record_text(alloc, config, entries).ok()?;
+    Some(Unfinished { submitted, text })
+}
+
 /// Reads a file of jobs whole, as `read_jobs`, before a thread starts; runs its jobs by threads, as `run_jobs`;
 /// and writes the text of the pool's record, and nothing in place of one. Refused as these are, with nothing
 /// written, or by NoMemory (4) where there is no memory for the text; WriteFailed (26) may come after some of it
-/// was written.
+/// was written. Where a submission is refused, what the run leaves is kept.
 pub fn run_text<R: Threads + Wait + Copy + Send + 'static, I: Read, W: Write>(
     rt: R,
     alloc: Global,
     reader: &mut I,
     writer: &mut W,
+    kept: &mut Option<Unfinished>,
 ) -> Result<(), PoolError>
     ensures written { OnOk result (WritesRun (I.remaining reader.old) (W.contents writer.old) (W.contents writer.new)) }
     ensures refused { IfErr result (λ e. (e ≡ PoolError.WriteFailed) ⊎ (RefusesText (I.remaining reader.old) e × (writer.new ≡ writer.old))) }
@@ -45,9 +73,13 @@ pub fn run_text<R: Threads + Wait + Copy + Send + 'static, I: Read, W: Write>(
         Ok(jobs) => jobs,
         Err(error) => return Err(error),
     };
-    let report = match run_jobs(rt, alloc, &jobs) {
+    let mut closed = None;
+    let report = match run_jobs(rt, alloc, &jobs, &mut closed) {
         Ok(report) => report,
-        Err(error) => return Err(error),
+        Err(error) => {
+            *kept = left_of(alloc, &jobs.config, closed);
+            return Err(error);
+        }
     };
     let text = match record_text(alloc, &jobs.config, report.entries.as_slice()) {
         Ok(text) => text,
