@@ -1,4 +1,4 @@
-pub mod Made
+pub mod Adding
 pub mod Moments
 pub mod Refusals
 pub mod Stops
