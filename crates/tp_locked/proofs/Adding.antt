@@ -1,5 +1,5 @@
 -- What a step in a hold is to the pass that it was made with.
-use Rattle.std.proofs.Common.{◌≡◌, ℕ, ◌+◌, List, [], ◌∷◌, ◌++◌, ap, sym, ◌∙◌, subst, ⊎_elim}
+use Rattle.std.proofs.Common.{◌≡◌, ℕ, ◌+◌, List, [], ◌∷◌, ◌++◌, refl, ap, sym, ◌∙◌, subst, ⊎_elim}
 use Rattle.std.specs.Prelude.{Result, Ok, Err, IfOk, IfErr}
 use Rattle.tp_types.specs.declared.configs.Config.{Config}
 use Rattle.tp_types.specs.declared.refusals.PoolError.{PoolError}
@@ -10,14 +10,23 @@ use Rattle.tp_record.specs.declared.entries.Did.{Did}
 use Rattle.tp_record.specs.Step.{Legal, IsRefused}
 use Rattle.tp_tasks.specs.declared.tasks.Tasks.{Tasks}
 use Rattle.tp_machine.specs.Stepped.{FitsOutcome}
-use Rattle.tp_book.specs.BookView.{config, state_of}
+use Rattle.tp_waking.specs.declared.waking.Waking.{Waking}
+use Rattle.tp_book.specs.BookView.{BookView, config, state_of, IsDenied, IsUnmoved}
 use Rattle.tp_book.specs.PassView.{PassView}
+use Rattle.tp_locked.specs.CoreView.{CoreView}
+use Rattle.tp_locked.specs.Holds.{Denies}
+use Rattle.tp_locked.specs.Rosters.{RosterView}
 use Rattle.tp_locked.specs.Passes.{AddsStep, IsRefusal, LooksOnly, entry_of}
 use Rattle.tp_locked.specs.Steps.{Makes, Refused}
 use Rattle.tp_locked.specs.Waits.{HasNoOutcome}
 use Rattle.tp_locked.specs.declared.tasks.Task.{Task}
 use Rattle.tp_locked.proofs.Moments.{legal_at, known_at}
 use Rattle.tp_locked.proofs.Refusals.{fits}
+
+-- the pass after a step of its own
+abbrev pub Paid : PassView → PassView → Ask → Did → Type 0
+Paid old new a d =
+    new ≡ record { number = old.number; amount = old.amount + 1; front = new.front; receipts = old.receipts ++ entry_of old.number a d ∷ []; room = new.room }
 
 module _ {J : Type 0} (c : Config) where
   -- the history after a step is legal
@@ -42,11 +51,7 @@ module _ {J : Type 0} (c : Config) where
       refused.denied)
 
   module _ (old new : PassView) (a : Ask) where
-    -- the pass after a step of its own
-    abbrev pub Paid : Did → Type 0
-    Paid d = new ≡ record { number = old.number; amount = old.amount + 1; front = new.front; receipts = old.receipts ++ entry_of old.number a d ∷ []; room = new.room }
-
-    pub adds_step : (d : Did) (moves : Tasks (Task J) → Tasks (Task J) → Type 0) → Makes J c old.number old.front a d moves new.front → Paid d → AddsStep c old a d new
+    pub adds_step : (d : Did) (moves : Tasks (Task J) → Tasks (Task J) → Type 0) → Makes J c old.number old.front a d moves new.front → Paid old new a d → AddsStep c old a d new
     adds_step d moves made paid = record {
       number = ap (λ p. p.number) paid;
       receipts = ap (λ p. p.receipts) paid;
@@ -55,7 +60,13 @@ module _ {J : Type 0} (c : Config) where
       legal = legal_made old.number old.front a d moves new.front made;
     }
 
-    pub added : {A : Type 0} {X : A → Type 0} (did : A → Did) (moves : A → Tasks (Task J) → Tasks (Task J) → Type 0) (r : Result A PoolError) →
-        IfOk r (λ x. Makes J c old.number old.front a (did x) (moves x) new.front) → IfOk r (λ x. Paid (did x) × X x) → IfOk r (λ x. AddsStep c old a (did x) new)
-    added did moves (Ok x) makes paid = adds_step (did x) (moves x) makes paid.0
-    added did moves (Err e) makes paid = tt
+    pub added : {A : Type 0} (X : Type 0) (did : A → Did) (moves : A → Tasks (Task J) → Tasks (Task J) → Type 0) (r : Result A PoolError) →
+        IfOk r (λ x. Makes J c old.number old.front a (did x) (moves x) new.front) → IfOk r (λ x. Paid old new a (did x) × X) → IfOk r (λ x. AddsStep c old a (did x) new)
+    added X did moves (Ok x) makes paid = adds_step (did x) (moves x) makes paid.0
+    added X did moves (Err e) makes paid = tt
+
+-- a step that is refused in a hold
+pub denies : {J : Type 0} (old : CoreView J) (book new : BookView (Task J)) (roster : RosterView) (waking : Waking) → record { book = book; roster = roster; waking = waking } ≡ old →
+    (a : Ask) (e : PoolError) → IsDenied book a e → IsUnmoved book new → Denies old (record { book = new; roster = roster; waking = waking }) a e
+denies old book new roster waking is a e denied unmoved =
+    subst (λ o. Denies o (record { book = new; roster = roster; waking = waking }) a e) is (record { denied = denied; unmoved = unmoved; asleep = refl; threads = refl })

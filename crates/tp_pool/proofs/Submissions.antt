@@ -16,7 +16,7 @@ use Rattle.tp_locked.specs.Passes.{Adds, AddsNone, LooksOnly, Refuses}
 use Rattle.tp_locked.specs.declared.answers.Admitted.{Admitted}
 use Rattle.tp_locked.specs.declared.answers.Refused.{Refused}
 use Rattle.tp_pool.specs.Admissions.{AddsPath, AddsFront, GotJob, IsAdmitted, IsTurnedAway, task_of, end_of}
-use Rattle.tp_pool.proofs.Receipts.{adds_behind, adds_looks, none_behind}
+use Rattle.tp_locked.proofs.Receipts.{adds_behind, adds_looks, none_behind}
 
 module _ (c : Config) where
   -- a front, and then a look

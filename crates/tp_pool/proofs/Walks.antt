@@ -20,7 +20,7 @@ use Rattle.tp_locked.specs.Passes.{Adds, AddsStep, entry_of}
 use Rattle.tp_locked.specs.Steps.{Makes}
 use Rattle.tp_locked.specs.declared.tasks.Task.{Task}
 use Rattle.tp_pool.specs.Admissions.{AddsFront, AsksFor, GotJob}
-use Rattle.tp_pool.proofs.Receipts.{adds_then, leads_front}
+use Rattle.tp_locked.proofs.Receipts.{adds_then, leads_front}
 use Rattle.tp_pool.proofs.Submissions.{got_on}
 use Rattle.std.proofs.lemmas.Bool.{eq-eqb}
 

@@ -16,6 +16,7 @@ use tp_locked::names::PoolNaming;
 use tp_locked::tasks::Task;
 use tp_machine::typed::controllers::{Cancel, Purge, Remove};
 use tp_machine::typed::settings::{CoreTimeout, Keep, Maximum, Tick};
+use tp_record::entries::{Ask, Did};
 use tp_types::ids::TaskId;
 use tp_types::refusals::PoolError;
 

@@ -17,6 +17,7 @@ use tp_callbacks::jobs::Job;
 use tp_locked::answers::Drained;
 use tp_locked::names::PoolNaming;
 use tp_machine::typed::controllers::Shutdown;
+use tp_record::entries::{Ask, Did};
 use tp_types::refusals::PoolError;
 
 impl<G: PoolNaming, J: Job, E: Edge> PoolOf<G, J, E> {

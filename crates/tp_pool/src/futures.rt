@@ -14,6 +14,7 @@ use tp_book::passes::Pass;
 use tp_callbacks::jobs::Job;
 use tp_locked::names::PoolNaming;
 use tp_machine::typed::controllers::TakeDone;
+use tp_record::entries::{Ask, Did};
 use tp_types::ids::TaskId;
 use tp_types::refusals::PoolError;
 

@@ -1,6 +1,7 @@
 //! Workers that are started before there is a task for them. Each start is two steps: a slot is reserved, and
 //! once its thread was made or refused it is opened or given back.
 ghost use Rattle.std.specs.Prelude.{ℕ, ◌≡◌, ◌+◌, ◌*◌, ◌≤◌, [], ◌∷◌, IfOk, IfErr, OnOk, OnErr};
+ghost use Rattle.tp_record.specs.Step.{Legal};
 ghost use Rattle.tp_locked.specs.Passes.{AddsNone, IsRefusal, LooksOnly, Refuses, entry_of};
 ghost use Rattle.tp_pool.specs.Prestarts.{is_live as is_live_opening, AddsPrestart, AddsStarts, IsRefusedMore, IsServed};
 
@@ -12,7 +13,7 @@ use tp_book::passes::Pass;
 use tp_callbacks::jobs::Job;
 use tp_locked::names::PoolNaming;
 use tp_machine::typed::settings::{Core, Prestart};
-use tp_record::entries::{Did, Opened};
+use tp_record::entries::{Ask, Did, Opened};
 use tp_types::ids::SlotId;
 use tp_types::limits::MAX_WORKERS;
 use tp_types::refusals::PoolError;
@@ -71,6 +72,7 @@ impl<
         pass: &mut Pass<G>,
     )
         requires room { 2 * most ≤ pass.old.room }
+        requires legal { Legal G.config pass.old.front }
         ensures { (live : ℕ) × AddsStarts G.config (IsServed G.config) most [] pass.old live pass.new }
     {
         for _ in 0..most {

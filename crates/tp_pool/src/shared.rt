@@ -24,6 +24,7 @@ use tp_locked::names::PoolNaming;
 use tp_locked::tasks::Task;
 use tp_machine::typed::Step;
 use tp_machine::typed::controllers::{Ended, Tidy};
+use tp_record::entries::{Ask, Did};
 use tp_types::configs::Policy;
 use tp_types::ids::SlotId;
 use tp_types::refusals::PoolError;

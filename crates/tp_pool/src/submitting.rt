@@ -26,7 +26,7 @@ use tp_paths::laws::fronts_are_paths;
 use tp_machine::typed::submitters::{CallerEnd, Grow, Judge, Look, Offer, Second, Submit};
 use tp_machine::typed::workers::Fail;
 use tp_paths::paths::{Ending, Next, follows};
-use tp_record::entries::{Did, Looked};
+use tp_record::entries::{Ask, Did, Looked};
 use tp_types::configs::{Policy, Verdict};
 use tp_types::ids::{SlotId, TaskId};
 use tp_types::refusals::PoolError;

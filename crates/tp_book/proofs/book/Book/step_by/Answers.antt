@@ -10,7 +10,7 @@ returns-in-Err-clause-refused g c =
 
 pub returns-in-Err-clause-unchanged : goal.returns-in-Err-clause-unchanged
 returns-in-Err-clause-unchanged g c =
-    unmoved c.args.self.now c.self.inside.machine c.self.inside.accounts c.self.inside.seat c.self.view_is c.make.new.machine _ c.learn-in-Err.ensures.same c.in-Err.ensures.unchanged
+    unmoved c.args.self.now c.self.inside.machine c.self.inside.accounts c.self.inside.seat c.self.view_is c.make.new.machine _ c.learn.ensures.same c.in-Err.ensures.unchanged
 
 pub pay-requires-clause-before : goal.pay-requires-clause-before
 pay-requires-clause-before g c = rank_at c.self.inside.machine c.self.inside.seat _ c.self.invariant.0 c.state-before.ensures

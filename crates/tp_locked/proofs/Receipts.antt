@@ -10,7 +10,6 @@ use Rattle.tp_glance.specs.Word.{IsFrontOf}
 use Rattle.tp_glance.proofs.Fronts.{IsFrontOf_refl, IsFrontOf_trans}
 use Rattle.tp_book.specs.PassView.{PassView}
 use Rattle.tp_locked.specs.Passes.{Leads, Adds, AddsStep, AddsNone, LooksOnly, entry_of}
-use Rattle.tp_pool.specs.Endings.{AddsAndEnds, AddsEnding, IsEnding}
 
 -- a history that goes on further
 pub leads_on : (f g h : List Entry) (es : List Entry) → Leads f es g → IsFrontOf g h → Leads f es h
@@ -40,6 +39,11 @@ Later old new = (new ≡ record old { front = new.front }) × IsFrontOf old.fron
 pub later_refl : (p : PassView) → Later p p
 later_refl p = (refl, IsFrontOf_refl p.front)
 
+pub shown_later : (old new : PassView) (h : List Entry) → new ≡ record old { front = h } → IsFrontOf old.front h → Later old new
+shown_later old new h shown on =
+    let front = ap (λ p. p.front) shown in
+    (shown ∙ ap (λ f. record old { front = f }) (sym front), subst (λ f. IsFrontOf old.front f) (sym front) on)
+
 pub later_looks : (c : Config) (old mid new : PassView) → Later old mid → LooksOnly c mid new → Later old new
 later_looks c old mid new later looks =
     (looks.0 ∙ ap (λ (p : PassView). record p { front = new.front }) later.0, IsFrontOf_trans later.1 looks.1)
@@ -55,6 +59,10 @@ pub reserved : (old new : PassView) → new ≡ record old { room = new.room } �
 reserved old new same =
     let front = ap (λ p. p.front) same in
     (same ∙ ap (λ f. record old { front = f; room = new.room }) (sym front), subst (λ f. IsFrontOf old.front f) (sym front) (IsFrontOf_refl old.front))
+
+-- nothing has changed
+pub none_added : (old new : PassView) → new ≡ old → AddsNone old new
+none_added old new same = later_none old new (subst (λ p. Later old p) (sym same) (later_refl old))
 
 pub none_behind : (old mid new : PassView) → AddsNone old mid → AddsNone mid new → AddsNone old new
 none_behind old mid new first then =
@@ -113,12 +121,3 @@ module _ (c : Config) where
   pub step_behind : (old mid new : PassView) (a : Ask) (d : Did) → AddsNone old mid → AddsStep c mid a d new → AddsStep c old a d new
   step_behind old mid new a d none step =
       subst (λ (by : ℕ). Adds c old (entry_of by a d ∷ []) new) (ap (λ p. p.number) none.0) (adds_behind old mid new (entry_of mid.number a d ∷ []) none step)
-
-  -- a step behind room for more, and then those of the pool's end
-  pub step_and_end : (old mid after new : PassView) (a : Ask) (d : Did) → AddsNone old mid → AddsStep c mid a d after → AddsEnding c after new → AddsAndEnds c old a d new
-  step_and_end old mid after new a d none step end =
-      let first : AddsStep c old a d after = step_behind old mid after a d none step in (
-        end.0,
-        subst (λ (by : ℕ). IsEnding c by end.0 new.front) first.number end.1,
-        adds_both old after new (entry_of old.number a d ∷ []) end.0 first end.2,
-      )
