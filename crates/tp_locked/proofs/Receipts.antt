@@ -48,6 +48,9 @@ pub later_looks : (c : Config) (old mid new : PassView) → Later old mid → Lo
 later_looks c old mid new later looks =
     (looks.0 ∙ ap (λ (p : PassView). record p { front = new.front }) later.0, IsFrontOf_trans later.1 looks.1)
 
+pub looks_behind : (c : Config) (old mid new : PassView) → Later old mid → LooksOnly c mid new → LooksOnly c old new
+looks_behind c old mid new later looks = let both = later_looks c old mid new later looks in (both.0, both.1, looks.2)
+
 pub later_none : (old new : PassView) → Later old new → AddsNone old new
 later_none old new later = (later.0 ∙ ap (λ room. record old { front = new.front; room = room }) (sym (ap (λ p. p.room) later.0)), later.1)
 

@@ -1,13 +1,17 @@
 -- A worker's step in one hold, as one of its pool.
 use Rattle.std.proofs.Common.{◌≡◌, ℕ, List, [], ◌∷◌, refl, ap, sym, ◌∙◌, subst}
-use Rattle.std.specs.Prelude.{⊤, Option, None, Result, Ok, Err, IfOk, IfErr, OnErr}
+use Rattle.std.proofs.lemmas.Bool.{false≢true}
+use Rattle.std.specs.Prelude.{Option, None, Result, Ok, Err, IsTrue, IfOk, IfErr, OnErr, is_ok}
 use Rattle.tp_types.specs.declared.configs.Config.{Config}
 use Rattle.tp_types.specs.declared.ids.SlotId.{SlotId}
 use Rattle.tp_types.specs.declared.refusals.PoolError.{PoolError}
 use Rattle.tp_record.specs.declared.entries.Ask.{Ask}
+use Rattle.tp_record.specs.declared.entries.Ask.TheVariants as ask
 use Rattle.tp_record.specs.declared.entries.Did.{Did}
+use Rattle.tp_record.specs.declared.entries.Did.TheVariants as did
 use Rattle.tp_record.specs.declared.entries.Entry.{Entry}
 use Rattle.tp_tasks.specs.declared.tasks.Tasks.{Tasks}
+use Rattle.tp_parts.specs.Payloads.{Keeps}
 use Rattle.tp_glance.specs.Word.{IsFrontOf}
 use Rattle.tp_glance.proofs.Fronts.{IsFrontOf_trans}
 use Rattle.tp_turns.specs.Turns.{told}
@@ -17,7 +21,7 @@ use Rattle.tp_turns.specs.declared.turns.Begun.{Begun}
 use Rattle.tp_turns.specs.declared.turns.Begun.TheVariants as begun
 use Rattle.tp_locked.specs.Steps.{Makes, Refused, Asks, begun_of, taking_of}
 use Rattle.tp_locked.specs.declared.tasks.Task.{Task}
-use Rattle.tp_pool.specs.Deeds.{BeginsAt, Takes, IsDone, heir_after, taken_as}
+use Rattle.tp_pool.specs.Deeds.{BeginsAt, EndsLast, EndsPool, Takes, IsDone, heir_after, taken_as}
 
 module _ {J A : Type 0} (c : Config) (by : ℕ) (a : Ask) (did : A → Did) (moves : A → Tasks (Task J) → Tasks (Task J) → Type 0) where
   -- the step, or its refusal, as an answer
@@ -62,3 +66,40 @@ pub heir_of : {J : Type 0} (b : Begun J) (heir : Option SlotId) → heir ≡ hei
 heir_of (begun.Run t job flag) heir = refl
 heir_of (begun.Skip t) heir = refl
 heir_of begun.Refused heir = refl
+
+-- so is that of a `take`, which a worker makes at its slot with its pass
+pub taken : {J : Type 0} (c : Config) (w v : SlotId) (by n : ℕ) (f g h : List Entry) (heir : Option SlotId) (t : Taken) → v ≡ w → n ≡ by → IsFrontOf f g →
+    Takes J c n g v h (λ r. taken_as t ≡ taking_of r) → IsDone J c w by f h heir (deed.Took t) None
+taken {J = J} c w v by n f g h heir t same_slot same_pass on is =
+    subst (λ v. IsDone J c v by f h heir (deed.Took t) None) same_slot (subst (λ (n : ℕ). IsDone J c v n f h heir (deed.Took t) None) same_pass
+    (asks_from c n (ask.Take v) (λ x. did.Take v x) (λ _. Keeps) f g h (λ r. taken_as t ≡ taking_of r) on is))
+
+-- the end by a worker: where `tidy` is accepted it asks `ended` too, with the same pass
+so_if_ok : {A E : Type 0} (r : Result A E) (X : Type 0) → X → IfOk r (λ _. X)
+so_if_ok (Ok a) X is = is
+so_if_ok (Err e) X is = tt
+
+no_err : {A E : Type 0} (r : Result A E) (X : Type 0) → IsTrue (is_ok r) → OnErr r X
+no_err (Ok a) X is = tt
+no_err (Err e) X is = absurd (false≢true is)
+
+no_ok : {A E : Type 0} (r : Result A E) (X : Type 0) → ¬ IsTrue (is_ok r) → IfOk r (λ _. X)
+no_ok (Ok a) X is = absurd (is refl)
+no_ok (Err e) X is = tt
+
+so_if_err : {A E : Type 0} (r : Result A E) (X : Type 0) → X → OnErr r X
+so_if_err (Ok a) X is = tt
+so_if_err (Err e) X is = is
+
+module _ {J : Type 0} (c : Config) (by : ℕ) (before mid : List Entry) (r : Result (Unit {0}) PoolError)
+    (made : IfOk r (λ _. Makes J c by before ask.Tidy did.Tidy Keeps mid)) (refused : IfErr r (λ e. Refused J c before ask.Tidy e mid)) where
+  pub ended_by : (n : ℕ) (after : List Entry) (s : Result (Unit {0}) PoolError) → IsTrue (is_ok r) → n ≡ by → IfOk s (λ _. Makes J c n mid ask.Ended did.Ended Keeps after) →
+      IfErr s (λ e. Refused J c mid ask.Ended e after) → EndsPool J c by before after
+  ended_by n after s is same last torn =
+      let ends : EndsLast J c by mid after = subst (λ (n : ℕ). EndsLast J c n mid after) same (record { answer = s; made = last; refused = torn; holds = tt }) in (
+        mid,
+        record { answer = r; made = made; refused = refused; holds = (so_if_ok r (EndsLast J c by mid after) ends, no_err r (after ≡ mid) is) },
+      )
+
+  pub barred : ¬ IsTrue (is_ok r) → EndsPool J c by before mid
+  barred not = (mid, record { answer = r; made = made; refused = refused; holds = (no_ok r (EndsLast J c by mid mid) not, so_if_err r (mid ≡ mid) refl) })

@@ -1,5 +1,5 @@
 pub mod Asked
-pub mod Endings
+pub mod Ends
 pub mod Got
 pub mod Starts
 pub mod Submissions

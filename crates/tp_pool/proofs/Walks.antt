@@ -1,6 +1,6 @@
 -- How far a submission has come, with its receipts.
-use Rattle.std.proofs.Common.{◌≡◌, ℕ, ◌+◌, ◌≤◌, List, [], ◌∷◌, ◌++◌, refl, inr, arith}
-use Rattle.std.specs.Prelude.{IsTrue}
+use Rattle.std.proofs.Common.{◌≡◌, ◌⊎◌, ℕ, ◌+◌, ◌≤◌, List, [], ◌∷◌, ◌++◌, refl, inl, inr, ap, sym, subst, ◌∙◌, ⊎_elim, arith}
+use Rattle.std.specs.Prelude.{Result, Ok, Err, IfOk, IfErr, IsTrue}
 use Rattle.tp_types.specs.declared.configs.Config.{Config}
 use Rattle.tp_types.specs.declared.ids.TaskId.{TaskId}
 use Rattle.tp_types.specs.declared.tasks.Kind.{Kind}
@@ -11,17 +11,22 @@ use Rattle.tp_record.specs.declared.entries.Did.{Did}
 use Rattle.tp_record.specs.declared.entries.Did.TheVariants as did
 use Rattle.tp_record.specs.declared.entries.Entry.{Entry}
 use Rattle.tp_record.specs.declared.entries.Looked.{Looked}
-use Rattle.tp_record.specs.Paths.{Follow, Then, Astray, follows}
+use Rattle.tp_record.specs.Paths.{Admission, Rejected, Follow, Then, Ends, Astray, IsPath, follows}
 use Rattle.tp_parts.specs.Payloads.{PutsIn}
-use Rattle.tp_paths.specs.Fronts.{is_submit_of, goes, IsFront}
+use Rattle.tp_paths.specs.Fronts.{is_submit_of, admission_of, goes, IsFront}
+use Rattle.tp_paths.specs.declared.paths.Ending.{Ending}
+use Rattle.tp_paths.specs.declared.paths.Ending.TheVariants as ending
 use Rattle.tp_glance.proofs.Fronts.{IsFrontOf_refl}
 use Rattle.tp_book.specs.PassView.{PassView}
-use Rattle.tp_locked.specs.Passes.{Adds, AddsStep, entry_of}
+use Rattle.tp_locked.specs.Passes.{Adds, AddsStep, LooksOnly, entry_of}
 use Rattle.tp_locked.specs.Steps.{Makes}
+use Rattle.tp_types.specs.declared.refusals.PoolError.TheVariants as error
+use Rattle.tp_locked.specs.declared.answers.Admitted.{Admitted}
+use Rattle.tp_locked.specs.declared.answers.Refused.{Refused}
 use Rattle.tp_locked.specs.declared.tasks.Task.{Task}
-use Rattle.tp_pool.specs.Admissions.{AddsFront, AsksFor, GotJob}
+use Rattle.tp_pool.specs.Admissions.{task_of, end_of, AddsFront, AsksFor, GotJob, IsAdmitted, IsTurnedAway}
 use Rattle.tp_locked.proofs.Receipts.{adds_then, leads_front}
-use Rattle.tp_pool.proofs.Submissions.{got_on}
+use Rattle.tp_pool.proofs.Submissions.{front_looks, got_on}
 use Rattle.std.proofs.lemmas.Bool.{eq-eqb}
 
 -- the laws of fronts, as `fronts_are_paths` tells them
@@ -30,6 +35,9 @@ Begins = (t : ℕ) (e : Entry) → IsTrue (is_submit_of t e.did) → IsFront t (
 
 abbrev pub GoesOn : Type 0
 GoesOn = (t : ℕ) (es : List Entry) (f : Follow) (e : Entry) → IsFront t es f → IsFront t (es ++ e ∷ []) (goes t f e.did)
+
+abbrev pub Closes : Type 0
+Closes = (t : ℕ) (es : List Entry) (a : Admission) → IsFront t es (Ends a) → IsPath t es a
 
 asks_on : (kind : Kind) (es fs : List Entry) → AsksFor kind es → AsksFor kind (es ++ fs)
 asks_on kind [] fs asks = absurd asks
@@ -76,3 +84,26 @@ module _ {J : Type 0} (c : Config) (kind : Kind) (job : J) (promise : Promise) w
         torn = (t, walk.front, f, walk.is_front, on, inr (e, adds));
         room = omega (arith, walk.room);
       }
+
+  -- its end, as the answer says it
+  pub admits_at : Closes → (t : TaskId) (old new : PassView) (f : Follow) (steps : ℕ) (end : Admission) → f ≡ Ends end → Walk t.0 old f steps new →
+      (r : Result Admitted (Refused J)) → IfOk r (λ a. (task_of a ≡ t) × (end_of a ≡ end)) → IfOk r (IsAdmitted c kind job promise old new)
+  admits_at law t old new f steps end is walk (Ok a) same =
+      let path : IsPath t.0 walk.front end = law t.0 walk.front end (subst (λ f. IsFront t.0 walk.front f) is walk.is_front) in (
+        (walk.front, subst (λ (u : TaskId). IsPath u.0 walk.front (end_of a)) (sym same.0) (subst (λ e. IsPath t.0 walk.front e) (sym same.1) path), walk.asks, walk.adds),
+        subst (λ (u : TaskId). GotJob c kind job promise old.number u.0 old.front new.front) (sym same.0) walk.got,
+      )
+  admits_at law t old new f steps end is walk (Err x) same = tt
+
+  pub rejects_at : Closes → (t : TaskId) (old new : PassView) (f : Follow) (steps : ℕ) (end : Ending) → f ≡ Ends (admission_of end) → Walk t.0 old f steps new →
+      (r : Result Admitted (Refused J)) → IfErr r (λ x. (x.error ≡ error.Rejected t) × (end ≡ ending.Rejected)) → IfErr r (IsTurnedAway c kind job promise old new)
+  rejects_at law t old new f steps end is walk (Ok a) same = tt
+  rejects_at law t old new f steps end is walk (Err x) same =
+      let rejected : f ≡ Ends Rejected = is ∙ ap (λ e. Ends (admission_of e)) same.1 in
+      inl (t, same.0, (walk.front, law t.0 walk.front Rejected (subst (λ f. IsFront t.0 walk.front f) rejected walk.is_front), walk.asks, walk.adds), walk.got)
+
+  -- torn off where the next step is not taken
+  pub torn_off : (t : ℕ) (old mid new : PassView) (f : Follow) (steps : ℕ) → Walk t old f steps mid → (new ≡ mid) ⊎ LooksOnly c mid new → (x : Refused J) → x.error ≡ error.TornRecord →
+      IsTurnedAway c kind job promise old new x
+  torn_off t old mid new f steps walk then x torn =
+      inr (inl (torn, ⊎_elim (λ (same : new ≡ mid). subst (λ p. AddsFront c old p) (sym same) walk.torn) (λ (looks : LooksOnly c mid new). front_looks c old mid new walk.torn looks) then))

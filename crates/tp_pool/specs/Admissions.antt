@@ -1,5 +1,5 @@
 -- What submissions come to, and what they add to their caller's pass.
-use Rattle.std.specs.Prelude.{ℕ, ◌≡◌, ◌⊎◌, List, [], ◌∷◌, ◌++◌, Some}
+use Rattle.std.specs.Prelude.{ℕ, ◌≡◌, ◌⊎◌, List, [], ◌∷◌, ◌++◌, Some, Result, IfOk}
 use Rattle.tp_types.specs.declared.configs.Config.{Config}
 use Rattle.tp_types.specs.declared.ids.TaskId.{TaskId}
 use Rattle.tp_types.specs.declared.refusals.PoolError.TheVariants as error
@@ -61,6 +61,10 @@ module _ {J : Type 0} (c : Config) (kind : Kind) (job : J) (promise : Promise) (
   -- a submission of this kind with this job, which promises this, is admitted
   abbrev pub IsAdmitted : Admitted → Type 0
   IsAdmitted a = AddsPath c kind (task_of a) (end_of a) old new × GotJob c kind job promise old.number (task_of a).0 old.front new.front
+
+  -- so it is where the answer is not a refusal
+  abbrev pub Admits : Result Admitted (Refused J) → Type 0
+  Admits r = IfOk r IsAdmitted
 
   -- it is refused: after its whole path, or torn off on it, or before its first step, and then with the job
   abbrev pub IsTurnedAway : Refused J → Type 0

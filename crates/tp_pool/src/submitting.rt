@@ -7,7 +7,7 @@ ghost use Rattle.tp_parts.specs.Payloads.{PutsIn};
 ghost use Rattle.tp_paths.specs.Fronts.{admission_of, follow_of};
 ghost use Rattle.tp_locked.specs.Passes.{AddsStep, AddsNone, IsRefusal, LooksOnly, Refuses, opening};
 ghost use Rattle.tp_locked.specs.Steps.{Makes};
-ghost use Rattle.tp_pool.specs.Admissions.{task_of, end_of, IsAdmitted, IsTurnedAway};
+ghost use Rattle.tp_pool.specs.Admissions.{task_of, end_of, Admits, IsAdmitted, IsTurnedAway};
 
 use crate::boxes::Boxed;
 use crate::edges::{Boxes, Edge};
@@ -229,7 +229,7 @@ impl<G: PoolNaming + Send + Sync + 'static> PoolOf<G, Boxed, Boxes> {
         job: Box<dyn Job>,
         pass: &mut Pass<G>,
     ) -> Result<Admitted, Refused<Boxed>>
-        ensures admitted { IfOk result (IsAdmitted G.config Kind.Plain (record { job = job }) (promised job) pass.old pass.new) }
+        ensures admitted { Admits G.config Kind.Plain (record { job = job }) (promised job) pass.old pass.new result }
         ensures refused { IfErr result (IsTurnedAway G.config Kind.Plain (record { job = job }) (promised job) pass.old pass.new) }
     {
         self.execute_as(rt, Kind::Plain, Boxed { job }, pass)
