@@ -1,12 +1,14 @@
 // The common part of a caller's and a worker's pass.
-ghost use Rattle.std.specs.Prelude.{◌≡◌, ◌≤◌, ◌+◌, max};
+ghost use Rattle.std.specs.Prelude.{◌≡◌, ◌+◌, ◌∷◌};
 ghost use Rattle.tp_types.specs.RunState.{state_rank};
-ghost use Rattle.tp_book.specs.PassView.{seen_after};
+ghost use Rattle.tp_record.specs.Fields.{rank};
+ghost use Rattle.tp_glance.specs.Word.{IsFrontOf};
 
 use std::marker::Model;
 use std::sync::ledger;
 use std::sync::ledger::Share;
 use tp_glance::glance::{BookSeat, Glance, Naming, PassSeat};
+use tp_record::entries::Entry;
 use tp_types::states::RunState;
 
 // A number, one part of the ledger with a unit for each step, and a seat of the word.
@@ -23,7 +25,7 @@ impl<G: Naming> Model for Account<G> {
 
     ghost Value = { AccountView };
 
-    ghost view = { λ a. record { number = a.number; amount = a.share.amount; seen = a.seat } };
+    ghost view = { λ a. record { number = a.number; amount = a.share.amount; front = a.seat } };
 
     ghost invariant = { λ a. a.share.parts ≡ 1 };
 }
@@ -37,52 +39,58 @@ impl<G: Naming> Account<G> {
         ledger.add(&mut self.share, 1);
     }
 
-    // The state that is published now.
+    // The state that is published now, which is that of the pool's history at this moment.
     pub fn glance(&mut self, glance: &Glance<G>) -> RunState
-        ensures rises { self.old.seen ≤ state_rank result }
-        ensures seen { self.new ≡ record self.old { seen = state_rank result } }
+        ensures state { state_rank result ≡ rank self.new.front }
+        ensures goes_on { IsFrontOf self.old.front self.new.front }
+        ensures same { self.new ≡ record self.old { front = self.new.front } }
     {
         glance.glance(&mut self.seat)
     }
 
-    // Lets the seat see the state that the book's seat knows.
+    // Lets the seat know the whole history.
     pub fn learn(&mut self, glance: &Glance<G>, book: &mut BookSeat<G>)
-        ensures seen { self.new ≡ record self.old { seen = max self.old.seen book.old } }
+        ensures seen { self.new ≡ record self.old { front = book.old } }
+        ensures goes_on { IsFrontOf self.old.front book.old }
         ensures same { book.new ≡ book.old }
     {
         glance.show(book, &mut self.seat);
     }
 
-    // The law that the seat has seen no more than the book's seat knows.
-    pub fn seen_is_published(&mut self, glance: &Glance<G>, book: &mut BookSeat<G>)
-        ensures below { self.old.seen ≤ book.old }
+    // The law that what the seat knows is a front of the history.
+    pub fn is_front(&mut self, glance: &Glance<G>, book: &mut BookSeat<G>)
+        ensures front { IsFrontOf self.old.front book.old }
         ensures same { (self.new ≡ self.old) × (book.new ≡ book.old) }
     {
-        glance.seen_is_published(book, &mut self.seat);
+        glance.is_front(book, &mut self.seat);
     }
 
-    // Where a step changed the state, publishes it and lets the seat see it.
-    pub fn publish(
+    // Notes the entry of a step, publishes the state after it where the step changed that, and lets the seat
+    // know the history with it. What the seat knew is a front of the history before.
+    pub fn note(
         &mut self,
         glance: &Glance<G>,
         book: &mut BookSeat<G>,
+        entry: &Entry,
         before: RunState,
         after: RunState,
     )
-        requires known { book.old ≡ state_rank before }
-        requires rises { state_rank before ≤ state_rank after }
-        ensures published { book.new ≡ state_rank after }
-        ensures seen { self.new ≡ record self.old { seen = seen_after (state_rank before) (state_rank after) self.old.seen } }
+        requires before { state_rank before ≡ rank book.old }
+        requires after { state_rank after ≡ rank (entry.now ∷ book.old) }
+        ensures noted { book.new ≡ entry.now ∷ book.old }
+        ensures seen { self.new ≡ record self.old { front = book.new } }
+        ensures knew { IsFrontOf self.old.front book.old }
     {
-        if after.rank() != before.rank() {
-            glance.raise(book, after);
-            self.learn(glance, book);
+        if after.rank() == before.rank() {
+            glance.note(book, &mut self.seat, entry);
+        } else {
+            glance.raise(book, &mut self.seat, entry, after);
         }
     }
 
-    // A seat that has seen the same state as this one.
+    // A seat that knows what this one knows.
     pub fn split_seat(&mut self, glance: &Glance<G>) -> PassSeat<G>
-        ensures begins { result ≡ self.old.seen }
+        ensures begins { result ≡ self.old.front }
         ensures same { self.new ≡ self.old }
     {
         glance.split(&mut self.seat)

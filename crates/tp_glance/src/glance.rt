@@ -1,12 +1,17 @@
 //! The word, the book's seat that raises it, and the seats that look at it.
-ghost use Rattle.std.specs.Prelude.{◌≡◌, ◌≤◌, max, IfErr};
+ghost use Rattle.std.specs.Prelude.{◌≡◌, ◌≤◌, [], ◌∷◌, IfErr};
 ghost use Rattle.tp_types.specs.RunState.{state_rank};
+ghost use Rattle.tp_record.specs.Effects.{reaches};
+ghost use Rattle.tp_record.specs.Fields.{rank};
+ghost use Rattle.tp_glance.specs.Word.{IsFrontOf, book_view};
 
-use crate::view::{Begins, Learns, Looks, Raises, Rises, Tells, View};
+use crate::view::{Begins, Looks, Notes, Noting, Rises, Tells, View};
 use atomic_table::{Seat, Table};
 use std::alloc::Global;
 use std::marker::{Brand, Model, PhantomData};
+use std::mem;
 use std::sync::ledger::Ledger;
+use tp_record::entries::Entry;
 use tp_types::refusals::PoolError;
 use tp_types::states::RunState;
 
@@ -43,7 +48,7 @@ impl Model for BlankGlance {
     ghost view = { λ b. b.seat.table_id };
 
     ghost invariant = { λ b. (b.table.shared.table_id ≡ b.seat.table_id) × (b.seat.table_id.words ≡ 1)
-        × (b.seat.me ≡ (book_view 0 0, [])) };
+        × (b.seat.me ≡ (book_view [] [], [])) };
 }
 
 /// The word of one pool: its run state, which any thread may look at without waiting. It can lie in
@@ -64,8 +69,8 @@ impl<G: Naming> Model for Glance<G> {
     ghost invariant = { λ g. (g.table.shared.table_id ≡ G.table) × (g.table.shared.table_id.words ≡ 1) };
 }
 
-/// The one seat that raises the word. It lies under the pool's lock. Contracts see it as the rank
-/// that is published, 0 to 4.
+/// The one seat that notes entries and raises the word. It lies under the pool's lock. Contracts see
+/// it as the pool's whole history, the latest entry first, which exists in proofs alone.
 #[derive(Drop)]
 pub struct BookSeat<G: Naming> {
     seat: Seat<(), View>,
@@ -73,19 +78,20 @@ pub struct BookSeat<G: Naming> {
 }
 
 impl<G: Naming> Model for BookSeat<G> {
-    ghost use Rattle.std.specs.Prelude.{◌≡◌, ℕ, []};
+    ghost use Rattle.std.specs.Prelude.{◌≡◌, List, []};
+    ghost use Rattle.tp_record.specs.declared.entries.Entry.{Entry};
     ghost use Rattle.tp_glance.specs.Word.{book_view};
 
-    ghost Value = { ℕ };
+    ghost Value = { List Entry };
 
-    ghost view = { λ s. s.seat.me.0.rank };
+    ghost view = { λ s. s.seat.me.0.front };
 
     ghost invariant = { λ s. (s.seat.table_id ≡ G.table)
-        × (s.seat.me ≡ (book_view s.seat.me.0.rank s.seat.me.0.told, [])) };
+        × (s.seat.me ≡ (book_view s.seat.me.0.front s.seat.me.0.told, [])) };
 }
 
-/// A seat that looks at the word, one for each pass. Contracts see it as the greatest rank that it
-/// has seen, 0 to 4.
+/// A seat that looks at the word, one for each pass. Contracts see it as the front of the pool's
+/// history that it knows, the latest entry first.
 #[derive(Drop)]
 pub struct PassSeat<G: Naming> {
     seat: Seat<(), View>,
@@ -93,14 +99,15 @@ pub struct PassSeat<G: Naming> {
 }
 
 impl<G: Naming> Model for PassSeat<G> {
-    ghost use Rattle.std.specs.Prelude.{◌≡◌, ℕ, []};
+    ghost use Rattle.std.specs.Prelude.{◌≡◌, List, []};
+    ghost use Rattle.tp_record.specs.declared.entries.Entry.{Entry};
     ghost use Rattle.tp_glance.specs.Word.{pass_view};
 
-    ghost Value = { ℕ };
+    ghost Value = { List Entry };
 
-    ghost view = { λ s. s.seat.me.0.rank };
+    ghost view = { λ s. s.seat.me.0.front };
 
-    ghost invariant = { λ s. (s.seat.table_id ≡ G.table) × (s.seat.me ≡ (pass_view s.seat.me.0.rank, [])) };
+    ghost invariant = { λ s. (s.seat.table_id ≡ G.table) × (s.seat.me ≡ (pass_view s.seat.me.0.front, [])) };
 }
 
 impl BlankGlance {
@@ -114,10 +121,10 @@ impl BlankGlance {
         }
     }
 
-    /// The word under the name of its pool, and the book's seat, which knows `Running`.
+    /// The word under the name of its pool, and the book's seat, whose history is empty.
     pub fn open<G: Naming>(self) -> (Glance<G>, BookSeat<G>)
         requires { self ≡ G.table }
-        ensures { result.1 ≡ 0 }
+        ensures { result.1 ≡ [] }
     {
         let BlankGlance { table, seat } = self;
         let glance = Glance {
@@ -133,40 +140,94 @@ impl BlankGlance {
 }
 
 impl<G: Naming> Glance<G> {
-    /// Publishes this state, unless a later one is published, and answers the state that was
-    /// published before.
-    pub fn raise(&self, book: &mut BookSeat<G>, to: RunState) -> RunState
-        ensures raised { book.new ≡ max book.old (state_rank to) }
-        ensures before { state_rank result ≡ book.old }
+    /// Notes an entry that leaves the run state as it is, for the owner of a seat. What the seat knew is
+    /// a front of the history before, and it knows the history with the entry then.
+    pub fn note(&self, book: &mut BookSeat<G>, seat: &mut PassSeat<G>, entry: &Entry)
+        requires { reaches entry.now.did ≤ rank book.old }
+        ensures noted { book.new ≡ entry.now ∷ book.old }
+        ensures seen { seat.new ≡ entry.now ∷ book.old }
+        ensures knew { IsFrontOf seat.old book.old }
+    {
+        let known = self.split(seat);
+        self.note_as::<Brand>(book, known, entry);
+        *seat = self.split_book(book);
+    }
+
+    fn note_as<N: Noting>(&self, book: &mut BookSeat<G>, known: PassSeat<G>, _entry: &Entry)
+        requires same { N.entry ≡ _entry.now }
+        requires stays { reaches N.entry.did ≤ rank book.old }
+        ensures noted { book.new ≡ N.entry ∷ book.old }
+        ensures knew { IsFrontOf known book.old }
+    {
+        self.tell(&mut book.seat, known);
+        self.table.shared.load::<Notes<N>>(&mut book.seat, 0);
+    }
+
+    /// Notes an entry and publishes the state after it, for the owner of a seat, and answers the state
+    /// that was published before. What the seat knew is a front of the history before, and it knows the
+    /// history with the entry then.
+    pub fn raise(
+        &self,
+        book: &mut BookSeat<G>,
+        seat: &mut PassSeat<G>,
+        entry: &Entry,
+        to: RunState,
+    ) -> RunState
+        requires { state_rank to ≡ rank (entry.now ∷ book.old) }
+        ensures noted { book.new ≡ entry.now ∷ book.old }
+        ensures seen { seat.new ≡ entry.now ∷ book.old }
+        ensures knew { IsFrontOf seat.old book.old }
+        ensures before { state_rank result ≡ rank book.old }
+    {
+        let known = self.split(seat);
+        let before = self.raise_as::<Brand>(book, known, entry, to);
+        *seat = self.split_book(book);
+        before
+    }
+
+    fn raise_as<N: Noting>(
+        &self,
+        book: &mut BookSeat<G>,
+        known: PassSeat<G>,
+        _entry: &Entry,
+        to: RunState,
+    ) -> RunState
+        requires same { N.entry ≡ _entry.now }
+        requires after { state_rank to ≡ rank (N.entry ∷ book.old) }
+        ensures noted { book.new ≡ N.entry ∷ book.old }
+        ensures knew { IsFrontOf known book.old }
+        ensures before { state_rank result ≡ rank book.old }
     {
         let rank = u64::from(to.rank());
+        self.tell(&mut book.seat, known);
         let before = self
             .table
             .shared
-            .fetch_max::<Raises>(&mut book.seat, 0, rank);
+            .fetch_max::<Notes<N>>(&mut book.seat, 0, rank);
         RunState::from_rank(before as u8)
     }
 
     /// The state that is published now, without waiting, as `isShutdown` and `isTerminated` are
-    /// answered. It is never below what the seat has seen, and the seat has then seen it.
+    /// answered. It is that of the pool's history at this moment, which the seat then knows, and
+    /// which goes on from what it knew.
     pub fn glance(&self, seat: &mut PassSeat<G>) -> RunState
-        ensures rises { seat.old ≤ state_rank result }
-        ensures seen { seat.new ≡ state_rank result }
+        ensures state { state_rank result ≡ rank seat.new }
+        ensures goes_on { IsFrontOf seat.old seat.new }
     {
         let found = self.table.shared.load::<Looks>(&mut seat.seat, 0);
         RunState::from_rank(found as u8)
     }
 
-    /// The state that is published, as the book's seat reads it: what it knows.
+    /// The state that is published, as the book's seat reads it: that of its history.
     pub fn published(&self, book: &mut BookSeat<G>) -> RunState
-        ensures known { state_rank result ≡ book.old }
+        ensures known { state_rank result ≡ rank book.old }
         ensures same { book.new ≡ book.old }
     {
         let found = self.table.shared.load::<Looks>(&mut book.seat, 0);
         RunState::from_rank(found as u8)
     }
 
-    /// One more seat, which has seen what this one has seen.
+    /// One more seat, which knows what this one knows.
     pub fn split(&self, seat: &mut PassSeat<G>) -> PassSeat<G>
         ensures begins { result ≡ seat.old }
         ensures same { seat.new ≡ seat.old }
@@ -177,7 +238,7 @@ impl<G: Naming> Glance<G> {
         }
     }
 
-    /// A seat for a pass, which has seen what is published.
+    /// A seat for a pass, which knows the whole history.
     pub fn split_book(&self, book: &mut BookSeat<G>) -> PassSeat<G>
         ensures begins { result ≡ book.old }
         ensures same { book.new ≡ book.old }
@@ -188,23 +249,43 @@ impl<G: Naming> Glance<G> {
         }
     }
 
-    /// Lets a seat see what the book's seat knows, with no look at the word: what its owner did
-    /// under the lock it has then seen.
+    /// Lets a seat know the whole history, which goes on from what it knew, with no look at the
+    /// word: what its owner did under the lock it has then seen.
     pub fn show(&self, book: &mut BookSeat<G>, seat: &mut PassSeat<G>)
-        ensures seen { seat.new ≡ max seat.old book.old }
+        ensures seen { seat.new ≡ book.old }
+        ensures goes_on { IsFrontOf seat.old book.old }
         ensures same { book.new ≡ book.old }
     {
-        let news = self.table.shared.split_seat::<Begins>(&mut book.seat);
-        self.table.shared.join_seat::<Learns>(&mut seat.seat, news);
+        let news = self.split_book(book);
+        let known = mem::replace(seat, news);
+        self.take_in(book, known);
     }
 
-    /// The law that no seat has seen more than the book's seat knows.
-    pub fn seen_is_published(&self, book: &mut BookSeat<G>, seat: &mut PassSeat<G>)
-        ensures below { seat.old ≤ book.old }
+    /// The law that what a seat knows is a front of the history.
+    pub fn is_front(&self, book: &mut BookSeat<G>, seat: &mut PassSeat<G>)
+        ensures front { IsFrontOf seat.old book.old }
         ensures same { (seat.new ≡ seat.old) × (book.new ≡ book.old) }
     {
-        let news = self.table.shared.split_seat::<Begins>(&mut seat.seat);
-        self.table.shared.join_seat::<Tells>(&mut book.seat, news);
+        let known = self.split(seat);
+        self.take_in(book, known);
+    }
+
+    // The book's seat is told of what a seat knows, and looks: that is a front of the history.
+    fn take_in(&self, book: &mut BookSeat<G>, known: PassSeat<G>)
+        ensures front { IsFrontOf known book.old }
+        ensures same { book.new ≡ book.old }
+    {
+        self.tell(&mut book.seat, known);
         self.table.shared.load::<Looks>(&mut book.seat, 0);
+    }
+
+    // The book's seat is told of what a seat knows. Its next step tells that this is a front of the history.
+    fn tell(&self, book: &mut Seat<(), View>, known: PassSeat<G>)
+        requires { (book.old.table_id ≡ G.table) × (book.old.me ≡ (book_view book.old.me.0.front book.old.me.0.told, [])) }
+        ensures table { book.new.table_id ≡ G.table }
+        ensures told { book.new.me ≡ (book_view book.old.me.0.front known, []) }
+    {
+        let PassSeat { seat, of: _ } = known;
+        self.table.shared.join_seat::<Tells>(book, seat);
     }
 }

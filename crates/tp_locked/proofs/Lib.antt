@@ -1,5 +1,6 @@
-pub mod Made
+pub mod Adding
 pub mod Moments
+pub mod Receipts
 pub mod Refusals
 pub mod Stops
 pub mod Waits

@@ -1,14 +1,14 @@
 pub mod Answers
-pub mod Begins
 pub mod Closing
 pub mod Codes
 pub mod CoreView
 pub mod Drains
 pub mod Flagged
+pub mod Holds
+pub mod Moments
 pub mod Names
 pub mod Passes
 pub mod Readings
-pub mod Records
 pub mod Rosters
 pub mod Roused
 pub mod Steps

@@ -1,33 +1,37 @@
 //! The value under a pool's lock.
-ghost use Rattle.std.specs.Prelude.{◌≡◌, ◌+◌, ◌<◌, ◌≤◌, [], replicate, reverse, Ok, Err, Option, IfOk, IfErr, OnOk, OnErr, option_map};
+ghost use Rattle.std.specs.Prelude.{◌≡◌, ◌+◌, ◌<◌, ◌≤◌, [], replicate, IfOk, IfErr, OnOk, OnErr};
 ghost use Rattle.tp_types.specs.Config.{IsConfig};
-ghost use Rattle.tp_record.specs.Effects.{reaches};
-ghost use Rattle.tp_record.specs.Step.{Gives, IsRefused, Legal};
+ghost use Rattle.tp_types.specs.RunState.{state_rank};
+ghost use Rattle.tp_record.specs.Fields.{rank};
+ghost use Rattle.tp_record.specs.Step.{Legal};
 ghost use Rattle.tp_sleepers.specs.Rests.{IsSettled};
 ghost use Rattle.tp_sleepers.specs.declared.sleepers.Rest.TheVariants as rests;
 ghost use Rattle.tp_waking.specs.declared.calls.TheConstants.{NO_WAITERS, NOBODY};
-ghost use Rattle.tp_machine.specs.Stepped.{IsAnswer, IsPaid, IsSubmission, did_of};
-ghost use Rattle.tp_book.specs.BookView.{config, entries, state_of, IsAdvanced, IsDenied, IsUnmoved};
-ghost use Rattle.tp_locked.specs.Passes.{AddsStep, IsRefusal};
+ghost use Rattle.tp_glance.specs.Word.{IsFrontOf};
+ghost use Rattle.tp_book.specs.BookView.{config};
+ghost use Rattle.tp_locked.specs.Holds.{Holds, Denies};
+ghost use Rattle.tp_locked.specs.Moments.{IsBook};
+ghost use Rattle.tp_locked.specs.Passes.{AddsStep, IsRefusal, LooksOnly, entry_of};
 ghost use Rattle.tp_locked.specs.Roused.{IsRoused};
-ghost use Rattle.tp_locked.specs.Steps.{Made, IsMade};
+ghost use Rattle.tp_locked.specs.Steps.{Makes, Refused};
 ghost use Rattle.tp_locked.specs.Waits.{waits, HasNoOutcome};
 ghost use Rattle.tp_locked.specs.declared.tasks.Task.{Task as TaskOf};
 
-use self::controllers::mark;
 use crate::flags::Flags;
 use crate::names::PoolNaming;
 use crate::roster::Roster;
 use crate::tasks::Task;
 use std::alloc::Global;
 use std::marker::Model;
-use tp_book::book::{Book, Stepped};
-use tp_book::passes::{Pass, WorkerPass};
+use tp_book::book::Book;
+use tp_book::passes::Pass;
+use tp_book::payers::Payer;
 use tp_glance::glance::Glance;
+use tp_machine::typed::Step;
 use tp_record::entries::{Ask, Did};
 use tp_types::limits::MAX_WORKERS;
 use tp_types::refusals::PoolError;
-use tp_types::tasks::Promise;
+use tp_types::states::RunState;
 use tp_waking::calls::Calls;
 use tp_waking::waking::Waking;
 
@@ -50,7 +54,7 @@ impl<G: PoolNaming, J> Model for Core<G, J> {
     ghost use Rattle.tp_book.specs.BookView.{config};
     ghost use Rattle.tp_locked.specs.Codes.{task_code};
     ghost use Rattle.tp_locked.specs.CoreView.{CoreView};
-    ghost use Rattle.tp_locked.specs.Waits.{waits};
+    ghost use Rattle.tp_locked.specs.Waits.{waits, HasNoOutcome};
 
     ghost Value = { CoreView J };
 
@@ -61,101 +65,34 @@ impl<G: PoolNaming, J> Model for Core<G, J> {
     ghost invariant = { λ c. (config c.book ≡ G.config) × IsConfig G.config × IsSettled (waits c.book) c.waking.sleepers };
 }
 
-// Makes the step of this ask with a caller's pass that has room for its receipt. What the step reaches
-// the pass has then seen, also where another had reached it before.
-fn step_of<G: PoolNaming, J: Drop>(
-    book: &mut Book<G, Task<J>>,
-    ask: Ask,
-    submitted: Option<(Promise, Task<J>)>,
-    glance: &Glance<G>,
-    pass: &mut Pass<G>,
-) -> Result<Stepped<Task<J>>, (PoolError, Option<Task<J>>)>
-    requires settings { config book.old ≡ G.config }
-    requires paid { IsPaid ask submitted }
-    requires room { 0 < pass.old.room }
-    ensures came { IfOk result (IsAdvanced book.old book.new pass.old.number ask submitted) }
-    ensures denied { IfErr result (λ r. IsDenied book.old ask r.0) }
-    ensures unmoved { OnErr result (IsUnmoved book.old book.new) }
-    ensures answer { IfOk result (λ s. IsAnswer ask s) }
-    ensures gives { IfOk result (λ s. Gives G.config (state_of book.old) ask (did_of ask s)) }
-    ensures step { IfOk result (λ s. AddsStep pass.old ask (did_of ask s) pass.new) }
-    ensures seen { IfOk result (λ s. reaches (did_of ask s) ≤ pass.new.seen) }
-    ensures left { OnOk result (pass.old.room ≤ pass.new.room + 1) }
-    ensures legal { Legal G.config (reverse (entries book.old)) }
-    ensures refused { IfErr result (λ r. HasNoOutcome ask → IsRefused G.config (state_of book.old) ask r.0) }
-    ensures returned { IfErr result (λ r. r.1 ≡ option_map (λ x. x.1) submitted) }
-    ensures unchanged { OnErr result (pass.new ≡ pass.old) }
-    ensures settings { config book.new ≡ G.config }
-{
-    book.is_balanced();
-    match book.step(ask, submitted, glance, pass) {
-        Ok(stepped) => {
-            book.is_balanced();
-            book.show(glance, pass);
-            Ok(stepped)
-        }
-        Err(refused) => Err(refused),
-    }
-}
-
-// Whom an accepted step concerns: who sleeps, and who waits.
+// Whom an accepted step concerns: the workers that sleep, and the waiters.
+#[inline(always)]
 fn rouse<G: PoolNaming, J>(book: &Book<G, Task<J>>, waking: &mut Waking, ask: &Ask, did: &Did)
     ensures settled { IsSettled (waits book.now) waking.new.sleepers }
     ensures roused { IsRoused book.now waking.old waking.new ask.now did.now }
 {
     let counts = book.counts();
-    waking.follow(ask, did, book.state(), &counts, book.leaving());
-}
-
-// What an accepted step is to those who sleep or wait, and to the flags of tasks.
-fn noted<G: PoolNaming, J>(
-    book: &Book<G, Task<J>>,
-    flags: &mut Flags,
-    waking: &mut Waking,
-    ask: &Ask,
-    stepped: &Stepped<Task<J>>,
-)
-    requires { IsAnswer ask.now stepped.now }
-    ensures settled { IsSettled (waits book.now) waking.new.sleepers }
-    ensures roused { IsRoused book.now waking.old waking.new ask.now (did_of ask.now stepped.now) }
-{
-    rouse(book, waking, ask, &stepped.did(ask));
-    mark(book, flags, ask, stepped);
-}
-
-// What the answer to an ask is to those who sleep or wait, and to the flags of tasks.
-fn concluded<G: PoolNaming, J: Drop>(
-    book: &Book<G, Task<J>>,
-    flags: &mut Flags,
-    waking: &mut Waking,
-    ask: &Ask,
-    stepped: Result<Stepped<Task<J>>, (PoolError, Option<Task<J>>)>,
-) -> Result<Stepped<Task<J>>, PoolError>
-    requires answer { IfOk stepped (λ s. IsAnswer ask.now s) }
-    requires settled { OnErr stepped (IsSettled (waits book.now) waking.old.sleepers) }
-    ensures settled { IsSettled (waits book.now) waking.new.sleepers }
-    ensures roused { IfOk result (λ s. IsRoused book.now waking.old waking.new ask.now (did_of ask.now s)) }
-    ensures asleep { OnErr result (waking.new ≡ waking.old) }
-    ensures accepted { IfOk result (λ s. stepped ≡ Ok s) }
-    ensures refused { IfErr result (λ e. (task : Option (TaskOf J)) × (stepped ≡ Err (e, task))) }
-{
-    match stepped {
-        Ok(stepped) => {
-            noted(book, flags, waking, ask, &stepped);
-            Ok(stepped)
-        }
-        Err((error, _)) => Err(error),
-    }
+    let leaving = book.leaving();
+    waking.follow(
+        ask,
+        did,
+        book.state(),
+        counts.live,
+        counts.queued,
+        leaving,
+    );
 }
 
 mod closing;
 mod controllers;
+mod marks;
 mod readings;
 mod submitters;
 mod workers;
 
-pub use closing::{Beside, all_seen_is_published};
+pub use closing::Beside;
 pub use controllers::Look;
+pub use marks::Marks;
 pub use workers::Taking;
 
 impl<G: PoolNaming, J: Drop> Core<G, J> {
@@ -180,27 +117,30 @@ impl<G: PoolNaming, J: Drop> Core<G, J> {
         })
     }
 
-    /// Makes the step of this ask, which brings no task, with a caller's pass that has room for its
-    /// receipt; what the step reaches the pass has then seen.
-    pub fn step(
+    /// Makes this step with a pass, a caller's or a worker's: `Book::step_by`. The threads that an accepted step
+    /// concerns are to be woken, and the flags of tasks that it concerns are set, or let go of.
+    #[inline(always)]
+    pub fn step_by<S: Marks<J>, A: Payer<G>>(
         &mut self,
-        ask: Ask,
+        step: S,
+        load: S::Load,
         glance: &Glance<G>,
-        pass: &mut Pass<G>,
-    ) -> Result<Stepped<Task<J>>, PoolError>
-        requires unpaid { ¬ IsSubmission ask }
-        requires room { 0 < pass.old.room }
-        ensures made { Made self.old.book self.new.book pass.old.number ask result }
-        ensures roused { IfOk result (λ s. IsRoused self.new.book self.old.waking self.new.waking ask (did_of ask s)) }
-        ensures asleep { OnErr result (self.new.waking ≡ self.old.waking) }
-        ensures threads { self.new.roster ≡ self.old.roster }
-        ensures some { IfOk result (IsMade (TaskOf J) G.config pass.old.number ask) }
-        ensures answer { IfOk result (λ s. IsAnswer ask s) }
-        ensures step { IfOk result (λ s. AddsStep pass.old ask (did_of ask s) pass.new) }
-        ensures seen { IfOk result (λ s. reaches (did_of ask s) ≤ pass.new.seen) }
-        ensures left { OnOk result (pass.old.room ≤ pass.new.room + 1) }
-        ensures refused { IfErr result (λ e. HasNoOutcome ask → IsRefusal G.config ask e) }
-        ensures unchanged { OnErr result (pass.new ≡ pass.old) }
+        pass: &mut A,
+    ) -> Result<S::Answer, (PoolError, S::Load)>
+        requires brings { S.brings step load }
+        requires ready { A.ready pass.old }
+        ensures answers { IfOk result (λ x. S.answers step x) }
+        ensures holds { IfOk result (λ x. Holds self.old self.new (A.number pass.old) (S.ask step) (S.did step x) (S.moves step load x)) }
+        ensures makes { IfOk result (λ x. Makes J G.config (A.number pass.old) (A.front pass.old) (S.ask step) (S.did step x) (S.moves step load x) (A.front pass.new)) }
+        ensures says { IfOk result (λ x. S.says step x self.old.book.history) }
+        ensures paid { IfOk result (λ x. A.paid pass.old (entry_of (A.number pass.old) (S.ask step) (S.did step x)) pass.new) }
+        ensures denies { IfErr result (λ r. Denies self.old self.new (S.ask step) r.0) }
+        ensures refused { IfErr result (λ r. Refused J G.config (A.front pass.old) (S.ask step) r.0 (A.front pass.new)) }
+        ensures shown { OnErr result (A.shown pass.old pass.new) }
+        ensures returned { IfErr result (λ r. r.1 ≡ load) }
+        ensures number { A.number pass.new ≡ A.number pass.old }
+        ensures goes_on { IsFrontOf (A.front pass.old) self.old.book.history }
+        ensures front { (OnOk result (A.front pass.new ≡ self.new.book.history)) × (OnErr result (A.front pass.new ≡ self.old.book.history)) }
     {
         let Core {
             book,
@@ -208,19 +148,89 @@ impl<G: PoolNaming, J: Drop> Core<G, J> {
             waking,
             roster: _,
         } = self;
-        let stepped = step_of(book, ask, None, glance, pass);
-        concluded(book, flags, waking, &ask, stepped)
+        book.is_balanced();
+        let answer = match book.step_by(step, load, glance, pass) {
+            Ok(answer) => answer,
+            Err(refused) => return Err(refused),
+        };
+        rouse(book, waking, &step.ask(), &step.did(&answer));
+        step.mark(&answer, book, flags);
+        Ok(answer)
     }
 
-    /// The law that the book's record is legal in the pool's settings.
-    pub fn is_legal(&self)
-        ensures settings { config self.now.book ≡ G.config }
-        ensures legal { Legal G.config (reverse (entries self.now.book)) }
+    /// As `step_by`, for a step with which nothing comes.
+    #[inline(always)]
+    pub fn step<S: Marks<J> + Step<Task<J>, Load = ()>, A: Payer<G>>(
+        &mut self,
+        step: S,
+        glance: &Glance<G>,
+        pass: &mut A,
+    ) -> Result<S::Answer, PoolError>
+        requires brings { S.brings step tt }
+        requires ready { A.ready pass.old }
+        ensures answers { IfOk result (λ x. S.answers step x) }
+        ensures holds { IfOk result (λ x. Holds self.old self.new (A.number pass.old) (S.ask step) (S.did step x) (S.moves step tt x)) }
+        ensures makes { IfOk result (λ x. Makes J G.config (A.number pass.old) (A.front pass.old) (S.ask step) (S.did step x) (S.moves step tt x) (A.front pass.new)) }
+        ensures says { IfOk result (λ x. S.says step x self.old.book.history) }
+        ensures paid { IfOk result (λ x. A.paid pass.old (entry_of (A.number pass.old) (S.ask step) (S.did step x)) pass.new) }
+        ensures denies { IfErr result (λ e. Denies self.old self.new (S.ask step) e) }
+        ensures refused { IfErr result (λ e. Refused J G.config (A.front pass.old) (S.ask step) e (A.front pass.new)) }
+        ensures shown { OnErr result (A.shown pass.old pass.new) }
+        ensures number { A.number pass.new ≡ A.number pass.old }
+        ensures goes_on { IsFrontOf (A.front pass.old) self.old.book.history }
+        ensures front { (OnOk result (A.front pass.new ≡ self.new.book.history)) × (OnErr result (A.front pass.new ≡ self.old.book.history)) }
+    {
+        match self.step_by(step, (), glance, pass) {
+            Ok(answer) => Ok(answer),
+            Err((error, _)) => Err(error),
+        }
+    }
+
+    /// As `step`, with a caller's pass that has room for its receipt.
+    #[inline(always)]
+    pub fn ask<S: Marks<J> + Step<Task<J>, Load = ()>>(
+        &mut self,
+        step: S,
+        glance: &Glance<G>,
+        pass: &mut Pass<G>,
+    ) -> Result<S::Answer, PoolError>
+        requires brings { S.brings step tt }
+        requires room { 0 < pass.old.room }
+        ensures answers { IfOk result (λ x. S.answers step x) }
+        ensures holds { IfOk result (λ x. Holds self.old self.new pass.old.number (S.ask step) (S.did step x) (S.moves step tt x)) }
+        ensures makes { IfOk result (λ x. Makes J G.config pass.old.number pass.old.front (S.ask step) (S.did step x) (S.moves step tt x) pass.new.front) }
+        ensures says { IfOk result (λ x. S.says step x self.old.book.history) }
+        ensures step { IfOk result (λ x. AddsStep G.config pass.old (S.ask step) (S.did step x) pass.new) }
+        ensures left { OnOk result (pass.old.room ≤ pass.new.room + 1) }
+        ensures denies { IfErr result (λ e. Denies self.old self.new (S.ask step) e) }
+        ensures refused { IfErr result (λ e. HasNoOutcome (S.ask step) → IsRefusal G.config pass.new.front (S.ask step) e) }
+        ensures unchanged { OnErr result (LooksOnly G.config pass.old pass.new) }
+        ensures legal { Legal G.config pass.new.front }
+        ensures front { (OnOk result (pass.new.front ≡ self.new.book.history)) × (OnErr result (pass.new.front ≡ self.old.book.history)) }
+    {
+        self.step(step, glance, pass)
+    }
+
+    /// The run state. The pass then knows the whole history, which goes on from what it knew.
+    #[inline(always)]
+    pub fn show(&mut self, glance: &Glance<G>, pass: &mut Pass<G>) -> RunState
+        ensures state { state_rank result ≡ rank self.old.book.history }
+        ensures shown { pass.new ≡ record pass.old { front = self.old.book.history } }
+        ensures goes_on { IsFrontOf pass.old.front self.old.book.history }
+        ensures same { self.new ≡ self.old }
+    {
+        self.book.show(glance, pass)
+    }
+
+    /// The law that the book stands at its history, which is legal in the pool's settings.
+    pub fn is_book(&self)
+        ensures { IsBook (TaskOf J) G.config self.now.book }
     {
         self.book.is_balanced();
     }
 
-    /// Who is to be woken once the lock is let go.
+    /// Which threads are to be woken once the lock is let go.
+    #[inline(always)]
     pub fn release(&mut self) -> Calls
         ensures calls { result ≡ self.old.waking.calls }
         ensures told { self.new ≡ record self.old { waking = record self.old.waking { calls = NOBODY } } }

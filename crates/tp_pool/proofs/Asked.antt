@@ -1,51 +1,65 @@
 -- A worker's step in one hold, as one of its pool.
-use Rattle.std.proofs.Common.{◌≡◌, ℕ, false, reverse, Ok, Err, refl, ap, subst}
+use Rattle.std.proofs.Common.{◌≡◌, ℕ, List, [], ◌∷◌, refl, ap, sym, ◌∙◌, subst}
 use Rattle.std.proofs.lemmas.Bool.{false≢true}
-use Rattle.std.specs.Prelude.{⊤, Option, None, Result, IfOk, is_ok}
-use Rattle.tp_types.specs.declared.ids.SlotId.{SlotId}
+use Rattle.std.specs.Prelude.{Option, None, Result, Ok, Err, IsTrue, IfOk, IfErr, OnErr, is_ok}
 use Rattle.tp_types.specs.declared.configs.Config.{Config}
+use Rattle.tp_types.specs.declared.ids.SlotId.{SlotId}
 use Rattle.tp_types.specs.declared.refusals.PoolError.{PoolError}
 use Rattle.tp_record.specs.declared.entries.Ask.{Ask}
 use Rattle.tp_record.specs.declared.entries.Ask.TheVariants as ask
-use Rattle.tp_record.specs.Step.{Legal}
-use Rattle.tp_machine.specs.declared.steps.Stepped.{Stepped}
-use Rattle.tp_book.specs.BookView.{BookView, config, entries}
+use Rattle.tp_record.specs.declared.entries.Did.{Did}
+use Rattle.tp_record.specs.declared.entries.Did.TheVariants as did
+use Rattle.tp_record.specs.declared.entries.Entry.{Entry}
+use Rattle.tp_tasks.specs.declared.tasks.Tasks.{Tasks}
+use Rattle.tp_parts.specs.Payloads.{Keeps}
+use Rattle.tp_glance.specs.Word.{IsFrontOf}
+use Rattle.tp_glance.proofs.Fronts.{IsFrontOf_trans}
 use Rattle.tp_turns.specs.Turns.{told}
 use Rattle.tp_turns.specs.declared.deeds.Deed.TheVariants as deed
 use Rattle.tp_turns.specs.declared.deeds.Taken.{Taken}
 use Rattle.tp_turns.specs.declared.turns.Begun.{Begun}
 use Rattle.tp_turns.specs.declared.turns.Begun.TheVariants as begun
-use Rattle.tp_locked.specs.Steps.{IsAnswered, Made, begun_of, taking_of}
+use Rattle.tp_locked.specs.Steps.{Makes, Refused, Asks, begun_of, taking_of}
 use Rattle.tp_locked.specs.declared.tasks.Task.{Task}
-use Rattle.tp_pool.specs.Deeds.{EndsPool, IsDone, heir_after, taken_as}
+use Rattle.tp_pool.specs.Deeds.{BeginsAt, EndsLast, EndsPool, Takes, IsDone, heir_after, taken_as}
 
-pub asked : {P : Type 0} (told old new : BookView P) (c : Config) (by : ℕ) (a : Ask) (F : BookView P → Result (Stepped P) PoolError → Type 0) → told ≡ old →
-    config told ≡ c → Legal c (reverse (entries told)) → (answer : Result (Stepped P) PoolError) → Made old new by a answer → F new answer → IsAnswered P c by a F
-asked told old new c by a F same settings legal answer made holds = record {
-  old = old;
-  new = new;
-  settings = subst (λ b. config b ≡ c) same settings;
-  legal = subst (λ b. Legal c (reverse (entries b))) same legal;
-  answer = answer;
-  made = made;
-  holds = holds;
-}
+module _ {J A : Type 0} (c : Config) (by : ℕ) (a : Ask) (did : A → Did) (moves : A → Tasks (Task J) → Tasks (Task J) → Type 0) where
+  -- the step, or its refusal, as an answer
+  pub asked : (before after : List Entry) (r : Result A PoolError) (F : Result A PoolError → Type 0) →
+      IfOk r (λ x. Makes J c by before a (did x) (moves x) after) → IfErr r (λ e. Refused J c before a e after) → F r → Asks J c by before a did moves after F
+  asked before after r F makes refused holds = record { answer = r; made = makes; refused = refused; holds = holds }
 
-abbrev Begins : {J : Type 0} → Config → SlotId → ℕ → Begun J → Type 0
-Begins {J = J} c w by b = IsAnswered (Task J) c by (ask.Begin w) (λ _ r. b ≡ begun_of r)
+  made_from : (f g h : List Entry) (r : Result A PoolError) → IsFrontOf f g → IfOk r (λ x. Makes J c by g a (did x) (moves x) h) → IfOk r (λ x. Makes J c by f a (did x) (moves x) h)
+  made_from f g h (Ok x) on m = record { old = m.old; new = m.new; is = m.is; goes_on = IsFrontOf_trans on m.goes_on; step = m.step; shown = m.shown }
+  made_from f g h (Err e) on m = tt
 
-abbrev Tells : {J : Type 0} → Config → SlotId → ℕ → Begun J → Type 0
-Tells {J = J} c w by b = IsAnswered (Task J) c by (ask.Begin w) (λ _ r. told b ≡ told (begun_of r))
+  refused_from : (f g h : List Entry) (r : Result A PoolError) → IsFrontOf f g → IfErr r (λ e. Refused J c g a e h) → IfErr r (λ e. Refused J c f a e h)
+  refused_from f g h (Ok x) on m = tt
+  refused_from f g h (Err e) on m = record { book = m.book; is = m.is; goes_on = IsFrontOf_trans on m.goes_on; denied = m.denied; shown = m.shown }
 
-tells : {J : Type 0} (c : Config) (w : SlotId) (by : ℕ) (b : Begun J) → Begins c w by b → Tells c w by b
-tells c w by b is =
-    record { old = is.old; new = is.new; settings = is.settings; legal = is.legal; answer = is.answer; made = is.made; holds = ap told is.holds }
+  -- a pass that knew less
+  pub asks_from : (f g h : List Entry) (F : Result A PoolError → Type 0) → IsFrontOf f g → Asks J c by g a did moves h F → Asks J c by f a did moves h F
+  asks_from f g h F on is = record { answer = is.answer; made = made_from f g h is.answer on is.made; refused = refused_from f g h is.answer on is.refused; holds = is.holds }
 
--- the deed of a `begin` is that step
-pub begun_done : {J : Type 0} (c : Config) (w : SlotId) (by : ℕ) (heir : Option SlotId) (b : Begun J) → IsAnswered (Task J) c by (ask.Begin w) (λ _ r. b ≡ begun_of r) → IsDone J c w by heir (told b).0 (told b).1
-begun_done c w by heir (begun.Run t job flag) is = tells c w by (begun.Run t job flag) is
-begun_done c w by heir (begun.Skip t) is = tells c w by (begun.Skip t) is
-begun_done c w by heir begun.Refused is = tells c w by begun.Refused is
+  -- the pass knows more then
+  goes_made : (f h : List Entry) (r : Result A PoolError) → IfOk r (λ x. Makes J c by f a (did x) (moves x) h) → IfErr r (λ e. Refused J c f a e h) → IsFrontOf f h
+  goes_made f h (Ok x) m n =
+      let noted : IsFrontOf m.old.history h = record { later = record { by = by; ask = a; did = did x } ∷ []; goes_on = m.shown ∙ m.step.notes } in
+      IsFrontOf_trans m.goes_on noted
+  goes_made f h (Err e) m n = subst (λ k. IsFrontOf f k) (sym n.shown) n.goes_on
+
+  pub asks_go : (f h : List Entry) (F : Result A PoolError → Type 0) → Asks J c by f a did moves h F → IsFrontOf f h
+  asks_go f h F is = goes_made f h is.answer is.made is.refused
+
+  pub asks_so : (f h : List Entry) (F E : Result A PoolError → Type 0) → ((r : Result A PoolError) → F r → E r) → Asks J c by f a did moves h F → Asks J c by f a did moves h E
+  asks_so f h F E so is = record { answer = is.answer; made = is.made; refused = is.refused; holds = so is.answer is.holds }
+
+module _ {J : Type 0} (c : Config) (w : SlotId) (by : ℕ) (before after : List Entry) (heir : Option SlotId) where
+  -- the deed of a `begin` is that step
+  pub begun_done : (b : Begun J) → BeginsAt J c by before w after (λ r. b ≡ begun_of r) → IsDone J c w by before after heir (told b).0 (told b).1
+  begun_done (begun.Run t job flag) is = record { answer = is.answer; made = is.made; refused = is.refused; holds = ap told is.holds }
+  begun_done (begun.Skip t) is = record { answer = is.answer; made = is.made; refused = is.refused; holds = ap told is.holds }
+  begun_done begun.Refused is = record { answer = is.answer; made = is.made; refused = is.refused; holds = ap told is.holds }
 
 -- which reserves no slot
 pub heir_of : {J : Type 0} (b : Begun J) (heir : Option SlotId) → heir ≡ heir_after heir (told b).0
@@ -54,42 +68,38 @@ heir_of (begun.Skip t) heir = refl
 heir_of begun.Refused heir = refl
 
 -- so is that of a `take`, which a worker makes at its slot with its pass
-pub taken : {J : Type 0} (c : Config) (w v : SlotId) (by n : ℕ) (heir : Option SlotId) (t : Taken) → v ≡ w → n ≡ by → IsAnswered (Task J) c n (ask.Take v) (λ _ r. taken_as t ≡ taking_of r) →
-    IsDone J c w by heir (deed.Took t) None
-taken {J = J} c w v by n heir t same_slot same_pass is =
-    subst (λ v. IsDone J c v by heir (deed.Took t) None) same_slot (subst (λ (n : ℕ). IsDone J c v n heir (deed.Took t) None) same_pass is)
+pub taken : {J : Type 0} (c : Config) (w v : SlotId) (by n : ℕ) (f g h : List Entry) (heir : Option SlotId) (t : Taken) → v ≡ w → n ≡ by → IsFrontOf f g →
+    Takes J c n g v h (λ r. taken_as t ≡ taking_of r) → IsDone J c w by f h heir (deed.Took t) None
+taken {J = J} c w v by n f g h heir t same_slot same_pass on is =
+    subst (λ v. IsDone J c v by f h heir (deed.Took t) None) same_slot (subst (λ (n : ℕ). IsDone J c v n f h heir (deed.Took t) None) same_pass
+    (asks_from c n (ask.Take v) (λ x. did.Take v x) (λ _. Keeps) f g h (λ r. taken_as t ≡ taking_of r) on is))
 
 -- the end by a worker: where `tidy` is accepted it asks `ended` too, with the same pass
 so_if_ok : {A E : Type 0} (r : Result A E) (X : Type 0) → X → IfOk r (λ _. X)
-so_if_ok (Ok a) X x = x
-so_if_ok (Err e) X x = tt
+so_if_ok (Ok a) X is = is
+so_if_ok (Err e) X is = tt
 
-pub ended_by : {J : Type 0} (c : Config) (by n : ℕ) (F H : BookView (Task J) → Result (Stepped (Task J)) PoolError → Type 0) →
-    IsAnswered (Task J) c by ask.Tidy F → n ≡ by → IsAnswered (Task J) c n ask.Ended H → EndsPool J c by
-ended_by {J = J} c by n F H is same then =
-    let X : ℕ → Type 0 = λ n. IsAnswered (Task J) c n ask.Ended (λ _ _. ⊤) in
-    let whatever : X n = record { old = then.old; new = then.new; settings = then.settings; legal = then.legal; answer = then.answer; made = then.made; holds = tt } in record {
-      old = is.old;
-      new = is.new;
-      settings = is.settings;
-      legal = is.legal;
-      answer = is.answer;
-      made = is.made;
-      holds = so_if_ok is.answer (X by) (subst X same whatever);
-    }
+no_err : {A E : Type 0} (r : Result A E) (X : Type 0) → IsTrue (is_ok r) → OnErr r X
+no_err (Ok a) X is = tt
+no_err (Err e) X is = absurd (false≢true is)
 
--- and where it is refused that is all
-none_if_err : {A E : Type 0} (r : Result A E) (X : Type 0) → false ≡ is_ok r → IfOk r (λ _. X)
-none_if_err (Ok a) X is = absurd (false≢true is)
-none_if_err (Err e) X is = tt
+no_ok : {A E : Type 0} (r : Result A E) (X : Type 0) → ¬ IsTrue (is_ok r) → IfOk r (λ _. X)
+no_ok (Ok a) X is = absurd (is refl)
+no_ok (Err e) X is = tt
 
-pub barred : {J : Type 0} (c : Config) (by : ℕ) → IsAnswered (Task J) c by ask.Tidy (λ _ r. false ≡ is_ok r) → EndsPool J c by
-barred {J = J} c by is = record {
-  old = is.old;
-  new = is.new;
-  settings = is.settings;
-  legal = is.legal;
-  answer = is.answer;
-  made = is.made;
-  holds = none_if_err is.answer (IsAnswered (Task J) c by ask.Ended (λ _ _. ⊤)) is.holds;
-}
+so_if_err : {A E : Type 0} (r : Result A E) (X : Type 0) → X → OnErr r X
+so_if_err (Ok a) X is = tt
+so_if_err (Err e) X is = is
+
+module _ {J : Type 0} (c : Config) (by : ℕ) (before mid : List Entry) (r : Result (Unit {0}) PoolError)
+    (made : IfOk r (λ _. Makes J c by before ask.Tidy did.Tidy Keeps mid)) (refused : IfErr r (λ e. Refused J c before ask.Tidy e mid)) where
+  pub ended_by : (n : ℕ) (after : List Entry) (s : Result (Unit {0}) PoolError) → IsTrue (is_ok r) → n ≡ by → IfOk s (λ _. Makes J c n mid ask.Ended did.Ended Keeps after) →
+      IfErr s (λ e. Refused J c mid ask.Ended e after) → EndsPool J c by before after
+  ended_by n after s is same last torn =
+      let ends : EndsLast J c by mid after = subst (λ (n : ℕ). EndsLast J c n mid after) same (record { answer = s; made = last; refused = torn; holds = tt }) in (
+        mid,
+        record { answer = r; made = made; refused = refused; holds = (so_if_ok r (EndsLast J c by mid after) ends, no_err r (after ≡ mid) is) },
+      )
+
+  pub barred : ¬ IsTrue (is_ok r) → EndsPool J c by before mid
+  barred not = (mid, record { answer = r; made = made; refused = refused; holds = (no_ok r (EndsLast J c by mid mid) not, so_if_err r (mid ≡ mid) refl) })

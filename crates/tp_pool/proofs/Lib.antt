@@ -1,6 +1,6 @@
 pub mod Asked
+pub mod Ends
 pub mod Got
-pub mod Receipts
 pub mod Starts
 pub mod Submissions
 pub mod Walks

@@ -1,18 +1,25 @@
 -- What submissions come to, and what they add to their caller's pass.
-use Rattle.std.specs.Prelude.{ℕ, ◌≡◌, ◌⊎◌, List, [], ◌∷◌, ◌++◌, Some}
+use Rattle.std.specs.Prelude.{ℕ, ◌≡◌, ◌⊎◌, List, [], ◌∷◌, ◌++◌, Some, Result, IfOk}
 use Rattle.tp_types.specs.declared.configs.Config.{Config}
 use Rattle.tp_types.specs.declared.ids.TaskId.{TaskId}
 use Rattle.tp_types.specs.declared.refusals.PoolError.TheVariants as error
 use Rattle.tp_types.specs.declared.tasks.Kind.{Kind}
+use Rattle.tp_types.specs.declared.tasks.Promise.{Promise}
 use Rattle.tp_record.specs.declared.entries.Ask.TheVariants as ask
+use Rattle.tp_record.specs.declared.entries.Did.TheVariants as did
 use Rattle.tp_record.specs.declared.entries.Entry.{Entry}
+use Rattle.tp_record.specs.declared.entries.Looked.{Looked}
 use Rattle.tp_record.specs.Paths.{Admission, Accepted, RanHere, Discarded, Rejected, Follow, Astray, IsPath}
+use Rattle.tp_parts.specs.Payloads.{PutsIn}
 use Rattle.tp_paths.specs.Fronts.{IsFront}
+use Rattle.tp_glance.specs.Word.{IsFrontOf}
 use Rattle.tp_book.specs.PassView.{PassView}
 use Rattle.tp_locked.specs.Passes.{Adds, AddsNone, Refuses}
+use Rattle.tp_locked.specs.Steps.{Makes}
 use Rattle.tp_locked.specs.declared.answers.Admitted.{Admitted}
 use Rattle.tp_locked.specs.declared.answers.Admitted.TheVariants as admitted
 use Rattle.tp_locked.specs.declared.answers.Refused.{Refused}
+use Rattle.tp_locked.specs.declared.tasks.Task.{Task}
 
 -- whose submission was admitted, and how it ended
 abbrev pub task_of : Admitted → TaskId
@@ -30,19 +37,38 @@ abbrev pub AsksFor : Kind → List Entry → Type 0
 AsksFor kind [] = ⊥
 AsksFor kind (e ∷ es) = e.ask ≡ ask.Submit kind
 
+-- the pool got this job as task t, with this promise: by a step `submit` of the pass, at a history between the two
+pub record GotJob {J : Type 0} (c : Config) (kind : Kind) (job : J) (promise : Promise) (by t : ℕ) (before after : List Entry) : Type 0 where
+  pub task : Task J
+  pub look : Looked
+  pub then_history : List Entry
+  pub has_job : task.job ≡ job
+  pub number : TaskId
+  pub is_task : number.0 ≡ t
+  pub makes : Makes J c by before (ask.Submit kind) (did.Submit number kind look) (λ old new. PutsIn old new t promise task) then_history
+  pub goes_on : IsFrontOf then_history after
+
 -- the pass has the receipts of the whole path of this task, which is of this kind, and the path ends so
-abbrev pub AddsPath : Kind → TaskId → Admission → PassView → PassView → Type 0
-AddsPath kind t a old new = (steps : List Entry) × IsPath t.0 steps a × AsksFor kind steps × Adds old steps new
+abbrev pub AddsPath : Config → Kind → TaskId → Admission → PassView → PassView → Type 0
+AddsPath c kind t a old new = (steps : List Entry) × IsPath t.0 steps a × AsksFor kind steps × Adds c old steps new
 
 -- it has the receipts of a front of some task's path, and at most one that is not on it
-abbrev pub AddsFront : PassView → PassView → Type 0
-AddsFront old new = (t : ℕ) × (front : List Entry) × (f : Follow) × IsFront t front f × ¬ (f ≡ Astray)
-    × (Adds old front new ⊎ ((e : Entry) × Adds old (front ++ e ∷ []) new))
+abbrev pub AddsFront : Config → PassView → PassView → Type 0
+AddsFront c old new = (t : ℕ) × (front : List Entry) × (f : Follow) × IsFront t front f × ¬ (f ≡ Astray)
+    × (Adds c old front new ⊎ ((e : Entry) × Adds c old (front ++ e ∷ []) new))
 
--- a submission of this kind with this job is refused: after its whole path, or torn off on it, or before its first
--- step, and then with the job
-abbrev pub IsTurnedAway : {J : Type 0} → Config → Kind → J → PassView → PassView → Refused J → Type 0
-IsTurnedAway c kind job old new refused =
-    ((t : TaskId) × (refused.error ≡ error.Rejected t) × AddsPath kind t Rejected old new)
-    ⊎ ((refused.error ≡ error.TornRecord) × AddsFront old new)
-    ⊎ (Refuses c (ask.Submit kind) refused.error × (refused.job ≡ Some job) × AddsNone old new)
+module _ {J : Type 0} (c : Config) (kind : Kind) (job : J) (promise : Promise) (old new : PassView) where
+  -- a submission of this kind with this job, which promises this, is admitted
+  abbrev pub IsAdmitted : Admitted → Type 0
+  IsAdmitted a = AddsPath c kind (task_of a) (end_of a) old new × GotJob c kind job promise old.number (task_of a).0 old.front new.front
+
+  -- so it is where the answer is not a refusal
+  abbrev pub Admits : Result Admitted (Refused J) → Type 0
+  Admits r = IfOk r IsAdmitted
+
+  -- it is refused: after its whole path, or torn off on it, or before its first step, and then with the job
+  abbrev pub IsTurnedAway : Refused J → Type 0
+  IsTurnedAway refused =
+      ((t : TaskId) × (refused.error ≡ error.Rejected t) × AddsPath c kind t Rejected old new × GotJob c kind job promise old.number t.0 old.front new.front)
+      ⊎ ((refused.error ≡ error.TornRecord) × AddsFront c old new)
+      ⊎ (Refuses c new.front (ask.Submit kind) refused.error × (refused.job ≡ Some job) × AddsNone old new)

@@ -6,6 +6,7 @@ use Rattle.tp_record.specs.Paths.{own}
 use Rattle.tp_record.specs.State.{state, counts}
 use Rattle.tp_record.specs.Step.{Legal}
 use Rattle.tp_laws.specs.Lawful.{IsLawful}
+use Rattle.tp_glance.specs.Word.{IsFrontOf}
 use Rattle.tp_book.specs.PassView.{PassView}
 use Rattle.tp_book.specs.declared.book.closing.Report.{Report}
 
@@ -19,3 +20,5 @@ pub record Reports (c : Config) (passes : List PassView) (r : Report) : Type 0 w
   -- the other units are those of workers' passes
   pub shares : (workers : ℕ) × (sum_by (λ p. p.amount) passes + workers ≡ length r.entries.items)
   pub receipts : All (λ p. own p.number r.entries.items ≡ p.receipts) passes
+  -- what a pass was told stays told: the record goes on from what the pass knows
+  pub fronts : All (λ p. IsFrontOf p.front (reverse r.entries.items)) passes

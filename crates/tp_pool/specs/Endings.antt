@@ -9,17 +9,21 @@ use Rattle.tp_record.specs.declared.entries.Entry.{Entry}
 use Rattle.tp_book.specs.PassView.{PassView}
 use Rattle.tp_locked.specs.Passes.{Adds, IsRefusal, entry_of, tidied, ended}
 
--- at some moment a pool with these settings refuses this ask
-abbrev pub IsBarred : Config → Ask → Type 0
-IsBarred c a = (e : PoolError) × IsRefusal c a e
+-- at this history a pool with these settings refuses this ask
+abbrev pub IsBarred : Config → List Entry → Ask → Type 0
+IsBarred c history a = (e : PoolError) × IsRefusal c history a e
 
--- the steps of an end that the pass of this number made, as far as the pool took them: `tidy`, and `ended`
-abbrev pub IsEnding : Config → ℕ → List Entry → Type 0
-IsEnding c by steps =
-    ((steps ≡ []) × IsBarred c ask.Tidy)
-    ⊎ ((steps ≡ tidied by ∷ []) × IsBarred c ask.Ended)
+-- the steps of an end that the pass of this number made, as far as the pool took them, `tidy` and `ended`; at this history it took no more
+abbrev pub IsEnding : Config → ℕ → List Entry → List Entry → Type 0
+IsEnding c by steps history =
+    ((steps ≡ []) × IsBarred c history ask.Tidy)
+    ⊎ ((steps ≡ tidied by ∷ []) × IsBarred c history ask.Ended)
     ⊎ (steps ≡ tidied by ∷ ended by ∷ [])
+
+-- the pass has the receipts of the pool's end as far as it made it
+abbrev pub AddsEnding : Config → PassView → PassView → Type 0
+AddsEnding c old new = (steps : List Entry) × IsEnding c old.number steps new.front × Adds c old steps new
 
 -- it has the receipt of one step more, and those of the pool's end as far as it made it
 abbrev pub AddsAndEnds : Config → PassView → Ask → Did → PassView → Type 0
-AddsAndEnds c old a d new = (steps : List Entry) × IsEnding c old.number steps × Adds old (entry_of old.number a d ∷ steps) new
+AddsAndEnds c old a d new = (steps : List Entry) × IsEnding c old.number steps new.front × Adds c old (entry_of old.number a d ∷ steps) new

@@ -1,5 +1,6 @@
 -- What starts of workers add to their caller's pass.
-use Rattle.std.specs.Prelude.{ℕ, Bool, true, false, ◌==◌, ◌≡◌, ◌⊎◌, ◌<◌, ◌≤◌, List, [], ◌∷◌, ◌++◌, length, flat_map, Option, Some, None}
+use Rattle.std.specs.Prelude.{ℕ, Bool, true, false, ◌==◌, ◌≡◌, ◌⊎◌, ◌<◌, List, [], ◌∷◌, ◌++◌, length, flat_map, Option, Some, None}
+use Rattle.tp_types.specs.declared.configs.Config.{Config}
 use Rattle.tp_types.specs.declared.ids.SlotId.{SlotId}
 use Rattle.tp_record.specs.declared.entries.Ask.TheVariants as ask
 use Rattle.tp_record.specs.declared.entries.Did.{Did}
@@ -7,7 +8,9 @@ use Rattle.tp_record.specs.declared.entries.Did.TheVariants as did
 use Rattle.tp_record.specs.declared.entries.Entry.{Entry}
 use Rattle.tp_record.specs.declared.entries.Opened.TheVariants as opened
 use Rattle.tp_book.specs.PassView.{PassView}
+use Rattle.tp_locked.specs.Moments.{AtFront}
 use Rattle.tp_locked.specs.Passes.{Adds, entry_of, opening}
+use Rattle.tp_pool.specs.Endings.{IsBarred}
 
 -- a prestart, and the slot that it reserved
 abbrev pub prestarted : ℕ → Option SlotId → Entry
@@ -18,26 +21,34 @@ abbrev pub is_live : SlotId → Bool → Did → Bool
 is_live w true (did.Open v opened.Live) = v.0 == w.0
 is_live w _ _ = false
 
--- the entries of one prestart: none is needed, or a slot is reserved, whose opening may be refused; and whether a worker lives
-abbrev pub IsPrestart : ℕ → List Entry → Bool → Type 0
-IsPrestart by steps live =
+-- the entries of one prestart: none is needed, or a slot is reserved, whose opening is refused at this history; and whether a worker lives
+abbrev pub IsPrestart : Config → ℕ → List Entry → Bool → List Entry → Type 0
+IsPrestart c by steps live history =
     ((steps ≡ prestarted by None ∷ []) × (live ≡ false))
-    ⊎ ((w : SlotId) × (steps ≡ prestarted by (Some w) ∷ []) × (live ≡ false))
+    ⊎ ((w : SlotId) × (staffed : Bool) × (steps ≡ prestarted by (Some w) ∷ []) × (live ≡ false) × IsBarred c history (opening w staffed))
     ⊎ ((w : SlotId) × (staffed : Bool) × (d : Did) × (steps ≡ prestarted by (Some w) ∷ entry_of by (opening w staffed) d ∷ []) × (live ≡ is_live w staffed d))
 
 -- the pass has the receipts of one prestart
-abbrev pub AddsPrestart : PassView → Bool → PassView → Type 0
-AddsPrestart old live new = (steps : List Entry) × IsPrestart old.number steps live × Adds old steps new
+abbrev pub AddsPrestart : Config → PassView → Bool → PassView → Type 0
+AddsPrestart c old live new = (steps : List Entry) × IsPrestart c old.number steps live new.front × Adds c old steps new
 
 -- the entries of a prestart whose worker lives
 abbrev pub live_start : ℕ → SlotId → List Entry
 live_start by w = prestarted by (Some w) ∷ entry_of by (ask.Open w) (did.Open w opened.Live) ∷ []
 
--- the entries of at most so many prestarts: of so many workers that live, and at last of one that does not, or none
-abbrev pub IsStarts : ℕ → ℕ → List Entry → ℕ → Type 0
-IsStarts by most steps live = (ws : List SlotId) × (last : List Entry) × (length ws ≡ live) × (steps ≡ flat_map (live_start by) ws ++ last)
-    × (((last ≡ []) × (live ≤ most)) ⊎ (IsPrestart by last false × (live < most)))
+-- no more is started: at this history the pool refuses a prestart
+abbrev pub IsRefusedMore : Config → List Entry → Type 0
+IsRefusedMore c history = IsBarred c history ask.Prestart
+
+-- no more is started for queued tasks: at this history none is queued, or the pool refuses a prestart
+abbrev pub IsServed : Config → List Entry → Type 0
+IsServed c history = AtFront c history (λ s. length s.queue ≡ 0) ⊎ IsBarred c history ask.Prestart
+
+-- the entries of at most so many prestarts: of so many workers that live, and at last of one that does not; or of all, or of fewer where no more is to be started
+abbrev pub IsStarts : Config → (List Entry → Type 0) → ℕ → ℕ → List Entry → ℕ → List Entry → Type 0
+IsStarts c Stops by most steps live history = (ws : List SlotId) × (last : List Entry) × (length ws ≡ live) × (steps ≡ flat_map (live_start by) ws ++ last)
+    × (((last ≡ []) × (live ≡ most)) ⊎ ((last ≡ []) × (live < most) × Stops history) ⊎ (IsPrestart c by last false history × (live < most)))
 
 -- the pass has the receipts of these steps, and then of at most so many prestarts
-abbrev pub AddsStarts : ℕ → List Entry → PassView → ℕ → PassView → Type 0
-AddsStarts most first old live new = (steps : List Entry) × IsStarts old.number most steps live × Adds old (first ++ steps) new
+abbrev pub AddsStarts : Config → (List Entry → Type 0) → ℕ → List Entry → PassView → ℕ → PassView → Type 0
+AddsStarts c Stops most first old live new = (steps : List Entry) × IsStarts c Stops old.number most steps live new.front × Adds c old (first ++ steps) new

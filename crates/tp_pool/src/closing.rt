@@ -14,7 +14,7 @@ use tp_book::book::Unclosed;
 use tp_book::passes::Pass;
 use tp_callbacks::jobs::Job;
 use tp_laws::lawful::legal_is_lawful;
-use tp_locked::locked::{Core, all_seen_is_published};
+use tp_locked::locked::Core;
 use tp_locked::names::PoolNaming;
 use tp_types::refusals::PoolError;
 
@@ -93,9 +93,9 @@ impl<G: PoolNaming, J: Job, E: Edge> Shared<G, J, E> {
         } = self;
         let mut passes = passes;
         let (mut book, workers, beside) = core.into_inner().part();
-        all_seen_is_published(&mut book, &glance, &mut passes);
+        book.all_are_fronts(&glance, &mut passes);
         book.is_balanced();
-        match book.close(passes, workers) {
+        match book.close(&glance, passes, workers) {
             Ok(report) => {
                 legal_is_lawful();
                 Ok(report)

@@ -1,49 +1,36 @@
 //! The controlling calls: settings, the moment, and single tasks. Each makes one step, with one receipt. A
-//! refused call makes no step, and its pass gets no receipt.
-ghost use Rattle.std.specs.Prelude.{ℕ, IfOk, IfErr, OnOk, OnErr};
-ghost use Rattle.tp_machine.specs.Stepped.{IsAnswer, IsSubmission, did_of};
+//! refused call makes no step, and its pass gets no receipt. Accepted or refused, the call brings its pass up to
+//! the pool's record, and is answered as the pool stands there.
+ghost use Rattle.std.specs.Prelude.{◌≡◌, IfOk, IfErr, OnOk, OnErr};
 ghost use Rattle.tp_locked.specs.Answers.{is_removed};
 ghost use Rattle.tp_locked.specs.Passes.{AddsStep, AddsNone, Refuses};
-ghost use Rattle.tp_locked.specs.Steps.{IsMade, IsRemovedAs};
-ghost use Rattle.tp_locked.specs.Waits.{HasNoOutcome};
-ghost use Rattle.tp_locked.specs.declared.tasks.Task.{Task as TaskOf};
+ghost use Rattle.tp_locked.specs.Steps.{Removes, removal_of};
 
 use crate::edges::Edge;
 use crate::pool::PoolOf;
 use std::sync::Wait;
-use tp_book::book::Stepped;
 use tp_book::passes::Pass;
 use tp_callbacks::jobs::Job;
 use tp_locked::answers::Removal;
 use tp_locked::names::PoolNaming;
 use tp_locked::tasks::Task;
+use tp_machine::typed::controllers::{Cancel, Purge, Remove};
+use tp_machine::typed::settings::{CoreTimeout, Keep, Maximum, Tick};
 use tp_record::entries::{Ask, Did};
 use tp_types::ids::TaskId;
 use tp_types::refusals::PoolError;
 
-impl<G: PoolNaming, J: Job, E: Edge> PoolOf<G, J, E> {
-    // Makes the step of this ask. The memory of its receipt is taken first, since an accepted step can't be
-    // taken back.
-    pub(crate) fn control<R: Wait>(
-        &self,
-        rt: &R,
-        ask: Ask,
-        pass: &mut Pass<G>,
-    ) -> Result<Stepped<Task<J>>, PoolError>
-        requires unpaid { ¬ IsSubmission ask }
-        requires no_outcome { HasNoOutcome ask }
-        ensures made { IfOk result (IsMade (TaskOf J) G.config pass.old.number ask) }
-        ensures answer { IfOk result (λ s. IsAnswer ask s) }
-        ensures step { IfOk result (λ s. AddsStep pass.old ask (did_of ask s) pass.new) }
-        ensures refused { IfErr result (λ e. Refuses G.config ask e) }
-        ensures unchanged { OnErr result (AddsNone pass.old pass.new) }
-    {
-        if let Err(error) = pass.reserve(1) {
-            return Err(error);
-        }
-        self.shared().step(rt, ask, pass)
+// What a remove answers.
+fn removal_from<J>(handed: Option<(TaskId, Option<Task<J>>)>) -> Removal<J>
+    ensures { result ≡ removal_of handed }
+{
+    match handed {
+        Some((_, task)) => Removal::Yes(task.map(Task::into_job)),
+        None => Removal::No,
     }
+}
 
+impl<G: PoolNaming, J: Job, E: Edge> PoolOf<G, J, E> {
     /// Sets the maximum size, in workers, as `setMaximumPoolSize`. NoMemory (4) for its receipt, else
     /// BadSizes (1) for 0, above 1,024 or below the core size, else BookFull (5), or NoMemory (4) for the
     /// places of more slots.
@@ -53,21 +40,21 @@ impl<G: PoolNaming, J: Job, E: Edge> PoolOf<G, J, E> {
         maximum: u32,
         pass: &mut Pass<G>,
     ) -> Result<(), PoolError>
-        ensures step { OnOk result (AddsStep pass.old (Ask.Maximum maximum) (Did.Maximum maximum) pass.new) }
-        ensures refused { IfErr result (λ e. Refuses G.config (Ask.Maximum maximum) e) }
+        ensures step { OnOk result (AddsStep G.config pass.old (Ask.Maximum maximum) (Did.Maximum maximum) pass.new) }
+        ensures refused { IfErr result (Refuses G.config pass.new.front (Ask.Maximum maximum)) }
         ensures unchanged { OnErr result (AddsNone pass.old pass.new) }
     {
-        answered!(self.control(rt, Ask::Maximum(maximum), pass), Stepped::Maximum => ())
+        self.shared().control(rt, Maximum(maximum), pass)
     }
 
     /// Sets the keep-alive, in ticks, as `setKeepAliveTime`. NoMemory (4) for its receipt, else KeepZero (11)
     /// for 0 while core workers time out, else BookFull (5).
     pub fn set_keep<R: Wait>(&self, rt: &R, keep: u64, pass: &mut Pass<G>) -> Result<(), PoolError>
-        ensures step { OnOk result (AddsStep pass.old (Ask.Keep keep) (Did.Keep keep) pass.new) }
-        ensures refused { IfErr result (λ e. Refuses G.config (Ask.Keep keep) e) }
+        ensures step { OnOk result (AddsStep G.config pass.old (Ask.Keep keep) (Did.Keep keep) pass.new) }
+        ensures refused { IfErr result (Refuses G.config pass.new.front (Ask.Keep keep)) }
         ensures unchanged { OnErr result (AddsNone pass.old pass.new) }
     {
-        answered!(self.control(rt, Ask::Keep(keep), pass), Stepped::Keep => ())
+        self.shared().control(rt, Keep(keep), pass)
     }
 
     /// Says whether core workers time out too, as `allowCoreThreadTimeOut`. NoMemory (4) for its receipt,
@@ -78,31 +65,31 @@ impl<G: PoolNaming, J: Job, E: Edge> PoolOf<G, J, E> {
         on: bool,
         pass: &mut Pass<G>,
     ) -> Result<(), PoolError>
-        ensures step { OnOk result (AddsStep pass.old (Ask.CoreTimeout on) (Did.CoreTimeout on) pass.new) }
-        ensures refused { IfErr result (λ e. Refuses G.config (Ask.CoreTimeout on) e) }
+        ensures step { OnOk result (AddsStep G.config pass.old (Ask.CoreTimeout on) (Did.CoreTimeout on) pass.new) }
+        ensures refused { IfErr result (Refuses G.config pass.new.front (Ask.CoreTimeout on)) }
         ensures unchanged { OnErr result (AddsNone pass.old pass.new) }
     {
-        answered!(self.control(rt, Ask::CoreTimeout(on), pass), Stepped::CoreTimeout => ())
+        self.shared().control(rt, CoreTimeout(on), pass)
     }
 
     /// Sets the moment, in ticks; Java's pool reads a clock instead. Keep-alives and deadlines are measured
     /// by it. NoMemory (4) for its receipt, else ClockBack (10) for a moment below now, else BookFull (5).
     pub fn tick<R: Wait>(&self, rt: &R, now: u64, pass: &mut Pass<G>) -> Result<(), PoolError>
-        ensures step { OnOk result (AddsStep pass.old (Ask.Tick now) (Did.Tick now) pass.new) }
-        ensures refused { IfErr result (λ e. Refuses G.config (Ask.Tick now) e) }
+        ensures step { OnOk result (AddsStep G.config pass.old (Ask.Tick now) (Did.Tick now) pass.new) }
+        ensures refused { IfErr result (Refuses G.config pass.new.front (Ask.Tick now)) }
         ensures unchanged { OnErr result (AddsNone pass.old pass.new) }
     {
-        answered!(self.control(rt, Ask::Tick(now), pass), Stepped::Tick => ())
+        self.shared().control(rt, Tick(now), pass)
     }
 
     /// Takes the cancelled tasks out of the queue, as `ThreadPoolExecutor.purge`, and answers how many they
     /// were. NoMemory (4) for its receipt, else BookFull (5).
     pub fn purge<R: Wait>(&self, rt: &R, pass: &mut Pass<G>) -> Result<u32, PoolError>
-        ensures step { IfOk result (λ n. AddsStep pass.old Ask.Purge (Did.Purge n) pass.new) }
-        ensures refused { IfErr result (λ e. Refuses G.config Ask.Purge e) }
+        ensures step { IfOk result (λ n. AddsStep G.config pass.old Ask.Purge (Did.Purge n) pass.new) }
+        ensures refused { IfErr result (Refuses G.config pass.new.front Ask.Purge) }
         ensures unchanged { OnErr result (AddsNone pass.old pass.new) }
     {
-        answered!(self.control(rt, Ask::Purge, pass), Stepped::Purge(cancelled) => cancelled)
+        self.shared().control(rt, Purge, pass)
     }
 
     /// Takes a task out of the queue, as `ThreadPoolExecutor.remove`, and hands its job back unless it was
@@ -114,12 +101,15 @@ impl<G: PoolNaming, J: Job, E: Edge> PoolOf<G, J, E> {
         t: TaskId,
         pass: &mut Pass<G>,
     ) -> Result<Removal<J>, PoolError>
-        ensures job { IfOk result (IsRemovedAs (IsMade (TaskOf J) G.config pass.old.number (Ask.Remove t))) }
-        ensures step { IfOk result (λ r. AddsStep pass.old (Ask.Remove t) (Did.Remove t (is_removed r)) pass.new) }
-        ensures refused { IfErr result (λ e. Refuses G.config (Ask.Remove t) e) }
+        ensures job { IfOk result (λ r. Removes J G.config pass.old.number pass.old.front t r pass.new.front) }
+        ensures step { IfOk result (λ r. AddsStep G.config pass.old (Ask.Remove t) (Did.Remove t (is_removed r)) pass.new) }
+        ensures refused { IfErr result (Refuses G.config pass.new.front (Ask.Remove t)) }
         ensures unchanged { OnErr result (AddsNone pass.old pass.new) }
     {
-        answered!(self.control(rt, Ask::Remove(t), pass), Stepped::Remove(None) => Removal::No, Stepped::Remove(Some((_, task))) => Removal::Yes(task.map(Task::into_job)))
+        match self.shared().control(rt, Remove(t), pass) {
+            Ok(handed) => Ok(removal_from(handed)),
+            Err(error) => Err(error),
+        }
     }
 
     /// Cancels a task's future, as `Future.cancel`, and answers whether that had effect: it has while the
@@ -133,10 +123,13 @@ impl<G: PoolNaming, J: Job, E: Edge> PoolOf<G, J, E> {
         flag: bool,
         pass: &mut Pass<G>,
     ) -> Result<bool, PoolError>
-        ensures step { IfOk result (λ effective. AddsStep pass.old (Ask.Cancel t flag) (Did.Cancel t flag effective) pass.new) }
-        ensures refused { IfErr result (λ e. Refuses G.config (Ask.Cancel t flag) e) }
+        ensures step { IfOk result (λ effective. AddsStep G.config pass.old (Ask.Cancel t flag) (Did.Cancel t flag effective) pass.new) }
+        ensures refused { IfErr result (Refuses G.config pass.new.front (Ask.Cancel t flag)) }
         ensures unchanged { OnErr result (AddsNone pass.old pass.new) }
     {
-        answered!(self.control(rt, Ask::Cancel(t, flag), pass), Stepped::Cancel(effective, _) => effective)
+        match self.shared().control(rt, Cancel(t, flag), pass) {
+            Ok((effective, _)) => Ok(effective),
+            Err(error) => Err(error),
+        }
     }
 }

@@ -1,20 +1,22 @@
 //! The calls that end a pool, and the wait for its end. A thread that finds that the pool can end makes the
 //! step `tidy`, calls the terminated hook with no lock held, and makes the step `ended`.
-ghost use Rattle.std.specs.Prelude.{◌≡◌, ◌⊎◌, ◌≤◌, [], ◌∷◌, length, IfOk, IfErr, OnOk, OnErr};
+ghost use Rattle.std.specs.Prelude.{◌≡◌, ◌⊎◌, ◌≤◌, [], ◌∷◌, List, length, IfOk, IfErr, OnOk, OnErr};
+ghost use Rattle.tp_record.specs.declared.entries.Entry.{Entry};
+ghost use Rattle.tp_record.specs.Fields.{rank};
+ghost use Rattle.tp_glance.specs.Word.{IsFrontOf};
+ghost use Rattle.tp_locked.specs.Moments.{AtFront};
 ghost use Rattle.tp_locked.specs.Passes.{Adds, AddsNone, Refuses, tidied, ended};
-ghost use Rattle.tp_locked.specs.Records.{AtSome};
-ghost use Rattle.tp_locked.specs.Steps.{IsHandedBack, IsMade};
-ghost use Rattle.tp_locked.specs.declared.tasks.Task.{Task};
+ghost use Rattle.tp_locked.specs.Steps.{Stops};
 ghost use Rattle.tp_pool.specs.Endings.{AddsAndEnds, IsBarred};
 
 use crate::edges::Edge;
 use crate::pool::PoolOf;
 use std::sync::Wait;
-use tp_book::book::Stepped;
 use tp_book::passes::Pass;
 use tp_callbacks::jobs::Job;
 use tp_locked::answers::Drained;
 use tp_locked::names::PoolNaming;
+use tp_machine::typed::controllers::Shutdown;
 use tp_record::entries::{Ask, Did};
 use tp_types::refusals::PoolError;
 
@@ -26,20 +28,19 @@ impl<G: PoolNaming, J: Job, E: Edge> PoolOf<G, J, E> {
     /// call makes no step.
     pub fn shutdown<R: Wait>(&self, rt: &R, pass: &mut Pass<G>) -> Result<(), PoolError>
         ensures steps { OnOk result (AddsAndEnds G.config pass.old Ask.Shutdown Did.Shutdown pass.new) }
-        ensures seen { OnOk result (1 ≤ pass.new.seen) }
-        ensures refused { IfErr result (λ e. Refuses G.config Ask.Shutdown e) }
+        ensures seen { OnOk result (1 ≤ rank pass.new.front) }
+        ensures refused { IfErr result (Refuses G.config pass.new.front Ask.Shutdown) }
         ensures unchanged { OnErr result (AddsNone pass.old pass.new) }
     {
         if let Err(error) = pass.reserve(3) {
             return Err(error);
         }
         let shared = self.shared();
-        match shared.step(rt, Ask::Shutdown, pass) {
-            Ok(Stepped::Shutdown) => {
+        match shared.ask(rt, Shutdown, pass) {
+            Ok(()) => {
                 shared.try_end(rt, pass);
                 Ok(())
             }
-            Ok(_) => unreachable!(),
             Err(error) => Err(error),
         }
     }
@@ -56,10 +57,10 @@ impl<G: PoolNaming, J: Job, E: Edge> PoolOf<G, J, E> {
         rt: &R,
         pass: &mut Pass<G>,
     ) -> Result<Vec<Drained<J>>, PoolError>
-        ensures handed { IfOk result (λ drained. IsHandedBack (IsMade (Task J) G.config pass.old.number Ask.Stop) drained.items) }
+        ensures handed { IfOk result (λ drained. (mid : List Entry) × Stops J G.config pass.old.number pass.old.front drained.items mid × IsFrontOf mid pass.new.front) }
         ensures steps { IfOk result (λ drained. AddsAndEnds G.config pass.old Ask.Stop (Did.Stop (length drained.items)) pass.new) }
-        ensures seen { OnOk result (2 ≤ pass.new.seen) }
-        ensures refused { IfErr result (λ e. Refuses G.config Ask.Stop e) }
+        ensures seen { OnOk result (2 ≤ rank pass.new.front) }
+        ensures refused { IfErr result (Refuses G.config pass.new.front Ask.Stop) }
         ensures unchanged { OnErr result (AddsNone pass.old pass.new) }
     {
         if let Err(error) = pass.reserve(3) {
@@ -87,11 +88,12 @@ impl<G: PoolNaming, J: Job, E: Edge> PoolOf<G, J, E> {
         deadline: u64,
         pass: &mut Pass<G>,
     ) -> Result<(), PoolError>
-        ensures steps { OnOk result (Adds pass.old [] pass.new ⊎ Adds pass.old (tidied pass.old.number ∷ ended pass.old.number ∷ []) pass.new) }
-        ensures seen { OnOk result (4 ≤ pass.new.seen) }
-        ensures late { IfErr result (λ e. e ≡ PoolError.TimedOut → AtSome G.config (λ s. deadline ≤ s.now)) }
-        ensures refused { IfErr result (λ e. (((e ≡ PoolError.NoMemory) ⊎ (e ≡ PoolError.TimedOut)) × Adds pass.old [] pass.new)
-            ⊎ ((e ≡ PoolError.TornRecord) × IsBarred G.config Ask.Ended × Adds pass.old (tidied pass.old.number ∷ []) pass.new)) }
+        ensures steps { OnOk result (Adds G.config pass.old [] pass.new ⊎ Adds G.config pass.old (tidied pass.old.number ∷ ended pass.old.number ∷ []) pass.new) }
+        ensures seen { OnOk result (rank pass.new.front ≡ 4) }
+        ensures late { IfErr result (λ e. e ≡ PoolError.TimedOut → AtFront G.config pass.new.front (λ s. (deadline ≤ s.now) × ¬ (s.rank ≡ 4))) }
+        ensures refused { IfErr result (λ e. ((e ≡ PoolError.NoMemory) × AddsNone pass.old pass.new)
+            ⊎ ((e ≡ PoolError.TimedOut) × Adds G.config pass.old [] pass.new)
+            ⊎ ((e ≡ PoolError.TornRecord) × IsBarred G.config pass.new.front Ask.Ended × Adds G.config pass.old (tidied pass.old.number ∷ []) pass.new)) }
     {
         if let Err(error) = pass.reserve(2) {
             return Err(error);

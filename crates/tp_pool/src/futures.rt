@@ -1,20 +1,19 @@
 //! Waits for futures, for done tasks of a group, and for steps. A waiter begins to wait with the guard of the
 //! hold in which its look failed, so no step falls between the look and the sleep.
 ghost use Rattle.std.specs.Prelude.{◌≡◌, ◌⊎◌, ◌<◌, length, IfOk, IfErr, OnErr};
-ghost use Rattle.tp_book.specs.BookView.{entries};
-ghost use Rattle.tp_locked.specs.Passes.{AddsStep, AddsNone, Refuses};
-ghost use Rattle.tp_locked.specs.Readings.{got, IsFound, IsUndone};
-ghost use Rattle.tp_locked.specs.Records.{BookAtSome};
+ghost use Rattle.tp_locked.specs.Passes.{AddsStep, AddsNone, LooksOnly, Refuses};
+ghost use Rattle.tp_locked.specs.Moments.{AtFront, BookAtSome};
+ghost use Rattle.tp_locked.specs.Readings.{got, IsFound, IsUndoneAt};
 ghost use Rattle.tp_locked.specs.declared.tasks.Task.{Task};
 
 use crate::edges::Edge;
 use crate::pool::PoolOf;
 use crate::shared::Shared;
 use std::sync::Wait;
-use tp_book::book::Stepped;
 use tp_book::passes::Pass;
 use tp_callbacks::jobs::Job;
 use tp_locked::names::PoolNaming;
+use tp_machine::typed::controllers::TakeDone;
 use tp_record::entries::{Ask, Did};
 use tp_types::ids::TaskId;
 use tp_types::refusals::PoolError;
@@ -54,11 +53,11 @@ impl<G: PoolNaming, J: Job, E: Edge> PoolOf<G, J, E> {
         group: u32,
         pass: &mut Pass<G>,
     ) -> Result<TaskId, PoolError>
-        ensures step { IfOk result (λ t. AddsStep pass.old (Ask.TakeDone group) (Did.TakeDone group t) pass.new) }
-        ensures refused { IfErr result (λ e. Refuses G.config (Ask.TakeDone group) e) }
+        ensures step { IfOk result (λ t. AddsStep G.config pass.old (Ask.TakeDone group) (Did.TakeDone group t) pass.new) }
+        ensures refused { IfErr result (Refuses G.config pass.new.front (Ask.TakeDone group)) }
         ensures unchanged { OnErr result (AddsNone pass.old pass.new) }
     {
-        answered!(self.control(rt, Ask::TakeDone(group), pass), Stepped::TakeDone(t) => t)
+        self.shared().control(rt, TakeDone(group), pass)
     }
 
     /// As `take_done`, but it waits while none is done and one is open, as `ExecutorCompletionService.take`.
@@ -70,8 +69,8 @@ impl<G: PoolNaming, J: Job, E: Edge> PoolOf<G, J, E> {
         group: u32,
         pass: &mut Pass<G>,
     ) -> Result<TaskId, PoolError>
-        ensures step { IfOk result (λ t. AddsStep pass.old (Ask.TakeDone group) (Did.TakeDone group t) pass.new) }
-        ensures refused { IfErr result (λ e. (e ≡ PoolError.NoMemory) ⊎ IsUndone G.config group e) }
+        ensures step { IfOk result (λ t. AddsStep G.config pass.old (Ask.TakeDone group) (Did.TakeDone group t) pass.new) }
+        ensures refused { IfErr result (λ e. (e ≡ PoolError.NoMemory) ⊎ AtFront G.config pass.new.front (λ s. IsUndoneAt G.config s group e)) }
         ensures unchanged { OnErr result (AddsNone pass.old pass.new) }
     {
         if let Err(error) = pass.reserve(1) {
@@ -84,7 +83,7 @@ impl<G: PoolNaming, J: Job, E: Edge> PoolOf<G, J, E> {
     /// A caller reads `steps`, looks, and waits with the number that it read: a step that falls after the
     /// reading ends the wait.
     pub fn wait_step<R: Wait>(&self, rt: &R, seen: u64) -> u64
-        ensures { (seen < result) × BookAtSome (Task J) G.config (λ b. result ≡ length (entries b)) }
+        ensures { (seen < result) × BookAtSome (Task J) G.config (λ b. result ≡ length b.history) }
     {
         let shared = self.shared();
         let mut core = shared.hold(rt);
@@ -107,9 +106,9 @@ impl<G: PoolNaming, J: Job, E: Edge> Shared<G, J, E> {
         pass: &mut Pass<G>,
     ) -> Result<TaskId, PoolError>
         requires room { 0 < pass.old.room }
-        ensures step { IfOk result (λ t. AddsStep pass.old (Ask.TakeDone group) (Did.TakeDone group t) pass.new) }
-        ensures refused { IfErr result (λ e. IsUndone G.config group e) }
-        ensures unchanged { OnErr result (pass.new ≡ pass.old) }
+        ensures step { IfOk result (λ t. AddsStep G.config pass.old (Ask.TakeDone group) (Did.TakeDone group t) pass.new) }
+        ensures refused { IfErr result (λ e. AtFront G.config pass.new.front (λ s. IsUndoneAt G.config s group e)) }
+        ensures unchanged { OnErr result (LooksOnly G.config pass.old pass.new) }
     {
         let mut core = self.hold(rt);
         for _ in rt.forever() {

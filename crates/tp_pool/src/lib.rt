@@ -6,17 +6,6 @@
 //! counters and its steps. The pages of the traits say which calls from within would wait for ever.
 #![tactic(auto)]
 
-// The answer of a call, made from the answer of its step.
-macro_rules! answered {
-    ($stepped:expr, $($answer:pat => $value:expr),+) => {
-        match $stepped {
-            $(Ok($answer) => Ok($value),)+
-            Ok(_) => unreachable!(),
-            Err(error) => Err(error),
-        }
-    };
-}
-
 pub mod boxes;
 pub mod closing;
 pub mod controls;

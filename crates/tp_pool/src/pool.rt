@@ -2,7 +2,9 @@
 ghost use Rattle.std.specs.Prelude.{◌≡◌, ◌⊎◌, ◌≤◌, [], IfOk, IfErr, OnOk, Err};
 ghost use Rattle.tp_types.specs.Config.{IsConfig, checked};
 ghost use Rattle.tp_types.specs.RunState.{state_rank};
-ghost use Rattle.tp_locked.specs.Records.{BookAtSome};
+ghost use Rattle.tp_record.specs.Fields.{rank};
+ghost use Rattle.tp_glance.specs.Word.{IsFrontOf};
+ghost use Rattle.tp_locked.specs.Moments.{BookAtSome};
 ghost use Rattle.tp_locked.specs.declared.tasks.Task.{Task};
 
 use crate::boxes::Boxed;
@@ -72,7 +74,7 @@ impl<G: PoolNaming> PoolOf<G, Boxed, Boxes> {
     ) -> Result<(Pool<G>, Pass<G>), PoolError>
         requires named { unopened ≡ record { ledger = G.name; parts = G.parts; table = G.table } }
         requires settings { config ≡ G.config }
-        ensures pass { IfOk result (λ r. r.1 ≡ record { number = 0; amount = 0; seen = 0; receipts = []; room = r.1.room }) }
+        ensures pass { IfOk result (λ r. r.1 ≡ record { number = 0; amount = 0; front = []; receipts = []; room = r.1.room }) }
         ensures good { OnOk result (IsConfig config) }
         ensures refused { IfErr result (λ e. (checked config ≡ Err e) ⊎ ((e ≡ PoolError.NoMemory) × IsConfig config)) }
     {
@@ -95,7 +97,7 @@ impl<G: PoolNaming, J: Job, E: Edge> PoolOf<G, J, E> {
     ) -> Result<(PoolOf<G, J, E>, Pass<G>), PoolError>
         requires named { unopened ≡ record { ledger = G.name; parts = G.parts; table = G.table } }
         requires settings { config ≡ G.config }
-        ensures pass { IfOk result (λ r. r.1 ≡ record { number = 0; amount = 0; seen = 0; receipts = []; room = r.1.room }) }
+        ensures pass { IfOk result (λ r. r.1 ≡ record { number = 0; amount = 0; front = []; receipts = []; room = r.1.room }) }
         ensures good { OnOk result (IsConfig config) }
         ensures refused { IfErr result (λ e. (checked config ≡ Err e) ⊎ ((e ≡ PoolError.NoMemory) × IsConfig config)) }
     {
@@ -132,7 +134,7 @@ impl<G: PoolNaming, J: Job, E: Edge> PoolOf<G, J, E> {
     /// none. Callers' and workers' passes are numbered from 0, in the order in which they are made.
     /// BookFull (5) where the next number would be 4,294,967,295. This caller's pass stays as it is.
     pub fn split_pass<R: Wait>(&self, rt: &R, pass: &mut Pass<G>) -> Result<Pass<G>, PoolError>
-        ensures new { IfOk result (λ p. BookAtSome (Task J) G.config (λ b. p ≡ record { number = b.accounts.made; amount = 0; seen = pass.old.seen; receipts = []; room = p.room })) }
+        ensures new { IfOk result (λ p. BookAtSome (Task J) G.config (λ b. p ≡ record { number = b.accounts.made; amount = 0; front = pass.old.front; receipts = []; room = p.room })) }
         ensures refused { IfErr result (λ e. (e ≡ PoolError.BookFull) × BookAtSome (Task J) G.config (λ b. 4294967295 ≤ b.accounts.made)) }
         ensures same { pass.new ≡ pass.old }
     {
@@ -143,11 +145,12 @@ impl<G: PoolNaming, J: Job, E: Edge> PoolOf<G, J, E> {
     }
 
     /// The run state that is published now, as `isShutdown` and `isTerminated` tell it. It is read without
-    /// the lock, so no step that is under way delays it. It is never below the state that the pass has seen,
-    /// and the pass has then seen it.
+    /// the lock, so no step that is under way delays it. It is that of the pool's record at this moment, which
+    /// goes on from the one that the pass knew, and which the pass knows then.
     pub fn glance(&self, pass: &mut Pass<G>) -> RunState
-        ensures rises { pass.old.seen ≤ state_rank result }
-        ensures seen { pass.new ≡ record pass.old { seen = state_rank result } }
+        ensures state { state_rank result ≡ rank pass.new.front }
+        ensures goes_on { IsFrontOf pass.old.front pass.new.front }
+        ensures same { pass.new ≡ record pass.old { front = pass.new.front } }
     {
         pass.glance(&self.shared().glance)
     }

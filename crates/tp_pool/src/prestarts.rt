@@ -1,17 +1,18 @@
 //! Workers that are started before there is a task for them. Each start is two steps: a slot is reserved, and
 //! once its thread was made or refused it is opened or given back.
-ghost use Rattle.std.specs.Prelude.{ℕ, ◌≡◌, ◌⊎◌, ◌+◌, ◌*◌, ◌<◌, ◌≤◌, [], ◌∷◌, IfOk, IfErr, OnOk, OnErr};
-ghost use Rattle.tp_locked.specs.Passes.{AddsNone, IsRefusal, Refuses, entry_of};
-ghost use Rattle.tp_pool.specs.Prestarts.{is_live as is_live_opening, AddsPrestart, AddsStarts};
+ghost use Rattle.std.specs.Prelude.{ℕ, ◌≡◌, ◌+◌, ◌*◌, ◌≤◌, [], ◌∷◌, IfOk, IfErr, OnOk, OnErr};
+ghost use Rattle.tp_record.specs.Step.{Legal};
+ghost use Rattle.tp_locked.specs.Passes.{AddsNone, IsRefusal, LooksOnly, Refuses, entry_of};
+ghost use Rattle.tp_pool.specs.Prestarts.{is_live as is_live_opening, AddsPrestart, AddsStarts, IsRefusedMore, IsServed};
 
 use crate::edges::Edge;
 use crate::pool::PoolOf;
 use std::sync::Wait;
 use std::thread::Threads;
-use tp_book::book::Stepped;
 use tp_book::passes::Pass;
 use tp_callbacks::jobs::Job;
 use tp_locked::names::PoolNaming;
+use tp_machine::typed::settings::{Core, Prestart};
 use tp_record::entries::{Ask, Did, Opened};
 use tp_types::ids::SlotId;
 use tp_types::limits::MAX_WORKERS;
@@ -44,17 +45,16 @@ impl<
         core: u32,
         pass: &mut Pass<G>,
     ) -> Result<(), PoolError>
-        ensures steps { OnOk result ((added live : ℕ) × AddsStarts added (entry_of pass.old.number (Ask.Core core) (Did.Core core added) ∷ []) pass.old live pass.new) }
-        ensures refused { IfErr result (λ e. Refuses G.config (Ask.Core core) e) }
+        ensures steps { OnOk result ((added most live : ℕ) × (most ≤ added) × AddsStarts G.config (IsServed G.config) most (entry_of pass.old.number (Ask.Core core) (Did.Core core added) ∷ []) pass.old live pass.new) }
+        ensures refused { IfErr result (Refuses G.config pass.new.front (Ask.Core core)) }
         ensures unchanged { OnErr result (AddsNone pass.old pass.new) }
     {
         let most = core.min(MAX_WORKERS);
         if let Err(error) = pass.reserve(1 + 2 * most as usize) {
             return Err(error);
         }
-        let added = match self.shared().step(&rt, Ask::Core(core), pass) {
-            Ok(Stepped::Core(added)) => added,
-            Ok(_) => unreachable!(),
+        let added = match self.shared().ask(&rt, Core(core), pass) {
+            Ok(added) => added,
             Err(error) => return Err(error),
         };
         // A size does not grow by more than itself, nor than there may be workers.
@@ -72,10 +72,11 @@ impl<
         pass: &mut Pass<G>,
     )
         requires room { 2 * most ≤ pass.old.room }
-        ensures { (live : ℕ) × AddsStarts most [] pass.old live pass.new }
+        requires legal { Legal G.config pass.old.front }
+        ensures { (live : ℕ) × AddsStarts G.config (IsServed G.config) most [] pass.old live pass.new }
     {
         for _ in 0..most {
-            if self.shared().hold(&rt).counts().queued == 0 {
+            if self.look(&rt, pass).counts.queued == 0 {
                 return;
             }
             match self.prestart(rt, pass) {
@@ -94,8 +95,8 @@ impl<
         rt: R,
         pass: &mut Pass<G>,
     ) -> Result<bool, PoolError>
-        ensures steps { IfOk result (λ live. AddsPrestart pass.old live pass.new) }
-        ensures refused { IfErr result (λ e. Refuses G.config Ask.Prestart e) }
+        ensures steps { IfOk result (λ live. AddsPrestart G.config pass.old live pass.new) }
+        ensures refused { IfErr result (Refuses G.config pass.new.front Ask.Prestart) }
         ensures unchanged { OnErr result (AddsNone pass.old pass.new) }
     {
         if let Err(error) = pass.reserve(2) {
@@ -115,9 +116,8 @@ impl<
         rt: R,
         pass: &mut Pass<G>,
     ) -> Result<u32, PoolError>
-        ensures steps { IfOk result (λ live. AddsStarts 1024 [] pass.old live pass.new) }
-        ensures all { IfOk result (λ live. (live ≡ 1024) ⊎ (pass.old.amount + 2 * live < pass.new.amount) ⊎ ((e : PoolError) × IsRefusal G.config Ask.Prestart e)) }
-        ensures refused { IfErr result (λ e. Refuses G.config Ask.Prestart e) }
+        ensures steps { IfOk result (λ live. AddsStarts G.config (IsRefusedMore G.config) 1024 [] pass.old live pass.new) }
+        ensures refused { IfErr result (Refuses G.config pass.new.front Ask.Prestart) }
         ensures unchanged { OnErr result (AddsNone pass.old pass.new) }
     {
         if let Err(error) = pass.reserve(2 * MAX_WORKERS as usize) {
@@ -142,15 +142,14 @@ impl<
         pass: &mut Pass<G>,
     ) -> Result<bool, PoolError>
         requires room { 2 ≤ pass.old.room }
-        ensures steps { IfOk result (λ live. AddsPrestart pass.old live pass.new) }
+        ensures steps { IfOk result (λ live. AddsPrestart G.config pass.old live pass.new) }
         ensures left { OnOk result (pass.old.room ≤ pass.new.room + 2) }
-        ensures refused { IfErr result (λ e. IsRefusal G.config Ask.Prestart e) }
-        ensures unchanged { OnErr result (pass.new ≡ pass.old) }
+        ensures refused { IfErr result (IsRefusal G.config pass.new.front Ask.Prestart) }
+        ensures unchanged { OnErr result (LooksOnly G.config pass.old pass.new) }
     {
-        let w = match self.shared().step(&rt, Ask::Prestart, pass) {
-            Ok(Stepped::Prestart(Some(w))) => w,
-            Ok(Stepped::Prestart(None)) => return Ok(false),
-            Ok(_) => unreachable!(),
+        let w = match self.shared().ask(&rt, Prestart, pass) {
+            Ok(Some(w)) => w,
+            Ok(None) => return Ok(false),
             Err(error) => return Err(error),
         };
         let staffed = self.staffed(rt, w);

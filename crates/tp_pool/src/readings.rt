@@ -5,14 +5,15 @@ ghost use Rattle.tp_types.specs.RunState.{state_rank};
 ghost use Rattle.tp_record.specs.State.{counts as counts_of, fate_of, slot_at};
 ghost use Rattle.tp_machine.specs.Readings.{HasOpen};
 ghost use Rattle.tp_machine.specs.Seen.{task_of_row};
-ghost use Rattle.tp_book.specs.BookView.{entries};
 ghost use Rattle.tp_locked.specs.Readings.{known, IsPromiseOf, IsResult};
-ghost use Rattle.tp_locked.specs.Records.{AtSome, BookAtSome};
+ghost use Rattle.tp_locked.specs.Moments.{AtFront, AtSome, BookAtSome};
+ghost use Rattle.tp_locked.specs.Passes.{LooksOnly};
 ghost use Rattle.tp_locked.specs.declared.tasks.Task.{Task};
 
 use crate::edges::Edge;
 use crate::pool::PoolOf;
 use std::sync::Wait;
+use tp_book::passes::Pass;
 use tp_callbacks::jobs::Job;
 use tp_locked::names::PoolNaming;
 use tp_types::ids::{SlotId, TaskId};
@@ -20,7 +21,39 @@ use tp_types::refusals::PoolError;
 use tp_types::states::{Counts, RunState};
 use tp_types::tasks::{Fate, Place, Promise};
 
+/// What `look` reads, all of one moment.
+#[derive(Clone, Copy, Debug, PartialEq, Eq)]
+pub struct Reading {
+    /// The run state.
+    pub state: RunState,
+    /// The twelve counters.
+    pub counts: Counts,
+    /// The moment, in ticks.
+    pub now: u64,
+    /// The record's length, in entries.
+    pub steps: u64,
+}
+
 impl<G: PoolNaming, J: Job, E: Edge> PoolOf<G, J, E> {
+    /// The run state, the counters, the moment and the record's length, as they are after the record that the
+    /// pass knows then. That record goes on from the one that it knew; the call makes no step.
+    pub fn look<R: Wait>(&self, rt: &R, pass: &mut Pass<G>) -> Reading
+        ensures reads { AtFront G.config pass.new.front (λ s. (state_rank result.state ≡ s.rank) × (result.counts ≡ counts_of s) × (result.now ≡ s.now)) }
+        ensures steps { result.steps ≡ length pass.new.front }
+        ensures looks { LooksOnly G.config pass.old pass.new }
+    {
+        let shared = self.shared();
+        let mut core = shared.hold(rt);
+        core.is_book();
+        let state = core.show(&shared.glance, pass);
+        Reading {
+            state,
+            counts: core.counts(),
+            now: core.now(),
+            steps: core.steps(),
+        }
+    }
+
     /// The run state, as the record has it. `glance` answers without the lock.
     pub fn state<R: Wait>(&self, rt: &R) -> RunState
         ensures { AtSome G.config (λ s. state_rank result ≡ s.rank) }
@@ -92,7 +125,7 @@ impl<G: PoolNaming, J: Job, E: Edge> PoolOf<G, J, E> {
 
     /// The record's length, in entries.
     pub fn steps<R: Wait>(&self, rt: &R) -> u64
-        ensures { BookAtSome (Task J) G.config (λ b. result ≡ length (entries b)) }
+        ensures { BookAtSome (Task J) G.config (λ b. result ≡ length b.history) }
     {
         self.shared().hold(rt).steps()
     }

@@ -1,27 +1,29 @@
 //! The value that all threads of a pool share, and the holds of its lock.
-ghost use Rattle.std.specs.Prelude.{◌≡◌, ◌⊎◌, ◌+◌, ◌<◌, ◌≤◌, [], ◌∷◌, List, length, IsTrue, IfOk, IfErr, OnOk, OnErr};
-ghost use Rattle.tp_record.specs.declared.entries.Entry.{Entry};
-ghost use Rattle.tp_record.specs.Effects.{reaches};
-ghost use Rattle.tp_machine.specs.Stepped.{IsAnswer, IsSubmission, did_of};
-ghost use Rattle.tp_locked.specs.Passes.{Adds, AddsStep, IsRefusal, Refuses, tidied, ended};
-ghost use Rattle.tp_locked.specs.Records.{AtSome};
-ghost use Rattle.tp_locked.specs.Steps.{IsHandedBack, IsMade};
+ghost use Rattle.std.specs.Prelude.{◌≡◌, ◌⊎◌, ◌+◌, ◌<◌, ◌≤◌, [], ◌∷◌, length, IsTrue, IfOk, IfErr, OnOk, OnErr};
+ghost use Rattle.tp_record.specs.Fields.{rank};
+ghost use Rattle.tp_record.specs.State.{counts as counts_of};
+ghost use Rattle.tp_types.specs.RunState.{state_rank};
+ghost use Rattle.tp_glance.specs.Word.{IsFrontOf};
+ghost use Rattle.tp_locked.specs.Moments.{AtFront};
+ghost use Rattle.tp_locked.specs.Passes.{Adds, AddsNone, AddsStep, IsRefusal, LooksOnly, Refuses, tidied, ended, entry_of};
+ghost use Rattle.tp_locked.specs.Steps.{Makes, Refused as IsRefusedAt, Stops};
 ghost use Rattle.tp_locked.specs.Waits.{HasNoOutcome};
-ghost use Rattle.tp_locked.specs.declared.tasks.Task.{Task as TaskOf};
-ghost use Rattle.tp_pool.specs.Endings.{IsBarred, IsEnding};
+ghost use Rattle.tp_pool.specs.Endings.{AddsEnding, IsBarred};
 
 use crate::edges::Edge;
 use crate::lock::{PAUSE, polite};
 use std::alloc::Global;
 use std::sync::{Condvar, Mutex, MutexGuard, Wait};
 use std::thread::Parker;
-use tp_book::book::Stepped;
 use tp_book::passes::Pass;
+use tp_book::payers::Payer;
 use tp_glance::glance::Glance;
 use tp_locked::answers::Drained;
-use tp_locked::locked::{Core, Look};
+use tp_locked::locked::{Core, Look, Marks};
 use tp_locked::names::PoolNaming;
 use tp_locked::tasks::Task;
+use tp_machine::typed::Step;
+use tp_machine::typed::controllers::{Ended, Tidy};
 use tp_record::entries::{Ask, Did};
 use tp_types::configs::Policy;
 use tp_types::ids::SlotId;
@@ -90,21 +92,26 @@ pub struct Shared<G: PoolNaming, J, E> {
 
 impl<G: PoolNaming, J: Drop, E: Edge> Shared<G, J, E> {
     /// Takes the lock.
+    #[inline(always)]
     pub fn hold<R: Wait>(&self, rt: &R) -> MutexGuard<'_, Core<G, J>> {
         polite(rt, &self.core, PAUSE)
     }
 
     /// Lets go of the lock, and only then wakes the threads that the hold concerned: a thread that is woken
-    /// needs the lock.
+    /// needs the lock. Most holds concern none.
+    #[inline(always)]
     pub fn release(&self, core: MutexGuard<'_, Core<G, J>>) {
         let mut core = core;
         let calls = core.release();
         drop(core);
-        self.wake(&calls);
+        if !calls.is_nobody() {
+            self.wake(&calls);
+        }
     }
 
+    #[inline(never)]
     fn wake(&self, calls: &Calls) {
-        for w in [calls.first, calls.second].into_iter().flatten() {
+        if let Some(w) = calls.worker {
             self.unpark(w);
         }
         if calls.everyone {
@@ -134,40 +141,84 @@ impl<G: PoolNaming, J: Drop, E: Edge> Shared<G, J, E> {
         }
     }
 
-    /// Makes the step of this ask in a hold of its own, with a pass that has room for its receipt, and wakes
-    /// the threads that it concerns after the hold.
-    pub fn step<R: Wait>(
+    /// Makes this step in a hold of its own, with a pass, a caller's or a worker's, and wakes the threads that
+    /// it concerns after the hold.
+    #[inline(always)]
+    pub fn step<R: Wait, S: Marks<J> + Step<Task<J>, Load = ()>, A: Payer<G>>(
         &self,
         rt: &R,
-        ask: Ask,
-        pass: &mut Pass<G>,
-    ) -> Result<Stepped<Task<J>>, PoolError>
-        requires unpaid { ¬ IsSubmission ask }
-        requires room { 0 < pass.old.room }
-        ensures made { IfOk result (IsMade (TaskOf J) G.config pass.old.number ask) }
-        ensures answer { IfOk result (λ s. IsAnswer ask s) }
-        ensures step { IfOk result (λ s. AddsStep pass.old ask (did_of ask s) pass.new) }
-        ensures seen { IfOk result (λ s. reaches (did_of ask s) ≤ pass.new.seen) }
-        ensures left { OnOk result (pass.old.room ≤ pass.new.room + 1) }
-        ensures refused { IfErr result (λ e. HasNoOutcome ask → IsRefusal G.config ask e) }
-        ensures unchanged { OnErr result (pass.new ≡ pass.old) }
+        step: S,
+        pass: &mut A,
+    ) -> Result<S::Answer, PoolError>
+        requires brings { S.brings step tt }
+        requires ready { A.ready pass.old }
+        ensures answers { IfOk result (λ x. S.answers step x) }
+        ensures makes { IfOk result (λ x. Makes J G.config (A.number pass.old) (A.front pass.old) (S.ask step) (S.did step x) (S.moves step tt x) (A.front pass.new)) }
+        ensures paid { IfOk result (λ x. A.paid pass.old (entry_of (A.number pass.old) (S.ask step) (S.did step x)) pass.new) }
+        ensures refused { IfErr result (λ e. IsRefusedAt J G.config (A.front pass.old) (S.ask step) e (A.front pass.new)) }
+        ensures shown { OnErr result (A.shown pass.old pass.new) }
+        ensures number { A.number pass.new ≡ A.number pass.old }
     {
         let mut core = self.hold(rt);
-        let stepped = core.step(ask, &self.glance, pass);
+        let answer = core.step(step, &self.glance, pass);
         self.release(core);
-        stepped
+        answer
     }
 
-    /// Makes the step `stop` in a hold of its own, as `step`. The answer's memory is taken in the same hold,
+    /// As `step`, with a caller's pass that has room for its receipt.
+    #[inline(always)]
+    pub fn ask<R: Wait, S: Marks<J> + Step<Task<J>, Load = ()>>(
+        &self,
+        rt: &R,
+        step: S,
+        pass: &mut Pass<G>,
+    ) -> Result<S::Answer, PoolError>
+        requires brings { S.brings step tt }
+        requires room { 0 < pass.old.room }
+        ensures answers { IfOk result (λ x. S.answers step x) }
+        ensures makes { IfOk result (λ x. Makes J G.config pass.old.number pass.old.front (S.ask step) (S.did step x) (S.moves step tt x) pass.new.front) }
+        ensures step { IfOk result (λ x. AddsStep G.config pass.old (S.ask step) (S.did step x) pass.new) }
+        ensures left { OnOk result (pass.old.room ≤ pass.new.room + 1) }
+        ensures refused { IfErr result (λ e. HasNoOutcome (S.ask step) → IsRefusal G.config pass.new.front (S.ask step) e) }
+        ensures unchanged { OnErr result (LooksOnly G.config pass.old pass.new) }
+    {
+        let mut core = self.hold(rt);
+        let answer = core.ask(step, &self.glance, pass);
+        self.release(core);
+        answer
+    }
+
+    /// As `ask`, for a step with which no outcome comes. The memory of its receipt is taken first, since an
+    /// accepted step can't be taken back.
+    pub fn control<R: Wait, S: Marks<J> + Step<Task<J>, Load = ()>>(
+        &self,
+        rt: &R,
+        step: S,
+        pass: &mut Pass<G>,
+    ) -> Result<S::Answer, PoolError>
+        requires brings { S.brings step tt }
+        requires no_outcome { HasNoOutcome (S.ask step) }
+        ensures answers { IfOk result (λ x. S.answers step x) }
+        ensures makes { IfOk result (λ x. Makes J G.config pass.old.number pass.old.front (S.ask step) (S.did step x) (S.moves step tt x) pass.new.front) }
+        ensures step { IfOk result (λ x. AddsStep G.config pass.old (S.ask step) (S.did step x) pass.new) }
+        ensures refused { IfErr result (Refuses G.config pass.new.front (S.ask step)) }
+        ensures unchanged { OnErr result (AddsNone pass.old pass.new) }
+    {
+        if let Err(error) = pass.reserve(1) {
+            return Err(error);
+        }
+        self.ask(rt, step, pass)
+    }
+
+    /// Makes the step `stop` in a hold of its own, as `ask`. The answer's memory is taken in the same hold,
     /// before the step, so that no job is lost for want of memory.
     pub fn stop<R: Wait>(&self, rt: &R, pass: &mut Pass<G>) -> Result<Vec<Drained<J>>, PoolError>
         requires room { 0 < pass.old.room }
-        ensures handed { IfOk result (λ drained. IsHandedBack (IsMade (TaskOf J) G.config pass.old.number Ask.Stop) drained.items) }
-        ensures step { IfOk result (λ drained. AddsStep pass.old Ask.Stop (Did.Stop (length drained.items)) pass.new) }
-        ensures seen { OnOk result (2 ≤ pass.new.seen) }
+        ensures stops { IfOk result (λ drained. Stops J G.config pass.old.number pass.old.front drained.items pass.new.front) }
+        ensures step { IfOk result (λ drained. AddsStep G.config pass.old Ask.Stop (Did.Stop (length drained.items)) pass.new) }
         ensures left { OnOk result (pass.old.room ≤ pass.new.room + 1) }
-        ensures refused { IfErr result (λ e. Refuses G.config Ask.Stop e) }
-        ensures unchanged { OnErr result (pass.new ≡ pass.old) }
+        ensures refused { IfErr result (Refuses G.config pass.new.front Ask.Stop) }
+        ensures unchanged { OnErr result (AddsNone pass.old pass.new) }
     {
         let mut core = self.hold(rt);
         let drained = core.stop(self.alloc, &self.glance, pass);
@@ -178,7 +229,7 @@ impl<G: PoolNaming, J: Drop, E: Edge> Shared<G, J, E> {
     /// Ends the pool, where it can end now: the step `tidy`, the terminated hook and the step `ended`.
     pub fn try_end<R: Wait>(&self, rt: &R, pass: &mut Pass<G>)
         requires room { 2 ≤ pass.old.room }
-        ensures { (steps : List Entry) × IsEnding G.config pass.old.number steps × Adds pass.old steps pass.new }
+        ensures { AddsEnding G.config pass.old pass.new }
     {
         if self.tidy(rt, pass) {
             let _ = self.terminate(rt, pass);
@@ -188,31 +239,26 @@ impl<G: PoolNaming, J: Drop, E: Edge> Shared<G, J, E> {
     // The step `tidy`, where the pool can end: whether it was made.
     fn tidy<R: Wait>(&self, rt: &R, pass: &mut Pass<G>) -> bool
         requires room { 0 < pass.old.room }
-        ensures tidied { IsTrue result → Adds pass.old (tidied pass.old.number ∷ []) pass.new }
+        ensures tidied { IsTrue result → Adds G.config pass.old (tidied pass.old.number ∷ []) pass.new }
         ensures left { pass.old.room ≤ pass.new.room + 1 }
-        ensures refused { ¬ IsTrue result → IsBarred G.config Ask.Tidy }
-        ensures unchanged { ¬ IsTrue result → pass.new ≡ pass.old }
+        ensures refused { ¬ IsTrue result → IsBarred G.config pass.new.front Ask.Tidy }
+        ensures unchanged { ¬ IsTrue result → LooksOnly G.config pass.old pass.new }
     {
-        match self.step(rt, Ask::Tidy, pass) {
-            Ok(Stepped::Tidy) => true,
-            Ok(_) => unreachable!(),
-            Err(_) => false,
-        }
+        self.ask(rt, Tidy, pass).is_ok()
     }
 
     // The terminated hook, with no lock held, and the step `ended`, by the pass that made the step
     // `tidy`. TornRecord (22) where the book does not take it.
     fn terminate<R: Wait>(&self, rt: &R, pass: &mut Pass<G>) -> Result<(), PoolError>
         requires room { 0 < pass.old.room }
-        ensures step { OnOk result (Adds pass.old (ended pass.old.number ∷ []) pass.new) }
-        ensures seen { OnOk result (4 ≤ pass.new.seen) }
-        ensures refused { IfErr result (λ e. (e ≡ PoolError.TornRecord) × IsBarred G.config Ask.Ended) }
-        ensures unchanged { OnErr result (pass.new ≡ pass.old) }
+        ensures step { OnOk result (Adds G.config pass.old (ended pass.old.number ∷ []) pass.new) }
+        ensures seen { OnOk result (rank pass.new.front ≡ 4) }
+        ensures refused { IfErr result (λ e. (e ≡ PoolError.TornRecord) × IsBarred G.config pass.new.front Ask.Ended) }
+        ensures unchanged { OnErr result (LooksOnly G.config pass.old pass.new) }
     {
         self.edge.terminated(rt);
-        match self.step(rt, Ask::Ended, pass) {
-            Ok(Stepped::Ended) => Ok(()),
-            Ok(_) => unreachable!(),
+        match self.ask(rt, Ended, pass) {
+            Ok(()) => Ok(()),
             Err(_) => Err(PoolError::TornRecord),
         }
     }
@@ -227,10 +273,10 @@ impl<G: PoolNaming, J: Drop, E: Edge> Shared<G, J, E> {
         pass: &mut Pass<G>,
     ) -> Result<(), PoolError>
         requires room { 2 ≤ pass.old.room }
-        ensures steps { OnOk result (Adds pass.old [] pass.new ⊎ Adds pass.old (tidied pass.old.number ∷ ended pass.old.number ∷ []) pass.new) }
-        ensures seen { OnOk result (4 ≤ pass.new.seen) }
-        ensures late { IfErr result (λ e. e ≡ PoolError.TimedOut → AtSome G.config (λ s. deadline ≤ s.now)) }
-        ensures refused { IfErr result (λ e. ((e ≡ PoolError.TimedOut) × Adds pass.old [] pass.new) ⊎ ((e ≡ PoolError.TornRecord) × IsBarred G.config Ask.Ended × Adds pass.old (tidied pass.old.number ∷ []) pass.new)) }
+        ensures steps { OnOk result (Adds G.config pass.old [] pass.new ⊎ Adds G.config pass.old (tidied pass.old.number ∷ ended pass.old.number ∷ []) pass.new) }
+        ensures seen { OnOk result (rank pass.new.front ≡ 4) }
+        ensures late { IfErr result (λ e. e ≡ PoolError.TimedOut → AtFront G.config pass.new.front (λ s. (deadline ≤ s.now) × ¬ (s.rank ≡ 4))) }
+        ensures refused { IfErr result (λ e. ((e ≡ PoolError.TimedOut) × Adds G.config pass.old [] pass.new) ⊎ ((e ≡ PoolError.TornRecord) × IsBarred G.config pass.new.front Ask.Ended × Adds G.config pass.old (tidied pass.old.number ∷ []) pass.new)) }
     {
         let mut core = self.hold(rt);
         for _ in rt.forever() {

@@ -1,12 +1,13 @@
 //! Submissions: a task's path from its first step to its end, each step in a hold of its own. Between two of
 //! them other threads may make steps, so a submission asks after each answer what comes next.
-ghost use Rattle.std.specs.Prelude.{◌≡◌, ◌⊎◌, ◌+◌, ◌<◌, ◌≤◌, Some, IfSome, IfNone, IfOk, IfErr, OnSome, OnOk, OnErr};
-ghost use Rattle.tp_record.specs.Effects.{submits};
+ghost use Rattle.std.specs.Prelude.{◌≡◌, ◌⊎◌, ◌+◌, ◌<◌, ◌≤◌, IfSome, IfNone, IfOk, IfErr, OnSome, OnOk, OnErr};
 ghost use Rattle.tp_record.specs.Paths.{Astray};
 ghost use Rattle.tp_record.specs.declared.entries.Ask.{Ask as AskOf};
+ghost use Rattle.tp_parts.specs.Payloads.{PutsIn};
 ghost use Rattle.tp_paths.specs.Fronts.{admission_of, follow_of};
-ghost use Rattle.tp_locked.specs.Passes.{AddsStep, AddsNone, IsRefusal, Refuses, opening};
-ghost use Rattle.tp_pool.specs.Admissions.{task_of, end_of, AddsPath, IsTurnedAway};
+ghost use Rattle.tp_locked.specs.Passes.{AddsStep, AddsNone, IsRefusal, LooksOnly, Refuses, opening};
+ghost use Rattle.tp_locked.specs.Steps.{Makes};
+ghost use Rattle.tp_pool.specs.Admissions.{task_of, end_of, Admits, IsAdmitted, IsTurnedAway};
 
 use crate::boxes::Boxed;
 use crate::edges::{Boxes, Edge};
@@ -15,7 +16,6 @@ use crate::shared::Shared;
 use crate::staffing::staff;
 use std::sync::{Arc, Wait};
 use std::thread::Threads;
-use tp_book::book::Stepped;
 use tp_book::passes::Pass;
 use tp_callbacks::flags::CancelFlag;
 use tp_callbacks::jobs::Job;
@@ -23,8 +23,10 @@ use tp_locked::answers::{Admitted, Refused};
 use tp_locked::names::PoolNaming;
 use tp_locked::tasks::Task;
 use tp_paths::laws::fronts_are_paths;
+use tp_machine::typed::submitters::{CallerEnd, Grow, Judge, Look, Offer, Second, Submit};
+use tp_machine::typed::workers::Fail;
 use tp_paths::paths::{Ending, Next, follows};
-use tp_record::entries::{Ask, Did};
+use tp_record::entries::{Ask, Did, Looked};
 use tp_types::configs::{Policy, Verdict};
 use tp_types::ids::{SlotId, TaskId};
 use tp_types::refusals::PoolError;
@@ -87,8 +89,8 @@ impl<
         job: J,
         pass: &mut Pass<G>,
     ) -> Result<Admitted, Refused<J>>
-        ensures admitted { IfOk result (λ a. AddsPath kind (task_of a) (end_of a) pass.old pass.new) }
-        ensures refused { IfErr result (λ r. IsTurnedAway G.config kind job pass.old pass.new r) }
+        ensures admitted { IfOk result (IsAdmitted G.config kind job (J.promised job) pass.old pass.new) }
+        ensures refused { IfErr result (IsTurnedAway G.config kind job (J.promised job) pass.old pass.new) }
     {
         match self.reserve(pass) {
             Ok((kept, flag)) => self.submit(rt, kind, Task { job, flag }, kept, pass),
@@ -129,10 +131,10 @@ impl<
         pass: &mut Pass<G>,
     ) -> Result<Admitted, Refused<J>>
         requires room { 512 ≤ pass.old.room }
-        ensures admitted { IfOk result (λ a. AddsPath kind (task_of a) (end_of a) pass.old pass.new) }
-        ensures refused { IfErr result (λ r. IsTurnedAway G.config kind task.job pass.old pass.new r) }
+        ensures admitted { IfOk result (IsAdmitted G.config kind task.job (J.promised task.job) pass.old pass.new) }
+        ensures refused { IfErr result (IsTurnedAway G.config kind task.job (J.promised task.job) pass.old pass.new) }
     {
-        let (t, did) = match self.shared().submit(&rt, kind, task, kept, pass) {
+        let (t, look) = match self.shared().submit(&rt, kind, task, kept, pass) {
             Ok(submitted) => submitted,
             Err((error, task)) => {
                 return Err(Refused {
@@ -142,7 +144,7 @@ impl<
             }
         };
         fronts_are_paths();
-        let mut next = follows(t, &did);
+        let mut next = follows(t, &Did::Submit(t, kind, look));
         let mut held = None;
         for _ in 1..MOST_STEPS {
             if let Next::End(ending) = next {
@@ -161,6 +163,7 @@ impl<
 
     // One further step of a submission, None where the book does not take it. The verdict is asked, the body
     // run and the worker's thread made before the hold of the step, with no lock held.
+    #[inline(always)]
     fn advance<R: Threads + Wait + Copy + Send + 'static>(
         &self,
         rt: R,
@@ -170,32 +173,21 @@ impl<
         pass: &mut Pass<G>,
     ) -> Option<Did>
         requires room { 0 < pass.old.room }
-        ensures step { IfSome result (λ d. (ask : AskOf) × AddsStep pass.old ask d pass.new) }
+        ensures step { IfSome result (λ d. (ask : AskOf) × AddsStep G.config pass.old ask d pass.new) }
         ensures left { OnSome result (pass.old.room ≤ pass.new.room + 1) }
         ensures on_path { OnSome result (¬ (follow_of t.0 next ≡ Astray)) }
-        ensures unchanged { IfNone result (pass.new ≡ pass.old) }
+        ensures unchanged { IfNone result ((pass.new ≡ pass.old) ⊎ LooksOnly G.config pass.old pass.new) }
     {
-        let ask = match next {
-            Next::Look => Ask::Look(t),
-            Next::Offer => Ask::Offer(t),
-            Next::Second => Ask::Second(t),
-            Next::Grow => Ask::Grow(t),
-            Next::Judge => Ask::Verdict(t, self.verdict(&rt, t)),
-            Next::RunHere => Ask::CallerEnd(t, run_here(held.take())?),
-            Next::Staff(w) => {
-                let staffed = self.staffed(rt, w);
-                return self.shared().open(&rt, w, staffed, pass).ok();
-            }
-            Next::End(_) | Next::Astray => return None,
-        };
-        match self.shared().step(&rt, ask, pass) {
-            Ok(Stepped::Verdict(judged)) => {
-                let did = judged.did;
-                *held = judged.payload;
-                Some(did)
-            }
-            Ok(stepped) => Some(stepped.did(&ask)),
-            Err(_) => None,
+        let shared = self.shared();
+        match next {
+            Next::Offer => shared.offer(&rt, t, pass),
+            Next::Second => shared.second(&rt, t, pass),
+            Next::Look => shared.look_again(&rt, t, pass),
+            Next::Grow => shared.grow(&rt, t, pass),
+            Next::Judge => shared.judge(&rt, t, self.verdict(&rt, t), held, pass),
+            Next::RunHere => shared.end_here(&rt, t, run_here(held.take())?, pass),
+            Next::Staff(w) => shared.open(&rt, w, self.staffed(rt, w), pass).ok(),
+            Next::End(_) | Next::Astray => None,
         }
     }
 
@@ -237,8 +229,8 @@ impl<G: PoolNaming + Send + Sync + 'static> PoolOf<G, Boxed, Boxes> {
         job: Box<dyn Job>,
         pass: &mut Pass<G>,
     ) -> Result<Admitted, Refused<Boxed>>
-        ensures admitted { IfOk result (λ a. AddsPath Kind.Plain (task_of a) (end_of a) pass.old pass.new) }
-        ensures refused { IfErr result (λ r. IsTurnedAway G.config Kind.Plain (record { job = job }) pass.old pass.new r) }
+        ensures admitted { Admits G.config Kind.Plain (record { job = job }) (promised job) pass.old pass.new result }
+        ensures refused { IfErr result (IsTurnedAway G.config Kind.Plain (record { job = job }) (promised job) pass.old pass.new) }
     {
         self.execute_as(rt, Kind::Plain, Boxed { job }, pass)
     }
@@ -246,6 +238,7 @@ impl<G: PoolNaming + Send + Sync + 'static> PoolOf<G, Boxed, Boxes> {
 
 impl<G: PoolNaming, J: Job, E: Edge> Shared<G, J, E> {
     // The first step of a submission, in a hold of its own. NoMemory (4) or BookFull (5), with the task.
+    #[inline(always)]
     fn submit<R: Wait>(
         &self,
         rt: &R,
@@ -253,20 +246,118 @@ impl<G: PoolNaming, J: Job, E: Edge> Shared<G, J, E> {
         task: Task<J>,
         kept: CancelFlag,
         pass: &mut Pass<G>,
-    ) -> Result<(TaskId, Did), (PoolError, Task<J>)>
+    ) -> Result<(TaskId, Looked), (PoolError, Task<J>)>
         requires room { 0 < pass.old.room }
-        ensures step { IfOk result (λ r. AddsStep pass.old (Ask.Submit kind) r.1 pass.new) }
-        ensures number { IfOk result (λ r. submits r.1 ≡ Some r.0.0) }
+        ensures makes { IfOk result (λ x. Makes J G.config pass.old.number pass.old.front (Ask.Submit kind) (Did.Submit x.0 kind x.1) (λ old new. PutsIn old new x.0.0 (J.promised task.job) task) pass.new.front) }
+        ensures step { IfOk result (λ x. AddsStep G.config pass.old (Ask.Submit kind) (Did.Submit x.0 kind x.1) pass.new) }
         ensures left { OnOk result (pass.old.room ≤ pass.new.room + 1) }
-        ensures refused { IfErr result (λ r. Refuses G.config (Ask.Submit kind) r.0) }
+        ensures refused { IfErr result (λ r. Refuses G.config pass.new.front (Ask.Submit kind) r.0) }
         ensures returned { IfErr result (λ r. r.1 ≡ task) }
-        ensures unchanged { OnErr result (pass.new ≡ pass.old) }
+        ensures unchanged { OnErr result (AddsNone pass.old pass.new) }
     {
         let promise = task.job.promise();
         let mut core = self.hold(rt);
-        let submitted = core.submit(kind, promise, task, kept, &self.glance, pass);
+        let submitted = core.submit(Submit { kind, promise }, task, kept, &self.glance, pass);
         self.release(core);
         submitted
+    }
+
+    // The step `look`, after a retry: what it did.
+    #[inline(always)]
+    fn look_again<R: Wait>(&self, rt: &R, t: TaskId, pass: &mut Pass<G>) -> Option<Did>
+        requires room { 0 < pass.old.room }
+        ensures step { IfSome result (λ d. AddsStep G.config pass.old (Ask.Look t) d pass.new) }
+        ensures left { OnSome result (pass.old.room ≤ pass.new.room + 1) }
+        ensures unchanged { IfNone result (LooksOnly G.config pass.old pass.new) }
+    {
+        match self.ask(rt, Look(t), pass) {
+            Ok(answer) => Some(Did::Look(t, answer)),
+            Err(_) => None,
+        }
+    }
+
+    // The step `offer`: what it did.
+    #[inline(always)]
+    fn offer<R: Wait>(&self, rt: &R, t: TaskId, pass: &mut Pass<G>) -> Option<Did>
+        requires room { 0 < pass.old.room }
+        ensures step { IfSome result (λ d. AddsStep G.config pass.old (Ask.Offer t) d pass.new) }
+        ensures left { OnSome result (pass.old.room ≤ pass.new.room + 1) }
+        ensures unchanged { IfNone result (LooksOnly G.config pass.old pass.new) }
+    {
+        match self.ask(rt, Offer(t), pass) {
+            Ok(answer) => Some(Did::Offer(t, answer)),
+            Err(_) => None,
+        }
+    }
+
+    // The step `second`: what it did.
+    #[inline(always)]
+    fn second<R: Wait>(&self, rt: &R, t: TaskId, pass: &mut Pass<G>) -> Option<Did>
+        requires room { 0 < pass.old.room }
+        ensures step { IfSome result (λ d. AddsStep G.config pass.old (Ask.Second t) d pass.new) }
+        ensures left { OnSome result (pass.old.room ≤ pass.new.room + 1) }
+        ensures unchanged { IfNone result (LooksOnly G.config pass.old pass.new) }
+    {
+        match self.ask(rt, Second(t), pass) {
+            Ok(answer) => Some(Did::Second(t, answer)),
+            Err(_) => None,
+        }
+    }
+
+    // The step `grow`: what it did.
+    #[inline(always)]
+    fn grow<R: Wait>(&self, rt: &R, t: TaskId, pass: &mut Pass<G>) -> Option<Did>
+        requires room { 0 < pass.old.room }
+        ensures step { IfSome result (λ d. AddsStep G.config pass.old (Ask.Grow t) d pass.new) }
+        ensures left { OnSome result (pass.old.room ≤ pass.new.room + 1) }
+        ensures unchanged { IfNone result (LooksOnly G.config pass.old pass.new) }
+    {
+        match self.ask(rt, Grow(t), pass) {
+            Ok(answer) => Some(Did::Grow(t, answer)),
+            Err(_) => None,
+        }
+    }
+
+    // The step `verdict`: what it did. A task that its submitter is to run, or that is gone, is handed out.
+    fn judge<R: Wait>(
+        &self,
+        rt: &R,
+        t: TaskId,
+        verdict: Verdict,
+        held: &mut Option<Task<J>>,
+        pass: &mut Pass<G>,
+    ) -> Option<Did>
+        requires room { 0 < pass.old.room }
+        ensures step { IfSome result (λ d. AddsStep G.config pass.old (Ask.Verdict t verdict) d pass.new) }
+        ensures left { OnSome result (pass.old.room ≤ pass.new.room + 1) }
+        ensures unchanged { IfNone result (LooksOnly G.config pass.old pass.new) }
+    {
+        match self.ask(rt, Judge(t, verdict), pass) {
+            Ok(judged) => {
+                *held = judged.payload;
+                Some(judged.did)
+            }
+            Err(_) => None,
+        }
+    }
+
+    // The step `callerend`: what it did.
+    fn end_here<R: Wait>(
+        &self,
+        rt: &R,
+        t: TaskId,
+        outcome: Outcome,
+        pass: &mut Pass<G>,
+    ) -> Option<Did>
+        requires room { 0 < pass.old.room }
+        ensures step { IfSome result (λ d. AddsStep G.config pass.old (Ask.CallerEnd t outcome) d pass.new) }
+        ensures left { OnSome result (pass.old.room ≤ pass.new.room + 1) }
+        ensures unchanged { IfNone result (LooksOnly G.config pass.old pass.new) }
+    {
+        match self.ask(rt, CallerEnd(t, outcome), pass) {
+            Ok(()) => Some(Did::CallerEnd(t, outcome)),
+            Err(_) => None,
+        }
     }
 
     /// Tells, in a hold of its own, whether a worker was made for this slot, and wakes the threads that are
@@ -279,17 +370,52 @@ impl<G: PoolNaming, J: Job, E: Edge> Shared<G, J, E> {
         pass: &mut Pass<G>,
     ) -> Result<Did, PoolError>
         requires room { 0 < pass.old.room }
-        ensures step { IfOk result (λ d. AddsStep pass.old (opening w staffed) d pass.new) }
+        ensures step { IfOk result (λ d. AddsStep G.config pass.old (opening w staffed) d pass.new) }
         ensures left { OnOk result (pass.old.room ≤ pass.new.room + 1) }
-        ensures refused { IfErr result (λ e. IsRefusal G.config (opening w staffed) e) }
-        ensures unchanged { OnErr result (pass.new ≡ pass.old) }
+        ensures refused { IfErr result (IsRefusal G.config pass.new.front (opening w staffed)) }
+        ensures unchanged { OnErr result (LooksOnly G.config pass.old pass.new) }
+    {
+        if staffed {
+            self.open_live(rt, w, pass)
+        } else {
+            self.fail(rt, w, pass)
+        }
+    }
+
+    // The step `open`: what it did.
+    fn open_live<R: Wait>(
+        &self,
+        rt: &R,
+        w: SlotId,
+        pass: &mut Pass<G>,
+    ) -> Result<Did, PoolError>
+        requires room { 0 < pass.old.room }
+        ensures step { IfOk result (λ d. AddsStep G.config pass.old (Ask.Open w) d pass.new) }
+        ensures left { OnOk result (pass.old.room ≤ pass.new.room + 1) }
+        ensures refused { IfErr result (IsRefusal G.config pass.new.front (Ask.Open w)) }
+        ensures unchanged { OnErr result (LooksOnly G.config pass.old pass.new) }
     {
         let mut core = self.hold(rt);
-        let opened = core.open(w, staffed, &self.glance, pass);
+        let opened = core.open(w, &self.glance, pass);
         self.release(core);
-        if staffed {
-            self.conditions.begun.notify_all();
+        self.conditions.begun.notify_all();
+        match opened {
+            Ok(opened) => Ok(Did::Open(w, opened)),
+            Err(error) => Err(error),
         }
-        opened
+    }
+
+    // The step `fail`: what it did.
+    fn fail<R: Wait>(&self, rt: &R, w: SlotId, pass: &mut Pass<G>) -> Result<Did, PoolError>
+        requires room { 0 < pass.old.room }
+        ensures step { IfOk result (λ d. AddsStep G.config pass.old (Ask.Fail w) d pass.new) }
+        ensures left { OnOk result (pass.old.room ≤ pass.new.room + 1) }
+        ensures refused { IfErr result (IsRefusal G.config pass.new.front (Ask.Fail w)) }
+        ensures unchanged { OnErr result (LooksOnly G.config pass.old pass.new) }
+    {
+        match self.ask(rt, Fail(w), pass) {
+            Ok(failed) => Ok(Did::Fail(w, failed)),
+            Err(error) => Err(error),
+        }
     }
 }

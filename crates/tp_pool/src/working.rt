@@ -1,11 +1,10 @@
 //! A worker's thread: its turns, and its end.
-ghost use Rattle.std.specs.Prelude.{◌≡◌, ⊤, is_ok};
+ghost use Rattle.std.specs.Prelude.{◌≡◌, List};
+ghost use Rattle.tp_record.specs.declared.entries.Entry.{Entry};
+ghost use Rattle.tp_record.specs.State.{state};
 ghost use Rattle.tp_turns.specs.Turns.{bare, told};
-ghost use Rattle.tp_locked.specs.Steps.{IsAnswered, taking_of, begun_of, departed_of, IsEndOf};
-ghost use Rattle.tp_locked.specs.declared.tasks.Task.{Task as TaskOf};
-ghost use Rattle.tp_machine.specs.Stepped.{IsSubmission};
-ghost use Rattle.tp_locked.specs.Passes.{opening};
-ghost use Rattle.tp_pool.specs.Deeds.{EndsPool};
+ghost use Rattle.tp_locked.specs.Steps.{taking_of, begun_of, departed_of, IsEndOf};
+ghost use Rattle.tp_pool.specs.Deeds.{Takes, BeginsAt, Ends, Leaves, Opens, Fails, HandsOver, EndsPool};
 
 use crate::edges::Edge;
 use crate::shared::Shared;
@@ -19,7 +18,9 @@ use tp_locked::locked::Taking;
 use tp_locked::names::PoolNaming;
 use tp_locked::roster::Start;
 use tp_locked::tasks::Task;
-use tp_record::entries::Ask;
+use tp_machine::answers::Begun as Started;
+use tp_machine::typed::controllers;
+use tp_machine::typed::workers::{Begin, End, Fail, Leave};
 use tp_turns::deeds::{Departed, Ended, Taken};
 use tp_turns::turns::{Begun, Workplace, one_turn};
 use tp_types::ids::{SlotId, TaskId};
@@ -45,7 +46,7 @@ impl<
     ghost use Rattle.std.specs.Prelude.{◌≡◌};
     ghost use Rattle.tp_pool.specs.Deeds.{IsDone, heir_after};
 
-    ghost did = { λ old d new. (new.w ≡ old.w) × (new.pass.number ≡ old.pass.number) × (new.heir ≡ heir_after old.heir d.0) × IsDone J G.config old.w old.pass.number old.heir d.0 d.1 };
+    ghost did = { λ old d new. (new.w ≡ old.w) × (new.pass.number ≡ old.pass.number) × (new.heir ≡ heir_after old.heir d.0) × IsDone J G.config old.w old.pass.number old.pass.front new.pass.front old.heir d.0 d.1 };
 
     ghost owes = { λ _ _. Unit {0} };
 
@@ -134,13 +135,9 @@ impl<G: PoolNaming + Send + Sync + 'static, J: Job + 'static, E: Edge + Send + S
 
     /// Tells whether a worker was made in its place, and ends the pool where it can end now.
     pub fn hand_over<R: Wait>(&mut self, rt: &R, w: SlotId, staffed: bool)
-        ensures told { IsAnswered (TaskOf J) G.config self.old.pass.number (opening w staffed) (λ _ _. ⊤) }
-        ensures ends { EndsPool J G.config self.old.pass.number }
+        ensures { (mid : List Entry) × HandsOver J G.config self.old.pass.number self.old.pass.front w staffed mid × EndsPool J G.config self.old.pass.number mid self.new.pass.front }
     {
-        self.shared.open_as_worker(rt, w, staffed, &mut self.pass);
-        if staffed {
-            self.shared.conditions.begun.notify_all();
-        }
+        self.shared.hand_over(rt, w, staffed, &mut self.pass);
         self.shared.try_end_as_worker(rt, &mut self.pass);
     }
 
@@ -159,62 +156,88 @@ impl<G: PoolNaming + Send + Sync + 'static, J: Job + 'static, E: Edge + Send + S
 
 impl<G: PoolNaming, J: Drop, E: Edge> Shared<G, J, E> {
     // One hold of a worker that asks for its next task.
+    #[inline(always)]
     fn take<R: Wait>(&self, rt: &R, w: SlotId, pass: &mut WorkerPass<G>) -> Taking
-        ensures asked { IsAnswered (TaskOf J) G.config pass.old.number (Ask.Take w) (λ _ r. result ≡ taking_of r) }
+        ensures asks { Takes J G.config pass.old.number pass.old.front w pass.new.front (λ r. result ≡ taking_of r) }
         ensures number { pass.new.number ≡ pass.old.number }
     {
         let mut core = self.hold(rt);
-        core.is_legal();
         let taking = core.take(w, &self.glance, pass);
         self.release(core);
         taking
     }
 
     // One hold of a worker that begins the task that it took.
+    #[inline(always)]
     fn begin<R: Wait>(&self, rt: &R, w: SlotId, pass: &mut WorkerPass<G>) -> Begun<J>
-        ensures asked { IsAnswered (TaskOf J) G.config pass.old.number (Ask.Begin w) (λ _ r. result ≡ begun_of r) }
+        ensures asks { BeginsAt J G.config pass.old.number pass.old.front w pass.new.front (λ r. result ≡ begun_of r) }
         ensures number { pass.new.number ≡ pass.old.number }
     {
-        let mut core = self.hold(rt);
-        core.is_legal();
-        let begun = core.begin(w, &self.glance, pass);
-        self.release(core);
-        begun
+        match self.step(rt, Begin(w), pass) {
+            Ok(Started::Run(t, Task { job, flag })) => Begun::Run(t, job, flag),
+            Ok(Started::Skip(t)) => Begun::Skip(t),
+            Err(_) => Begun::Refused,
+        }
     }
 
     // One hold of a worker that tells its task's outcome.
+    #[inline(always)]
     fn end<R: Wait>(&self, rt: &R, w: SlotId, outcome: Outcome, pass: &mut WorkerPass<G>) -> Ended
-        ensures asked { IsAnswered (TaskOf J) G.config pass.old.number (Ask.End w outcome) (λ new r. IsEndOf new w.0 result r) }
+        ensures asks { Ends J G.config pass.old.number pass.old.front w outcome pass.new.front (IsEndOf (state G.config pass.new.front) w.0 result) }
         ensures number { pass.new.number ≡ pass.old.number }
     {
         let mut core = self.hold(rt);
-        core.is_legal();
-        let ended = core.end(w, outcome, &self.glance, pass);
+        let told = core.step(End(w, outcome), &self.glance, pass);
+        let dying = core.is_dying(w);
         self.release(core);
-        ended
+        match told {
+            Ok(_) if dying => Ended::Dying,
+            Ok(_) => Ended::Live,
+            Err(_) => Ended::Refused,
+        }
     }
 
     // One hold of a worker that leaves after a fault.
     fn leave<R: Wait>(&self, rt: &R, w: SlotId, pass: &mut WorkerPass<G>) -> Departed
-        ensures asked { IsAnswered (TaskOf J) G.config pass.old.number (Ask.Leave w) (λ _ r. result ≡ departed_of r) }
+        ensures asks { Leaves J G.config pass.old.number pass.old.front w pass.new.front (λ r. result ≡ departed_of r) }
         ensures number { pass.new.number ≡ pass.old.number }
     {
-        let mut core = self.hold(rt);
-        core.is_legal();
-        let departed = core.leave(w, &self.glance, pass);
-        self.release(core);
-        departed
+        match self.step(rt, Leave(w), pass) {
+            Ok(Some(next)) => Departed::Replaced(next),
+            Ok(None) => Departed::Alone,
+            Err(_) => Departed::Refused,
+        }
     }
 
     // One hold of a worker that tells whether another was made in its place.
-    fn open_as_worker<R: Wait>(&self, rt: &R, w: SlotId, staffed: bool, pass: &mut WorkerPass<G>)
-        ensures asked { IsAnswered (TaskOf J) G.config pass.old.number (opening w staffed) (λ _ _. ⊤) }
+    fn hand_over<R: Wait>(&self, rt: &R, w: SlotId, staffed: bool, pass: &mut WorkerPass<G>)
+        ensures asks { HandsOver J G.config pass.old.number pass.old.front w staffed pass.new.front }
+        ensures number { pass.new.number ≡ pass.old.number }
+    {
+        if staffed {
+            self.open_heir(rt, w, pass);
+        } else {
+            self.fail_heir(rt, w, pass);
+        }
+    }
+
+    // The step `open` of a worker's heir.
+    fn open_heir<R: Wait>(&self, rt: &R, w: SlotId, pass: &mut WorkerPass<G>)
+        ensures asks { Opens J G.config pass.old.number pass.old.front w pass.new.front }
         ensures number { pass.new.number ≡ pass.old.number }
     {
         let mut core = self.hold(rt);
-        core.is_legal();
-        core.open_as_worker(w, staffed, &self.glance, pass);
+        let _ = core.open(w, &self.glance, pass);
         self.release(core);
+        self.conditions.begun.notify_all();
+    }
+
+    // The step `fail` of a worker's heir.
+    fn fail_heir<R: Wait>(&self, rt: &R, w: SlotId, pass: &mut WorkerPass<G>)
+        ensures asks { Fails J G.config pass.old.number pass.old.front w pass.new.front }
+        ensures number { pass.new.number ≡ pass.old.number }
+    {
+        let _ = self.step(rt, Fail(w), pass);
     }
 
     // Sleeps until another thread took the worker off the list of sleepers. Each wake is checked under the
@@ -229,27 +252,14 @@ impl<G: PoolNaming, J: Drop, E: Edge> Shared<G, J, E> {
         unreachable!()
     }
 
-    // Makes the step of this ask in a hold of its own, with a worker's pass: whether it was made.
-    fn work<R: Wait>(&self, rt: &R, ask: Ask, pass: &mut WorkerPass<G>) -> bool
-        requires unpaid { ¬ IsSubmission ask }
-        ensures asked { IsAnswered (TaskOf J) G.config pass.old.number ask (λ _ r. result ≡ is_ok r) }
-        ensures number { pass.new.number ≡ pass.old.number }
-    {
-        let mut core = self.hold(rt);
-        core.is_legal();
-        let made = core.work(ask, &self.glance, pass).is_ok();
-        self.release(core);
-        made
-    }
-
     // Ends the pool, where it can end now, by a worker's steps.
     fn try_end_as_worker<R: Wait>(&self, rt: &R, pass: &mut WorkerPass<G>)
-        ensures ends { EndsPool J G.config pass.old.number }
+        ensures ends { EndsPool J G.config pass.old.number pass.old.front pass.new.front }
         ensures number { pass.new.number ≡ pass.old.number }
     {
-        if self.work(rt, Ask::Tidy, pass) {
+        if self.step(rt, controllers::Tidy, pass).is_ok() {
             self.edge.terminated(rt);
-            let _ = self.work(rt, Ask::Ended, pass);
+            let _ = self.step(rt, controllers::Ended, pass);
         }
     }
 

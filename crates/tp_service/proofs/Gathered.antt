@@ -15,29 +15,30 @@ use Rattle.tp_locked.specs.Passes.{AddsNone, AddsStep, Refuses}
 use Rattle.tp_locked.specs.declared.answers.Admitted.{Admitted}
 use Rattle.tp_locked.specs.declared.answers.Admitted.TheVariants as admitted
 use Rattle.tp_locked.specs.declared.answers.Refused.{Refused}
-use Rattle.tp_pool.proofs.Receipts.{none_added}
-use Rattle.tp_pool.specs.Admissions.{task_of, end_of, AddsPath, AddsFront, IsTurnedAway}
+use Rattle.tp_locked.proofs.Receipts.{none_added}
+use Rattle.tp_pool.specs.Admissions.{task_of, end_of, AddsPath, AddsFront, GotJob, IsTurnedAway}
+use Rattle.tp_types.specs.declared.tasks.Promise.{Promise}
 use Rattle.tp_service.specs.Futures.{IsClosed, HasValue, HaveFailed}
 use Rattle.tp_service.specs.Submitted.{AddsSubmission, AddsSubmissions, AddsRefused, AddsCancel, AddsCancels, IsAnyValue, HasNoValue}
 
 -- a submission that was admitted
-pub admits : (k : Kind) (a : Admitted) (old new : PassView) → AddsPath k (task_of a) (end_of a) old new → AddsSubmission k (task_of a) old new
-admits k (admitted.Accepted t) old new path = inl path
-admits k (admitted.RanHere t o) old new path = inr (inl (o, path))
-admits k (admitted.Discarded t) old new path = inr (inr path)
+pub admits : (c : Config) (k : Kind) (a : Admitted) (old new : PassView) → AddsPath c k (task_of a) (end_of a) old new → AddsSubmission c k (task_of a) old new
+admits c k (admitted.Accepted t) old new path = inl path
+admits c k (admitted.RanHere t o) old new path = inr (inl (o, path))
+admits c k (admitted.Discarded t) old new path = inr (inr path)
 
 -- one that was refused, whatever its job
-pub refuses : {J : Type 0} (c : Config) (job : J) (old new : PassView) (x : Refused J) → IsTurnedAway c kind.Future job old new x → AddsRefused c x.error old new
-refuses c job old new x is =
-    ⊎_elim (λ (y : (t : TaskId) × (x.error ≡ error.Rejected t) × AddsPath kind.Future t Rejected old new). inl y)
-    (⊎_elim (λ (y : (x.error ≡ error.TornRecord) × AddsFront old new). inr (inl y))
-    (λ (y : Refuses c (ask.Submit kind.Future) x.error × (x.job ≡ Some job) × AddsNone old new). inr (inr (y.0, y.2))))
+pub refuses : {J : Type 0} (c : Config) (job : J) (promise : Promise) (old new : PassView) (x : Refused J) → IsTurnedAway c kind.Future job promise old new x → AddsRefused c x.error old new
+refuses c job promise old new x is =
+    ⊎_elim (λ (y : (t : TaskId) × (x.error ≡ error.Rejected t) × AddsPath c kind.Future t Rejected old new × GotJob c kind.Future job promise old.number t.0 old.front new.front). inl (y.0, y.1, y.2))
+    (⊎_elim (λ (y : (x.error ≡ error.TornRecord) × AddsFront c old new). inr (inl y))
+    (λ (y : Refuses c new.front (ask.Submit kind.Future) x.error × (x.job ≡ Some job) × AddsNone old new). inr (inr (y.0, y.2))))
     is
 
 module _ {P : Type 0} (c : Config) (t : TaskId) (old new : PassView) where
   -- a cancel that was asked for
-  pub cancels : (r : Result Bool PoolError) → IfOk r (λ effective. AddsStep old (ask.Cancel t true) (did.Cancel t true effective) new)
-      → IfErr r (λ e. Refuses c (ask.Cancel t true) e) → OnErr r (AddsNone old new) → AddsCancel P c t old new
+  pub cancels : (r : Result Bool PoolError) → IfOk r (λ effective. AddsStep c old (ask.Cancel t true) (did.Cancel t true effective) new)
+      → IfErr r (Refuses c new.front (ask.Cancel t true)) → OnErr r (AddsNone old new) → AddsCancel P c t old new
   cancels (Ok effective) step refused none = inl (effective, step)
   cancels (Err e) step refused none = inr (none, inr (e, refused))
 
@@ -47,7 +48,7 @@ module _ {P : Type 0} (c : Config) (t : TaskId) (old new : PassView) where
 
 module _ (P : Type 0) (c : Config) (jobs : ℕ) (tasks : List TaskId) (count : length tasks ≡ jobs) (r : Result ℤ PoolError) where
   -- what any of many comes to
-  pub any_value : (old mid new : PassView) → AddsSubmissions tasks old mid → IfOk r (λ v. Any (HasValue P c v) tasks) → AddsCancels P c tasks mid new
+  pub any_value : (old mid new : PassView) → AddsSubmissions c tasks old mid → IfOk r (λ v. Any (HasValue P c v) tasks) → AddsCancels P c tasks mid new
       → IfOk r (λ v. IsAnyValue P c jobs v old new)
   any_value old mid new submits value cancels = valued r value
     where
@@ -55,7 +56,7 @@ module _ (P : Type 0) (c : Config) (jobs : ℕ) (tasks : List TaskId) (count : l
       valued (Ok v) value = record { tasks = tasks; count = count; mid = mid; submits = submits; value = value; cancels = cancels }
       valued (Err e) value = tt
 
-  pub no_value : (old new : PassView) → AddsSubmissions tasks old new → IfErr r (λ e. HaveFailed P c tasks e) → IfErr r (λ e. HasNoValue P c jobs e old new)
+  pub no_value : (old new : PassView) → AddsSubmissions c tasks old new → IfErr r (λ e. HaveFailed P c tasks e) → IfErr r (λ e. HasNoValue P c jobs e old new)
   no_value old new submits failed = refused r failed
     where
       refused : (r : Result ℤ PoolError) → IfErr r (λ e. HaveFailed P c tasks e) → IfErr r (λ e. HasNoValue P c jobs e old new)

@@ -7,7 +7,7 @@ use Rattle.tp_types.specs.declared.configs.Config.{Config}
 use Rattle.tp_types.specs.declared.ids.TaskId.{TaskId}
 use Rattle.tp_types.specs.declared.refusals.PoolError.{PoolError}
 use Rattle.tp_locked.specs.Readings.{got, IsResult}
-use Rattle.tp_locked.specs.Records.{BookAtSome}
+use Rattle.tp_locked.specs.Moments.{BookAtSome}
 use Rattle.tp_pool.proofs.Got.{got_is}
 use Rattle.tp_service.specs.Futures.{HasValue, Fails, later_fault}
 use Rattle.tp_service.specs.Turns.{Through}

@@ -7,7 +7,7 @@ use Rattle.tp_types.specs.declared.refusals.PoolError.TheVariants.{Faulted, Time
 use Rattle.tp_machine.specs.Readings.{value_in}
 use Rattle.tp_book.specs.BookView.{state_of}
 use Rattle.tp_locked.specs.Readings.{IsFound, IsResult}
-use Rattle.tp_locked.specs.Records.{BookAtSome}
+use Rattle.tp_locked.specs.Moments.{BookAtSome}
 use Rattle.tp_service.specs.Turns.{Through}
 
 -- the last fault, where this one came before this refusal

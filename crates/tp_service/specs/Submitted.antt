@@ -12,32 +12,37 @@ use Rattle.tp_record.specs.Paths.{Accepted, RanHere, Discarded, Rejected}
 use Rattle.tp_record.specs.Effects.{Outcome}
 use Rattle.tp_book.specs.PassView.{PassView}
 use Rattle.tp_locked.specs.Passes.{AddsNone, AddsStep, Refuses}
-use Rattle.tp_pool.specs.Admissions.{AddsPath, AddsFront}
+use Rattle.tp_pool.specs.Admissions.{AddsPath, AddsFront, GotJob}
+use Rattle.tp_types.specs.declared.tasks.Promise.{Promise}
 use Rattle.tp_service.specs.Futures.{IsClosed, IsLate, HasValue, HaveFailed}
 use Rattle.tp_service.specs.Turns.{Through}
 
 -- the whole path of this task of this kind, which is admitted at its end: accepted, run by its submitter, or discarded
-abbrev pub AddsSubmission : Kind → TaskId → PassView → PassView → Type 0
-AddsSubmission k t old new = AddsPath k t Accepted old new ⊎ (((o : Outcome) × AddsPath k t (RanHere o) old new) ⊎ AddsPath k t Discarded old new)
+abbrev pub AddsSubmission : Config → Kind → TaskId → PassView → PassView → Type 0
+AddsSubmission c k t old new = AddsPath c k t Accepted old new ⊎ (((o : Outcome) × AddsPath c k t (RanHere o) old new) ⊎ AddsPath c k t Discarded old new)
+
+-- that of this job, which promises this
+abbrev pub AddsJob : {J : Type 0} → Config → Kind → J → Promise → TaskId → PassView → PassView → Type 0
+AddsJob c k job promise t old new = AddsSubmission c k t old new × GotJob c k job promise old.number t.0 old.front new.front
 
 -- the submissions of these futures, one after another
-abbrev pub AddsSubmissions : List TaskId → PassView → PassView → Type 0
-AddsSubmissions ts old new = Through (AddsSubmission kind.Future) ts old new
+abbrev pub AddsSubmissions : Config → List TaskId → PassView → PassView → Type 0
+AddsSubmissions c ts old new = Through (AddsSubmission c kind.Future) ts old new
 
 -- a submission of a future is refused so: after its whole path, or torn off on it, or before its first step
 abbrev pub AddsRefused : Config → PoolError → PassView → PassView → Type 0
 AddsRefused c e old new =
-    ((t : TaskId) × (e ≡ error.Rejected t) × AddsPath kind.Future t Rejected old new)
-    ⊎ ((e ≡ error.TornRecord) × AddsFront old new)
-    ⊎ (Refuses c (ask.Submit kind.Future) e × AddsNone old new)
+    ((t : TaskId) × (e ≡ error.Rejected t) × AddsPath c kind.Future t Rejected old new)
+    ⊎ ((e ≡ error.TornRecord) × AddsFront c old new)
+    ⊎ (Refuses c new.front (ask.Submit kind.Future) e × AddsNone old new)
 
 -- P is what the pool keeps of a job, c its settings
 module _ (P : Type 0) (c : Config) where
   -- the step that cancels this task with its flag; or none, where its future is not open or the step is refused
   abbrev pub AddsCancel : TaskId → PassView → PassView → Type 0
   AddsCancel t old new =
-      ((effective : Bool) × AddsStep old (ask.Cancel t true) (did.Cancel t true effective) new)
-      ⊎ (AddsNone old new × (IsClosed P c t ⊎ ((e : PoolError) × Refuses c (ask.Cancel t true) e)))
+      ((effective : Bool) × AddsStep c old (ask.Cancel t true) (did.Cancel t true effective) new)
+      ⊎ (AddsNone old new × (IsClosed P c t ⊎ ((e : PoolError) × Refuses c new.front (ask.Cancel t true) e)))
 
   -- that of each of these tasks, one after another
   abbrev pub AddsCancels : List TaskId → PassView → PassView → Type 0
@@ -49,7 +54,7 @@ module _ (P : Type 0) (c : Config) where
     pub fewer : length earlier < jobs
     pub submitted : PassView
     pub refused : PassView
-    pub submits : AddsSubmissions earlier old submitted
+    pub submits : AddsSubmissions c earlier old submitted
     pub refuses : AddsRefused c e submitted refused
     pub cancels : AddsCancels earlier refused new
 
@@ -59,20 +64,20 @@ module _ (P : Type 0) (c : Config) where
 
   -- all these futures are submitted, and then not open
   abbrev pub IsAll : List TaskId → PassView → PassView → Type 0
-  IsAll ts old new = AddsSubmissions ts old new × All (IsClosed P c) ts
+  IsAll ts old new = AddsSubmissions c ts old new × All (IsClosed P c) ts
 
   -- all are submitted, and then not open; or a wait for one finds that it is late, and all are cancelled
   abbrev pub IsAllUntil : ℕ → List TaskId → PassView → PassView → Type 0
   IsAllUntil deadline ts old new =
       IsAll ts old new
-      ⊎ ((mid : PassView) × AddsSubmissions ts old mid × Any (IsLate P c deadline) ts × AddsCancels ts mid new)
+      ⊎ ((mid : PassView) × AddsSubmissions c ts old mid × Any (IsLate P c deadline) ts × AddsCancels ts mid new)
 
   -- so many jobs are submitted; one of them has this value, and all are cancelled
   pub record IsAnyValue (jobs : ℕ) (v : ℤ) (old new : PassView) : Type 0 where
     pub tasks : List TaskId
     pub count : length tasks ≡ jobs
     pub mid : PassView
-    pub submits : AddsSubmissions tasks old mid
+    pub submits : AddsSubmissions c tasks old mid
     pub value : Any (HasValue P c v) tasks
     pub cancels : AddsCancels tasks mid new
 
@@ -80,7 +85,7 @@ module _ (P : Type 0) (c : Config) where
   pub record IsNoValue (jobs : ℕ) (e : PoolError) (old new : PassView) : Type 0 where
     pub tasks : List TaskId
     pub count : length tasks ≡ jobs
-    pub submits : AddsSubmissions tasks old new
+    pub submits : AddsSubmissions c tasks old new
     pub failed : HaveFailed P c tasks e
 
   -- none of so many jobs gives a value: there are none; or they are not all submitted; or none of them has one

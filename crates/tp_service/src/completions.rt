@@ -2,9 +2,10 @@
 ghost use Rattle.std.specs.Prelude.{◌≡◌, ◌≢◌, ◌⊎◌, IfOk, IfErr, IfSome, IfNone, OnErr};
 ghost use Rattle.tp_types.specs.declared.tasks.Kind.TheVariants.{Group};
 ghost use Rattle.tp_locked.specs.Passes.{AddsNone, AddsStep, IsRefusal, Refuses};
-ghost use Rattle.tp_locked.specs.Readings.{IsUndone};
+ghost use Rattle.tp_locked.specs.Moments.{AtFront};
+ghost use Rattle.tp_locked.specs.Readings.{IsUndoneAt};
 ghost use Rattle.tp_pool.specs.Admissions.{IsTurnedAway};
-ghost use Rattle.tp_service.specs.Submitted.{AddsSubmission};
+ghost use Rattle.tp_service.specs.Submitted.{AddsJob};
 
 use crate::futures::task_of;
 use std::sync::Wait;
@@ -50,8 +51,8 @@ impl CompletionService {
         job: J,
         pass: &mut Pass<G>,
     ) -> Result<TaskId, Refused<J>>
-        ensures submitted { IfOk result (λ t. AddsSubmission (Group self.now.group) t pass.old pass.new) }
-        ensures refused { IfErr result (λ r. IsTurnedAway G.config (Group self.now.group) job pass.old pass.new r) }
+        ensures submitted { IfOk result (λ t. AddsJob G.config (Group self.now.group) job (J.promised job) t pass.old pass.new) }
+        ensures refused { IfErr result (IsTurnedAway G.config (Group self.now.group) job (J.promised job) pass.old pass.new) }
     {
         match pool.execute_as(rt, Kind::Group(self.group), job, pass) {
             Ok(admitted) => Ok(task_of(admitted)),
@@ -70,8 +71,8 @@ impl CompletionService {
         rt: &R,
         pass: &mut Pass<G>,
     ) -> Result<TaskId, PoolError>
-        ensures step { IfOk result (λ t. AddsStep pass.old (Ask.TakeDone self.now.group) (Did.TakeDone self.now.group t) pass.new) }
-        ensures refused { IfErr result (λ e. (e ≡ PoolError.NoMemory) ⊎ IsUndone G.config self.now.group e) }
+        ensures step { IfOk result (λ t. AddsStep G.config pass.old (Ask.TakeDone self.now.group) (Did.TakeDone self.now.group t) pass.new) }
+        ensures refused { IfErr result (λ e. (e ≡ PoolError.NoMemory) ⊎ AtFront G.config pass.new.front (λ s. IsUndoneAt G.config s self.now.group e)) }
         ensures unchanged { OnErr result (AddsNone pass.old pass.new) }
     {
         pool.await_done(rt, self.group, pass)
@@ -86,9 +87,9 @@ impl CompletionService {
         rt: &R,
         pass: &mut Pass<G>,
     ) -> Result<Option<TaskId>, PoolError>
-        ensures step { IfOk result (λ o. IfSome o (λ t. AddsStep pass.old (Ask.TakeDone self.now.group) (Did.TakeDone self.now.group t) pass.new)) }
-        ensures none { IfOk result (λ o. IfNone o (IsRefusal G.config (Ask.TakeDone self.now.group) PoolError.NotThere × AddsNone pass.old pass.new)) }
-        ensures refused { IfErr result (λ e. (e ≢ PoolError.NotThere) × Refuses G.config (Ask.TakeDone self.now.group) e) }
+        ensures step { IfOk result (λ o. IfSome o (λ t. AddsStep G.config pass.old (Ask.TakeDone self.now.group) (Did.TakeDone self.now.group t) pass.new)) }
+        ensures none { IfOk result (λ o. IfNone o (IsRefusal G.config pass.new.front (Ask.TakeDone self.now.group) PoolError.NotThere × AddsNone pass.old pass.new)) }
+        ensures refused { IfErr result (λ e. (e ≢ PoolError.NotThere) × Refuses G.config pass.new.front (Ask.TakeDone self.now.group) e) }
         ensures unchanged { OnErr result (AddsNone pass.old pass.new) }
     {
         match pool.take_done(rt, self.group, pass) {

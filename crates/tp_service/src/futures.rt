@@ -2,10 +2,10 @@
 ghost use Rattle.std.specs.Prelude.{◌≡◌, Some, None, IfOk, IfErr};
 ghost use Rattle.tp_types.specs.declared.tasks.Kind.TheVariants.{Future};
 ghost use Rattle.tp_locked.specs.Readings.{got, IsFound, IsResult};
-ghost use Rattle.tp_locked.specs.Records.{BookAtSome};
+ghost use Rattle.tp_locked.specs.Moments.{BookAtSome};
 ghost use Rattle.tp_locked.specs.declared.tasks.Task.{Task};
 ghost use Rattle.tp_pool.specs.Admissions.{task_of as task_of_admitted, IsTurnedAway};
-ghost use Rattle.tp_service.specs.Submitted.{AddsSubmission};
+ghost use Rattle.tp_service.specs.Submitted.{AddsJob};
 
 use std::sync::Wait;
 use std::thread::Threads;
@@ -38,8 +38,8 @@ pub fn submit<
     E: Edge + Send + Sync + 'static,
     R: Threads + Wait + Copy + Send + 'static,
 >(pool: &PoolOf<G, J, E>, rt: R, job: J, pass: &mut Pass<G>) -> Result<TaskId, Refused<J>>
-    ensures submitted { IfOk result (λ t. AddsSubmission Future t pass.old pass.new) }
-    ensures refused { IfErr result (λ r. IsTurnedAway G.config Future job pass.old pass.new r) }
+    ensures submitted { IfOk result (λ t. AddsJob G.config Future job (J.promised job) t pass.old pass.new) }
+    ensures refused { IfErr result (IsTurnedAway G.config Future job (J.promised job) pass.old pass.new) }
 {
     match pool.execute_as(rt, Kind::Future, job, pass) {
         Ok(admitted) => Ok(task_of(admitted)),

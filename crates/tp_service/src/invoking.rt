@@ -170,7 +170,7 @@ fn submit_all<
     pass: &mut Pass<G>,
 ) -> Result<Vec<TaskId>, PoolError>
     ensures count { IfOk result (λ tasks. vec_len tasks ≡ vec_len jobs) }
-    ensures submitted { IfOk result (λ tasks. AddsSubmissions tasks.items pass.old pass.new) }
+    ensures submitted { IfOk result (λ tasks. AddsSubmissions G.config tasks.items pass.old pass.new) }
     ensures refused { IfErr result (λ e. AreTurnedBack (Task J) G.config (vec_len jobs) e pass.old pass.new) }
 {
     let Ok(mut tasks) = Vec::with_capacity(alloc, jobs.len()) else {

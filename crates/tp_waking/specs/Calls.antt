@@ -9,4 +9,4 @@ Names None v = ⊥
 
 -- the worker of slot v is to be woken
 abbrev pub IsCalled : Calls → ℕ → Type 0
-IsCalled calls v = Names calls.first v ⊎ Names calls.second v ⊎ IsTrue calls.everyone
+IsCalled calls v = Names calls.worker v ⊎ IsTrue calls.everyone

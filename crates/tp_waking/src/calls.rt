@@ -1,6 +1,7 @@
 //! Whom a thread wakes once it has let go of a pool's lock.
-ghost use Rattle.std.specs.Prelude.{ℕ, ◌≡◌};
+ghost use Rattle.std.specs.Prelude.{ℕ, ◌≡◌, ◌↔◌, IsTrue};
 ghost use Rattle.tp_waking.specs.Calls.{IsCalled};
+ghost use Rattle.tp_waking.specs.declared.calls.TheConstants.{NOBODY};
 
 use tp_types::ids::SlotId;
 
@@ -22,14 +23,12 @@ pub const NO_WAITERS: Waiters = Waiters {
     steps: false,
 };
 
-/// Who is to be woken. Two workers have places of their own; a third makes it all of them, since a
-/// worker that is woken in vain sleeps again.
+/// Who is to be woken. One worker has a place of its own, since no hold calls two by name. Were it to call a
+/// second one, all workers would be woken: a worker that is woken in vain sleeps again.
 #[derive(Clone, Copy, Debug, PartialEq, Eq)]
 pub struct Calls {
     /// This worker.
-    pub first: Option<SlotId>,
-    /// This one too.
-    pub second: Option<SlotId>,
+    pub worker: Option<SlotId>,
     /// All workers.
     pub everyone: bool,
     /// All who wait for these.
@@ -38,25 +37,36 @@ pub struct Calls {
 
 /// Nobody.
 pub const NOBODY: Calls = Calls {
-    first: None,
-    second: None,
+    worker: None,
     everyone: false,
     waiters: NO_WAITERS,
 };
 
 impl Calls {
     /// One worker more.
+    #[inline(always)]
     pub fn add(&mut self, w: SlotId)
         ensures called { IsCalled self.new w.0 }
         ensures kept { (v : ℕ) → IsCalled self.old v → IsCalled self.new v }
         ensures waiters { self.new.waiters ≡ self.old.waiters }
     {
-        if self.first.is_none() {
-            self.first = Some(w);
-        } else if self.second.is_none() {
-            self.second = Some(w);
+        if self.worker.is_none() {
+            self.worker = Some(w);
         } else {
             self.everyone = true;
         }
+    }
+
+    /// Whether nobody is to be woken, as after most holds.
+    #[inline(always)]
+    pub fn is_nobody(&self) -> bool
+        ensures { IsTrue result ↔ (self.now ≡ NOBODY) }
+    {
+        let Waiters {
+            end,
+            results,
+            steps,
+        } = self.waiters;
+        self.worker.is_none() && !(self.everyone || end || results || steps)
     }
 }

@@ -6,6 +6,7 @@ use tp_record::entries::{Did, Ruled};
 
 /// Whether an accepted step with this answer may change what they find who wait for a future's answer, or for
 /// the next done task of a group.
+#[inline(always)]
 pub fn changes_results(did: &Did) -> bool
     ensures { IsTrue result ↔ ChangesResults did.now }
 {

@@ -16,7 +16,7 @@ use std::alloc::{AllocError, Global};
 use tp_record::entries::{Ask, Did, Offered};
 use tp_sleepers::sleepers::{Rest, Sleepers};
 use tp_types::ids::SlotId;
-use tp_types::states::{Counts, RunState};
+use tp_types::states::RunState;
 
 /// What a pool's lock keeps of those who sleep.
 #[derive(Drop)]
@@ -63,6 +63,7 @@ impl Waking {
     }
 
     /// Who is to be woken; the caller wakes them once it has let go of the lock.
+    #[inline(always)]
     pub fn release(&mut self) -> Calls
         ensures calls { result ≡ self.old.calls }
         ensures told { self.new ≡ record self.old { calls = NOBODY } }
@@ -72,27 +73,30 @@ impl Waking {
         calls
     }
 
-    /// After an accepted step, which leaves the pool in this state, with these counters; `leaving` is the
-    /// worker that is idle longest, where its `take` would leave now.
+    /// After an accepted step, which leaves the pool in this state, with so many live workers and queued tasks;
+    /// `leaving` is the worker that is idle longest, where its `take` would leave now.
+    #[inline(always)]
     pub fn follow(
         &mut self,
         ask: &Ask,
         did: &Did,
         state: RunState,
-        counts: &Counts,
+        live: u32,
+        queued: u32,
         leaving: Option<SlotId>,
     )
-        ensures settled { IsSettled (nat_lt 0 counts.now.queued) self.new.sleepers }
-        ensures follows { Follows self.old self.new ask.now did.now state counts.now leaving }
+        ensures settled { IsSettled (nat_lt 0 queued) self.new.sleepers }
+        ensures follows { Follows self.old self.new ask.now did.now state live queued leaving }
     {
         self.call_for(did);
         self.call_leaving(leaving);
-        self.settle(counts.queued);
-        self.hear(changes_end(ask, state, counts), changes_results(did));
+        self.settle(queued);
+        self.hear(changes_end(ask, state, live, queued), changes_results(did));
     }
 
     // Wakes those who wait: for the end and for futures where this step may change what they find, and for
     // steps always.
+    #[inline(always)]
     fn hear(&mut self, end: bool, results: bool)
         ensures end { IsHeardBy (λ w. IsTrue w.end) (IsTrue end) self.old self.new }
         ensures results { IsHeardBy (λ w. IsTrue w.results) (IsTrue results) self.old self.new }
@@ -116,6 +120,7 @@ impl Waking {
 
     /// After the `take` of slot `w`'s worker, also a refused one, which leaves so many tasks queued: its
     /// search is over, and where it is idle it sleeps from now on.
+    #[inline(always)]
     pub fn took(&mut self, w: SlotId, idle: bool, queued: u32)
         ensures settled { IsSettled (nat_lt 0 queued) self.new.sleepers }
         ensures looked { HasLooked self.old self.new w.0 (IsTrue idle) }
@@ -139,6 +144,7 @@ impl Waking {
     }
 
     // Wakes whom this answer concerns: who has a task by hand, or all who were idle.
+    #[inline(always)]
     fn call_for(&mut self, did: &Did)
         ensures told { IsTold self.old self.new }
         ensures hand { (t : TaskId) (w : SlotId) → did.now ≡ Did.Offer t (Offered.Hand w) → rest_at self.new.sleepers w.0 ≢ Rest.Listed }
@@ -164,6 +170,7 @@ impl Waking {
     }
 
     // Wakes the worker that would leave, where it sleeps.
+    #[inline(always)]
     fn call_leaving(&mut self, leaving: Option<SlotId>)
         ensures told { IsTold self.old self.new }
         ensures up { (w : SlotId) → leaving ≡ Some w → rest_at self.new.sleepers w.0 ≢ Rest.Listed }
@@ -185,6 +192,7 @@ impl Waking {
     }
 
     /// Where so many tasks are queued: wakes one worker that sleeps, where a task waits and nobody looks for one.
+    #[inline(always)]
     pub fn settle(&mut self, queued: u32)
         ensures settled { IsSettled (nat_lt 0 queued) self.new.sleepers }
         ensures told { IsTold self.old self.new }

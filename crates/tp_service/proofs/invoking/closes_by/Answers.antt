@@ -2,7 +2,7 @@ use Rattle.std.proofs.Common.{◌≡◌, rules, subst}
 use Rattle.std.specs.Prelude.{Err}
 use Rattle.tp_types.specs.declared.refusals.PoolError.TheVariants.{TimedOut}
 use Rattle.tp_locked.specs.Readings.{got, IsFound}
-use Rattle.tp_locked.specs.Records.{BookAtSome}
+use Rattle.tp_locked.specs.Moments.{BookAtSome}
 use Rattle.tp_locked.specs.declared.tasks.Task.{Task}
 use Rattle.std.specs.Prelude.{Some}
 use Rattle.tp_service.proofs.Closed.{closed_found}

@@ -17,8 +17,8 @@ loop-job-preserved g c =
       omega (arith, ap length more, length_push tasks t, length_push c.loop-job.yielded c.in-Some.job, c.loop-job.invariant.2),
       search rules,
       omega (arith, ap length more, length_push tasks t, ap (λ xs. length xs) c.in-Some.ensures.steps.0, c.loop-job.invariant.4),
-      subst (λ ts. AddsSubmissions ts c.args.pass.now c.submit.new.pass) (sym more)
-          (through_more (AddsSubmission kind.Future) tasks t c.args.pass.now c.loop-job.pass c.submit.new.pass c.loop-job.invariant.5 c.in-Ok-submit.ensures.submitted),
+      subst (λ ts. AddsSubmissions g.G.PoolNaming.config ts c.args.pass.now c.submit.new.pass) (sym more)
+          (through_more (AddsSubmission g.G.PoolNaming.config kind.Future) tasks t c.args.pass.now c.loop-job.pass c.submit.new.pass c.loop-job.invariant.5 c.in-Ok-submit.ensures.submitted.0),
     )
 
 pub returns-in-Err-clause-refused : goal.returns-in-Err-clause-refused
@@ -32,6 +32,6 @@ returns-in-Err-clause-refused g c =
       submitted = c.loop-job.pass;
       refused = submitted;
       submits = c.loop-job.invariant.5;
-      refuses = refuses config c.in-Some.job c.loop-job.pass submitted c.in-Err.refused c.in-Err.ensures.refused;
+      refuses = refuses config c.in-Some.job (g.J.Job.promised c.in-Some.job) c.loop-job.pass submitted c.in-Err.refused c.in-Err.ensures.refused;
       cancels = subst (λ ts. AddsCancels (Task g.row.J.Denot) config ts submitted c.cancel_all.new.pass) c.as_slice-earlier.ensures.value c.cancel_all.ensures;
     })

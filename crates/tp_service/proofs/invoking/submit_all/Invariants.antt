@@ -7,4 +7,4 @@ invariant-loop-job g l =
     (goal.iterator-loop-job g).can_next l.job-iterator × (goal.iterator-loop-job g).is_finite l.job-iterator
     × (length l.tasks.items ≡ length l.yielded) × (vec_capacity l.tasks ≡ vec_capacity l.initial.tasks)
     × (length l.tasks.items + length l.job-iterator.rest.items ≡ length l.initial.job-iterator.rest.items)
-    × AddsSubmissions l.tasks.items l.fn.pass l.pass
+    × AddsSubmissions g.G.PoolNaming.config l.tasks.items l.fn.pass l.pass

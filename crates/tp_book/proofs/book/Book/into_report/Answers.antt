@@ -1,0 +1,18 @@
+use Rattle.std.proofs.Common.{ap, sym, ◌∙◌, length, reverse}
+use Rattle.std.proofs.lemmas.List.{length-reverse}
+use Rattle.tp_book.specs.BookView.{entries}
+use Rattle.tp_book.proofs.Stepping.{kept_is}
+use Rattle.tp_book.proofs.book.Book.into_report.Goals as goal
+
+pub returns-clause-record : goal.returns-clause-record
+returns-clause-record g c =
+    let whole = kept_is c.self.inside.machine.noted c.self.inside.seat c.self.invariant.0.told in
+    c.into_entries-entries.ensures ∙ (whole ∙ ap (λ b. entries b) c.self.view_is)
+
+pub returns-clause-history : goal.returns-clause-history
+returns-clause-history g c = ap reverse c.into_entries-entries.ensures ∙ (c.self.invariant.0.told ∙ ap (λ b. b.history) c.self.view_is)
+
+pub returns-clause-shares : goal.returns-clause-shares
+returns-clause-shares g c =
+    let whole = kept_is c.self.inside.machine.noted c.self.inside.seat c.self.invariant.0.told in
+    c.settle.ensures ∙ (c.self.invariant.1 ∙ sym (ap (λ es. length es) c.into_entries-entries.ensures ∙ (ap (λ es. length es) whole ∙ length-reverse c.self.inside.seat)))

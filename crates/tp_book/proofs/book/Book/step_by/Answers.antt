@@ -1,0 +1,28 @@
+use Rattle.std.proofs.Common.{◌≡◌, ◌+◌, length, arith, ap, subst, sym, ◌∙◌}
+use Rattle.tp_machine.specs.Seen.{At}
+use Rattle.tp_book.specs.BookView.{tells}
+use Rattle.tp_book.proofs.Stepping.{grown, rank_at, advances, unmoved, denies}
+use Rattle.tp_book.proofs.book.Book.step_by.Goals as goal
+
+pub returns-in-Err-clause-refused : goal.returns-in-Err-clause-refused
+returns-in-Err-clause-refused g c =
+    denies c.args.self.now c.self.inside.machine c.self.inside.accounts c.self.inside.seat c.self.view_is _ c.in-Err.refused.0 c.self.invariant.0 c.in-Err.ensures.refused
+
+pub returns-in-Err-clause-unchanged : goal.returns-in-Err-clause-unchanged
+returns-in-Err-clause-unchanged g c =
+    unmoved c.args.self.now c.self.inside.machine c.self.inside.accounts c.self.inside.seat c.self.view_is c.make.new.machine _ c.learn.ensures.same c.in-Err.ensures.unchanged
+
+pub pay-requires-clause-before : goal.pay-requires-clause-before
+pay-requires-clause-before g c = rank_at c.self.inside.machine c.self.inside.seat _ c.self.invariant.0 c.state-before.ensures
+
+pub pay-requires-clause-after : goal.pay-requires-clause-after
+pay-requires-clause-after g c =
+    rank_at c.make.new.machine _ _
+    (grown c.self.inside.machine c.make.new.machine c.self.inside.seat c.payer-by.result _ c.ask.result _ c.did.result c.self.invariant.0 c.in-Ok.ensures.step c.ask.ensures c.did.ensures)
+    c.state.ensures
+
+pub returns-clause-step : goal.returns-clause-step
+returns-clause-step g c =
+    advances c.args.self.now c.self.inside.machine c.self.inside.accounts c.self.inside.seat c.self.view_is c.make.new.machine
+    _ _ c.payer-by.result _ _ c.ask.result _ c.did.result _ c.payer-by.ensures c.ask.ensures c.did.ensures c.in-Ok.ensures.promised
+    c.in-Ok.ensures.step c.in-Ok.ensures.moves c.pay.ensures.total c.pay.ensures.noted

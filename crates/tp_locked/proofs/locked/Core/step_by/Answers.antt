@@ -1,0 +1,16 @@
+use Rattle.std.proofs.Common.{◌∙◌}
+use Rattle.tp_locked.proofs.Adding.{denies}
+use Rattle.tp_locked.proofs.locked.Core.step_by.Goals as goal
+
+pub returns-in-Err-clause-denies : goal.returns-in-Err-clause-denies
+returns-in-Err-clause-denies g c =
+    denies c.args.self.now c.self.inside.book c.step_by.new.self c.self.inside.roster c.self.inside.waking c.self.view_is _ _ c.in-Err.ensures.refused c.in-Err.ensures.unchanged
+
+pub returns-in-Err-clause-refused : goal.returns-in-Err-clause-refused
+returns-in-Err-clause-refused g c = record {
+  book = c.self.inside.book;
+  is = record { settings = c.self.invariant.0; stands = c.is_balanced.ensures.stands; accounted = c.is_balanced.ensures.accounted };
+  goes_on = c.in-Err.ensures.knew;
+  denied = c.in-Err.ensures.refused;
+  shown = c.in-Err.ensures.front ∙ c.in-Err.ensures.unchanged.history;
+}

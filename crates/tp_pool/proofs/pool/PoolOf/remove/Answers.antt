@@ -1,0 +1,12 @@
+use Rattle.std.proofs.Common.{ap, sym, subst, ◌∙◌}
+use Rattle.tp_record.specs.declared.entries.Ask.TheVariants as ask
+use Rattle.tp_record.specs.declared.entries.Did.TheVariants as did
+use Rattle.tp_locked.specs.Answers.{is_removed}
+use Rattle.tp_locked.specs.Passes.{AddsStep}
+use Rattle.tp_pool.proofs.Got.{removed_is}
+use Rattle.tp_pool.proofs.pool.PoolOf.remove.Goals as goal
+
+pub returns-in-Ok-clause-step : goal.returns-in-Ok-clause-step
+returns-in-Ok-clause-step g c =
+    subst (λ b. AddsStep g.G.PoolNaming.config c.args.pass.now (ask.Remove c.args.t) (did.Remove c.args.t b) c.control.new.pass)
+    (removed_is c.in-Ok.handed ∙ ap is_removed (sym c.removal_from.ensures)) c.in-Ok.ensures.step
