@@ -1,6 +1,6 @@
 -- What a machine's step does, as a step of the book, whichever step it is.
-use Rattle.std.proofs.Common.{◌≡◌, ℕ, ◌+◌, List, ◌∷◌, reverse, sym, ap, subst, refl, ◌∙◌, inl, inr, ⊎_elim}
-use Rattle.std.proofs.lemmas.List.{reverse-reverse}
+use Rattle.std.proofs.Common.{◌≡◌, ℕ, ◌+◌, List, ◌∷◌, length, reverse, sym, ap, subst, refl, ◌∙◌, inl, inr, ⊎_elim}
+use Rattle.std.proofs.lemmas.List.{length-reverse, reverse-reverse}
 use Rattle.tp_types.specs.declared.refusals.PoolError.{PoolError}
 use Rattle.tp_record.specs.declared.entries.Entry.{Entry}
 use Rattle.tp_record.specs.declared.entries.Ask.{Ask}
@@ -19,6 +19,10 @@ use Rattle.tp_book.specs.BookView.{BookView, tells, Advances, IsUnmoved, IsDenie
 -- a record that is kept whole is the history, the oldest entry first
 pub kept_is : (kept : Kept) (h : List Entry) → tells kept h → kept.entries ≡ reverse h
 kept_is kept h told = sym (reverse-reverse kept.entries) ∙ ap reverse told
+
+-- and it is as long
+pub counted : (kept : Kept) (h es : List Entry) → tells kept h → es ≡ kept.entries → length h ≡ length es
+counted kept h es told is = sym (ap (λ es. length es) (is ∙ kept_is kept h told) ∙ length-reverse h)
 
 module _ {P : Type 0} where
   -- after a step the machine stands at the history with its entry, whatever that was put together from

@@ -26,7 +26,7 @@ use tp_types::states::RunState;
 
 /// One pool, as its lock keeps it. Each of its steps is one step of its machine, made with a pass and
 /// accounted for in the ledger. Whenever no step is under way, the machine stands at the history that the
-/// word's seat knows, and the word publishes the rank of it.
+/// seat knows, whose rank the word publishes.
 #[derive(Drop)]
 pub struct Book<G: Naming, P> {
     machine: Machine<P, Full>,

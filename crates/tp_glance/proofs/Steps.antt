@@ -1,5 +1,5 @@
 -- Each step keeps the rule of the word.
-use Rattle.std.proofs.Common.{◌≡◌, ◌≢◌, ℕ, zero, suc, ◌≤◌, List, [], ◌∷◌, ◌++◌, set, max, true, false, true≢false, refl, sym, ap, ◌∙◌, subst, ⊎_elim, arith}
+use Rattle.std.proofs.Common.{◌≡◌, ◌≢◌, ℕ, zero, suc, ◌≤◌, List, [], ◌∷◌, set, max, true, false, true≢false, refl, sym, ap, ◌∙◌, subst, ⊎_elim, arith}
 use Rattle.std.specs.Prelude.{slice_index}
 use mathlib.Core.Option.{some, some-ne-none, some-injective, none}
 use lib.ListN.{get_elem?}

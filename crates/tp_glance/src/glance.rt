@@ -249,8 +249,8 @@ impl<G: Naming> Glance<G> {
         }
     }
 
-    /// Lets a seat know the whole history, which goes on from what it knew, with no look at the
-    /// word: what its owner did under the lock it has then seen.
+    /// Lets a seat know the whole history, which goes on from what it knew: what its owner did under the
+    /// lock it has then seen.
     pub fn show(&self, book: &mut BookSeat<G>, seat: &mut PassSeat<G>)
         ensures seen { seat.new ≡ book.old }
         ensures goes_on { IsFrontOf seat.old book.old }

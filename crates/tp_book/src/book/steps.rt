@@ -46,6 +46,7 @@ impl<G: Naming, P> Book<G, P> {
         ensures unchanged { OnErr result (IsUnmoved self.old self.new) }
         ensures shown { OnErr result (A.shown pass.old pass.new) }
         ensures knew { IsFrontOf (A.front pass.old) self.old.history }
+        ensures goes_on { IsFrontOf (A.front pass.old) self.new.history }
     {
         let Book {
             machine,
@@ -98,6 +99,7 @@ impl<G: Naming, P> Book<G, P> {
         ensures unchanged { OnErr result (IsUnmoved self.old self.new) }
         ensures shown { OnErr result (pass.new ≡ record pass.old { front = self.old.history }) }
         ensures knew { IsFrontOf pass.old.front self.old.history }
+        ensures goes_on { IsFrontOf pass.old.front self.new.history }
     {
         match self.step_by(Asked(ask), submitted, glance, pass) {
             Ok(stepped) => Ok(stepped),

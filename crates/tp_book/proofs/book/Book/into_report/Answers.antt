@@ -1,7 +1,6 @@
-use Rattle.std.proofs.Common.{ap, sym, ◌∙◌, length, reverse}
-use Rattle.std.proofs.lemmas.List.{length-reverse}
+use Rattle.std.proofs.Common.{ℕ, ◌+◌, ap, ◌∙◌, reverse, sum_by}
 use Rattle.tp_book.specs.BookView.{entries}
-use Rattle.tp_book.proofs.Stepping.{kept_is}
+use Rattle.tp_book.proofs.Stepping.{kept_is, counted}
 use Rattle.tp_book.proofs.book.Book.into_report.Goals as goal
 
 pub returns-clause-record : goal.returns-clause-record
@@ -14,5 +13,6 @@ returns-clause-history g c = ap reverse c.into_entries-entries.ensures ∙ (c.se
 
 pub returns-clause-shares : goal.returns-clause-shares
 returns-clause-shares g c =
-    let whole = kept_is c.self.inside.machine.noted c.self.inside.seat c.self.invariant.0.told in
-    c.settle.ensures ∙ (c.self.invariant.1 ∙ sym (ap (λ es. length es) c.into_entries-entries.ensures ∙ (ap (λ es. length es) whole ∙ length-reverse c.self.inside.seat)))
+    let same = counted c.self.inside.machine.noted c.self.inside.seat c.into_entries-entries.result.items c.self.invariant.0.told c.into_entries-entries.ensures in
+    let paid : ℕ = sum_by (λ p. p.amount) c.args.passes.items + sum_by (λ p. p.amount) c.args.workers.items in
+    ◌∙◌ {a = paid} c.settle.ensures (c.self.invariant.1 ∙ same)

@@ -1,6 +1,6 @@
-use Rattle.std.proofs.Common.{◌≡◌, ◌+◌, length, arith, ap, subst, sym, ◌∙◌}
-use Rattle.tp_machine.specs.Seen.{At}
-use Rattle.tp_book.specs.BookView.{tells}
+use Rattle.std.proofs.Common.{subst, sym}
+use Rattle.tp_glance.specs.Word.{IsFrontOf}
+use Rattle.tp_glance.proofs.Fronts.{IsFrontOf_noted}
 use Rattle.tp_book.proofs.Stepping.{grown, rank_at, advances, unmoved, denies}
 use Rattle.tp_book.proofs.book.Book.step_by.Goals as goal
 
@@ -26,3 +26,6 @@ returns-clause-step g c =
     advances c.args.self.now c.self.inside.machine c.self.inside.accounts c.self.inside.seat c.self.view_is c.make.new.machine
     _ _ c.payer-by.result _ _ c.ask.result _ c.did.result _ c.payer-by.ensures c.ask.ensures c.did.ensures c.in-Ok.ensures.promised
     c.in-Ok.ensures.step c.in-Ok.ensures.moves c.pay.ensures.total c.pay.ensures.noted
+
+pub returns-clause-goes_on : goal.returns-clause-goes_on
+returns-clause-goes_on g c = subst (λ h. IsFrontOf (g.A.Payer.front c.args.pass.now) h) (sym c.pay.ensures.noted) (IsFrontOf_noted _ c.pay.ensures.knew)

@@ -1,4 +1,4 @@
-use Rattle.std.proofs.Common.{[], ap, sym, ◌∙◌, arith}
+use Rattle.std.proofs.Common.{ap, sym, ◌∙◌, arith}
 use Rattle.tp_glance.proofs.Steps.{tells}
 use Rattle.tp_glance.proofs.glance.Glance.tell.Goals as goal
 
