@@ -1,5 +1,5 @@
 -- The end of a pool, and what its record says of the caller that made it run.
-use Rattle.std.proofs.Common.{◌≡◌, ◌⊎◌, ◌≤◌, ℕ, List, [], ◌∷◌, ◌++◌, refl, sym, ap, subst, ◌∙◌, inl, inr, ⊎_elim}
+use Rattle.std.proofs.Common.{◌≡◌, ◌⊎◌, ℕ, List, [], ◌∷◌, ◌++◌, refl, sym, ap, subst, ◌∙◌, inl, inr, ⊎_elim}
 use Rattle.std.specs.Prelude.{All, Some}
 use Rattle.std.proofs.lemmas.List.{append-nil}
 use Rattle.std.proofs.lemmas.List.Elements.{All-nil, All-cons, All-append, All-pop}
@@ -8,13 +8,14 @@ use Rattle.tp_types.specs.declared.tasks.Kind.{Kind}
 use Rattle.tp_record.specs.declared.entries.Ask.TheVariants as ask
 use Rattle.tp_record.specs.declared.entries.Did.TheVariants as did
 use Rattle.tp_record.specs.declared.entries.Entry.{Entry}
+use Rattle.tp_record.specs.Fields.{rank}
 use Rattle.tp_record.specs.Paths.{own}
 use Rattle.tp_book.specs.PassView.{PassView}
 use Rattle.tp_book.specs.declared.book.closing.Report.{Report}
 use Rattle.tp_locked.specs.Passes.{Adds, entry_of, tidied, ended}
 use Rattle.tp_pool.specs.Closing.{Reports}
 use Rattle.tp_pool.specs.Endings.{AddsAndEnds, IsBarred, IsEnding}
-use Rattle.tp_pool.proofs.Receipts.{adds_both}
+use Rattle.tp_locked.proofs.Receipts.{adds_both}
 use Rattle.tp_threads.specs.Runs.{AddsEnd, AddsSubmissions, IsClosed, IsEnd, IsRun}
 
 two_ended : (by : ℕ) → All (λ e. (e ≡ tidied by) ⊎ (e ≡ ended by)) (tidied by ∷ ended by ∷ [])
@@ -22,28 +23,28 @@ two_ended by =
     let P : Entry → Type 0 = λ e. (e ≡ tidied by) ⊎ (e ≡ ended by) in
     All-cons P (tidied by) (ended by ∷ []) (inl refl) (All-cons P (ended by) [] (inr refl) (All-nil P))
 
-are_endings : (c : Config) (by : ℕ) (steps : List Entry) → IsEnding c by steps → All (λ e. (e ≡ tidied by) ⊎ (e ≡ ended by)) steps
-are_endings c by steps is =
+are_endings : (c : Config) (by : ℕ) (steps history : List Entry) → IsEnding c by steps history → All (λ e. (e ≡ tidied by) ⊎ (e ≡ ended by)) steps
+are_endings c by steps history is =
     let P : Entry → Type 0 = λ e. (e ≡ tidied by) ⊎ (e ≡ ended by) in
-    ⊎_elim (λ (x : (steps ≡ []) × IsBarred c ask.Tidy). subst (All P) (sym x.0) (All-nil P))
-    (⊎_elim (λ (x : (steps ≡ tidied by ∷ []) × IsBarred c ask.Ended). subst (All P) (sym x.0) (All-cons P (tidied by) [] (inl refl) (All-nil P)))
+    ⊎_elim (λ (x : (steps ≡ []) × IsBarred c history ask.Tidy). subst (All P) (sym x.0) (All-nil P))
+    (⊎_elim (λ (x : (steps ≡ tidied by ∷ []) × IsBarred c history ask.Ended). subst (All P) (sym x.0) (All-cons P (tidied by) [] (inl refl) (All-nil P)))
     (λ (x : steps ≡ tidied by ∷ ended by ∷ []). subst (All P) (sym x) (two_ended by)))
     is
 
 -- a shutdown, and the wait for the end
 pub adds_end : (c : Config) (old mid new : PassView) → AddsAndEnds c old ask.Shutdown did.Shutdown mid
-    → Adds mid [] new ⊎ Adds mid (tidied mid.number ∷ ended mid.number ∷ []) new → 4 ≤ new.seen → AddsEnd old new
+    → Adds c mid [] new ⊎ Adds c mid (tidied mid.number ∷ ended mid.number ∷ []) new → rank new.front ≡ 4 → AddsEnd c old new
 adds_end c old mid new first then seen =
     let P : Entry → Type 0 = λ e. (e ≡ tidied old.number) ⊎ (e ≡ ended old.number) in
     let by = first.2.number in
     let steps = entry_of old.number ask.Shutdown did.Shutdown ∷ first.0 in
     let last = tidied old.number ∷ ended old.number ∷ [] in
-    ⊎_elim (λ (x : Adds mid [] new).
-    (steps, (first.0, refl, are_endings c old.number first.0 first.1), subst (λ s. Adds old s new) (append-nil steps) (adds_both old mid new steps [] first.2 x), seen))
-    (λ (x : Adds mid (tidied mid.number ∷ ended mid.number ∷ []) new). (
+    ⊎_elim (λ (x : Adds c mid [] new).
+    (steps, (first.0, refl, are_endings c old.number first.0 mid.front first.1), subst (λ s. Adds c old s new) (append-nil steps) (adds_both c old mid new steps [] first.2 x), seen))
+    (λ (x : Adds c mid (tidied mid.number ∷ ended mid.number ∷ []) new). (
       steps ++ last,
-      (first.0 ++ last, refl, All-append P first.0 last (are_endings c old.number first.0 first.1) (two_ended old.number)),
-      adds_both old mid new steps last first.2 (subst (λ n. Adds mid (tidied n ∷ ended n ∷ []) new) by x),
+      (first.0 ++ last, refl, All-append P first.0 last (are_endings c old.number first.0 mid.front first.1) (two_ended old.number)),
+      adds_both c old mid new steps last first.2 (subst (λ n. Adds c mid (tidied n ∷ ended n ∷ []) new) by x),
       seen,
     ))
     then
@@ -53,7 +54,7 @@ pub one_pass : (passes pushed : List PassView) (now : PassView) → passes ≡ [
 one_pass passes pushed now alone is = is ∙ ap (λ ps. ps ++ now ∷ []) alone
 
 -- the close of a pool by its one caller
-pub closed_by : (c : Config) (pass now : PassView) (r : Report) → AddsEnd pass now → Reports c (now ∷ []) r → IsClosed c pass r
+pub closed_by : (c : Config) (pass now : PassView) (r : Report) → AddsEnd c pass now → Reports c (now ∷ []) r → IsClosed c pass r
 closed_by c pass now r end reports =
     let own_now = (All-pop (λ (p : PassView). own p.number r.entries.items ≡ p.receipts) (now ∷ []) [] (Some now) refl reports.receipts).1 in record {
       good = reports.good;
@@ -64,7 +65,7 @@ closed_by c pass now r end reports =
     }
 
 -- the whole life
-pub run_of : (c : Config) (first mid : PassView) (ks : List Kind) (r : Report) → first.number ≡ 0 → first.receipts ≡ [] → AddsSubmissions ks first mid → IsClosed c mid r → IsRun c ks r
+pub run_of : (c : Config) (first mid : PassView) (ks : List Kind) (r : Report) → first.number ≡ 0 → first.receipts ≡ [] → AddsSubmissions c ks first mid → IsClosed c mid r → IsRun c ks r
 run_of c first mid ks r zeroth none before closed =
     let number : mid.number ≡ 0 = before.2.number ∙ zeroth in
     let receipts : mid.receipts ≡ before.0 = before.2.receipts ∙ ap (λ rs. rs ++ before.0) none in record {

@@ -14,19 +14,21 @@ use Rattle.tp_book.specs.PassView.{PassView}
 use Rattle.tp_locked.specs.Passes.{Adds, AddsNone, Refuses}
 use Rattle.tp_locked.specs.declared.answers.Refused.{Refused}
 use Rattle.tp_scenario.specs.declared.jobs.JobLine.{JobLine}
-use Rattle.tp_pool.specs.Admissions.{AddsPath, AddsFront, IsTurnedAway}
-use Rattle.tp_pool.proofs.Receipts.{adds_no, adds_both, adds_behind, none_behind}
+use Rattle.tp_types.specs.declared.tasks.Promise.{Promise}
+use Rattle.tp_record.specs.Step.{Legal}
+use Rattle.tp_pool.specs.Admissions.{AddsPath, AddsFront, GotJob, IsTurnedAway}
+use Rattle.tp_locked.proofs.Receipts.{adds_both, adds_behind, looks_adds, none_behind, stands_looking}
 use Rattle.tp_pool.proofs.Submissions.{front_behind}
 use Rattle.tp_threads.specs.Runs.{AreSubmissions, AddsSubmissions, IsTorn, BreaksOff, IsShort, kind_of, kinds}
 use Rattle.tp_threads.proofs.Refusals.{before_first}
 
-pub no_submissions : (p : PassView) → AddsSubmissions [] p p
-no_submissions p = ([], refl, adds_no p)
+pub no_submissions : (c : Config) (p : PassView) → Legal c p.front → AddsSubmissions c [] p p
+no_submissions c p legal = ([], refl, looks_adds c p p (stands_looking c p legal))
 
 -- a path is one, behind room for it
-pub one_submission : (k : Kind) (t : TaskId) (end : Admission) (old mid new : PassView) → AddsNone old mid → AddsPath k t end mid new → AddsSubmissions (k ∷ []) old new
-one_submission k t end old mid new none path =
-    (path.0, (path.0, [], sym (append-nil path.0), (t.0, end, path.1, path.2), refl), adds_behind old mid new path.0 none path.3)
+pub one_submission : (c : Config) (k : Kind) (t : TaskId) (end : Admission) (old mid new : PassView) → AddsNone old mid → AddsPath c k t end mid new → AddsSubmissions c (k ∷ []) old new
+one_submission c k t end old mid new none path =
+    (path.0, (path.0, [], sym (append-nil path.0), (t.0, end, path.1, path.2), refl), adds_behind c old mid new path.0 none path.3)
 
 -- those of more tasks behind those of some
 are_more : (ks ls : List Kind) (es fs : List Entry) → AreSubmissions ks es → AreSubmissions ls fs → AreSubmissions (ks ++ ls) (es ++ fs)
@@ -34,46 +36,46 @@ are_more [] ls es fs first then = subst (λ xs. AreSubmissions ls (xs ++ fs)) (s
 are_more (k ∷ ks) ls es fs first then =
     (first.0, first.1 ++ fs, ap (λ xs. xs ++ fs) first.2 ∙ append_assoc first.0 first.1 fs, first.3, are_more ks ls first.1 fs first.4 then)
 
-pub more_submissions : (old mid new : PassView) (ks ls : List Kind) → AddsSubmissions ks old mid → AddsSubmissions ls mid new → AddsSubmissions (ks ++ ls) old new
-more_submissions old mid new ks ls a b = (a.0 ++ b.0, are_more ks ls a.0 b.0 a.1 b.1, adds_both old mid new a.0 b.0 a.2 b.2)
+pub more_submissions : (c : Config) (old mid new : PassView) (ks ls : List Kind) → AddsSubmissions c ks old mid → AddsSubmissions c ls mid new → AddsSubmissions c (ks ++ ls) old new
+more_submissions c old mid new ks ls a b = (a.0 ++ b.0, are_more ks ls a.0 b.0 a.1 b.1, adds_both c old mid new a.0 b.0 a.2 b.2)
 
 -- the next of a file's jobs behind the first of them
-pub next_submission : (old mid new : PassView) (jobs : List JobLine) (n : ℕ) (d : JobLine) → n < length jobs → AddsSubmissions (take n (kinds jobs)) old mid →
-    AddsSubmissions (kind_of (get_or jobs n d) ∷ []) mid new → AddsSubmissions (take (n + 1) (kinds jobs)) old new
-next_submission old mid new jobs n d within a b =
+pub next_submission : (c : Config) (old mid new : PassView) (jobs : List JobLine) (n : ℕ) (d : JobLine) → n < length jobs → AddsSubmissions c (take n (kinds jobs)) old mid →
+    AddsSubmissions c (kind_of (get_or jobs n d) ∷ []) mid new → AddsSubmissions c (take (n + 1) (kinds jobs)) old new
+next_submission c old mid new jobs n d within a b =
     let more : take (n + 1) (kinds jobs) ≡ take n (kinds jobs) ++ kind_of (get_or jobs n d) ∷ [] =
     take_more (kinds jobs) n (kind_of d) (omega (arith, length-map jobs kind_of)) ∙ ap (λ k. take n (kinds jobs) ++ k ∷ []) (get_or-map kind_of jobs n d (kind_of d) within) in
-    subst (λ ks. AddsSubmissions ks old new) (sym more) (more_submissions old mid new (take n (kinds jobs)) (kind_of (get_or jobs n d) ∷ []) a b)
+    subst (λ ks. AddsSubmissions c ks old new) (sym more) (more_submissions c old mid new (take n (kinds jobs)) (kind_of (get_or jobs n d) ∷ []) a b)
 
-pub all_submissions : (old new : PassView) (jobs : List JobLine) (n : ℕ) → n ≡ length jobs → AddsSubmissions (take n (kinds jobs)) old new → AddsSubmissions (kinds jobs) old new
-all_submissions old new jobs n is a = subst (λ ks. AddsSubmissions ks old new) (take_all n (kinds jobs) (omega (arith, length-map jobs kind_of))) a
+pub all_submissions : (c : Config) (old new : PassView) (jobs : List JobLine) (n : ℕ) → n ≡ length jobs → AddsSubmissions c (take n (kinds jobs)) old new → AddsSubmissions c (kinds jobs) old new
+all_submissions c old new jobs n is a = subst (λ ks. AddsSubmissions c ks old new) (take_all n (kinds jobs) (omega (arith, length-map jobs kind_of))) a
 
-module _ {J : Type 0} where
+module _ {J : Type 0} (c : Config) (kind : Kind) (job : J) (promise : Promise) where
   -- a submission that was turned away by the policy is followed to its end
-  pub turned_whole : (c : Config) (kind : Kind) (job : J) (old mid new : PassView) (x : Refused J) (t : TaskId) → x.error ≡ error.Rejected t → AddsNone old mid →
-      IsTurnedAway c kind job mid new x → AddsSubmissions (kind ∷ []) old new
-  turned_whole c kind job old mid new x t rejected none is =
-      ⊎_elim (λ (y : (t : TaskId) × (x.error ≡ error.Rejected t) × AddsPath kind t Rejected mid new). one_submission kind y.0 Rejected old mid new none y.2)
-      (⊎_elim (λ (y : (x.error ≡ error.TornRecord) × AddsFront mid new). let torn = y.0 in absurd (grind arith))
-      (λ (y : Refuses c (ask.Submit kind) x.error × (x.job ≡ Some job) × AddsNone mid new).
-      ⊎_elim (λ (e : x.error ≡ error.NoMemory). absurd (grind arith)) (λ (e : x.error ≡ error.BookFull). absurd (grind arith)) (before_first c kind x.error y.0)))
+  pub turned_whole : (old mid new : PassView) (x : Refused J) (t : TaskId) → x.error ≡ error.Rejected t → AddsNone old mid →
+      IsTurnedAway c kind job promise mid new x → AddsSubmissions c (kind ∷ []) old new
+  turned_whole old mid new x t rejected none is =
+      ⊎_elim (λ (y : (t : TaskId) × (x.error ≡ error.Rejected t) × AddsPath c kind t Rejected mid new × GotJob c kind job promise mid.number t.0 mid.front new.front). one_submission c kind y.0 Rejected old mid new none y.2)
+      (⊎_elim (λ (y : (x.error ≡ error.TornRecord) × AddsFront c mid new). let torn = y.0 in absurd (grind arith))
+      (λ (y : Refuses c new.front (ask.Submit kind) x.error × (x.job ≡ Some job) × AddsNone mid new).
+      ⊎_elim (λ (e : x.error ≡ error.NoMemory). absurd (grind arith)) (λ (e : x.error ≡ error.BookFull). absurd (grind arith)) (before_first c new.front kind x.error y.0)))
       is
 
   -- one that was turned away otherwise
-  pub turned_torn : (c : Config) (kind : Kind) (job : J) (old mid new : PassView) (x : Refused J) → ((t : TaskId) → x.error ≢ error.Rejected t) → AddsNone old mid →
-      IsTurnedAway c kind job mid new x → IsTorn x.error old new
-  turned_torn c kind job old mid new x other none is =
-      ⊎_elim (λ (y : (t : TaskId) × (x.error ≡ error.Rejected t) × AddsPath kind t Rejected mid new). absurd (other y.0 y.1))
-      (⊎_elim (λ (y : (x.error ≡ error.TornRecord) × AddsFront mid new). inr (y.0, front_behind old mid new none y.1))
-      (λ (y : Refuses c (ask.Submit kind) x.error × (x.job ≡ Some job) × AddsNone mid new). inl (before_first c kind x.error y.0, none_behind old mid new none y.2)))
+  pub turned_torn : (old mid new : PassView) (x : Refused J) → ((t : TaskId) → x.error ≢ error.Rejected t) → AddsNone old mid →
+      IsTurnedAway c kind job promise mid new x → IsTorn c x.error old new
+  turned_torn old mid new x other none is =
+      ⊎_elim (λ (y : (t : TaskId) × (x.error ≡ error.Rejected t) × AddsPath c kind t Rejected mid new × GotJob c kind job promise mid.number t.0 mid.front new.front). absurd (other y.0 y.1))
+      (⊎_elim (λ (y : (x.error ≡ error.TornRecord) × AddsFront c mid new). inr (y.0, front_behind c old mid new none y.1))
+      (λ (y : Refuses c new.front (ask.Submit kind) x.error × (x.job ≡ Some job) × AddsNone mid new). inl (before_first c new.front kind x.error y.0, none_behind old mid new none y.2)))
       is
 
-pub breaks_off : (old mid new : PassView) (jobs : List JobLine) (n : ℕ) (e : PoolError) → n < length jobs → AddsSubmissions (take n (kinds jobs)) old mid → IsTorn e mid new →
-    BreaksOff (kinds jobs) e old new
-breaks_off old mid new jobs n e within before torn = (n, mid, omega (arith, length-map jobs kind_of), before, torn)
+pub breaks_off : (c : Config) (old mid new : PassView) (jobs : List JobLine) (n : ℕ) (e : PoolError) → n < length jobs → AddsSubmissions c (take n (kinds jobs)) old mid → IsTorn c e mid new →
+    BreaksOff c (kinds jobs) e old new
+breaks_off c old mid new jobs n e within before torn = (n, mid, omega (arith, length-map jobs kind_of), before, torn)
 
 -- what ends the submissions is one of three
-pub is_short : (ks : List Kind) (e : PoolError) (old new : PassView) → BreaksOff ks e old new → IsShort e
-is_short ks e old new off =
+pub is_short : (c : Config) (ks : List Kind) (e : PoolError) (old new : PassView) → BreaksOff c ks e old new → IsShort e
+is_short c ks e old new off =
     ⊎_elim (λ (x : ((e ≡ error.NoMemory) ⊎ (e ≡ error.BookFull)) × AddsNone off.1 new). ⊎_elim (λ (y : e ≡ error.NoMemory). inl y) (λ (y : e ≡ error.BookFull). inr (inl y)) x.0)
-    (λ (x : (e ≡ error.TornRecord) × AddsFront off.1 new). inr (inr x.0)) off.4
+    (λ (x : (e ≡ error.TornRecord) × AddsFront c off.1 new). inr (inr x.0)) off.4

@@ -1,5 +1,5 @@
 -- How a submission is refused before its first step.
-use Rattle.std.proofs.Common.{◌≡◌, ◌⊎◌, Bool, true, false, length, inl, inr, arith}
+use Rattle.std.proofs.Common.{◌≡◌, ◌⊎◌, Bool, true, false, List, length, inl, inr, arith}
 use Rattle.std.specs.Prelude.{Ok, Err, None, if◌then◌else◌}
 use Rattle.std.proofs.lemmas.List.{get_or_past}
 use Rattle.tp_types.specs.declared.configs.Config.{Config}
@@ -8,6 +8,7 @@ use Rattle.tp_types.specs.declared.refusals.PoolError.TheVariants.{NoMemory, Boo
 use Rattle.tp_types.specs.declared.tasks.Kind.{Kind}
 use Rattle.tp_record.specs.declared.entries.Ask.TheVariants as ask
 use Rattle.tp_record.specs.declared.entries.Did.{Did}
+use Rattle.tp_record.specs.declared.entries.Entry.{Entry}
 use Rattle.tp_record.specs.State.{State, state}
 use Rattle.tp_record.specs.Step.{Answer, IsRefused, leaves_room, within_room}
 use Rattle.tp_locked.specs.Passes.{Refuses}
@@ -26,6 +27,6 @@ submit_refused : (c : Config) (s : State) (k : Kind) (e : PoolError) → IsRefus
 submit_refused c s k e (inl refuses) = inr (by_room c s _ _ e (refuses (length s.slots) (inl (get_or_past s.slots (length s.slots) None (omega arith)))))
 submit_refused c s k e (inr want) = inl want.0
 
-pub before_first : (c : Config) (k : Kind) (e : PoolError) → Refuses c (ask.Submit k) e → (e ≡ NoMemory) ⊎ (e ≡ BookFull)
-before_first c k e (inl none) = inl none
-before_first c k e (inr at) = submit_refused c (state c at.history) k e at.holds
+pub before_first : (c : Config) (history : List Entry) (k : Kind) (e : PoolError) → Refuses c history (ask.Submit k) e → (e ≡ NoMemory) ⊎ (e ≡ BookFull)
+before_first c history k e (inl none) = inl none
+before_first c history k e (inr at) = submit_refused c (state c history) k e at.holds

@@ -1,5 +1,5 @@
 -- What a run of a file of jobs leaves: in its caller's pass, in the record of its pool, and where it is written.
-use Rattle.std.specs.Prelude.{ℕ, ◌≡◌, ◌⊎◌, ◌<◌, ◌≤◌, List, [], ◌∷◌, ◌++◌, All, length, map, reverse, take, Option, Ok, Err, if◌then◌else◌}
+use Rattle.std.specs.Prelude.{ℕ, ◌≡◌, ◌⊎◌, ◌<◌, List, [], ◌∷◌, ◌++◌, All, length, map, reverse, take, Option, Ok, Err, if◌then◌else◌}
 use Rattle.std.specs.Io.KnownBytes.{Appends}
 use Rattle.tp_types.specs.Config.{IsConfig, checked}
 use Rattle.tp_types.specs.declared.configs.Config.{Config}
@@ -10,6 +10,7 @@ use Rattle.tp_types.specs.declared.tasks.Kind.TheVariants as kind
 use Rattle.tp_record.specs.declared.entries.Ask.TheVariants as ask
 use Rattle.tp_record.specs.declared.entries.Did.TheVariants as did
 use Rattle.tp_record.specs.declared.entries.Entry.{Entry}
+use Rattle.tp_record.specs.Fields.{rank}
 use Rattle.tp_record.specs.Paths.{Admission, IsPath, own}
 use Rattle.tp_record.specs.State.{state, counts}
 use Rattle.tp_record.specs.Step.{Legal}
@@ -39,24 +40,24 @@ AreSubmissions [] steps = steps ≡ []
 AreSubmissions (k ∷ ks) steps = (path rest : List Entry) × (steps ≡ path ++ rest) × IsSubmission k path × AreSubmissions ks rest
 
 -- the pass has their receipts
-abbrev pub AddsSubmissions : List Kind → PassView → PassView → Type 0
-AddsSubmissions ks old new = (steps : List Entry) × AreSubmissions ks steps × Adds old steps new
+abbrev pub AddsSubmissions : Config → List Kind → PassView → PassView → Type 0
+AddsSubmissions c ks old new = (steps : List Entry) × AreSubmissions ks steps × Adds c old steps new
 
 -- a submission is refused: torn off on its path, or before its first step
-abbrev pub IsTorn : PoolError → PassView → PassView → Type 0
-IsTorn e old new = (((e ≡ NoMemory) ⊎ (e ≡ BookFull)) × AddsNone old new) ⊎ ((e ≡ TornRecord) × AddsFront old new)
+abbrev pub IsTorn : Config → PoolError → PassView → PassView → Type 0
+IsTorn c e old new = (((e ≡ NoMemory) ⊎ (e ≡ BookFull)) × AddsNone old new) ⊎ ((e ≡ TornRecord) × AddsFront c old new)
 
 -- the first of the submissions of these kinds are followed to their end, and the one behind them is refused: it is the last
-abbrev pub BreaksOff : List Kind → PoolError → PassView → PassView → Type 0
-BreaksOff ks e old new = (n : ℕ) × (mid : PassView) × (n < length ks) × AddsSubmissions (take n ks) old mid × IsTorn e mid new
+abbrev pub BreaksOff : Config → List Kind → PoolError → PassView → PassView → Type 0
+BreaksOff c ks e old new = (n : ℕ) × (mid : PassView) × (n < length ks) × AddsSubmissions c (take n ks) old mid × IsTorn c e mid new
 
 -- a shutdown, and steps of the pool's end
 abbrev pub IsEnd : ℕ → List Entry → Type 0
 IsEnd by steps = (rest : List Entry) × (steps ≡ entry_of by ask.Shutdown did.Shutdown ∷ rest) × All (λ e. (e ≡ tidied by) ⊎ (e ≡ ended by)) rest
 
 -- the pass has their receipts, and has seen the pool terminated
-abbrev pub AddsEnd : PassView → PassView → Type 0
-AddsEnd old new = (steps : List Entry) × IsEnd old.number steps × Adds old steps new × (4 ≤ new.seen)
+abbrev pub AddsEnd : Config → PassView → PassView → Type 0
+AddsEnd c old new = (steps : List Entry) × IsEnd old.number steps × Adds c old steps new × (rank new.front ≡ 4)
 
 -- the report of a pool with these settings, which the caller with this pass shut down and closed
 pub record IsClosed (c : Config) (pass : PassView) (r : Report) : Type 0 where

@@ -32,7 +32,7 @@ fn end<G: PoolNaming, R: Wait>(
     pool: &Company<G>,
     pass: &mut Pass<G>,
 ) -> Result<(), PoolError>
-    ensures ends { OnOk result (AddsEnd pass.old pass.new) }
+    ensures ends { OnOk result (AddsEnd G.config pass.old pass.new) }
     ensures refused { IfErr result IsShort }
 {
     if let Err(error) = pool.shutdown(rt, pass) {

@@ -1,5 +1,6 @@
 //! The jobs of a file are submitted, in their order.
 ghost use Rattle.std.specs.Prelude.{◌≡◌, [], ◌∷◌, IfErr, OnOk};
+ghost use Rattle.tp_record.specs.Step.{Legal};
 ghost use Rattle.tp_threads.specs.Runs.{AddsSubmissions, BreaksOff, IsTorn, kind_of, kinds};
 
 use crate::scripted::Scripted;
@@ -39,8 +40,8 @@ fn submit<G: PoolNaming + Send + Sync + 'static, R: Threads + Wait + Copy + Send
     job: &JobLine,
     pass: &mut Pass<G>,
 ) -> Result<(), PoolError>
-    ensures whole { OnOk result (AddsSubmissions (kind_of job.now ∷ []) pass.old pass.new) }
-    ensures refused { IfErr result (λ e. IsTorn e pass.old pass.new) }
+    ensures whole { OnOk result (AddsSubmissions G.config (kind_of job.now ∷ []) pass.old pass.new) }
+    ensures refused { IfErr result (λ e. IsTorn G.config e pass.old pass.new) }
 {
     if let Err(error) = pass.reserve(RECEIPTS) {
         return Err(error);
@@ -65,8 +66,9 @@ pub fn submit_all<G: PoolNaming + Send + Sync + 'static, R: Threads + Wait + Cop
     jobs: &[JobLine],
     pass: &mut Pass<G>,
 ) -> Result<(), PoolError>
-    ensures whole { OnOk result (AddsSubmissions (kinds jobs.now) pass.old pass.new) }
-    ensures refused { IfErr result (λ e. BreaksOff (kinds jobs.now) e pass.old pass.new) }
+    requires legal { Legal G.config pass.old.front }
+    ensures whole { OnOk result (AddsSubmissions G.config (kinds jobs.now) pass.old pass.new) }
+    ensures refused { IfErr result (λ e. BreaksOff G.config (kinds jobs.now) e pass.old pass.new) }
 {
     for job in jobs {
         if let Err(error) = submit(rt, pool, job, pass) {

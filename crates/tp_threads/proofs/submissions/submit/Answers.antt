@@ -1,4 +1,5 @@
 use Rattle.std.proofs.Common.{[], ◌∷◌, subst}
+use Rattle.tp_locked.proofs.Receipts.{reserved}
 use Rattle.tp_pool.specs.Admissions.{task_of, end_of}
 use Rattle.tp_threads.specs.Runs.{AddsSubmissions}
 use Rattle.tp_threads.proofs.Followed.{one_submission, turned_torn, turned_whole}
@@ -8,20 +9,20 @@ pub returns-in-Ok-clause-whole : goal.returns-in-Ok-clause-whole
 returns-in-Ok-clause-whole g c =
     let old = c.args.pass.now in
     let new = c.execute_as.new.pass in
-    subst (λ k. AddsSubmissions (k ∷ []) old new) c.kind_of.ensures
-    (one_submission c.kind_of.result (task_of c.in-Ok.field-0) (end_of c.in-Ok.field-0) old c.reserve.new.self new c.reserve.ensures.same c.in-Ok.ensures.admitted)
+    subst (λ k. AddsSubmissions g.G.PoolNaming.config (k ∷ []) old new) c.kind_of.ensures
+    (one_submission g.G.PoolNaming.config c.kind_of.result (task_of c.in-Ok.field-0) (end_of c.in-Ok.field-0) old c.reserve.new.self new (reserved old c.reserve.new.self c.reserve.ensures.same) c.in-Ok.ensures.admitted.0)
 
 pub returns-in-Rejected-clause-whole : goal.returns-in-Rejected-clause-whole
 returns-in-Rejected-clause-whole g c =
     let old = c.args.pass.now in
     let new = c.execute_as.new.pass in
-    subst (λ k. AddsSubmissions (k ∷ []) old new) c.kind_of.ensures
-    (turned_whole g.G.PoolNaming.config c.kind_of.result _ old c.reserve.new.self new c.in-Err-execute_as.refused c.in-Rejected.field-0 c.in-Rejected.is c.reserve.ensures.same
+    subst (λ k. AddsSubmissions g.G.PoolNaming.config (k ∷ []) old new) c.kind_of.ensures
+    (turned_whole g.G.PoolNaming.config c.kind_of.result _ _ old c.reserve.new.self new c.in-Err-execute_as.refused c.in-Rejected.field-0 c.in-Rejected.is (reserved old c.reserve.new.self c.reserve.ensures.same)
     c.in-Err-execute_as.ensures.refused)
 
 pub returns-in_default-error : goal.returns-in_default-error
 returns-in_default-error g c = record {
   whole = tt;
-  refused = turned_torn g.G.PoolNaming.config c.kind_of.result _ c.args.pass.now c.reserve.new.self c.execute_as.new.pass c.in-Err-execute_as.refused c.in_default-error.not-Rejected
-      c.reserve.ensures.same c.in-Err-execute_as.ensures.refused;
+  refused = turned_torn g.G.PoolNaming.config c.kind_of.result _ _ c.args.pass.now c.reserve.new.self c.execute_as.new.pass c.in-Err-execute_as.refused c.in_default-error.not-Rejected
+      (reserved c.args.pass.now c.reserve.new.self c.reserve.ensures.same) c.in-Err-execute_as.ensures.refused;
 }

@@ -3,4 +3,4 @@ use Rattle.tp_threads.proofs.submissions.submit_all.Goals as goal
 
 pub loop-job-preserved : goal.loop-job-preserved
 loop-job-preserved g c =
-    next_submission c.args.pass.now c.loop-job.pass c.submit.new.pass c.args.jobs.now c.loop-job.job-index _ c.loop-job-test.true c.loop-job.invariant c.in_default.ensures.whole
+    next_submission g.G.PoolNaming.config c.args.pass.now c.loop-job.pass c.submit.new.pass c.args.jobs.now c.loop-job.job-index _ c.loop-job-test.true c.loop-job.invariant c.in_default.ensures.whole

@@ -3,4 +3,4 @@ use Rattle.tp_threads.specs.Runs.{AddsSubmissions, kinds}
 use Rattle.tp_threads.proofs.submissions.submit_all.Given as goal
 
 abbrev pub invariant-loop-job : goal.invariant-loop-job
-invariant-loop-job g l = AddsSubmissions (take l.job-index (kinds l.jobs)) l.fn.pass l.pass
+invariant-loop-job g l = AddsSubmissions g.G.PoolNaming.config (take l.job-index (kinds l.jobs)) l.fn.pass l.pass
