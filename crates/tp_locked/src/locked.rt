@@ -74,14 +74,7 @@ fn rouse<G: PoolNaming, J>(book: &Book<G, Task<J>>, waking: &mut Waking, ask: &A
 {
     let counts = book.counts();
     let leaving = book.leaving();
-    waking.follow(
-        ask,
-        did,
-        book.state(),
-        counts.live,
-        counts.queued,
-        leaving,
-    );
+    waking.follow(ask, did, book.state(), counts.live, counts.queued, leaving);
 }
 
 mod closing;

@@ -21,9 +21,9 @@ use tp_callbacks::jobs::Job;
 use tp_locked::answers::{Admitted, Refused};
 use tp_locked::names::PoolNaming;
 use tp_locked::tasks::Task;
-use tp_paths::laws::fronts_are_paths;
 use tp_machine::typed::submitters::{CallerEnd, Grow, Judge, Look, Offer, Second, Submit};
 use tp_machine::typed::workers::Fail;
+use tp_paths::laws::fronts_are_paths;
 use tp_paths::paths::{Ending, Next, follows};
 use tp_record::entries::{Ask, Did, Looked};
 use tp_types::configs::{Policy, Verdict};
@@ -382,12 +382,7 @@ impl<G: PoolNaming, J: Job, E: Edge> Shared<G, J, E> {
     }
 
     // The step `open`: what it did.
-    fn open_live<R: Wait>(
-        &self,
-        rt: &R,
-        w: SlotId,
-        pass: &mut Pass<G>,
-    ) -> Result<Did, PoolError>
+    fn open_live<R: Wait>(&self, rt: &R, w: SlotId, pass: &mut Pass<G>) -> Result<Did, PoolError>
         requires room { 0 < pass.old.room }
         ensures step { IfOk result (λ d. AddsStep G.config pass.old (Ask.Open w) d pass.new) }
         ensures left { OnOk result (pass.old.room ≤ pass.new.room + 1) }
