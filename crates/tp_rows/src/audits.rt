@@ -306,7 +306,7 @@ fn reads_each_changed_text_as_itself(rt: HostRuntime) -> Result<(), Fail> {
 /// Some of them are read: the first task's value is another.
 #[test]
 fn reads_another_value(rt: HostRuntime) -> Result<(), Fail> {
-    let place = LEGAL.len() - b"5\nend 5\n".len();
+    let place = LEGAL.len().saturating_sub(b"5\nend 5\n".len());
     let text = changed(rt.alloc(), place, b'6')?;
     let mut reader = text.as_slice();
     let (written, given) = outcome_from(rt.alloc(), &mut reader);
