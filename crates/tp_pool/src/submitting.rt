@@ -1,13 +1,12 @@
 //! Submissions: a task's path from its first step to its end, each step in a hold of its own. Between two of
 //! them other threads may make steps, so a submission asks after each answer what comes next.
 ghost use Rattle.std.specs.Prelude.{◌≡◌, ◌⊎◌, ◌+◌, ◌<◌, ◌≤◌, IfSome, IfNone, IfOk, IfErr, OnSome, OnOk, OnErr};
-ghost use Rattle.tp_record.specs.Paths.{Astray};
 ghost use Rattle.tp_record.specs.declared.entries.Ask.{Ask as AskOf};
 ghost use Rattle.tp_parts.specs.Payloads.{PutsIn};
 ghost use Rattle.tp_paths.specs.Fronts.{admission_of, follow_of};
 ghost use Rattle.tp_locked.specs.Passes.{AddsStep, AddsNone, IsRefusal, LooksOnly, Refuses, opening};
 ghost use Rattle.tp_locked.specs.Steps.{Makes};
-ghost use Rattle.tp_pool.specs.Admissions.{task_of, end_of, Admits, IsAdmitted, IsTurnedAway};
+ghost use Rattle.tp_pool.specs.Admissions.{task_of, end_of, Admits, Awaits, IsAdmitted, IsTurnedAway};
 
 use crate::boxes::Boxed;
 use crate::edges::{Boxes, Edge};
@@ -22,9 +21,9 @@ use tp_callbacks::jobs::Job;
 use tp_locked::answers::{Admitted, Refused};
 use tp_locked::names::PoolNaming;
 use tp_locked::tasks::Task;
-use tp_paths::laws::fronts_are_paths;
 use tp_machine::typed::submitters::{CallerEnd, Grow, Judge, Look, Offer, Second, Submit};
 use tp_machine::typed::workers::Fail;
+use tp_paths::laws::fronts_are_paths;
 use tp_paths::paths::{Ending, Next, follows};
 use tp_record::entries::{Ask, Did, Looked};
 use tp_types::configs::{Policy, Verdict};
@@ -175,7 +174,7 @@ impl<
         requires room { 0 < pass.old.room }
         ensures step { IfSome result (λ d. (ask : AskOf) × AddsStep G.config pass.old ask d pass.new) }
         ensures left { OnSome result (pass.old.room ≤ pass.new.room + 1) }
-        ensures on_path { OnSome result (¬ (follow_of t.0 next ≡ Astray)) }
+        ensures on_path { OnSome result (Awaits (follow_of t.0 next)) }
         ensures unchanged { IfNone result ((pass.new ≡ pass.old) ⊎ LooksOnly G.config pass.old pass.new) }
     {
         let shared = self.shared();
@@ -383,12 +382,7 @@ impl<G: PoolNaming, J: Job, E: Edge> Shared<G, J, E> {
     }
 
     // The step `open`: what it did.
-    fn open_live<R: Wait>(
-        &self,
-        rt: &R,
-        w: SlotId,
-        pass: &mut Pass<G>,
-    ) -> Result<Did, PoolError>
+    fn open_live<R: Wait>(&self, rt: &R, w: SlotId, pass: &mut Pass<G>) -> Result<Did, PoolError>
         requires room { 0 < pass.old.room }
         ensures step { IfOk result (λ d. AddsStep G.config pass.old (Ask.Open w) d pass.new) }
         ensures left { OnOk result (pass.old.room ≤ pass.new.room + 1) }

@@ -61,6 +61,6 @@ returns-in_default-advance g c =
     let t = c.in-Ok.submitted.0 in
     let job = c.args.task.job in record {
       admitted = tt;
-      refused = torn_off g.G.PoolNaming.config c.args.kind job (g.J.Job.promised job) t.0 c.args.pass.now c.loop.pass c.advance.new.pass (follow_of t.0 c.loop.next) c.loop.counter
-          c.loop.invariant c.in_default-advance.ensures.unchanged c.torn.result c.torn.ensures;
+      refused = torn_off g.G.PoolNaming.config c.args.kind job (g.J.Job.promised job) t.0 c.args.pass.now c.loop.pass c.advance.new.pass c.loop.next c.loop.counter
+          c.loop.invariant c.in_default.not-End c.in_default-advance.ensures.unchanged c.torn.result c.torn.ensures;
     }
