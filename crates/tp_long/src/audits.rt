@@ -32,7 +32,7 @@ pub struct Refused {
 
 impl Refused {
     /// A refusal that speaks of no line.
-    fn whole(refusal: PoolError) -> Refused {
+    pub fn whole(refusal: PoolError) -> Refused {
         Refused {
             refusal,
             line: None,

@@ -231,13 +231,13 @@ const BYTES: [Row; 12] = [
         b"pool 1 1 unbounded keep 0 abort\n stop\n",
         "2:1",
         "a space stands before the first word",
-        "^ take it out",
+        "^ take out what is marked",
     ),
     (
         b"pool 1 1 unbounded keep 0 abort\nstop \n",
         "2:5",
         "a space stands behind the last word",
-        "^ take it out",
+        "^ take out what is marked",
     ),
     (
         b"pool 1 1 unbounded keep 0 abort\nstop",
@@ -254,7 +254,7 @@ const BYTES: [Row; 12] = [
     (
         b"# 345678901234567890123456789012345678901234567890123456789012345678901234567890123456789012345678901234567890123456789012345678901234567890123456789012345678901234567890123456789012345678901234567890!\n",
         "1:201",
-        "the line has 201 bytes",
+        "the line has more than 200 bytes",
         "a line has at most 200",
     ),
 ];
