@@ -10,7 +10,9 @@
 #![tactic(auto)]
 
 mod program;
+mod running;
 mod statuses;
+mod telling;
 mod watched;
 
 use program::{program, without_words};

@@ -151,19 +151,29 @@ impl Body {
 }
 
 impl Judging {
-    /// Takes the next line, which has this number.
-    pub fn take(self, alloc: Global, number: u32, line: &[u8]) -> Result<Judging, PoolError> {
+    /// Whether the record is over.
+    pub fn is_over(&self) -> bool {
         match self {
-            Judging::Start if is_header(line) => Ok(Judging::Versioned),
+            Judging::InBody(body) => body.is_over,
+            _ => false,
+        }
+    }
+
+    /// Takes the next line, which has this number: BadEntry (24) where it is wrong there.
+    pub fn take(&mut self, alloc: Global, number: u32, line: &[u8]) -> Result<(), PoolError> {
+        match self {
+            Judging::Start if is_header(line) => {
+                *self = Judging::Versioned;
+                Ok(())
+            }
             Judging::Versioned => match read_pool_line(line) {
-                Some(config) => Ok(Judging::InBody(Body::new(alloc, config)?)),
+                Some(config) => {
+                    *self = Judging::InBody(Body::new(alloc, config)?);
+                    Ok(())
+                }
                 None => Err(PoolError::BadEntry(number)),
             },
-            Judging::InBody(body) => {
-                let mut body = body;
-                body.take(alloc, number, line)?;
-                Ok(Judging::InBody(body))
-            }
+            Judging::InBody(body) => body.take(alloc, number, line),
             _ => Err(PoolError::BadEntry(number)),
         }
     }

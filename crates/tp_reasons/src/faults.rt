@@ -23,8 +23,8 @@ pub enum Fault {
     TwoSpaces,
     /// A space behind the last word.
     SpaceLast,
-    /// So many bytes, which are more than 200.
-    TooLong(usize),
+    /// More than 200 bytes.
+    TooLong,
     /// The text's last line has no line feed.
     NoLineFeed,
 }
@@ -40,7 +40,7 @@ impl fmt::Display for Fault {
             Fault::SpaceFirst => f.write_str("a space stands before the first word"),
             Fault::TwoSpaces => f.write_str("two spaces stand side by side"),
             Fault::SpaceLast => f.write_str("a space stands behind the last word"),
-            Fault::TooLong(count) => write!(f, "the line has {count} bytes"),
+            Fault::TooLong => f.write_str("the line has more than 200 bytes"),
             Fault::NoLineFeed => f.write_str("the text's last line has no line feed at its end"),
         }
     }
@@ -55,9 +55,9 @@ impl Fault {
             Fault::NotAscii(_) => "a text is ASCII, and its comments are too",
             Fault::WindowsEnd => "save the file with the line ends of Unix (LF)",
             Fault::CarriageReturn => "take it out",
-            Fault::SpaceFirst | Fault::SpaceLast => "take it out",
+            Fault::SpaceFirst | Fault::SpaceLast => "take out what is marked",
             Fault::TwoSpaces => "write one space between two words",
-            Fault::TooLong(_) => "a line has at most 200",
+            Fault::TooLong => "the line should end before it",
             Fault::NoLineFeed => "end the line here; or the text was cut off",
         }
     }
@@ -114,7 +114,7 @@ pub fn fault_in(line: Line<'_>) -> Option<Place> {
         return Some(place);
     }
     if line.bytes.len() > MAX_LINE_BYTES {
-        return Some((MAX_LINE_BYTES, Fault::TooLong(line.bytes.len())));
+        return Some((MAX_LINE_BYTES, Fault::TooLong));
     }
     if !line.is_ended && !line.bytes.is_empty() {
         return Some((line.bytes.len(), Fault::NoLineFeed));

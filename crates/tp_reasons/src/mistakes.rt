@@ -40,6 +40,8 @@ pub enum Mistake<'a> {
     Setting(Setting),
     /// A record's first line is not `tprecord 1`.
     NoVersion,
+    /// An entry stands where a record begins.
+    Headless,
     /// A record's pool line has a limit of 4,096 entries, which is not written.
     UsualLimit,
     /// An empty line or a comment, in a record.
@@ -124,11 +126,15 @@ pub fn of_words<'a>(
     })
 }
 
-/// How many bytes a fault takes.
-fn width_of(fault: Fault) -> usize {
+/// How many bytes a fault takes that begins so many bytes behind the line's beginning.
+fn width_of(line: Line<'_>, start: usize, fault: Fault) -> usize {
     match fault {
         Fault::ByteOrderMark => 3,
         Fault::WideText => 2,
+        Fault::SpaceFirst | Fault::TwoSpaces | Fault::SpaceLast => {
+            let rest = line.bytes.iter().skip(start);
+            rest.take_while(|byte| **byte == b' ').count()
+        }
         _ => 1,
     }
 }
@@ -139,7 +145,7 @@ pub fn of_bytes(line: Line<'_>) -> Option<Finding<'_>> {
         return Some(Finding {
             line,
             start,
-            width: width_of(fault),
+            width: width_of(line, start, fault),
             mistake: Mistake::Bytes(fault),
         });
     }

@@ -34,7 +34,7 @@ impl fmt::Display for Misspelling<'_> {
             Misspelling::Minus => "has a minus sign, and only a value may have one",
             Misspelling::MinusZero => "has a minus sign before a zero",
             Misspelling::OutOfRange => "is out of range",
-            Misspelling::NoNumber => "is no number",
+            Misspelling::NoNumber => "is no whole number",
         })
     }
 }

@@ -11,9 +11,12 @@ use tp_text::words::{behind, command, first_word};
 
 /// What is wrong with the first line.
 fn in_version<'a>(line: Line<'a>, text: &'a str) -> Finding<'a> {
-    let (word, _) = first_word(text);
+    let (word, rest) = first_word(text);
     if word == "pool" || word.starts_with('#') {
         return of_line(line, Mistake::OtherKind(Kind::Scenario));
+    }
+    if number_of(word).is_some() && rest.is_some() {
+        return of_line(line, Mistake::Headless);
     }
     of_line(line, Mistake::NoVersion)
 }
@@ -121,10 +124,14 @@ fn missing<'a>(number: u32) -> Mistake<'a> {
     }
 }
 
-/// What is wrong with the line of this number, which its reader refused.
-pub fn in_line(alloc: Global, text: &[u8], number: u32) -> Result<Finding<'_>, AllocError> {
-    let line = line_at(text, number);
-    if ends_record(text, number.saturating_sub(1)) {
+/// What is wrong with a line that its reader refused. It may stand behind the line that ends the record.
+pub fn in_refused<'a>(
+    alloc: Global,
+    line: Line<'a>,
+    is_behind_end: bool,
+) -> Result<Finding<'a>, AllocError> {
+    let number = line.number;
+    if is_behind_end {
         return Ok(of_line(line, Mistake::BehindEnd));
     }
     if line.bytes.is_empty() && !line.is_ended {
@@ -146,4 +153,10 @@ pub fn in_line(alloc: Global, text: &[u8], number: u32) -> Result<Finding<'_>, A
         return in_pool_line(alloc, line, words);
     }
     in_body(alloc, line, number.saturating_sub(3), words)
+}
+
+/// What is wrong with the line of this number, which its reader refused.
+pub fn in_line(alloc: Global, text: &[u8], number: u32) -> Result<Finding<'_>, AllocError> {
+    let is_behind_end = ends_record(text, number.saturating_sub(1));
+    in_refused(alloc, line_at(text, number), is_behind_end)
 }

@@ -28,14 +28,19 @@ pub fn first_line(text: &[u8]) -> u32 {
     u32::MAX
 }
 
+/// Whether a line's first word and what stands behind it look like a record's entry.
+fn is_entry(word: &str, rest: Option<&str>) -> bool {
+    number(word).is_some() && rest.is_some()
+}
+
 /// What is wrong with a line that should be the pool line.
 fn in_pool_line<'a>(
     alloc: Global,
     line: Line<'a>,
     text: &'a str,
 ) -> Result<Finding<'a>, AllocError> {
-    let (word, _) = first_word(text);
-    if word == "tprecord" {
+    let (word, rest) = first_word(text);
+    if word == "tprecord" || is_entry(word, rest) {
         return Ok(of_line(line, Mistake::OtherKind(Kind::Record)));
     }
     if command(word).is_some() || word == "execute" {
@@ -50,7 +55,7 @@ fn in_step<'a>(alloc: Global, line: Line<'a>, text: &'a str) -> Result<Finding<'
     if word == "execute" {
         return Ok(of_line(line, Mistake::OtherKind(Kind::Jobs)));
     }
-    if number(word).is_some() && rest.is_some() {
+    if is_entry(word, rest) {
         return Ok(of_line(line, Mistake::OtherKind(Kind::Record)));
     }
     of_words(alloc, line, 0, STEP_FORMS, text)
@@ -68,6 +73,9 @@ fn in_job<'a>(alloc: Global, line: Line<'a>, text: &'a str) -> Result<Finding<'a
     };
     if is_kind || (command(word).is_some() && word != "submit") {
         return Ok(of_line(line, Mistake::OtherKind(Kind::Scenario)));
+    }
+    if is_entry(word, rest) {
+        return Ok(of_line(line, Mistake::OtherKind(Kind::Record)));
     }
     of_words(alloc, line, 0, JOB_FORMS, text)
 }
@@ -99,9 +107,8 @@ pub fn in_line(
     }
 }
 
-/// The setting for which the pool line of this number is refused.
-pub fn in_settings(text: &[u8], number: u32, refusal: PoolError) -> Option<Finding<'_>> {
-    let line = line_at(text, number);
+/// The setting for which a pool line is refused.
+pub fn in_settings(line: Line<'_>, refusal: PoolError) -> Option<Finding<'_>> {
     let words = clean_text(line.bytes)?;
     let (word, setting) = refused_setting(pool_of(words)?, refusal)?;
     Some(of_word(line, words, word, Mistake::Setting(setting)))

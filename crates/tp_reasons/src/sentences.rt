@@ -40,6 +40,7 @@ impl fmt::Display for Mistake<'_> {
                 write!(f, "this is a line of {name}")
             }
             Mistake::NoVersion => f.write_str("a record begins with the line 'tprecord 1'"),
+            Mistake::Headless => f.write_str("an entry stands where the record begins"),
             Mistake::UsualLimit => f.write_str("a record's limit of 4096 is not written"),
             Mistake::Skipped => f.write_str("a record has no empty lines and no comments"),
             Mistake::Unnumbered(_) => f.write_str("the entry's number is missing"),
@@ -80,6 +81,9 @@ impl fmt::Display for Advice<'_> {
                 write!(f, " it is for `{command}`")
             }
             Mistake::NoVersion => f.write_str(" write 'tprecord 1' here"),
+            Mistake::Headless => f.write_str(
+                " write 'tprecord 1' and the pool line before it, as `poolrun steps --record` does",
+            ),
             Mistake::UsualLimit => f.write_str(" leave out 'limit 4096'"),
             Mistake::Skipped | Mistake::PassNought => f.write_str(" take it out"),
             Mistake::Unnumbered(number) => write!(f, " write {number} before it"),

@@ -88,7 +88,7 @@ fn add_words(words: &mut Words, place: Place) -> Result<(), AllocError> {
     Ok(())
 }
 
-/// The step that has this name in Java.
+/// What stands for this name of Java's.
 fn called_in_java(name: &str) -> Option<&'static str> {
     match name {
         "shutdownNow" => Some("stop"),
@@ -98,11 +98,19 @@ fn called_in_java(name: &str) -> Option<&'static str> {
         "allowCoreThreadTimeOut" => Some("coretimeout"),
         "prestartCoreThread" => Some("prestart"),
         "poll" => Some("takedone"),
+        "SynchronousQueue" => Some("handoff"),
+        "LinkedBlockingQueue" => Some("unbounded"),
+        "ArrayBlockingQueue" => Some("bounded"),
+        "AbortPolicy" => Some("abort"),
+        "CallerRunsPolicy" => Some("callerruns"),
+        "DiscardPolicy" => Some("discard"),
+        "DiscardOldestPolicy" => Some("discardoldest"),
         _ => None,
     }
 }
 
-/// The word that is nearest to this one, among those that may stand there, if one is near.
+/// The word that is nearest to this one, among those that may stand there, if one is near; for a name of Java's the one that stands
+/// for it.
 fn near_wanted(
     alloc: Global,
     word: &str,
@@ -112,7 +120,10 @@ fn near_wanted(
     for one in wanted {
         add_words(&mut words, place_of(one))?;
     }
-    nearest(alloc, word, &words)
+    match called_in_java(word) {
+        Some(here) if words.iter().any(|one| *one == here) => Ok(Some(here)),
+        _ => nearest(alloc, word, &words),
+    }
 }
 
 impl<'a> Wording<'a> {
@@ -127,10 +138,7 @@ impl<'a> Wording<'a> {
         let wanted = wanted_at(alloc, &forms, most)?;
         let near = match word_at(text, most) {
             None => None,
-            Some(word) => match called_in_java(word) {
-                Some(step) if wanted.iter().any(|one| *one == step) => Some(step),
-                _ => near_wanted(alloc, word, &wanted)?,
-            },
+            Some(word) => near_wanted(alloc, word, &wanted)?,
         };
         let may_end = forms.iter().any(|form| word_at(form, most).is_none());
         Ok(Wording {
@@ -245,6 +253,9 @@ pub struct Advice<'a>(pub &'a Wording<'a>);
 impl fmt::Display for Advice<'_> {
     fn fmt<W: fmt::Write>(&self, f: &mut fmt::Formatter<W>) -> fmt::Result {
         let wording = self.0;
+        if wording.found().is_some_and(|word| word.starts_with('#')) {
+            return f.write_str(" no comment stands behind other words");
+        }
         if wording.wanted.is_empty() {
             return f.write_str(" the line should end before it");
         }

@@ -40,11 +40,13 @@ impl Model for Replayed {
     ghost invariant = { λ r. IsJudging r.auditor };
 }
 
-/// Tells why the step in a line was refused.
-fn tell<W: Write>(out: &mut W, number: u32, line: &[u8], cause: Cause<'_>) {
+/// Tells why the step in a line was refused, in one line that is written at once.
+fn tell<W: Write>(alloc: Global, out: &mut W, number: u32, line: &[u8], cause: Cause<'_>) {
     let text = str::from_utf8(line).unwrap_or("");
     let refusal = cause.refusal;
-    let _ = writeln!(out, "line {number}: {text}: {refusal} ({cause})");
+    if let Ok(told) = format!(in alloc; "line {number}: {text}: {refusal} ({cause})\n") {
+        let _ = out.write_all(told.as_bytes());
+    }
 }
 
 impl Replayed {
@@ -91,6 +93,7 @@ impl Replayed {
     /// Plays the step that a line asks for; NoMemory (4) of the replay's own.
     fn play<W: Write>(
         &mut self,
+        alloc: Global,
         number: u32,
         line: &[u8],
         step: &ScenarioLine,
@@ -101,7 +104,7 @@ impl Replayed {
             Ok(Ok((entry, _))) => self.note(entry),
             Ok(Err(refusal)) => {
                 self.refused = self.refused.saturating_add(1);
-                tell(out, number, line, self.cause(ask, refusal));
+                tell(alloc, out, number, line, self.cause(ask, refusal));
                 Ok(())
             }
             Err(_) => Err(PoolError::NoMemory),
@@ -149,7 +152,7 @@ pub fn replay<W: Write>(alloc: Global, text: &[u8], out: &mut W) -> Result<Repla
         };
         match read_line::<ScenarioLine>(line) {
             LineRead::Skipped => {}
-            LineRead::Says(step) => replay.play(number, line, &step, out)?,
+            LineRead::Says(step) => replay.play(alloc, number, line, &step, out)?,
             LineRead::Bad => return Err(PoolError::BadLine(number)),
         }
         rest = behind;

@@ -111,7 +111,7 @@ fn are_same(alloc: Global, text: &[u8]) -> bool {
     ) {
         (Ok(Judgment::Legal(lines)), Ok(true)) => lines.as_bytes() == out.as_slice(),
         (Ok(Judgment::Flawed(_, _)), Ok(false)) => true,
-        (Err(refusal), Err(other)) => refusal == other,
+        (Err(refused), Err(other)) => refused.refusal == other,
         _ => false,
     }
 }

@@ -231,13 +231,13 @@ const BYTES: [Row; 12] = [
         b"pool 1 1 unbounded keep 0 abort\n stop\n",
         "2:1",
         "a space stands before the first word",
-        "^ take it out",
+        "^ take out what is marked",
     ),
     (
         b"pool 1 1 unbounded keep 0 abort\nstop \n",
         "2:5",
         "a space stands behind the last word",
-        "^ take it out",
+        "^ take out what is marked",
     ),
     (
         b"pool 1 1 unbounded keep 0 abort\nstop",
@@ -254,8 +254,8 @@ const BYTES: [Row; 12] = [
     (
         b"# 345678901234567890123456789012345678901234567890123456789012345678901234567890123456789012345678901234567890123456789012345678901234567890123456789012345678901234567890123456789012345678901234567890!\n",
         "1:201",
-        "the line has 201 bytes",
-        "a line has at most 200",
+        "the line has more than 200 bytes",
+        "the line should end before it",
     ),
 ];
 
@@ -425,7 +425,7 @@ const JOBS: [Row; 5] = [
     (
         b"pool 1 1 unbounded keep 0 abort\nsubmit five\n",
         "2:8",
-        "'five' is no number",
+        "'five' is no whole number",
         "= V is a value, -9223372036854775808 to 9223372036854775807\n",
     ),
     (

@@ -1,6 +1,7 @@
 //! Every way to call the program, over real files in the test's folder.
 
 mod flags;
+mod mistakes;
 mod scenarios;
 mod threads;
 

@@ -107,7 +107,8 @@ fn audits_a_record_of_any_length(rt: HostRuntime) -> Result<(), Fail> {
         "{long:?}"
     );
     let whole = call_on(&rt, alloc, "audit", "long.txt", record.as_str())?;
-    let errors = "poolrun: long.txt: the text has more than 1,048,576 bytes\n";
+    let errors =
+        "poolrun: long.txt: the text has more than 1,048,576 bytes, which `poolrun audit --any-length` takes\n";
     assert!(rt;
         whole.gave(1, "refused 25 ReadFailed\n", errors),
         "{whole:?}"
