@@ -132,8 +132,8 @@ module _ {J : Type 0} (c : Config) (kind : Kind) (job : J) (promise : Promise) w
   torn_at t old new (Ends a) steps walk unended = absurd (unended a refl)
   torn_at t old new Astray steps walk unended = walk.torn refl
 
-  pub torn_off : (t : ℕ) (old mid new : PassView) (next : Next) (steps : ℕ) → Walk t old (follow_of t next) steps mid → ((end : Ending) → ¬ (next ≡ next.End end)) →
+  pub torn_off : (t : ℕ) (old mid new : PassView) (n : Next) (steps : ℕ) → Walk t old (follow_of t n) steps mid → ((end : Ending) → ¬ (n ≡ next.End end)) →
       (new ≡ mid) ⊎ LooksOnly c mid new → (x : Refused J) → x.error ≡ error.TornRecord → IsTurnedAway c kind job promise old new x
-  torn_off t old mid new next steps walk goes_on then x torn =
-      let front = torn_at t old mid (follow_of t next) steps walk (unended t next goes_on) in
-      inr (inl (torn, ⊎_elim (λ (same : new ≡ mid). subst (λ p. AddsFront c old p) (sym same) front) (λ (looks : LooksOnly c mid new). front_looks c old mid new front looks) then))
+  torn_off t old mid new n steps walk goes_on moved x torn =
+      let front = torn_at t old mid (follow_of t n) steps walk (unended t n goes_on) in
+      inr (inl (torn, ⊎_elim (λ (same : new ≡ mid). subst (λ p. AddsFront c old p) (sym same) front) (λ (looks : LooksOnly c mid new). front_looks c old mid new front looks) moved))

@@ -1,10 +1,6 @@
 -- One turn more.
 use Rattle.std.proofs.Common.{ℕ, ◌+◌, ◌<◌, List, [], ◌∷◌, ◌++◌, take, get_or, length, refl, sym, subst}
 use Rattle.std.proofs.lemmas.List.{take_more}
-use Rattle.tp_types.specs.declared.configs.Config.{Config}
-use Rattle.tp_book.specs.PassView.{PassView}
-use Rattle.tp_locked.specs.Passes.{AddsNone, LooksOnly}
-use Rattle.tp_locked.proofs.Receipts.{looks_none, none_added, none_behind}
 use Rattle.tp_service.specs.Turns.{Through}
 
 module _ {X S : Type 0} (R : X → S → S → Type 0) where
@@ -16,10 +12,3 @@ module _ {X S : Type 0} (R : X → S → S → Type 0) where
   pub through_next : (xs : List X) (i : ℕ) (d : X) (old mid new : S) → i < length xs → Through R (take i xs) old mid → R (get_or xs i d) mid new → Through R (take (i + 1) xs) old new
   through_next xs i d old mid new within turns turn =
       subst (λ ys. Through R ys old new) (sym (take_more xs i d within)) (through_more (take i xs) (get_or xs i d) old mid new turns turn)
-
--- looks, one after another, make no step
-pub looks_through : {X : Type 0} (c : Config) (R : X → PassView → PassView → Type 0) → ((x : X) (old new : PassView) → R x old new → LooksOnly c old new)
-    → (xs : List X) (old new : PassView) → Through R xs old new → AddsNone old new
-looks_through c R looks [] old new same = none_added old new same
-looks_through c R looks (x ∷ xs) old new turns =
-    none_behind old turns.0 new (looks_none c old turns.0 (looks x old turns.0 turns.1)) (looks_through c R looks xs turns.0 new turns.2)

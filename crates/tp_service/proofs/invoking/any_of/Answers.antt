@@ -2,7 +2,7 @@ use Rattle.std.proofs.Common.{◌≡◌, false, ap, sym, ◌∙◌}
 use Rattle.std.proofs.lemmas.Bool.{true≢false}
 use Rattle.std.specs.Prelude.{Some, None, Err}
 use Rattle.std.specs.Result.{result_transpose}
-use Rattle.tp_locked.proofs.Receipts.{looks_none, none_added, none_behind}
+use Rattle.tp_locked.proofs.Receipts.{looks_none, none_behind}
 use Rattle.tp_service.specs.Futures.{later_fault}
 use Rattle.tp_service.proofs.Given.{any_at, fails_next}
 use Rattle.tp_service.proofs.invoking.any_of.Goals.{in-None, in-Some-Err}
@@ -29,3 +29,8 @@ loop-t-preserved g c =
       ],
       none_behind c.args.pass.now c.loop-t.pass c.result_with.new.pass c.loop-t.invariant.1 (looks_none g.G.PoolNaming.config c.loop-t.pass c.result_with.new.pass told.looks),
     )
+
+pub returns-in-Some-Ok-clause-looks : goal.returns-in-Some-Ok-clause-looks
+returns-in-Some-Ok-clause-looks g c =
+    none_behind c.args.pass.now c.loop-t.pass c.result_with.new.pass c.loop-t.invariant.1
+    (looks_none g.G.PoolNaming.config c.loop-t.pass c.result_with.new.pass c.result_with.ensures.looks)
