@@ -36,6 +36,3 @@ pub fn audit_text<R: Read, W: Write>(
     }
     Ok(judgment.legal)
 }
-
-#[cfg(test)]
-mod tests;

@@ -1,5 +1,6 @@
 //! Tables of asks, by wings; readings; want of memory; and a long run.
 
+mod compare;
 mod controllers;
 mod long;
 mod memory;

@@ -1,11 +1,12 @@
 //! Runs of asks, and their records judged. Answers are from the worked rows or told by hand.
 
-use crate::judged::LONE;
+use crate::compare::same;
+use crate::judged::{LONE, plain_counts};
+use std::alloc::Global;
 use std::test::Fail;
-use tp_audit::plain::audit_plain;
 use tp_audit::summary::Flaw;
 use tp_record::entries::{Ask, Did, Looked, Opened, Started, Took};
-use tp_runs::runs::run_asks;
+use tp_runs::runs::{Run, run_asks};
 use tp_types::ids::{SlotId, TaskId};
 use tp_types::refusals::PoolError;
 use tp_types::tasks::Kind;
@@ -33,14 +34,33 @@ fn runs_the_shortest_life(rt: HostRuntime) -> Result<(), Fail> {
         Ok(Did::Begin(slot, Started::Run(task))),
         Ok(Did::End(slot, task, Ok(5))),
     ];
-    assert!(rt; run.answers.as_slice() == answers.as_slice());
-    let summary = audit_plain(rt.alloc(), &LONE, &run.entries)?;
-    assert_eq!(rt; summary.counts.run, 1);
+    let is_answered = run.answers.as_slice() == answers.as_slice();
+    let counts = plain_counts(rt.alloc(), &run.entries)?;
+    same(&rt, 0, &(is_answered, counts.run), &(true, 1));
     Ok(())
 }
 
-/// Where any one allocation fails, the run is refused with 4, or 4 is the answer of one ask, which adds no entry, and the
-/// run goes on; with ample memory each ask is accepted.
+/// Where any one allocation fails, 4 is the answer of one ask, which adds no entry, and the run goes on; with ample memory each
+/// ask is accepted. The last ask takes no memory.
+fn goes_on(alloc: Global, asks: usize, run: &Run) -> bool {
+    let mut wanted = 0usize;
+    for answer in &run.answers {
+        if *answer == Err(PoolError::NoMemory) {
+            wanted = wanted.saturating_add(1);
+        }
+    }
+    let is_judged = match plain_counts(alloc, &run.entries) {
+        Ok(counts) => counts.run == 0,
+        Err(flaw) => flaw == Flaw::NoMemory,
+    };
+    wanted <= 1
+        && run.answers.len() == asks
+        && run.entries.len().saturating_add(wanted) == asks
+        && run.answers.last() == Some(&Ok(Did::Tick(5)))
+        && is_judged
+}
+
+/// Where any one allocation fails, the run is refused with 4, or it goes on.
 #[test]
 fn run_goes_on_where_memory_is_wanted(rt: HostRuntime) {
     let asks = [
@@ -50,25 +70,9 @@ fn run_goes_on_where_memory_is_wanted(rt: HostRuntime) {
         (2, Ask::Stop),
         (2, Ask::Tick(5)),
     ];
-    let run = match run_asks(rt.alloc(), LONE, &asks) {
-        Ok(run) => run,
-        Err(error) => {
-            assert_eq!(rt; error, PoolError::NoMemory);
-            return;
-        }
+    let is_right = match run_asks(rt.alloc(), LONE, &asks) {
+        Ok(run) => goes_on(rt.alloc(), asks.len(), &run),
+        Err(error) => error == PoolError::NoMemory,
     };
-    let mut wanted = 0usize;
-    for answer in &run.answers {
-        if *answer == Err(PoolError::NoMemory) {
-            wanted = wanted.saturating_add(1);
-        }
-    }
-    assert!(rt; wanted <= 1, "{wanted} asks were answered with 4");
-    assert_eq!(rt; run.answers.len(), asks.len());
-    assert_eq!(rt; run.entries.len().saturating_add(wanted), asks.len());
-    assert!(rt; run.answers.last() == Some(&Ok(Did::Tick(5))));
-    match audit_plain(rt.alloc(), &LONE, &run.entries) {
-        Ok(summary) => assert_eq!(rt; summary.counts.run, 0),
-        Err(flaw) => assert_eq!(rt; flaw, Flaw::NoMemory),
-    }
+    same(&rt, 0, &is_right, &true);
 }

@@ -1,9 +1,8 @@
 //! Records judged by both auditors, with answers from the worked rows or told by hand.
 ghost use Rattle.tp_types.specs.Config.{IsConfig};
 
+use crate::compare::same;
 use std::alloc::Global;
-use std::process::Abort;
-use std::test::Fail;
 use tp_audit::plain::audit_plain;
 use tp_audit::summary::{Flaw, Summary};
 use tp_auditor::audits::audit;
@@ -57,24 +56,42 @@ fn shortest_life(slot: usize) -> [Entry; 5] {
     ]
 }
 
-/// The judgment of both auditors, which is one.
-fn judged<R: Abort>(
-    rt: &R,
-    alloc: Global,
-    config: &Config,
-    entries: &[Entry],
-) -> Result<Summary, Flaw>
+/// The judgment of both auditors; none where they differ.
+pub fn judged(alloc: Global, config: &Config, entries: &[Entry]) -> Option<Result<Summary, Flaw>>
     requires { IsConfig config.now }
 {
     let judgment = audit(alloc, config, entries);
-    let plain = audit_plain(alloc, config, entries);
-    assert!(rt; judgment == plain, "the auditors differ");
-    judgment
+    if judgment == audit_plain(alloc, config, entries) {
+        Some(judgment)
+    } else {
+        None
+    }
 }
 
+/// Whether both auditors judge a record so: its pool runs on with these counts and fates, or this is its first flaw.
+fn is_judged_so(
+    alloc: Global,
+    config: &Config,
+    entries: &[Entry],
+    told: Result<(Counts, &[Option<Fate>]), Flaw>,
+) -> bool {
+    if config.check().is_err() {
+        return false;
+    }
+    match (judged(alloc, config, entries), told) {
+        (Some(Ok(summary)), Ok((counts, fates))) => {
+            summary.counts == counts
+                && summary.state == RunState::Running
+                && summary.fates.as_slice() == fates
+        }
+        (Some(Err(flaw)), Err(first)) => flaw == first,
+        _ => false,
+    }
+}
+
+/// The slot of a reserved worker may have any number that is free.
 #[test]
-fn judges_the_shortest_life(rt: HostRuntime) -> Result<(), Fail> {
-    let summary = judged(&rt, rt.alloc(), &LONE, &shortest_life(0))?;
+fn judges_the_shortest_life(rt: HostRuntime) {
     let counts = Counts {
         submitted: 1,
         run: 1,
@@ -83,70 +100,78 @@ fn judges_the_shortest_life(rt: HostRuntime) -> Result<(), Fail> {
         largest: 1,
         ..Counts::default()
     };
-    assert_eq!(rt; summary.counts, counts);
-    assert_eq!(rt; summary.state, RunState::Running);
-    assert_eq!(rt; summary.fates.as_slice(), [Some(Fate::Run)].as_slice());
-    Ok(())
-}
-
-#[test]
-fn judges_an_empty_record(rt: HostRuntime) -> Result<(), Fail> {
-    let summary = judged(&rt, rt.alloc(), &LONE, &[])?;
-    assert_eq!(rt; summary.counts, Counts::default());
-    assert_eq!(rt; summary.state, RunState::Running);
-    assert!(rt; summary.fates.is_empty());
-    Ok(())
-}
-
-#[test]
-fn takes_any_free_number(rt: HostRuntime) -> Result<(), Fail> {
     for slot in [0, 1, 7, 1_000] {
-        let summary = judged(&rt, rt.alloc(), &LONE, &shortest_life(slot))?;
-        assert_eq!(rt; summary.counts.live, 1, "slot {slot}");
+        let told = Ok((counts, [Some(Fate::Run)].as_slice()));
+        let life = shortest_life(slot);
+        let so = is_judged_so(rt.alloc(), &LONE, &life, told);
+        same(&rt, slot, &so, &true);
     }
-    Ok(())
 }
 
+/// Nothing at all, and submissions that reserve slots of two numbers, and of one.
 #[test]
-fn refuses_a_number_in_use(rt: HostRuntime) {
-    let two = Config {
-        core: 2,
-        maximum: 2,
-        ..LONE
-    };
+fn judges_records_with_nothing_begun(rt: HostRuntime) {
     let submit = |task, slot| Entry {
         by: 0,
         ask: Ask::Submit(Kind::Plain),
         did: Did::Submit(TaskId(task), Kind::Plain, Looked::Reserve(SlotId(slot))),
     };
-    let apart = [submit(0, 4), submit(1, 0)];
-    assert!(rt; judged(&rt, rt.alloc(), &two, &apart).is_ok());
-    let shared = [submit(0, 4), submit(1, 4)];
-    assert!(rt; judged(&rt, rt.alloc(), &two, &shared) == Err(Flaw::At(2)));
+    let two = Config {
+        core: 2,
+        maximum: 2,
+        ..LONE
+    };
+    let counts = Counts {
+        submitted: 2,
+        ..Counts::default()
+    };
+    let open = [None, None];
+    let none = Ok((Counts::default(), &open[..0]));
+    let records: [(Config, &[Entry], Result<(Counts, &[Option<Fate>]), Flaw>); 3] = [
+        (LONE, &[], none),
+        (two, &[submit(0, 4), submit(1, 0)], Ok((counts, &open))),
+        (two, &[submit(0, 4), submit(1, 4)], Err(Flaw::At(2))),
+    ];
+    for (at, (config, entries, told)) in records.iter().enumerate() {
+        let so = is_judged_so(rt.alloc(), config, entries, *told);
+        same(&rt, at, &so, &true);
+    }
 }
 
 #[test]
 fn tells_the_first_flaw(rt: HostRuntime) {
     let life = shortest_life(0);
-    // Row 21: the worker takes before it is opened.
-    assert!(rt; judged(&rt, rt.alloc(), &LONE, &[life[0], life[2]]) == Err(Flaw::At(2)));
-    assert!(rt; judged(&rt, rt.alloc(), &LONE, &life[1..]) == Err(Flaw::At(1)));
-    let twice = [life[0], life[1], life[1], life[1]];
-    assert!(rt; judged(&rt, rt.alloc(), &LONE, &twice) == Err(Flaw::At(3)));
     // An answer to another ask than the entry's.
     let other = Entry {
         ask: Ask::Fail(SlotId(0)),
         ..life[1]
     };
-    assert!(rt; judged(&rt, rt.alloc(), &LONE, &[life[0], other]) == Err(Flaw::At(2)));
+    let flawed: [(&[Entry], usize); 4] = [
+        // Row 21: the worker takes before it is opened.
+        (&[life[0], life[2]], 2),
+        (&life[1..], 1),
+        (&[life[0], life[1], life[1], life[1]], 3),
+        (&[life[0], other], 2),
+    ];
+    for (entries, at) in flawed {
+        let first = Err(Flaw::At(at));
+        let so = is_judged_so(rt.alloc(), &LONE, entries, first);
+        same(&rt, at, &so, &true);
+    }
+}
+
+/// The counters of a record of one worker, as the plain auditor tells them.
+pub fn plain_counts(alloc: Global, entries: &[Entry]) -> Result<Counts, Flaw> {
+    Ok(audit_plain(alloc, &LONE, entries)?.counts)
 }
 
 /// Where any one allocation fails, the answer is want of memory; with ample memory it is right.
 #[test]
 fn want_of_memory_is_told(rt: HostRuntime) {
     let life = shortest_life(0);
-    match audit_plain(rt.alloc(), &LONE, &life[..2]) {
-        Ok(summary) => assert_eq!(rt; summary.counts.submitted, 1),
-        Err(flaw) => assert_eq!(rt; flaw, Flaw::NoMemory),
-    }
+    let is_told = match plain_counts(rt.alloc(), &life[..2]) {
+        Ok(counts) => counts.submitted == 1,
+        Err(flaw) => flaw == Flaw::NoMemory,
+    };
+    same(&rt, 0, &is_told, &true);
 }

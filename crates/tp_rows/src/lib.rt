@@ -1,10 +1,14 @@
 //! The worked rows: records with what the step gives at each front, computed by the checker in `proofs/`, and tests of
 //! the plain programs on some of them. Beside them the tests of runs of asks and of the auditor, and of the texts: each form
-//! of line, whole runs of scenarios from bytes to bytes, and files of jobs.
+//! of line, whole runs of scenarios from bytes to bytes, files of jobs, and audits of record texts.
 #![tactic(auto)]
 
 #[cfg(test)]
 mod asked;
+#[cfg(test)]
+mod audits;
+#[cfg(test)]
+mod compare;
 #[cfg(test)]
 mod judged;
 #[cfg(test)]
@@ -13,5 +17,7 @@ mod lines;
 mod neighbours;
 #[cfg(test)]
 mod runs;
+#[cfg(test)]
+mod streams;
 #[cfg(test)]
 mod tests;

@@ -1,7 +1,9 @@
 //! Each form of line once. The texts are those of the worked examples, and the table of texts has the forms that no
 //! example shows.
 
+use crate::compare::same;
 use std::alloc::{AllocError, Global};
+use std::process::Abort;
 use std::test::Fail;
 use tp_record::entries::{
     Ask, Did, Entry, Failed, Grown, Looked, Offered, Opened, Ruled, Seconded, Started, Took,
@@ -217,73 +219,6 @@ const POOLS: [(usize, Did, &str); 20] = [
     (10, Did::Prestart(None), "10 prestart none\n"),
 ];
 
-/// The first line of a table that is not written of its entry.
-fn first_wrong<'a>(
-    alloc: Global,
-    table: &[(usize, Did, &'a str)],
-) -> Result<Option<&'a str>, AllocError> {
-    for (number, did, text) in table {
-        let mut line = String::new(alloc);
-        write_entry(&mut line, *number, &entry(0, *did))?;
-        if line.as_str() != *text {
-            return Ok(Some(*text));
-        }
-    }
-    Ok(None)
-}
-
-#[test]
-fn entries(rt: HostRuntime) -> Result<(), Fail> {
-    for table in [
-        &SUBMISSIONS_AND_LOOKS[..],
-        &OFFERS_AND_GROWTH,
-        &VERDICTS,
-        &SLOTS,
-        &POOLS,
-    ] {
-        assert_eq!(rt; first_wrong(rt.alloc(), table)?, None);
-    }
-    Ok(())
-}
-
-#[test]
-fn a_pass_stands_before_the_words(rt: HostRuntime) -> Result<(), Fail> {
-    let held = entry(1, Did::Take(SLOT_0, Took::Held(TASK_0)));
-    let mut line = String::from_str(rt.alloc(), "2 open w0 live\n")?;
-    write_entry(&mut line, 3, &held)?;
-    assert_eq!(rt; line.as_str(), "2 open w0 live\n3 p1 take w0 held t0\n");
-    Ok(())
-}
-
-#[test]
-fn a_stop_names_the_tasks_it_hands_back(rt: HostRuntime) -> Result<(), Fail> {
-    let mut output = Output::new(rt.alloc());
-    output.entry(7, &entry(0, Did::Stop(0)), &[])?;
-    output.entry(11, &entry(0, Did::Stop(1)), &[TASK_2])?;
-    assert_eq!(rt;
-        output.written.as_slice(),
-        "7 stop drained 0\n11 stop drained 1\nback t2\n".as_bytes()
-    );
-    let mut line = String::new(rt.alloc());
-    write_back(&mut line, &[TASK_2, TASK_0])?;
-    assert_eq!(rt; line.as_str(), "back t2 t0\n");
-    Ok(())
-}
-
-#[test]
-fn an_output_grows_line_by_line(rt: HostRuntime) -> Result<(), Fail> {
-    let mut output = Output::new(rt.alloc());
-    output.refusal(PoolError::NotThere)?;
-    output.fate(TASK_1, Some(Fate::Run))?;
-    output.state(RunState::Running)?;
-    output.counts(&Counts::default())?;
-    assert_eq!(rt;
-        output.written.as_slice(),
-        "refused 8 NotThere\nt1 run\nstate running\ncounts submitted=0 run=0 caller=0 rejected=0 discarded=0 handedback=0 removed=0 cancelled=0 completed=0 queued=0 live=0 largest=0\n".as_bytes()
-    );
-    Ok(())
-}
-
 const REFUSALS: [(PoolError, &str); 5] = [
     (PoolError::NotThere, "refused 8 NotThere\n"),
     (PoolError::ClockBack, "refused 10 ClockBack\n"),
@@ -292,16 +227,6 @@ const REFUSALS: [(PoolError, &str); 5] = [
     (PoolError::Faulted(7), "refused 14 Faulted\n"),
 ];
 
-#[test]
-fn refusals(rt: HostRuntime) -> Result<(), Fail> {
-    for (refusal, text) in &REFUSALS {
-        let mut line = String::new(rt.alloc());
-        write_refusal(&mut line, *refusal)?;
-        assert_eq!(rt; line.as_str(), *text);
-    }
-    Ok(())
-}
-
 const FATES: [(TaskId, Option<Fate>, &str); 5] = [
     (TASK_0, Some(Fate::Run), "t0 run\n"),
     (TASK_1, Some(Fate::RunByCaller), "t1 caller\n"),
@@ -309,16 +234,6 @@ const FATES: [(TaskId, Option<Fate>, &str); 5] = [
     (TaskId(3), Some(Fate::HandedBack), "t3 handedback\n"),
     (TASK_1, None, "t1 open\n"),
 ];
-
-#[test]
-fn fates(rt: HostRuntime) -> Result<(), Fail> {
-    for (task, fate, text) in &FATES {
-        let mut line = String::new(rt.alloc());
-        write_fate(&mut line, *task, *fate)?;
-        assert_eq!(rt; line.as_str(), *text);
-    }
-    Ok(())
-}
 
 const COUNTS: Counts = Counts {
     submitted: 1,
@@ -335,14 +250,118 @@ const COUNTS: Counts = Counts {
     largest: 12,
 };
 
+/// What a line says.
+#[derive(Clone, Copy)]
+enum Said {
+    /// The number of an entry, its pass and its answer.
+    Entry(usize, u32, Did),
+    /// The tasks that a stop hands back.
+    Back(&'static [TaskId]),
+    Refusal(PoolError),
+    Fate(TaskId, Option<Fate>),
+    State(RunState),
+    Counts(Counts),
+}
+
+/// Writes a line behind what stands in a text.
+fn write_line(text: &mut String, said: &Said) -> Result<(), AllocError> {
+    match said {
+        Said::Entry(number, by, did) => write_entry(text, *number, &entry(*by, *did)),
+        Said::Back(tasks) => write_back(text, tasks),
+        Said::Refusal(refusal) => write_refusal(text, *refusal),
+        Said::Fate(t, fate) => write_fate(text, *t, *fate),
+        Said::State(state) => write_state(text, *state),
+        Said::Counts(counts) => write_counts(text, counts),
+    }
+}
+
+/// The text of these lines.
+fn text_of(alloc: Global, lines: &[Said]) -> Result<String, AllocError> {
+    let mut text = String::new(alloc);
+    for said in lines {
+        write_line(&mut text, said)?;
+    }
+    Ok(text)
+}
+
+/// Each entry of a table is written so.
+fn writes_each(
+    rt: &impl Abort,
+    alloc: Global,
+    table: &[(usize, Did, &str)],
+) -> Result<(), AllocError> {
+    for (number, did, text) in table {
+        let written = text_of(alloc, &[Said::Entry(*number, 0, *did)])?;
+        same(rt, *number, &written.as_str(), text);
+    }
+    Ok(())
+}
+
 #[test]
-fn ends(rt: HostRuntime) -> Result<(), Fail> {
-    let mut lines = String::new(rt.alloc());
-    write_state(&mut lines, RunState::Terminated)?;
-    write_counts(&mut lines, &COUNTS)?;
-    assert_eq!(rt;
-        lines.as_str(),
-        "state terminated\ncounts submitted=1 run=2 caller=3 rejected=4 discarded=5 handedback=6 removed=7 cancelled=8 completed=9 queued=10 live=11 largest=12\n"
-    );
+fn entries(rt: HostRuntime) -> Result<(), Fail> {
+    let alloc = rt.alloc();
+    writes_each(&rt, alloc, &SUBMISSIONS_AND_LOOKS)?;
+    writes_each(&rt, alloc, &OFFERS_AND_GROWTH)?;
+    writes_each(&rt, alloc, &VERDICTS)?;
+    writes_each(&rt, alloc, &SLOTS)?;
+    writes_each(&rt, alloc, &POOLS)?;
+    Ok(())
+}
+
+#[test]
+fn refusals_and_fates(rt: HostRuntime) -> Result<(), Fail> {
+    for (at, (refusal, text)) in REFUSALS.iter().enumerate() {
+        let written = text_of(rt.alloc(), &[Said::Refusal(*refusal)])?;
+        same(&rt, at, &written.as_str(), text);
+    }
+    for (at, (task, fate, text)) in FATES.iter().enumerate() {
+        let written = text_of(rt.alloc(), &[Said::Fate(*task, *fate)])?;
+        same(&rt, at, &written.as_str(), text);
+    }
+    Ok(())
+}
+
+/// Lines one behind another. A pass stands before the words, and a stop names the tasks that it hands back.
+const LINES: [(&[Said], &str); 3] = [
+    (
+        &[
+            Said::Entry(2, 0, Did::Open(SLOT_0, Opened::Live)),
+            Said::Entry(3, 1, Did::Take(SLOT_0, Took::Held(TASK_0))),
+        ],
+        "2 open w0 live\n3 p1 take w0 held t0\n",
+    ),
+    (&[Said::Back(&[TASK_2, TASK_0])], "back t2 t0\n"),
+    (
+        &[Said::State(RunState::Terminated), Said::Counts(COUNTS)],
+        "state terminated\ncounts submitted=1 run=2 caller=3 rejected=4 discarded=5 handedback=6 removed=7 cancelled=8 completed=9 queued=10 live=11 largest=12\n",
+    ),
+];
+
+#[test]
+fn lines_one_behind_another(rt: HostRuntime) -> Result<(), Fail> {
+    for (at, (lines, text)) in LINES.iter().enumerate() {
+        let written = text_of(rt.alloc(), lines)?;
+        same(&rt, at, &written.as_str(), text);
+    }
+    Ok(())
+}
+
+/// A pool's output: a stop of no task and one of a task, a refusal, a fate, the state and the counts.
+fn fill(output: &mut Output) -> Result<(), PoolError> {
+    output.entry(7, &entry(0, Did::Stop(0)), &[])?;
+    output.entry(11, &entry(0, Did::Stop(1)), &[TASK_2])?;
+    output.refusal(PoolError::NotThere)?;
+    output.fate(TASK_1, Some(Fate::Run))?;
+    output.state(RunState::Running)?;
+    output.counts(&Counts::default())
+}
+
+#[test]
+fn an_output_grows_line_by_line(rt: HostRuntime) -> Result<(), Fail> {
+    let mut output = Output::new(rt.alloc());
+    fill(&mut output)?;
+    let lines =
+        "7 stop drained 0\n11 stop drained 1\nback t2\nrefused 8 NotThere\nt1 run\nstate running\ncounts submitted=0 run=0 caller=0 rejected=0 discarded=0 handedback=0 removed=0 cancelled=0 completed=0 queued=0 live=0 largest=0\n";
+    same(&rt, 0, &output.written.as_slice(), &lines.as_bytes());
     Ok(())
 }

@@ -3,11 +3,11 @@
 ghost use Rattle.tp_types.specs.Config.{IsConfig};
 ghost use Rattle.tp_auditor.specs.Audited.{IsJudging};
 
-use crate::judged::LONE;
+use crate::compare::same;
+use crate::judged::{LONE, judged};
 use std::alloc::{AllocError, Global};
 use std::test::Fail;
-use tp_audit::plain::audit_plain;
-use tp_audit::summary::Flaw;
+use tp_audit::summary::{Flaw, Summary};
 use tp_auditor::auditor::Auditor;
 use tp_auditor::audits::audit;
 use tp_record::entries::{
@@ -163,15 +163,13 @@ pub fn neighbours_agree(alloc: Global, config: &Config, asks: &[(u32, Ask)]) -> 
     requires { IsConfig config.now }
 {
     let run = run_asks(alloc, *config, asks)?;
-    if audit(alloc, config, &run.entries).is_err()
-        || audit_plain(alloc, config, &run.entries).is_err()
-    {
+    if !matches!(&judged(alloc, config, &run.entries), Some(Ok(_))) {
         return Ok(false);
     }
     for at in 0..run.entries.len() {
         for wrong in WRONGS {
             let record = wrong_record(alloc, &run.entries, at, wrong)?;
-            if audit(alloc, config, &record) != audit_plain(alloc, config, &record) {
+            if judged(alloc, config, &record).is_none() {
                 return Ok(false);
             }
         }
@@ -206,7 +204,8 @@ fn a_purge_and_a_shutdown(rt: HostRuntime) -> Result<(), Fail> {
         (2, Ask::Ended),
     ];
     let config = Config { keep: 9, ..LONE };
-    assert!(rt; neighbours_agree(rt.alloc(), &config, &asks)?);
+    let agree = neighbours_agree(rt.alloc(), &config, &asks)?;
+    same(&rt, 0, &agree, &true);
     Ok(())
 }
 
@@ -252,7 +251,8 @@ fn a_drop_and_a_stop(rt: HostRuntime) -> Result<(), Fail> {
         (3, Ask::Tidy),
         (3, Ask::Ended),
     ];
-    assert!(rt; neighbours_agree(rt.alloc(), &config, &asks)?);
+    let agree = neighbours_agree(rt.alloc(), &config, &asks)?;
+    same(&rt, 0, &agree, &true);
     Ok(())
 }
 
@@ -307,9 +307,15 @@ const TOLD: [(Ask, Did); 12] = [
 #[test]
 fn want_of_memory_is_told(rt: HostRuntime) {
     let entries = TOLD.map(|(ask, did)| Entry { by: 0, ask, did });
-    match audit(rt.alloc(), &LONE, &entries) {
-        Ok(summary) => assert_eq!(rt; summary.counts.run, 2),
-        Err(flaw) => assert_eq!(rt; flaw, Flaw::NoMemory),
+    let is_told = is_told(audit(rt.alloc(), &LONE, &entries));
+    same(&rt, 0, &is_told, &true);
+}
+
+/// Whether two tasks were run; or memory was wanting.
+fn is_told(judgment: Result<Summary, Flaw>) -> bool {
+    match judgment {
+        Ok(summary) => summary.counts.run == 2,
+        Err(flaw) => flaw == Flaw::NoMemory,
     }
 }
 
@@ -324,18 +330,24 @@ fn tell(auditor: &mut Auditor, entry: &Entry) -> Result<(), Flaw>
     }
 }
 
+/// Whether each of them is told well.
+fn tell_all(auditor: &mut Auditor) -> bool
+    requires { IsJudging auditor.old }
+    ensures { IsJudging auditor.new }
+{
+    for (ask, did) in TOLD {
+        if tell(auditor, &Entry { by: 0, ask, did }).is_err() {
+            return false;
+        }
+    }
+    true
+}
+
 /// Where any one allocation fails, that entry is not told, and the auditor is as it was: told again, all goes on.
 #[test]
 fn want_of_memory_changes_nothing(rt: HostRuntime) {
-    let Ok(mut auditor) = Auditor::new(rt.alloc(), &LONE) else {
-        return;
-    };
-    for (ask, did) in TOLD {
-        let entry = Entry { by: 0, ask, did };
-        assert_eq!(rt; tell(&mut auditor, &entry), Ok(()));
-    }
-    match auditor.finish() {
-        Ok(summary) => assert_eq!(rt; summary.counts.run, 2),
-        Err(flaw) => assert_eq!(rt; flaw, Flaw::NoMemory),
+    if let Ok(mut auditor) = Auditor::new(rt.alloc(), &LONE) {
+        let is_told = tell_all(&mut auditor) && is_told(auditor.finish());
+        same(&rt, 0, &is_told, &true);
     }
 }

@@ -10,8 +10,11 @@ mod long;
 mod refusing;
 mod working;
 
+use crate::compare::same;
+use crate::streams::{FailsOnce, Full, Long};
 use std::alloc::Global;
 use std::io::{self, Read, Write};
+use std::process::Abort;
 use tp_scenario::run::run;
 use tp_types::limits::MAX_TEXT_BYTES;
 use tp_types::refusals::PoolError;
@@ -62,21 +65,61 @@ const ROW_22D: &[u8] = b"pool 1 1 unbounded keep 0 abort coretimeout\n";
 
 const ROW_22E: &[u8] = b"";
 
-/// What is written of a text, and how the run ends.
-fn outcome_of(alloc: Global, text: &[u8]) -> (Vec<u8>, Result<(), PoolError>) {
-    let mut reader = text;
+/// What is written of what a reader gives, and how the run ends.
+fn outcome_from<R: Read>(alloc: Global, reader: &mut R) -> (Vec<u8>, Result<(), PoolError>) {
     let mut written = Vec::new(alloc);
-    let answer = run(alloc, &mut reader, &mut written);
+    let answer = run(alloc, reader, &mut written);
     (written, answer)
 }
 
-/// Whether this is written of a text, and the run goes to its end.
-fn plays(alloc: Global, text: &[u8], output: &[u8]) -> bool {
-    let (written, ending) = outcome_of(alloc, text);
-    written.as_slice() == output && ending.is_ok()
+/// How the run of a text ends.
+fn ending_of(alloc: Global, text: &[u8]) -> Result<(), PoolError> {
+    let mut reader = text;
+    let (_, ending) = outcome_from(alloc, &mut reader);
+    ending
 }
 
-const ROWS: [(&[u8], &[u8], Result<(), PoolError>); 7] = [
+/// What a reader gives is refused so, and nothing is written.
+fn refuses<R: Read>(
+    rt: &impl Abort,
+    line: usize,
+    alloc: Global,
+    reader: &mut R,
+    refusal: PoolError,
+) {
+    let (written, ending) = outcome_from(alloc, reader);
+    same(rt, line, &(written.len(), ending), &(0, Err(refusal)));
+}
+
+/// This is written of what a reader gives, and the run ends so.
+fn runs<R: Read>(
+    rt: &impl Abort,
+    line: usize,
+    alloc: Global,
+    reader: &mut R,
+    output: &[u8],
+    ending: Result<(), PoolError>,
+) {
+    let (written, given) = outcome_from(alloc, reader);
+    let is_output = written.as_slice() == output;
+    same(rt, line, &(is_output, given), &(true, ending));
+}
+
+/// This is written of a text, and the run goes to its end.
+fn plays(rt: &impl Abort, line: usize, alloc: Global, text: &[u8], output: &[u8]) {
+    let mut reader = text;
+    runs(rt, line, alloc, &mut reader, output, Ok(()));
+}
+
+/// Each of these texts is played, and this is written of it.
+fn plays_each(rt: &impl Abort, alloc: Global, rows: &[(&[u8], &[u8])]) {
+    for (at, (text, output)) in rows.iter().enumerate() {
+        plays(rt, at, alloc, text, output);
+    }
+}
+
+/// The last is refused for its pool, before the bad line behind it.
+const ROWS: [(&[u8], &[u8], Result<(), PoolError>); 8] = [
     (ROW_01, ROW_01_OUTPUT, Ok(())),
     (ROW_18, ROW_18_OUTPUT, Err(PoolError::BadLine(10))),
     (ROW_22A, b"", Err(PoolError::BadSizes)),
@@ -84,51 +127,24 @@ const ROWS: [(&[u8], &[u8], Result<(), PoolError>); 7] = [
     (ROW_22C, b"", Err(PoolError::BadLimit)),
     (ROW_22D, b"", Err(PoolError::KeepZero)),
     (ROW_22E, b"", Err(PoolError::BadLine(1))),
+    (
+        b"pool 3 2 unbounded keep 0 abort\nnonsense\n",
+        b"",
+        Err(PoolError::BadSizes),
+    ),
 ];
 
 #[test]
 fn plays_worked_rows(rt: HostRuntime) {
-    for (text, output, answer) in &ROWS {
-        let (written, given) = outcome_of(rt.alloc(), text);
-        assert!(rt; written.as_slice() == *output);
-        assert_eq!(rt; given, *answer);
+    for (at, (text, output, ending)) in ROWS.iter().enumerate() {
+        let mut reader = *text;
+        runs(&rt, at, rt.alloc(), &mut reader, output, *ending);
     }
-}
-
-#[test]
-fn refuses_a_pool_before_later_bad_lines(rt: HostRuntime) {
-    let (written, given) = outcome_of(rt.alloc(), b"pool 3 2 unbounded keep 0 abort\nnonsense\n");
-    assert!(rt; written.is_empty());
-    assert_eq!(rt; given, Err(PoolError::BadSizes));
 }
 
 /// A pool in which nothing happened.
 const EMPTY_OUTPUT: &[u8] = b"state running\n\
 counts submitted=0 run=0 caller=0 rejected=0 discarded=0 handedback=0 removed=0 cancelled=0 completed=0 queued=0 live=0 largest=0\n";
-
-/// Gives one byte a call, and at one call it has an error instead.
-#[derive(Drop)]
-struct FailsOnce {
-    rest: &'static [u8],
-    before: usize,
-    error: io::ErrorKind,
-}
-
-impl Read for FailsOnce {
-    fn read(&mut self, buf: &mut [u8]) -> io::Result<usize> {
-        if self.before == 0 {
-            self.before = usize::MAX;
-            return Err(self.error.into());
-        }
-        self.before -= 1;
-        if self.rest.is_empty() || buf.is_empty() {
-            return Ok(0);
-        }
-        buf[0] = self.rest[0];
-        self.rest = &self.rest[1..];
-        Ok(1)
-    }
-}
 
 #[test]
 fn refuses_a_reader_that_fails(rt: HostRuntime) {
@@ -139,103 +155,53 @@ fn refuses_a_reader_that_fails(rt: HostRuntime) {
                 before,
                 error,
             };
-            let mut written = Vec::new(rt.alloc());
-            let answer = run(rt.alloc(), &mut reader, &mut written);
-            assert_eq!(rt; answer, Err(PoolError::ReadFailed), "after {before} calls");
-            assert!(rt; written.is_empty());
+            let failed = PoolError::ReadFailed;
+            refuses(&rt, before, rt.alloc(), &mut reader, failed);
         }
     }
 }
 
-/// Gives a pool line, and then so many bytes of comments, two bytes a line.
-#[derive(Drop)]
-struct Comments {
-    given: usize,
-    end: usize,
-}
-
-impl Read for Comments {
-    fn read(&mut self, buf: &mut [u8]) -> io::Result<usize> {
-        let pool = b"pool 1 1 unbounded keep 0 abort\n";
-        for i in 0..buf.len() {
-            if self.given >= self.end {
-                return Ok(i);
-            }
-            buf[i] = if self.given < pool.len() {
-                pool[self.given]
-            } else if self.given % 2 == 0 {
-                b'#'
-            } else {
-                b'\n'
-            };
-            self.given += 1;
-        }
-        Ok(buf.len())
+/// Gives a pool line, and then comments, two bytes a line, so many bytes in all.
+fn comments(end: usize) -> Long {
+    Long {
+        text: b"pool 1 1 unbounded keep 0 abort\n",
+        filling: [b'#', b'\n'],
+        given: 0,
+        end,
     }
 }
 
 #[test]
 fn reads_a_long_text_and_no_longer_one(rt: HostRuntime) {
-    for (end, answer) in [
-        (MAX_TEXT_BYTES, Ok(())),
-        (MAX_TEXT_BYTES - 1, Err(PoolError::BadLine(524_273))),
-        (MAX_TEXT_BYTES + 1, Err(PoolError::ReadFailed)),
-        (usize::MAX, Err(PoolError::ReadFailed)),
-    ] {
-        let mut reader = Comments { given: 0, end };
-        let mut written = Vec::new(rt.alloc());
-        let given = run(rt.alloc(), &mut reader, &mut written);
-        assert_eq!(rt; given, answer, "a text of {end} bytes");
-        let output = if answer.is_ok() {
-            EMPTY_OUTPUT
-        } else {
-            &EMPTY_OUTPUT[..0]
-        };
-        assert_eq!(rt; written.as_slice(), output);
+    let mut longest = comments(MAX_TEXT_BYTES);
+    runs(&rt, 0, rt.alloc(), &mut longest, EMPTY_OUTPUT, Ok(()));
+    let refused = [
+        (MAX_TEXT_BYTES - 1, PoolError::BadLine(524_273)),
+        (MAX_TEXT_BYTES + 1, PoolError::ReadFailed),
+        (usize::MAX, PoolError::ReadFailed),
+    ];
+    for (end, refusal) in refused {
+        refuses(&rt, end, rt.alloc(), &mut comments(end), refusal);
     }
 }
 
-/// Takes so many bytes, one a call, and then fails; or it fails when it is flushed.
-#[derive(Drop)]
-struct Full {
-    room: usize,
-    flushes: bool,
-}
-
-impl Write for Full {
-    fn write(&mut self, buf: &[u8]) -> io::Result<usize> {
-        if self.room == 0 {
-            return Err(io::ErrorKind::Other.into());
-        }
-        if buf.is_empty() {
-            return Ok(0);
-        }
-        self.room -= 1;
-        Ok(1)
-    }
-
-    fn flush(&mut self) -> io::Result<()> {
-        if self.flushes {
-            Ok(())
-        } else {
-            Err(io::ErrorKind::Other.into())
-        }
-    }
+/// How a run ends whose writer has so much room, or fails when it is flushed.
+fn ending_into(alloc: Global, room: usize, flushes: bool) -> Result<(), PoolError> {
+    let mut reader = ROW_01;
+    run(alloc, &mut reader, &mut Full { room, flushes })
 }
 
 #[test]
 fn refuses_a_writer_that_fails(rt: HostRuntime) {
     for room in 0..ROW_01_OUTPUT.len() + 1 {
         for flushes in [true, false] {
-            let mut reader = ROW_01;
-            let mut writer = Full { room, flushes };
-            let given = run(rt.alloc(), &mut reader, &mut writer);
             let answer = if flushes && room == ROW_01_OUTPUT.len() {
                 Ok(())
             } else {
                 Err(PoolError::WriteFailed)
             };
-            assert_eq!(rt; given, answer, "room for {room} bytes");
+            let given = ending_into(rt.alloc(), room, flushes);
+            same(&rt, room, &given, &answer);
         }
     }
 }
@@ -354,6 +320,14 @@ fn behind_same_front<'a>(text: &'a [u8], other: &[u8]) -> &'a [u8] {
 
 /// Where any one allocation fails, what was written is a front of the output and the answer is 4; or
 /// a step is refused 4, and the run goes on. With ample memory the output is whole.
+fn is_right_or_broken_off(written: &[u8], ending: Result<(), PoolError>) -> bool {
+    let more = behind_same_front(written, GROWING_OUTPUT);
+    match ending {
+        Ok(()) => written == GROWING_OUTPUT || more.starts_with(b"refused 4 NoMemory\n"),
+        Err(error) => error == PoolError::NoMemory && more.is_empty(),
+    }
+}
+
 #[test]
 fn want_of_memory_breaks_off(rt: HostRuntime) {
     let mut reader = GROWING;
@@ -361,17 +335,8 @@ fn want_of_memory_breaks_off(rt: HostRuntime) {
         bytes: [0; 2_048],
         len: 0,
     };
-    let answer = run(rt.alloc(), &mut reader, &mut page);
-    assert!(rt; page.len <= 2_048);
-    let written = &page.bytes[..page.len];
-    let more = behind_same_front(written, GROWING_OUTPUT);
-    match answer {
-        Ok(()) => {
-            assert!(rt; written == GROWING_OUTPUT || more.starts_with(b"refused 4 NoMemory\n"));
-        }
-        Err(error) => {
-            assert_eq!(rt; error, PoolError::NoMemory);
-            assert!(rt; more.is_empty());
-        }
-    }
+    let ending = run(rt.alloc(), &mut reader, &mut page);
+    let written = page.bytes.get(..page.len).unwrap_or(&[]);
+    let is_right = is_right_or_broken_off(written, ending);
+    same(&rt, 0, &is_right, &true);
 }

@@ -2,6 +2,7 @@
 
 ghost use Rattle.std.specs.Prelude.{◌≤◌, length};
 
+use crate::compare::same;
 use std::alloc::{AllocError, Global};
 use std::test::Fail;
 use tp_plain::answer::answer;
@@ -380,8 +381,8 @@ fn told_otherwise(alloc: Global, end: &End) -> Result<Option<&'static str>, Fail
 
 #[test]
 fn ends_of_worked_records(rt: HostRuntime) -> Result<(), Fail> {
-    for end in &ENDS {
-        assert_eq!(rt; told_otherwise(rt.alloc(), end)?, None);
+    for (at, end) in ENDS.iter().enumerate() {
+        same(&rt, at, &told_otherwise(rt.alloc(), end)?, &None);
     }
     Ok(())
 }
@@ -422,13 +423,13 @@ const RECORDS: [(Config, &[(Ask, Did)]); 3] = [
 
 #[test]
 fn answers_each_entry(rt: HostRuntime) -> Result<(), Fail> {
-    for (config, record) in &RECORDS {
+    for (at, (config, record)) in RECORDS.iter().enumerate() {
         let wrong = first_answered_otherwise(rt.alloc(), config, record)?;
-        assert_eq!(rt; wrong, None);
+        same(&rt, at, &wrong, &None);
     }
     let dropped = entries_of(rt.alloc(), &DROPPED)?;
     let unknown = answer_behind(rt.alloc(), &OLDEST, &dropped, Ask::Offer(TaskId(9)));
-    assert_eq!(rt; unknown, Some(Err(PoolError::UnknownTask)));
+    same(&rt, 9, &unknown, &Some(Err(PoolError::UnknownTask)));
     Ok(())
 }
 
@@ -454,8 +455,8 @@ fn each_next_state_counts_the_same(rt: HostRuntime) -> Result<(), Fail> {
     for (config, record) in &RECORDS {
         let entries = entries_of(rt.alloc(), record)?;
         for end in 0..entries.len() + 1 {
-            let same = next_counts_the_same(rt.alloc(), config, &entries[..end])?;
-            assert!(rt; same, "the first {end} entries");
+            let is_same = next_counts_the_same(rt.alloc(), config, &entries[..end])?;
+            same(&rt, end, &is_same, &true);
         }
     }
     Ok(())
@@ -476,9 +477,9 @@ fn is_result(entries: &[Entry], t: TaskId, expected: Option<Result<i64, PoolErro
 
 #[test]
 fn results(rt: HostRuntime) -> Result<(), Fail> {
-    for (end, t, expected) in &RESULTS {
+    for (at, (end, t, expected)) in RESULTS.iter().enumerate() {
         let entries = entries_of(rt.alloc(), FUTURES.get(..*end).unwrap_or(&[]))?;
-        assert!(rt; is_result(&entries, *t, *expected), "{t:?}");
+        same(&rt, at, &is_result(&entries, *t, *expected), &true);
     }
     Ok(())
 }

@@ -1,5 +1,6 @@
 //! Settings at the ends of what is allowed, and the names of policies and verdicts.
 
+use crate::compare::same;
 use std::process::Abort;
 use tp_types::configs::{Config, Policy, QueueKind, Verdict};
 use tp_types::refusals::PoolError;
@@ -17,7 +18,7 @@ const USUAL: Config = Config {
 /// Checks each of these settings, and compares what is answered.
 fn check_all(rt: &impl Abort, cases: &[(Config, Result<(), PoolError>)]) {
     for (at, (config, answer)) in cases.iter().enumerate() {
-        assert_eq!(rt; config.check(), *answer, "settings {at}");
+        same(rt, at, &config.check(), answer);
     }
 }
 
@@ -113,25 +114,27 @@ fn refuses_the_first_fault(rt: HostRuntime) {
     check_all(&rt, &cases);
 }
 
+const POLICIES: [(Policy, &str); 5] = [
+    (Policy::Abort, "abort"),
+    (Policy::CallerRuns, "callerruns"),
+    (Policy::Discard, "discard"),
+    (Policy::DiscardOldest, "discardoldest"),
+    (Policy::Own, "own"),
+];
+
+const VERDICTS: [(Verdict, &str); 4] = [
+    (Verdict::Abort, "abort"),
+    (Verdict::CallerRuns, "callerruns"),
+    (Verdict::Discard, "discard"),
+    (Verdict::DiscardOldest, "discardoldest"),
+];
+
 #[test]
 fn names_policies_and_verdicts(rt: HostRuntime) {
-    let policies = [
-        (Policy::Abort, "abort"),
-        (Policy::CallerRuns, "callerruns"),
-        (Policy::Discard, "discard"),
-        (Policy::DiscardOldest, "discardoldest"),
-        (Policy::Own, "own"),
-    ];
-    for (policy, name) in policies {
-        assert_eq!(rt; policy.name(), name);
+    for (at, (policy, name)) in POLICIES.iter().enumerate() {
+        same(&rt, at, &policy.name(), name);
     }
-    let verdicts = [
-        (Verdict::Abort, "abort"),
-        (Verdict::CallerRuns, "callerruns"),
-        (Verdict::Discard, "discard"),
-        (Verdict::DiscardOldest, "discardoldest"),
-    ];
-    for (verdict, name) in verdicts {
-        assert_eq!(rt; verdict.name(), name);
+    for (at, (verdict, name)) in VERDICTS.iter().enumerate() {
+        same(&rt, at, &verdict.name(), name);
     }
 }

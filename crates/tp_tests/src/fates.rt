@@ -1,44 +1,49 @@
 //! Names of fates, and promises at both ends.
 
-use tp_types::tasks::{Fate, Promise};
+use crate::compare::same;
+use tp_types::tasks::{Fate, Outcome, Promise};
+
+const FATES: [(Fate, &str); 7] = [
+    (Fate::Run, "run"),
+    (Fate::RunByCaller, "caller"),
+    (Fate::Rejected, "rejected"),
+    (Fate::Discarded, "discarded"),
+    (Fate::HandedBack, "handedback"),
+    (Fate::Removed, "removed"),
+    (Fate::Cancelled, "cancelled"),
+];
 
 #[test]
 fn names_fates(rt: HostRuntime) {
-    let table = [
-        (Fate::Run, "run"),
-        (Fate::RunByCaller, "caller"),
-        (Fate::Rejected, "rejected"),
-        (Fate::Discarded, "discarded"),
-        (Fate::HandedBack, "handedback"),
-        (Fate::Removed, "removed"),
-        (Fate::Cancelled, "cancelled"),
-    ];
-    for (fate, name) in table {
-        assert_eq!(rt; fate.name(), name);
+    for (at, (fate, name)) in FATES.iter().enumerate() {
+        same(&rt, at, &fate.name(), name);
     }
 }
 
+const CALM: Promise = Promise {
+    low: -5,
+    high: 7,
+    may_fault: false,
+};
+
+const RASH: Promise = Promise {
+    may_fault: true,
+    ..CALM
+};
+
+const ENDS: [(Promise, Outcome, bool); 7] = [
+    (CALM, Ok(-6), false),
+    (CALM, Ok(-5), true),
+    (CALM, Ok(7), true),
+    (CALM, Ok(8), false),
+    (CALM, Err(0), false),
+    (RASH, Err(0), true),
+    (RASH, Ok(8), false),
+];
+
 #[test]
 fn fits_both_ends(rt: HostRuntime) {
-    let calm = Promise {
-        low: -5,
-        high: 7,
-        may_fault: false,
-    };
-    let table = [
-        (Ok(-6), false),
-        (Ok(-5), true),
-        (Ok(7), true),
-        (Ok(8), false),
-        (Err(0), false),
-    ];
-    for (outcome, fits) in table {
-        assert_eq!(rt; calm.fits(&outcome), fits);
+    for (at, (promise, outcome, fits)) in ENDS.iter().enumerate() {
+        same(&rt, at, &promise.fits(outcome), fits);
     }
-    let rash = Promise {
-        may_fault: true,
-        ..calm
-    };
-    assert_eq!(rt; rash.fits(&Err(0)), true);
-    assert_eq!(rt; rash.fits(&Ok(8)), false);
 }

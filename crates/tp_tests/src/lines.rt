@@ -2,6 +2,7 @@
 
 ghost use Rattle.std.specs.Prelude.{◌≤◌};
 
+use crate::compare::same;
 use Answer::{Count, Done, First, Head, Holds, Placed, Refused};
 use std::alloc::{AllocError, Global};
 use std::process::Abort;
@@ -81,10 +82,15 @@ impl Values {
     }
 }
 
+/// Makes a call, and compares what it answers.
+fn asks(rt: &impl Abort, line: usize, values: &mut Values, call: Call, want: Answer) {
+    same(rt, line, &values.call(call), &want);
+}
+
 /// Makes each call in turn, and compares what it answers.
 fn play(rt: &impl Abort, values: &mut Values, calls: &[(Call, Answer)]) {
     for (at, (call, want)) in calls.iter().enumerate() {
-        assert_eq!(rt; values.call(*call), *want, "call {at}");
+        asks(rt, at, values, *call, *want);
     }
 }
 
@@ -94,60 +100,68 @@ fn churn(rt: &impl Abort, values: &mut Values, capacity: u64, to: u64) {
     let behind_head = u64::from(capacity != 1);
     for id in capacity..to {
         let dead = (id - capacity).wrapping_add(behind_head);
-        let calls = [
-            (Call::FirstFrom(dead), First(Some((dead, dead)))),
-            (Call::Remove(dead), Done),
-            (Call::Remove(dead), Done),
-            (Call::IsFull, Holds(false)),
-        ];
-        play(rt, values, &calls);
-        let next = values.call(Call::FirstFrom(dead));
-        assert_ne!(rt; next, First(Some((dead, dead))));
-        assert_eq!(rt; values.call(Call::Offer(id)), Placed(Ok(id)));
+        let next = dead.wrapping_add(1);
+        let behind = if capacity > 2 {
+            Some((next, next))
+        } else {
+            None
+        };
+        let first = First(Some((dead, dead)));
+        asks(rt, 0, values, Call::FirstFrom(dead), first);
+        asks(rt, 1, values, Call::Remove(dead), Done);
+        asks(rt, 2, values, Call::Remove(dead), Done);
+        asks(rt, 3, values, Call::IsFull, Holds(false));
+        asks(rt, 4, values, Call::FirstFrom(dead), First(behind));
+        asks(rt, 5, values, Call::Offer(id), Placed(Ok(id)));
     }
+}
+
+/// Takes out each value from this one up to another, which are all that wait.
+fn take_all(rt: &impl Abort, values: &mut Values, from: u64, to: u64) {
+    for id in from..to {
+        let head = Head(Some(id));
+        asks(rt, 0, values, Call::Head, head);
+        asks(rt, 1, values, Call::TakeHead, head);
+    }
+    asks(rt, 2, values, Call::TakeHead, Head(None));
 }
 
 #[test]
 fn gives_up_its_dead(rt: HostRuntime) -> Result<(), Fail> {
     for (capacity, end) in [(1u64, 9u64), (2, 18), (3, 27), (64, 576)] {
         let mut values = Values::new(rt.alloc(), capacity as usize)?;
-        assert_eq!(rt; values.call(Call::IsEmpty), Holds(true));
+        asks(&rt, 0, &mut values, Call::IsEmpty, Holds(true));
         for id in 0..capacity {
-            assert_eq!(rt; values.call(Call::Offer(id)), Placed(Ok(id)));
+            asks(&rt, 1, &mut values, Call::Offer(id), Placed(Ok(id)));
         }
-        assert_eq!(rt; values.call(Call::IsFull), Holds(true));
+        asks(&rt, 2, &mut values, Call::IsFull, Holds(true));
         churn(&rt, &mut values, capacity, end);
-        assert_eq!(rt; values.call(Call::Len), Count(capacity as usize));
+        let count = Count(capacity as usize);
+        asks(&rt, 3, &mut values, Call::Len, count);
         let kept_head = u64::from(capacity != 1);
         if capacity != 1 {
-            let head = values.call(Call::TakeHead);
-            assert_eq!(rt; head, Head(Some(0)), "capacity {capacity}");
+            let head = Head(Some(0));
+            asks(&rt, 4, &mut values, Call::TakeHead, head);
         }
-        for id in (end - capacity + kept_head)..end {
-            let head = Head(Some(id));
-            play(
-                &rt,
-                &mut values,
-                &[(Call::Head, head), (Call::TakeHead, head)],
-            );
-        }
-        assert_eq!(rt; values.call(Call::TakeHead), Head(None));
+        let first = (end - capacity).wrapping_add(kept_head);
+        take_all(&rt, &mut values, first, end);
     }
     Ok(())
 }
 
+const NO_ROOM: [(Call, Answer); 5] = [
+    (Call::Offer(7), Placed(Ok(0))),
+    (Call::Offer(8), Placed(Err(8))),
+    (Call::Remove(1), Done),
+    (Call::FirstFrom(0), First(Some((7, 0)))),
+    (Call::FirstFrom(1), First(None)),
+];
+
 #[test]
 fn gives_back_what_has_no_room(rt: HostRuntime) -> Result<(), Fail> {
     let mut none = Values::new(rt.alloc(), 0)?;
-    assert_eq!(rt; none.call(Call::Offer(7)), Placed(Err(7)));
-    let calls = [
-        (Call::Offer(7), Placed(Ok(0))),
-        (Call::Offer(8), Placed(Err(8))),
-        (Call::Remove(1), Done),
-        (Call::FirstFrom(0), First(Some((7, 0)))),
-        (Call::FirstFrom(1), First(None)),
-    ];
-    play(&rt, &mut Values::new(rt.alloc(), 1)?, &calls);
+    asks(&rt, 0, &mut none, Call::Offer(7), Placed(Err(7)));
+    play(&rt, &mut Values::new(rt.alloc(), 1)?, &NO_ROOM);
     Ok(())
 }
 
@@ -155,21 +169,15 @@ fn gives_back_what_has_no_room(rt: HostRuntime) -> Result<(), Fail> {
 fn grows(rt: HostRuntime) -> Result<(), Fail> {
     let mut values = Values::new(rt.alloc(), 0)?;
     for id in 0..100u64 {
-        let calls = [
-            (Call::Reserve(id as usize + 1), Done),
-            (Call::Offer(id), Placed(Ok(id))),
-        ];
-        play(&rt, &mut values, &calls);
+        asks(&rt, 0, &mut values, Call::Reserve(id as usize + 1), Done);
+        asks(&rt, 1, &mut values, Call::Offer(id), Placed(Ok(id)));
     }
-    assert_eq!(rt; values.call(Call::Reserve(3)), Done);
-    assert!(rt; 100 <= values.line.capacity());
+    asks(&rt, 2, &mut values, Call::Reserve(3), Done);
+    same(&rt, 3, &(100 <= values.line.capacity()), &true);
     for refused in [usize::MAX, usize::MAX / 2, 1 << 60] {
-        let calls = [
-            (Call::Reserve(refused), Refused),
-            (Call::Head, Head(Some(0))),
-            (Call::Len, Count(100)),
-        ];
-        play(&rt, &mut values, &calls);
+        asks(&rt, 4, &mut values, Call::Reserve(refused), Refused);
+        asks(&rt, 5, &mut values, Call::Head, Head(Some(0)));
+        asks(&rt, 6, &mut values, Call::Len, Count(100));
     }
     Ok(())
 }

@@ -1,5 +1,6 @@
 //! What is owed of a small pool, counted by hand.
 
+use crate::compare::same;
 use tp_record::owed::pool_weight;
 use tp_record::rows::{SlotRow, Stage, TaskRow};
 use tp_types::ids::{SlotId, TaskId};
@@ -15,5 +16,5 @@ fn four_submissions_owe_49(rt: HostRuntime) {
         task: Some(TaskId(0)),
     };
     let owed = first.weight(slot.is_for_core()) + 3 * other.weight(false) + slot.weight(0);
-    assert_eq!(rt; owed + pool_weight(0), 49);
+    same(&rt, 0, &(owed + pool_weight(0)), &49);
 }

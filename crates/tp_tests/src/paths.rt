@@ -1,5 +1,6 @@
 //! A submission's path, from its first answer to its end.
 
+use crate::compare::same;
 use tp_paths::paths::{Ending, Next, follows};
 use tp_record::entries::{Did, Looked, Offered, Opened, Ruled, Seconded};
 use tp_types::configs::Verdict;
@@ -35,9 +36,10 @@ const PATH: [(Did, Next); 9] = [
 #[test]
 fn goes_on_to_its_end(rt: HostRuntime) {
     let mut next = follows(TASK, &PATH[0].0);
-    assert_eq!(rt; next, PATH[0].1);
-    for (did, after) in PATH.iter().skip(1) {
-        next = next.after(TASK, did);
-        assert_eq!(rt; next, *after);
+    for (at, (did, after)) in PATH.iter().enumerate() {
+        if at > 0 {
+            next = next.after(TASK, did);
+        }
+        same(&rt, at, &next, after);
     }
 }

@@ -1,8 +1,10 @@
 //! Queues of tasks whose numbers equal their place numbers. Expected values are counted by hand.
 
-ghost use Rattle.std.specs.Prelude.{◌≡◌, ◌≤◌, ◌<◌};
+ghost use Rattle.std.specs.Prelude.{◌≤◌};
 
-use std::alloc::Global;
+use crate::compare::same;
+use Answer::{Count, Done, First, Head, Holds, Placed, Refused};
+use std::alloc::{AllocError, Global};
 use std::process::Abort;
 use std::test::Fail;
 use tp_queue::bounded::Bounded;
@@ -12,106 +14,243 @@ use tp_queue::work::WorkQueue;
 use tp_types::configs::QueueKind;
 use tp_types::ids::TaskId;
 
+/// A call of a queue.
+#[derive(Clone, Copy)]
+enum Call {
+    Offer(u32),
+    Remove(u64),
+    FirstFrom(u64),
+    Head,
+    TakeHead,
+    Len,
+    IsFull,
+    Reserve(usize),
+}
+
+/// What a call answers.
+#[derive(Clone, Copy, Debug, PartialEq)]
+enum Answer {
+    Done,
+    Placed(Result<u64, TaskId>),
+    First(Option<(TaskId, u64)>),
+    Head(Option<TaskId>),
+    Count(usize),
+    Holds(bool),
+    /// The memory was wanting.
+    Refused,
+}
+
+/// A queue, with a bound on the offers made to it.
+#[derive(Drop)]
+struct Tasks<Q: WorkQueue> {
+    queue: Q,
+    offers: u64,
+    ghost few: { (Q.waiting queue).offers ≤ offers },
+}
+
+impl<Q: WorkQueue> Tasks<Q> {
+    fn call(&mut self, call: Call) -> Answer {
+        match call {
+            Call::Offer(number) => self.offer(TaskId(number)),
+            Call::Remove(place) => {
+                self.queue.remove(place);
+                Done
+            }
+            Call::FirstFrom(place) => First(self.queue.first_from(place)),
+            Call::Head => Head(self.queue.head()),
+            Call::TakeHead => Head(self.queue.take_head()),
+            Call::Len => Count(self.queue.len()),
+            Call::IsFull => Holds(self.queue.is_full()),
+            Call::Reserve(places) => match self.queue.reserve(places) {
+                Ok(()) => Done,
+                Err(_) => Refused,
+            },
+        }
+    }
+
+    fn offer(&mut self, task: TaskId) -> Answer {
+        let Some(offers) = self.offers.checked_add(1) else {
+            return Refused;
+        };
+        let placed = self.queue.offer(task);
+        self.offers = offers;
+        Placed(placed)
+    }
+
+    /// Takes out all tasks at once.
+    fn drain(&mut self, alloc: Global) -> Result<Vec<TaskId>, AllocError> {
+        let mut tasks = Vec::with_capacity(alloc, self.queue.len())?;
+        self.queue.drain(&mut tasks);
+        Ok(tasks)
+    }
+}
+
+/// Makes a call, and compares what it answers.
+fn asks<Q: WorkQueue>(
+    rt: &impl Abort,
+    line: usize,
+    tasks: &mut Tasks<Q>,
+    call: Call,
+    want: Answer,
+) {
+    same(rt, line, &tasks.call(call), &want);
+}
+
+/// Makes each call in turn, and compares what it answers.
+fn play<Q: WorkQueue>(rt: &impl Abort, tasks: &mut Tasks<Q>, calls: &[(Call, Answer)]) {
+    for (at, (call, want)) in calls.iter().enumerate() {
+        asks(rt, at, tasks, *call, *want);
+    }
+}
+
 /// Offers the tasks from one number up to another, each of which is accepted.
-fn fill<Q: WorkQueue>(rt: &impl Abort, queue: &mut Q, from: u32, to: u32)
-    requires few { (Q.waiting queue.old).offers ≤ from }
-    requires order { from ≤ to }
-    ensures offers { (Q.waiting queue.new).offers ≤ to }
-{
+fn fill<Q: WorkQueue>(rt: &impl Abort, tasks: &mut Tasks<Q>, from: u32, to: u32) {
     for number in from..to {
-        let place = queue.offer(TaskId(number));
-        assert_eq!(rt; place, Ok(u64::from(number)));
+        let placed = Placed(Ok(u64::from(number)));
+        asks(rt, number as usize, tasks, Call::Offer(number), placed);
     }
 }
 
-/// The numbers of the tasks that wait, in order, taken out all at once.
-fn drained<Q: WorkQueue>(
+/// The tasks that wait are these, from one number up to another. They are taken out all at once.
+fn drain<Q: WorkQueue>(
     rt: &impl Abort,
     alloc: Global,
-    queue: &mut Q,
-) -> Result<Vec<TaskId>, Fail> {
-    let mut tasks = Vec::with_capacity(alloc, queue.len())?;
-    queue.drain(&mut tasks);
-    assert_eq!(rt; (queue.len(), queue.head()), (0, None));
-    Ok(tasks)
-}
-
-/// Of a full queue with this capacity, takes out the task behind the head and offers a new one, so
-/// often that the queue's ring gives up its dead; then the head, and the rest at once.
-fn churn<Q: WorkQueue>(
-    rt: &impl Abort,
-    alloc: Global,
-    queue: &mut Q,
-    capacity: u32,
-) -> Result<(), Fail>
-    requires empty { (Q.waiting queue.old).offers ≡ 0 }
-    requires small { capacity < 1000 }
-{
-    fill(rt, queue, 0, capacity);
-    assert!(rt; queue.is_full());
-    assert_eq!(rt; queue.offer(TaskId(9_999)), Err(TaskId(9_999)));
-    let behind_head = u64::from(capacity != 1);
-    for round in 0..9 * capacity {
-        let dead = u64::from(round) + behind_head;
-        assert_eq!(rt; queue.first_from(dead).map(|x| x.1), Some(dead));
-        queue.remove(dead);
-        assert!(rt; !queue.is_full());
-        let new = capacity + round;
-        assert_eq!(rt; queue.offer(TaskId(new)), Ok(u64::from(new)));
-    }
-    assert_eq!(rt; queue.len(), capacity as usize);
-    let head = if capacity == 1 { 9 } else { 0 };
-    assert_eq!(rt; queue.head(), Some(TaskId(head)), "capacity {capacity}");
-    assert_eq!(rt; queue.take_head(), Some(TaskId(head)));
-    let mut next = 9 * capacity;
-    for task in drained(rt, alloc, queue)? {
+    tasks: &mut Tasks<Q>,
+    from: u32,
+    to: u32,
+) -> Result<(), AllocError> {
+    let drained = tasks.drain(alloc)?;
+    let mut next = from;
+    for task in &drained {
+        same(rt, next as usize, task, &TaskId(next));
         next = next.wrapping_add(1);
-        assert_eq!(rt; task, TaskId(next), "capacity {capacity}");
     }
+    same(rt, 0, &next, &to);
+    asks(rt, 1, tasks, Call::Len, Count(0));
+    asks(rt, 2, tasks, Call::Head, Head(None));
     Ok(())
+}
+
+/// Of a full queue with this capacity, takes out the task behind the head and offers a new one, until this one was offered, so
+/// that the queue's ring gives up its dead. A queue of one place gives up its head each time.
+fn churn<Q: WorkQueue>(rt: &impl Abort, tasks: &mut Tasks<Q>, capacity: u32, to: u32) {
+    fill(rt, tasks, 0, capacity);
+    asks(rt, 0, tasks, Call::IsFull, Holds(true));
+    let refused = Placed(Err(TaskId(9_999)));
+    asks(rt, 1, tasks, Call::Offer(9_999), refused);
+    let behind_head = u32::from(capacity != 1);
+    for new in capacity..to {
+        let dead = (new - capacity).wrapping_add(behind_head);
+        let place = u64::from(dead);
+        let first = First(Some((TaskId(dead), place)));
+        asks(rt, 2, tasks, Call::FirstFrom(place), first);
+        asks(rt, 3, tasks, Call::Remove(place), Done);
+        asks(rt, 4, tasks, Call::IsFull, Holds(false));
+        let placed = Placed(Ok(u64::from(new)));
+        asks(rt, 5, tasks, Call::Offer(new), placed);
+    }
+}
+
+/// What is left of a churned queue: the head, and the tasks that were offered last.
+fn empty<Q: WorkQueue>(
+    rt: &impl Abort,
+    alloc: Global,
+    tasks: &mut Tasks<Q>,
+    capacity: u32,
+    to: u32,
+) -> Result<(), AllocError> {
+    let head = Head(Some(TaskId(if capacity == 1 { 9 } else { 0 })));
+    asks(rt, 0, tasks, Call::Len, Count(capacity as usize));
+    asks(rt, 1, tasks, Call::Head, head);
+    asks(rt, 2, tasks, Call::TakeHead, head);
+    let left = to.saturating_sub(capacity).saturating_add(1);
+    drain(rt, alloc, tasks, left, to)
 }
 
 #[test]
 fn bounded_queue_gives_up_its_dead(rt: HostRuntime) -> Result<(), Fail> {
-    for capacity in [1, 2, 3, 64] {
-        let mut queue = Bounded::new(rt.alloc(), capacity)?;
-        churn(&rt, rt.alloc(), &mut queue, capacity)?;
-        let mut queue = Queue::new(rt.alloc(), QueueKind::Bounded(capacity))?;
-        queue.reserve(1_000)?;
-        churn(&rt, rt.alloc(), &mut queue, capacity)?;
+    let alloc = rt.alloc();
+    for (capacity, to) in [(1, 10), (2, 20), (3, 30), (64, 640)] {
+        let mut exact = Tasks {
+            queue: Bounded::new(alloc, capacity)?,
+            offers: 0,
+        };
+        churn(&rt, &mut exact, capacity, to);
+        empty(&rt, alloc, &mut exact, capacity, to)?;
+        let mut any = Tasks {
+            queue: Queue::new(alloc, QueueKind::Bounded(capacity))?,
+            offers: 0,
+        };
+        asks(&rt, 0, &mut any, Call::Reserve(1_000), Done);
+        churn(&rt, &mut any, capacity, to);
+        empty(&rt, alloc, &mut any, capacity, to)?;
     }
     Ok(())
 }
 
 #[test]
 fn unbounded_queue_has_what_was_reserved(rt: HostRuntime) -> Result<(), Fail> {
-    let mut queue = Queue::new(rt.alloc(), QueueKind::Unbounded)?;
-    assert_eq!(rt; queue.offer(TaskId(5)), Err(TaskId(5)));
+    let mut any = Tasks {
+        queue: Queue::new(rt.alloc(), QueueKind::Unbounded)?,
+        offers: 0,
+    };
+    asks(&rt, 0, &mut any, Call::Offer(5), Placed(Err(TaskId(5))));
     for number in 0..100u32 {
-        queue.reserve(number as usize + 1)?;
-        assert_eq!(rt; queue.offer(TaskId(number)), Ok(u64::from(number)));
+        let places = Call::Reserve(number as usize + 1);
+        asks(&rt, 1, &mut any, places, Done);
+        let placed = Placed(Ok(u64::from(number)));
+        asks(&rt, 2, &mut any, Call::Offer(number), placed);
     }
-    assert!(rt; queue.reserve(1 << 60).is_err());
-    assert_eq!(rt; (queue.head(), queue.len()), (Some(TaskId(0)), 100));
-    let tasks = drained(&rt, rt.alloc(), &mut queue)?;
-    assert_eq!(rt; tasks.len(), 100);
-    let mut exact = Unbounded::new(rt.alloc())?;
-    exact.reserve(64)?;
-    churn(&rt, rt.alloc(), &mut exact, 64)
+    // No memory is that large.
+    asks(&rt, 3, &mut any, Call::Reserve(1 << 60), Refused);
+    asks(&rt, 4, &mut any, Call::Head, Head(Some(TaskId(0))));
+    asks(&rt, 5, &mut any, Call::Len, Count(100));
+    drain(&rt, rt.alloc(), &mut any, 0, 100)?;
+    Ok(())
 }
 
 #[test]
-fn handoff_queue_keeps_nothing(rt: HostRuntime) -> Result<(), Fail> {
-    let mut queue = Queue::new(rt.alloc(), QueueKind::Handoff)?;
-    queue.reserve(1 << 60)?;
-    assert!(rt; queue.is_full());
-    assert_eq!(rt; queue.offer(TaskId(5)), Err(TaskId(5)));
-    queue.remove(0);
-    assert_eq!(rt; queue.first_from(0), None);
-    assert_eq!(rt; queue.take_head(), None);
-    let tasks = drained(&rt, rt.alloc(), &mut queue)?;
-    assert!(rt; tasks.is_empty());
+fn exact_unbounded_queue_gives_up_its_dead(rt: HostRuntime) -> Result<(), Fail> {
+    let mut exact = Tasks {
+        queue: Unbounded::new(rt.alloc())?,
+        offers: 0,
+    };
+    asks(&rt, 0, &mut exact, Call::Reserve(64), Done);
+    churn(&rt, &mut exact, 64, 640);
+    empty(&rt, rt.alloc(), &mut exact, 64, 640)?;
     Ok(())
+}
+
+const HANDOFF: [(Call, Answer); 6] = [
+    (Call::Reserve(1 << 60), Done),
+    (Call::IsFull, Holds(true)),
+    (Call::Offer(5), Placed(Err(TaskId(5)))),
+    (Call::Remove(0), Done),
+    (Call::FirstFrom(0), First(None)),
+    (Call::TakeHead, Head(None)),
+];
+
+#[test]
+fn handoff_queue_keeps_nothing(rt: HostRuntime) -> Result<(), Fail> {
+    let mut tasks = Tasks {
+        queue: Queue::new(rt.alloc(), QueueKind::Handoff)?,
+        offers: 0,
+    };
+    play(&rt, &mut tasks, &HANDOFF);
+    drain(&rt, rt.alloc(), &mut tasks, 0, 0)?;
+    Ok(())
+}
+
+/// A failed `reserve` changes nothing and works when it is called again; then the queue is filled from this task up to another.
+fn reserve_and_fill(rt: &impl Abort, tasks: &mut Tasks<Queue>, from: u32, to: u32) {
+    let reserve = Call::Reserve(to as usize);
+    let head = if from == 0 { None } else { Some(TaskId(0)) };
+    if tasks.call(reserve) == Refused {
+        asks(rt, 0, tasks, Call::Len, Count(from as usize));
+        asks(rt, 1, tasks, Call::Head, Head(head));
+        asks(rt, 2, tasks, reserve, Done);
+    }
+    fill(rt, tasks, from, to);
 }
 
 /// Any one allocation may fail: a maker then answers so, and a failed `reserve` changes nothing and works when it is called
@@ -119,19 +258,12 @@ fn handoff_queue_keeps_nothing(rt: HostRuntime) -> Result<(), Fail> {
 #[test]
 fn want_of_memory_changes_nothing(rt: HostRuntime) {
     if let Ok(queue) = Queue::new(rt.alloc(), QueueKind::Bounded(3)) {
-        assert!(rt; !queue.is_full());
+        same(&rt, 0, &queue.is_full(), &false);
     }
-    let Ok(mut queue) = Queue::new(rt.alloc(), QueueKind::Unbounded) else {
+    let Ok(queue) = Queue::new(rt.alloc(), QueueKind::Unbounded) else {
         return;
     };
-    if queue.reserve(20).is_err() {
-        assert_eq!(rt; (queue.len(), queue.head()), (0, None));
-        assert!(rt; queue.reserve(20).is_ok());
-    }
-    fill(&rt, &mut queue, 0, 20);
-    if queue.reserve(60).is_err() {
-        assert_eq!(rt; (queue.len(), queue.head()), (20, Some(TaskId(0))));
-        assert!(rt; queue.reserve(60).is_ok());
-    }
-    fill(&rt, &mut queue, 20, 60);
+    let mut tasks = Tasks { queue, offers: 0 };
+    reserve_and_fill(&rt, &mut tasks, 0, 20);
+    reserve_and_fill(&rt, &mut tasks, 20, 60);
 }

@@ -1,27 +1,39 @@
 //! A recorder that keeps its entries.
 
+use crate::compare::same;
 use std::test::Fail;
 use tp_record::entries::{Ask, Did, Entry};
 use tp_record::recorders::{Full, Recorder};
 
+fn tick(moment: u64) -> Entry {
+    Entry {
+        by: 1,
+        ask: Ask::Tick(moment),
+        did: Did::Tick(moment),
+    }
+}
+
+/// Notes a tick where there is room for it. The answer says whether there was.
+fn note(record: &mut Full, moment: u64) -> bool {
+    if record.room() == 0 {
+        return false;
+    }
+    record.note(tick(moment));
+    true
+}
+
 #[test]
 fn notes_in_order(rt: HostRuntime) -> Result<(), Fail> {
     let mut record = Full::new(rt.alloc(), 64)?;
-    assert_eq!(rt; record.room(), 64);
-    for tick in 0..64 {
-        assert!(rt; record.room() > 0);
-        record.note(Entry {
-            by: 1,
-            ask: Ask::Tick(tick),
-            did: Did::Tick(tick),
-        });
+    same(&rt, 0, &record.room(), &64);
+    for moment in 0..64 {
+        same(&rt, moment as usize, &note(&mut record, moment), &true);
     }
-    assert_eq!(rt; record.len(), 64);
-    assert_eq!(rt; record.room(), 0);
-    assert_eq!(rt; record.entries().len(), 64);
-    assert_eq!(rt; record.entries()[0].did, Did::Tick(0));
+    same(&rt, 64, &(record.len(), record.room()), &(64, 0));
+    same(&rt, 64, &record.entries().len(), &64);
+    same(&rt, 0, &record.entries().first(), &Some(&tick(0)));
     let entries = record.into_entries();
-    assert_eq!(rt; entries.len(), 64);
-    assert_eq!(rt; entries[63].did, Did::Tick(63));
+    same(&rt, 64, &entries.len(), &64);
+    same(&rt, 63, &entries.last(), &Some(&tick(63)));
     Ok(())
 }

@@ -1,5 +1,6 @@
 //! The sleepers with ample memory: each call, and in which order they are woken, which no contract promises.
 
+use crate::compare::same;
 use Answer::{Count, Done, Holds, Rests, Slot};
 use std::process::Abort;
 use tp_sleepers::sleepers::{Rest, Sleepers};
@@ -43,10 +44,15 @@ fn perform(sleepers: &mut Sleepers, call: Call) -> Answer {
     Done
 }
 
+/// Makes a call, and compares what it answers.
+fn asks(rt: &impl Abort, line: usize, sleepers: &mut Sleepers, call: Call, want: Answer) {
+    same(rt, line, &perform(sleepers, call), &want);
+}
+
 /// Makes each call in turn, and compares what it answers.
 fn play(rt: &impl Abort, sleepers: &mut Sleepers, calls: &[(Call, Answer)]) {
     for (at, (call, want)) in calls.iter().enumerate() {
-        assert_eq!(rt; perform(sleepers, *call), *want, "call {at}");
+        asks(rt, at, sleepers, *call, *want);
     }
 }
 
@@ -54,7 +60,7 @@ fn play(rt: &impl Abort, sleepers: &mut Sleepers, calls: &[(Call, Answer)]) {
 fn list_all(rt: &impl Abort, sleepers: &mut Sleepers, slots: usize, times: usize) {
     for w in 0..slots {
         for _ in 0..times {
-            assert_eq!(rt; perform(sleepers, Call::List(w)), Done);
+            asks(rt, w, sleepers, Call::List(w), Done);
         }
     }
 }
@@ -64,40 +70,40 @@ fn last_asleep_is_woken_first(rt: HostRuntime) {
     let mut sleepers = Sleepers::new(rt.alloc(), 3).expect(&rt, "memory");
     list_all(&rt, &mut sleepers, 3, 1);
     for w in [2, 1, 0] {
-        let calls = [
-            (Call::Settle(false), Slot(None)),
-            (Call::Settle(true), Slot(Some(SlotId(w)))),
-            // The woken one searches.
-            (Call::Settle(true), Slot(None)),
-            (Call::Searching, Count(1)),
-            (Call::EndSearch(w), Done),
-        ];
-        play(&rt, &mut sleepers, &calls);
+        asks(&rt, w, &mut sleepers, Call::Settle(false), Slot(None));
+        let woken = Slot(Some(SlotId(w)));
+        asks(&rt, w, &mut sleepers, Call::Settle(true), woken);
+        // The woken one searches.
+        asks(&rt, w, &mut sleepers, Call::Settle(true), Slot(None));
+        asks(&rt, w, &mut sleepers, Call::Searching, Count(1));
+        asks(&rt, w, &mut sleepers, Call::EndSearch(w), Done);
     }
-    assert_eq!(rt; perform(&mut sleepers, Call::WakeOne), Slot(None));
+    asks(&rt, 3, &mut sleepers, Call::WakeOne, Slot(None));
 }
+
+const OUT_OF_THE_MIDDLE: [(Call, Answer); 9] = [
+    (Call::Wake(1), Holds(true)),
+    (Call::Wake(1), Holds(false)),
+    (Call::Wake(4), Holds(false)),
+    (Call::List(1), Done),
+    (Call::Rest(0), Rests(Rest::Listed)),
+    (Call::Rest(1), Rests(Rest::Marked)),
+    (Call::Rest(2), Rests(Rest::Listed)),
+    (Call::Rest(3), Rests(Rest::Listed)),
+    (Call::Rest(4), Rests(Rest::Away)),
+];
 
 #[test]
 fn wakes_out_of_the_middle(rt: HostRuntime) {
     let mut sleepers = Sleepers::new(rt.alloc(), 4).expect(&rt, "memory");
     list_all(&rt, &mut sleepers, 6, 2);
-    let calls = [
-        (Call::Wake(1), Holds(true)),
-        (Call::Wake(1), Holds(false)),
-        (Call::Wake(4), Holds(false)),
-        (Call::List(1), Done),
-        (Call::Rest(0), Rests(Rest::Listed)),
-        (Call::Rest(1), Rests(Rest::Marked)),
-        (Call::Rest(2), Rests(Rest::Listed)),
-        (Call::Rest(3), Rests(Rest::Listed)),
-        (Call::Rest(4), Rests(Rest::Away)),
-    ];
-    play(&rt, &mut sleepers, &calls);
-    for _ in 0..3 {
-        assert_ne!(rt; perform(&mut sleepers, Call::WakeOne), Slot(None));
+    play(&rt, &mut sleepers, &OUT_OF_THE_MIDDLE);
+    for nth in 0..3 {
+        let woken = perform(&mut sleepers, Call::WakeOne);
+        same(&rt, nth, &(woken == Slot(None)), &false);
     }
-    let calls = [(Call::WakeOne, Slot(None)), (Call::Searching, Count(4))];
-    play(&rt, &mut sleepers, &calls);
+    asks(&rt, 3, &mut sleepers, Call::WakeOne, Slot(None));
+    asks(&rt, 4, &mut sleepers, Call::Searching, Count(4));
 }
 
 #[test]
@@ -105,16 +111,14 @@ fn wakes_all(rt: HostRuntime) {
     for slots in [0, 1, 2, 1024] {
         let mut sleepers = Sleepers::new(rt.alloc(), slots).expect(&rt, "memory");
         list_all(&rt, &mut sleepers, slots, 1);
-        let calls = [(Call::WakeAll, Done), (Call::Searching, Count(slots))];
-        play(&rt, &mut sleepers, &calls);
+        asks(&rt, 0, &mut sleepers, Call::WakeAll, Done);
+        asks(&rt, 0, &mut sleepers, Call::Searching, Count(slots));
         for w in 0..slots {
-            let calls = [
-                (Call::Rest(w), Rests(Rest::Marked)),
-                (Call::EndSearch(w), Done),
-                (Call::EndSearch(w), Done),
-            ];
-            play(&rt, &mut sleepers, &calls);
+            let marked = Rests(Rest::Marked);
+            asks(&rt, w, &mut sleepers, Call::Rest(w), marked);
+            asks(&rt, w, &mut sleepers, Call::EndSearch(w), Done);
+            asks(&rt, w, &mut sleepers, Call::EndSearch(w), Done);
         }
-        assert_eq!(rt; perform(&mut sleepers, Call::Searching), Count(0));
+        asks(&rt, slots, &mut sleepers, Call::Searching, Count(0));
     }
 }

@@ -2,6 +2,7 @@
 
 ghost use Rattle.std.specs.Prelude.{◌≤◌};
 
+use crate::compare::same;
 use Answer::{Count, Done, Refused, Row, Slot};
 use std::alloc::{AllocError, Global};
 use std::process::Abort;
@@ -13,6 +14,9 @@ const AT_WORK: SlotRow = SlotRow {
     stage: Stage::Working,
     task: None,
 };
+
+/// A slot is reserved for no task.
+const BARE: Call = Call::Reserve(Stage::ReservedBare, None);
 
 /// A call that changes a table, with the slot that it names first.
 #[derive(Clone, Copy)]
@@ -183,10 +187,15 @@ impl Table {
     }
 }
 
+/// Makes a call, and compares what it answers.
+fn asks(rt: &impl Abort, line: usize, table: &mut Table, call: Call, want: Answer) {
+    same(rt, line, &table.call(call), &want);
+}
+
 /// Makes each call in turn, and compares what it answers.
 fn play(rt: &impl Abort, table: &mut Table, calls: &[(Call, Answer)]) {
     for (at, (call, want)) in calls.iter().enumerate() {
-        assert_eq!(rt; table.call(*call), *want, "call {at}");
+        asks(rt, at, table, *call, *want);
     }
 }
 
@@ -201,9 +210,8 @@ fn working(task: Option<TaskId>) -> Answer {
 /// Opens bare slots up to this number, from the one that the table has as its next.
 fn open_to(rt: &impl Abort, table: &mut Table, from: usize, to: usize) {
     for w in from..to {
-        let bare = Call::Reserve(Stage::ReservedBare, None);
-        assert_eq!(rt; table.call(bare), Slot(Some(SlotId(w))));
-        assert_eq!(rt; table.call(Call::Open(w)), Done);
+        asks(rt, w, table, BARE, Slot(Some(SlotId(w))));
+        asks(rt, w, table, Call::Open(w), Done);
     }
 }
 
@@ -212,53 +220,57 @@ fn idle_workers(rt: &(impl Abort + AllocGlobal), places: usize) -> Table {
     let mut table = Table::new(rt.alloc(), places).expect(rt, "memory");
     open_to(rt, &mut table, 0, places);
     for w in 0..places {
-        assert_eq!(rt; table.call(Call::Idle(w, w as u64)), Done);
+        asks(rt, w, &mut table, Call::Idle(w, w as u64), Done);
     }
     table
 }
 
 #[test]
 fn fills_and_empties(rt: HostRuntime) {
+    let task = Some(TaskId(7));
     for places in [1, 2, 3, 64] {
         let mut table = idle_workers(&rt, places);
-        for count in [Call::Places, Call::Len, Call::Live] {
-            assert_eq!(rt; table.call(count), Count(places));
-        }
+        asks(&rt, 0, &mut table, Call::Places, Count(places));
+        asks(&rt, 0, &mut table, Call::Len, Count(places));
+        asks(&rt, 0, &mut table, Call::Live, Count(places));
         for w in 0..places {
-            let first = table.call(Call::LongestIdle);
-            assert_eq!(rt; first, Slot(Some(SlotId(w))), "of {places}");
-            let task = Some(TaskId(7));
-            assert_eq!(rt; table.call(Call::Wake(w, task)), Done);
-            assert_eq!(rt; table.call(Call::Get(w)), working(task));
+            let first = Slot(Some(SlotId(w)));
+            asks(&rt, w, &mut table, Call::LongestIdle, first);
+            asks(&rt, w, &mut table, Call::Wake(w, task), Done);
+            asks(&rt, w, &mut table, Call::Get(w), working(task));
         }
-        assert_eq!(rt; table.call(Call::LongestIdle), Slot(None));
+        asks(&rt, places, &mut table, Call::LongestIdle, Slot(None));
         for w in 0..places {
-            assert_ne!(rt; table.call(Call::Free(w)), Refused);
-            assert_eq!(rt; table.call(Call::Get(w)), Row(None));
-            assert_eq!(rt; table.call(Call::Live), Count(places - w - 1));
+            asks(&rt, w, &mut table, Call::Free(w), working(task));
+            asks(&rt, w, &mut table, Call::Get(w), Row(None));
+            let left = Count(places - w - 1);
+            asks(&rt, w, &mut table, Call::Live, left);
         }
-        assert_eq!(rt; table.call(Call::Len), Count(0));
+        asks(&rt, places, &mut table, Call::Len, Count(0));
     }
 }
 
+const OUT_OF_THE_MIDDLE: [(Call, Answer); 9] = [
+    (Call::Wake(1, None), Done),
+    (Call::Get(1), Row(Some(AT_WORK))),
+    (Call::LongestIdle, Slot(Some(SlotId(0)))),
+    (Call::Wake(0, None), Done),
+    (Call::LongestIdle, Slot(Some(SlotId(2)))),
+    (Call::Idle(1, 9), Done),
+    (Call::LongestIdle, Slot(Some(SlotId(2)))),
+    (
+        Call::Free(2),
+        Row(Some(SlotRow {
+            stage: Stage::Idle(2),
+            task: None,
+        })),
+    ),
+    (Call::LongestIdle, Slot(Some(SlotId(1)))),
+];
+
 #[test]
 fn wakes_out_of_the_middle(rt: HostRuntime) {
-    let left = SlotRow {
-        stage: Stage::Idle(2),
-        task: None,
-    };
-    let calls = [
-        (Call::Wake(1, None), Done),
-        (Call::Get(1), Row(Some(AT_WORK))),
-        (Call::LongestIdle, Slot(Some(SlotId(0)))),
-        (Call::Wake(0, None), Done),
-        (Call::LongestIdle, Slot(Some(SlotId(2)))),
-        (Call::Idle(1, 9), Done),
-        (Call::LongestIdle, Slot(Some(SlotId(2)))),
-        (Call::Free(2), Row(Some(left))),
-        (Call::LongestIdle, Slot(Some(SlotId(1)))),
-    ];
-    play(&rt, &mut idle_workers(&rt, 3), &calls);
+    play(&rt, &mut idle_workers(&rt, 3), &OUT_OF_THE_MIDDLE);
 }
 
 #[test]
@@ -266,114 +278,134 @@ fn wakes_all(rt: HostRuntime) {
     for places in [1, 2, 3, 64] {
         let mut table = idle_workers(&rt, places);
         let busy = places / 2;
-        let calls = [
-            (Call::Wake(busy, Some(TaskId(4))), Done),
-            (Call::WakeAll, Done),
-            (Call::LongestIdle, Slot(None)),
-            (Call::Live, Count(places)),
-        ];
-        play(&rt, &mut table, &calls);
+        let task = Some(TaskId(4));
+        asks(&rt, 0, &mut table, Call::Wake(busy, task), Done);
+        asks(&rt, 1, &mut table, Call::WakeAll, Done);
+        asks(&rt, 2, &mut table, Call::LongestIdle, Slot(None));
+        asks(&rt, 3, &mut table, Call::Live, Count(places));
         for w in 0..places {
-            let task = if w == busy { Some(TaskId(4)) } else { None };
-            assert_eq!(rt; table.call(Call::Get(w)), working(task));
+            let held = if w == busy { task } else { None };
+            asks(&rt, w, &mut table, Call::Get(w), working(held));
         }
     }
 }
 
+const CORE: SlotRow = SlotRow {
+    stage: Stage::ReservedCore,
+    task: Some(TaskId(0)),
+};
+
+const MAXIMUM: SlotRow = SlotRow {
+    stage: Stage::ReservedMaximum,
+    task: Some(TaskId(1)),
+};
+
+const RESERVED_AND_FREED: [(Call, Answer); 17] = [
+    (
+        Call::Reserve(Stage::ReservedCore, Some(TaskId(0))),
+        Slot(Some(SlotId(0))),
+    ),
+    (
+        Call::Reserve(Stage::ReservedMaximum, Some(TaskId(1))),
+        Slot(Some(SlotId(1))),
+    ),
+    (Call::Next, Slot(Some(SlotId(2)))),
+    (BARE, Slot(Some(SlotId(2)))),
+    (Call::Open(2), Done),
+    (Call::Len, Count(3)),
+    (Call::Live, Count(1)),
+    (Call::Get(0), Row(Some(CORE))),
+    (Call::GiveUp(0), Row(Some(CORE))),
+    (Call::Free(2), Row(Some(AT_WORK))),
+    (Call::Len, Count(1)),
+    (Call::Live, Count(0)),
+    (Call::Next, Slot(Some(SlotId(2)))),
+    (BARE, Slot(Some(SlotId(2)))),
+    (Call::Next, Slot(Some(SlotId(0)))),
+    (BARE, Slot(Some(SlotId(0)))),
+    (Call::Get(1), Row(Some(MAXIMUM))),
+];
+
 #[test]
 fn last_freed_number_comes_first(rt: HostRuntime) {
     let mut table = Table::new(rt.alloc(), 3).expect(&rt, "memory");
-    let core = SlotRow {
-        stage: Stage::ReservedCore,
-        task: Some(TaskId(0)),
-    };
-    let maximum = SlotRow {
-        stage: Stage::ReservedMaximum,
-        task: Some(TaskId(1)),
-    };
-    let bare = Call::Reserve(Stage::ReservedBare, None);
-    let calls = [
-        (Call::Reserve(core.stage, core.task), Slot(Some(SlotId(0)))),
-        (
-            Call::Reserve(maximum.stage, maximum.task),
-            Slot(Some(SlotId(1))),
-        ),
-        (Call::Next, Slot(Some(SlotId(2)))),
-        (bare, Slot(Some(SlotId(2)))),
-        (Call::Open(2), Done),
-        (Call::Len, Count(3)),
-        (Call::Live, Count(1)),
-        (Call::Get(0), Row(Some(core))),
-        (Call::GiveUp(0), Row(Some(core))),
-        (Call::Free(2), Row(Some(AT_WORK))),
-        (Call::Len, Count(1)),
-        (Call::Live, Count(0)),
-        (Call::Next, Slot(Some(SlotId(2)))),
-        (bare, Slot(Some(SlotId(2)))),
-        (Call::Next, Slot(Some(SlotId(0)))),
-        (bare, Slot(Some(SlotId(0)))),
-        (Call::Get(1), Row(Some(maximum))),
-    ];
-    play(&rt, &mut table, &calls);
+    play(&rt, &mut table, &RESERVED_AND_FREED);
 }
+
+const BUSY: SlotRow = SlotRow {
+    stage: Stage::Working,
+    task: Some(TaskId(3)),
+};
+
+const DYING: SlotRow = SlotRow {
+    stage: Stage::Dying,
+    task: None,
+};
+
+const SET: [(Call, Answer); 8] = [
+    (BARE, Slot(Some(SlotId(0)))),
+    (Call::Open(0), Done),
+    (Call::Set(0, BUSY), Done),
+    (Call::Get(0), Row(Some(BUSY))),
+    (Call::Live, Count(1)),
+    (Call::Set(0, DYING), Done),
+    (Call::Get(0), Row(Some(DYING))),
+    (Call::Live, Count(1)),
+];
 
 #[test]
 fn sets_rows_of_busy_workers(rt: HostRuntime) {
     let mut table = Table::new(rt.alloc(), 1).expect(&rt, "memory");
-    open_to(&rt, &mut table, 0, 1);
-    let busy = SlotRow {
-        stage: Stage::Working,
-        task: Some(TaskId(3)),
-    };
-    let dying = SlotRow {
-        stage: Stage::Dying,
-        task: None,
-    };
-    for row in [busy, dying] {
-        let calls = [
-            (Call::Set(0, row), Done),
-            (Call::Get(0), Row(Some(row))),
-            (Call::Live, Count(1)),
-        ];
-        play(&rt, &mut table, &calls);
-    }
+    play(&rt, &mut table, &SET);
 }
+
+/// A stage, the core size, the keep-alive, whether it holds for the core, the moment, and whether the worker's time is over.
+const TIMES_OUT: [(Stage, u32, u64, bool, u64, bool); 7] = [
+    (Stage::Idle(5), 1, 10, false, 14, false),
+    (Stage::Idle(5), 1, 10, false, 15, true),
+    (Stage::Idle(5), 2, 10, false, 15, false),
+    (Stage::Idle(5), 2, 10, true, 15, true),
+    (Stage::Idle(5), 2, 10, true, 4, false),
+    (Stage::Working, 1, 0, false, 15, true),
+    (Stage::Working, 1, 1, false, 15, false),
+];
 
 #[test]
 fn times_out_at_the_keep_alive(rt: HostRuntime) {
     let table = idle_workers(&rt, 2);
-    for (stage, core, keep, core_timeout, moment, want) in [
-        (Stage::Idle(5), 1, 10, false, 14, false),
-        (Stage::Idle(5), 1, 10, false, 15, true),
-        (Stage::Idle(5), 2, 10, false, 15, false),
-        (Stage::Idle(5), 2, 10, true, 15, true),
-        (Stage::Idle(5), 2, 10, true, 4, false),
-        (Stage::Working, 1, 0, false, 15, true),
-        (Stage::Working, 1, 1, false, 15, false),
-    ] {
-        let out = table
-            .slots
-            .timed_out(stage, core, keep, core_timeout, moment);
-        assert_eq!(rt; out, want, "at {moment} with core {core}");
+    for (at, (stage, core, keep, core_timeout, moment, want)) in TIMES_OUT.iter().enumerate() {
+        let slots = &table.slots;
+        let out = slots.timed_out(*stage, *core, *keep, *core_timeout, *moment);
+        same(&rt, at, &out, want);
     }
 }
+
+const GROWN: [(Call, Answer); 6] = [
+    // No memory is that large.
+    (Call::Grow(usize::MAX), Refused),
+    (Call::Places, Count(2)),
+    (Call::Grow(1), Done),
+    (Call::Places, Count(2)),
+    (Call::Grow(64), Done),
+    (Call::Places, Count(64)),
+];
 
 #[test]
 fn grows_and_never_shrinks(rt: HostRuntime) {
     let mut table = idle_workers(&rt, 2);
-    let calls = [
-        // No memory is that large.
-        (Call::Grow(usize::MAX), Refused),
-        (Call::Places, Count(2)),
-        (Call::Grow(1), Done),
-        (Call::Places, Count(2)),
-        (Call::Grow(64), Done),
-        (Call::Places, Count(64)),
-    ];
-    play(&rt, &mut table, &calls);
+    play(&rt, &mut table, &GROWN);
     open_to(&rt, &mut table, 2, 64);
-    assert_eq!(rt; table.call(Call::LongestIdle), Slot(Some(SlotId(0))));
+    let first = Slot(Some(SlotId(0)));
+    asks(&rt, 64, &mut table, Call::LongestIdle, first);
 }
+
+const UNCHANGED: [(Call, Answer); 5] = [
+    (Call::Places, Count(1)),
+    (Call::Len, Count(1)),
+    (Call::Live, Count(1)),
+    (Call::Get(0), Row(Some(AT_WORK))),
+    (Call::Grow(64), Done),
+];
 
 /// Any one allocation may fail: `new` then answers so, and a failed `grow_to` changes nothing and works when it is called
 /// again.
@@ -384,15 +416,8 @@ fn want_of_memory_changes_nothing(rt: HostRuntime) {
     };
     open_to(&rt, &mut table, 0, 1);
     if table.call(Call::Grow(64)) == Refused {
-        let calls = [
-            (Call::Places, Count(1)),
-            (Call::Len, Count(1)),
-            (Call::Live, Count(1)),
-            (Call::Get(0), Row(Some(AT_WORK))),
-            (Call::Grow(64), Done),
-        ];
-        play(&rt, &mut table, &calls);
+        play(&rt, &mut table, &UNCHANGED);
     }
-    assert_eq!(rt; table.call(Call::Places), Count(64));
+    asks(&rt, 0, &mut table, Call::Places, Count(64));
     open_to(&rt, &mut table, 1, 64);
 }

@@ -1,24 +1,23 @@
 //! Ranks and names of run states.
 
+use crate::compare::same;
 use std::cmp::Ordering;
 use tp_types::states::{RunState, ranks_keep_order};
 
+const STATES: [(RunState, u8, &str); 5] = [
+    (RunState::Running, 0, "running"),
+    (RunState::Shutdown, 1, "shutdown"),
+    (RunState::Stop, 2, "stop"),
+    (RunState::Tidying, 3, "tidying"),
+    (RunState::Terminated, 4, "terminated"),
+];
+
 #[test]
 fn ranks_and_names(rt: HostRuntime) {
-    let table = [
-        (RunState::Running, 0, "running"),
-        (RunState::Shutdown, 1, "shutdown"),
-        (RunState::Stop, 2, "stop"),
-        (RunState::Tidying, 3, "tidying"),
-        (RunState::Terminated, 4, "terminated"),
-    ];
-    for (state, rank, name) in table {
-        assert_eq!(rt; state.rank(), rank);
-        assert_eq!(rt; RunState::from_rank(rank), state);
-        assert_eq!(rt; state.name(), name);
+    for (at, (state, rank, name)) in STATES.iter().enumerate() {
+        let seen = (state.rank(), RunState::from_rank(*rank), state.name());
+        same(&rt, at, &seen, &(*rank, *state, *name));
     }
-    assert_eq!(rt;
-        ranks_keep_order(RunState::Stop, RunState::Tidying),
-        Ordering::Less
-    );
+    let order = ranks_keep_order(RunState::Stop, RunState::Tidying);
+    same(&rt, 0, &order, &Ordering::Less);
 }

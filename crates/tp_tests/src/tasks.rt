@@ -3,6 +3,7 @@
 ghost use Rattle.std.specs.Prelude.{◌≡◌, Some};
 ghost use Rattle.tp_tasks.specs.Tasks.{row_of};
 
+use crate::compare::same;
 use Answer::{Count, Done, Ended, Fated, Holds, Number, Promised, Refused, Row, Task};
 use std::process::Abort;
 use tp_record::rows::TaskRow;
@@ -92,11 +93,13 @@ fn perform(rt: &impl Abort, tasks: &mut Tasks<u64>, call: Call) -> Answer {
 fn submit(rt: &impl Abort, tasks: &mut Tasks<u64>, kind: Kind, payload: u64) -> Answer {
     let submitted = tasks.submitted();
     if tasks.reserve(kind).is_err() {
-        assert_eq!(rt; tasks.submitted(), submitted);
-        assert_eq!(rt; tasks.row(TaskId(submitted)), None);
+        let seen = (tasks.submitted(), tasks.row(TaskId(submitted)));
+        same(rt, 0, &seen, &(submitted, None));
         tasks.reserve(kind).expect(rt, "memory at the second try");
     }
-    assert!(rt; tasks.submitted() < u32::MAX);
+    if tasks.submitted() == u32::MAX {
+        return Refused;
+    }
     Task(Some(tasks.put(kind, Place::ToOffer, ANY, payload)))
 }
 
@@ -126,105 +129,124 @@ fn change(tasks: &mut Tasks<u64>, t: TaskId, row: TaskRow, call: Call) -> Answer
     Done
 }
 
+/// Makes a call, and compares what it answers.
+fn asks(rt: &impl Abort, line: usize, tasks: &mut Tasks<u64>, call: Call, want: Answer) {
+    same(rt, line, &perform(rt, tasks, call), &want);
+}
+
 /// Makes each call in turn, and compares what it answers.
 fn play(rt: &impl Abort, tasks: &mut Tasks<u64>, calls: &[(Call, Answer)]) {
     for (at, (call, want)) in calls.iter().enumerate() {
-        assert_eq!(rt; perform(rt, tasks, *call), *want, "call {at}");
+        asks(rt, at, tasks, *call, *want);
     }
 }
 
+const NEW: TaskRow = TaskRow {
+    kind: Kind::Plain,
+    place: Place::ToOffer,
+    second: false,
+    cancelled: false,
+    ending: None,
+    outcome: None,
+    retries: 0,
+};
+
+const QUEUED: TaskRow = TaskRow {
+    place: Place::Queued,
+    second: true,
+    ..NEW
+};
+
+const ENDED: TaskRow = TaskRow {
+    place: Place::Gone,
+    ending: Some(Fate::Run),
+    outcome: Some(Ok(-3)),
+    ..QUEUED
+};
+
+const KEPT: [(Call, Answer); 22] = [
+    (Call::Submitted, Count(0)),
+    (Call::Row(0), Row(None)),
+    (Call::Promise(0), Promised(None)),
+    (Call::TakePayload(0), Number(None)),
+    (Call::Submit(Kind::Plain, 5), Task(Some(TaskId(0)))),
+    (Call::Row(0), Row(Some(NEW))),
+    (Call::Promise(0), Promised(Some(ANY))),
+    (Call::PlaceNumber(0), Number(None)),
+    (Call::Place(0, Place::Queued, true), Done),
+    (Call::SetPlaceNumber(0, 7), Done),
+    (Call::Row(0), Row(Some(QUEUED))),
+    (Call::PlaceNumber(0), Number(Some(7))),
+    (Call::TakePayload(0), Number(Some(5))),
+    (Call::TakePayload(0), Number(None)),
+    (Call::Place(0, Place::Running(SlotId(2)), true), Done),
+    (Call::Fated(Fate::Run), Count(0)),
+    (Call::Run(0, Ok(-3)), Done),
+    (Call::Row(0), Row(Some(ENDED))),
+    (Call::Fate(0), Fated(Some(Fate::Run))),
+    (Call::Result(0), Ended(Some(Ok(-3)))),
+    (Call::Fated(Fate::Run), Count(1)),
+    (Call::Submitted, Count(1)),
+];
+
 #[test]
 fn keeps_a_task(rt: HostRuntime) {
-    let new = TaskRow::new(Kind::Plain, Place::ToOffer);
-    let queued = TaskRow {
-        place: Place::Queued,
-        second: true,
-        ..new
-    };
-    let ended = TaskRow {
-        place: Place::Gone,
-        ending: Some(Fate::Run),
-        outcome: Some(Ok(-3)),
-        ..queued
-    };
-    let calls = [
-        (Call::Submitted, Count(0)),
-        (Call::Row(0), Row(None)),
-        (Call::Promise(0), Promised(None)),
-        (Call::TakePayload(0), Number(None)),
-        (Call::Submit(Kind::Plain, 5), Task(Some(TaskId(0)))),
-        (Call::Row(0), Row(Some(new))),
-        (Call::Promise(0), Promised(Some(ANY))),
-        (Call::PlaceNumber(0), Number(None)),
-        (Call::Place(0, Place::Queued, true), Done),
-        (Call::SetPlaceNumber(0, 7), Done),
-        (Call::Row(0), Row(Some(queued))),
-        (Call::PlaceNumber(0), Number(Some(7))),
-        (Call::TakePayload(0), Number(Some(5))),
-        (Call::TakePayload(0), Number(None)),
-        (Call::Place(0, Place::Running(SlotId(2)), true), Done),
-        (Call::Fated(Fate::Run), Count(0)),
-        (Call::Run(0, Ok(-3)), Done),
-        (Call::Row(0), Row(Some(ended))),
-        (Call::Fate(0), Fated(Some(Fate::Run))),
-        (Call::Result(0), Ended(Some(Ok(-3)))),
-        (Call::Fated(Fate::Run), Count(1)),
-        (Call::Submitted, Count(1)),
-    ];
-    play(&rt, &mut Tasks::new(rt.alloc()), &calls);
+    play(&rt, &mut Tasks::new(rt.alloc()), &KEPT);
 }
+
+const COMPLETED: [(Call, Answer); 19] = [
+    (Call::Submit(Kind::Group(3), 1), Task(Some(TaskId(0)))),
+    (Call::Submit(Kind::Group(3), 2), Task(Some(TaskId(1)))),
+    (Call::Submit(Kind::Future, 3), Task(Some(TaskId(2)))),
+    (Call::IsOpen(3), Holds(true)),
+    (Call::IsOpen(2), Holds(false)),
+    (Call::HasDone(3), Holds(false)),
+    (Call::Cancel(1), Done),
+    (Call::Run(0, Ok(1)), Done),
+    (Call::Run(2, Err(9)), Done),
+    (Call::IsOpen(3), Holds(false)),
+    (Call::HasDone(3), Holds(true)),
+    (Call::FirstDone(2), Task(None)),
+    (Call::FirstDone(3), Task(Some(TaskId(1)))),
+    (Call::TakeDone(2), Task(None)),
+    (Call::TakeDone(3), Task(Some(TaskId(1)))),
+    (Call::TakeDone(3), Task(Some(TaskId(0)))),
+    (Call::TakeDone(3), Task(None)),
+    (Call::Fated(Fate::Run), Count(2)),
+    (Call::Fated(Fate::Cancelled), Count(1)),
+];
 
 /// A cancelled task has its place among the completed ones from its cancel.
 #[test]
 fn completes_in_order(rt: HostRuntime) {
-    let calls = [
-        (Call::Submit(Kind::Group(3), 1), Task(Some(TaskId(0)))),
-        (Call::Submit(Kind::Group(3), 2), Task(Some(TaskId(1)))),
-        (Call::Submit(Kind::Future, 3), Task(Some(TaskId(2)))),
-        (Call::IsOpen(3), Holds(true)),
-        (Call::IsOpen(2), Holds(false)),
-        (Call::HasDone(3), Holds(false)),
-        (Call::Cancel(1), Done),
-        (Call::Run(0, Ok(1)), Done),
-        (Call::Run(2, Err(9)), Done),
-        (Call::IsOpen(3), Holds(false)),
-        (Call::HasDone(3), Holds(true)),
-        (Call::FirstDone(2), Task(None)),
-        (Call::FirstDone(3), Task(Some(TaskId(1)))),
-        (Call::TakeDone(2), Task(None)),
-        (Call::TakeDone(3), Task(Some(TaskId(1)))),
-        (Call::TakeDone(3), Task(Some(TaskId(0)))),
-        (Call::TakeDone(3), Task(None)),
-        (Call::Fated(Fate::Run), Count(2)),
-        (Call::Fated(Fate::Cancelled), Count(1)),
-    ];
-    play(&rt, &mut Tasks::new(rt.alloc()), &calls);
+    play(&rt, &mut Tasks::new(rt.alloc()), &COMPLETED);
 }
+
+const CANCELLED: [(Call, Answer); 18] = [
+    (Call::Submit(Kind::Group(0), 1), Task(Some(TaskId(0)))),
+    (Call::Submit(Kind::Group(0), 2), Task(Some(TaskId(1)))),
+    (Call::Submit(Kind::Group(0), 3), Task(Some(TaskId(2)))),
+    (Call::Cancel(0), Done),
+    (Call::Cancel(2), Done),
+    (Call::Drop(0, Fate::HandedBack), Done),
+    (Call::Drop(1, Fate::Removed), Done),
+    (Call::Run(2, Ok(0)), Done),
+    (Call::Fate(0), Fated(Some(Fate::Cancelled))),
+    (Call::Fate(2), Fated(Some(Fate::Cancelled))),
+    (Call::Fated(Fate::Cancelled), Count(2)),
+    (Call::Fated(Fate::HandedBack), Count(0)),
+    (Call::Fated(Fate::Run), Count(0)),
+    (Call::Fated(Fate::Removed), Count(1)),
+    (Call::IsOpen(0), Holds(false)),
+    (Call::TakeDone(0), Task(Some(TaskId(0)))),
+    (Call::TakeDone(0), Task(Some(TaskId(2)))),
+    (Call::HasDone(0), Holds(false)),
+];
 
 /// A cancelled task keeps its fate, and leaves its group's completions as they are, however it goes.
 #[test]
 fn gives_no_second_fate(rt: HostRuntime) {
-    let calls = [
-        (Call::Submit(Kind::Group(0), 1), Task(Some(TaskId(0)))),
-        (Call::Submit(Kind::Group(0), 2), Task(Some(TaskId(1)))),
-        (Call::Submit(Kind::Group(0), 3), Task(Some(TaskId(2)))),
-        (Call::Cancel(0), Done),
-        (Call::Cancel(2), Done),
-        (Call::Drop(0, Fate::HandedBack), Done),
-        (Call::Drop(1, Fate::Removed), Done),
-        (Call::Run(2, Ok(0)), Done),
-        (Call::Fate(0), Fated(Some(Fate::Cancelled))),
-        (Call::Fate(2), Fated(Some(Fate::Cancelled))),
-        (Call::Fated(Fate::Cancelled), Count(2)),
-        (Call::Fated(Fate::HandedBack), Count(0)),
-        (Call::Fated(Fate::Run), Count(0)),
-        (Call::Fated(Fate::Removed), Count(1)),
-        (Call::IsOpen(0), Holds(false)),
-        (Call::TakeDone(0), Task(Some(TaskId(0)))),
-        (Call::TakeDone(0), Task(Some(TaskId(2)))),
-        (Call::HasDone(0), Holds(false)),
-    ];
-    play(&rt, &mut Tasks::new(rt.alloc()), &calls);
+    play(&rt, &mut Tasks::new(rt.alloc()), &CANCELLED);
 }
 
 /// 4,000 tasks of seven groups, which complete with the last first.
@@ -233,31 +255,24 @@ fn keeps_thousands_of_tasks(rt: HostRuntime) {
     let mut tasks = Tasks::new(rt.alloc());
     for t in 0..4000u32 {
         let submit = Call::Submit(Kind::Group(t % 7), u64::from(t) + 10);
-        assert_eq!(rt; perform(&rt, &mut tasks, submit), Task(Some(TaskId(t))));
+        asks(&rt, 0, &mut tasks, submit, Task(Some(TaskId(t))));
     }
     for i in 0..4000u32 {
         let t = 3999 - i;
-        let calls = [
-            (Call::TakePayload(t), Number(Some(u64::from(t) + 10))),
-            (Call::IsOpen(t % 7), Holds(true)),
-            (Call::Run(t, Ok(i64::from(t))), Done),
-        ];
-        play(&rt, &mut tasks, &calls);
+        let payload = Number(Some(u64::from(t) + 10));
+        asks(&rt, 1, &mut tasks, Call::TakePayload(t), payload);
+        asks(&rt, 2, &mut tasks, Call::IsOpen(t % 7), Holds(true));
+        let run = Call::Run(t, Ok(i64::from(t)));
+        asks(&rt, 3, &mut tasks, run, Done);
     }
-    assert_eq!(rt;
-        perform(&rt, &mut tasks, Call::Fated(Fate::Run)),
-        Count(4000)
-    );
+    asks(&rt, 4, &mut tasks, Call::Fated(Fate::Run), Count(4000));
     for i in 0..4000u32 {
         let t = 3999 - i;
-        let first = perform(&rt, &mut tasks, Call::TakeDone(t % 7));
-        assert_eq!(rt; first, Task(Some(TaskId(t))));
+        let first = Task(Some(TaskId(t)));
+        asks(&rt, 5, &mut tasks, Call::TakeDone(t % 7), first);
     }
     for group in 0..7 {
-        let calls = [
-            (Call::IsOpen(group), Holds(false)),
-            (Call::HasDone(group), Holds(false)),
-        ];
-        play(&rt, &mut tasks, &calls);
+        asks(&rt, 6, &mut tasks, Call::IsOpen(group), Holds(false));
+        asks(&rt, 7, &mut tasks, Call::HasDone(group), Holds(false));
     }
 }

@@ -1,4 +1,5 @@
 //! A worker's turns at a stand-in for its pool, which answers by a script and keeps each deed.
+use crate::compare::same;
 use std::alloc::Global;
 use std::process::Abort;
 use std::sync::Wait;
@@ -201,8 +202,8 @@ fn play<R: Abort + Wait>(
         deeds: Vec::new(alloc),
     };
     let went = one_turn(rt, &mut stage);
-    assert_eq!(rt; went, turn);
-    assert_eq!(rt; stage.deeds.as_slice(), deeds);
+    same(rt, 0, &went, &turn);
+    same(rt, 0, &stage.deeds.as_slice(), &deeds);
     Ok(())
 }
 

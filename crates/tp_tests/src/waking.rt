@@ -1,140 +1,212 @@
 //! Who is woken by which step, at a pool of three slots.
 
-use std::alloc::Global;
+use crate::compare::same;
+use std::alloc::{AllocError, Global};
 use std::process::Abort;
+use std::test::Fail;
 use tp_record::entries::{Ask, Did, Offered, Ruled};
 use tp_types::configs::Verdict;
 use tp_types::ids::{SlotId, TaskId};
-use tp_types::states::{Counts, RunState};
+use tp_types::states::RunState;
 use tp_waking::calls::{Calls, NO_WAITERS, NOBODY, Waiters};
 use tp_waking::waking::Waking;
 
 const TASK: TaskId = TaskId(0);
 
-// Only this worker is woken.
-fn worker(w: usize) -> Calls {
-    Calls {
-        first: Some(SlotId(w)),
-        ..NOBODY
+/// What the sleepers are told of.
+#[derive(Clone, Copy)]
+enum Event {
+    /// An accepted step, which leaves the pool running with three live workers and so many queued tasks.
+    Step(Ask, Did, u32),
+    /// The same with this worker to leave, which is idle longest.
+    Leaving(Ask, Did, SlotId),
+    /// An accepted step, which leaves the pool shut down with three live workers.
+    Closing(Ask, Did),
+    /// The take of this worker, whether it is idle after it, and how many tasks it leaves queued.
+    Take(usize, bool, u32),
+    /// A caller waits for the pool's end.
+    AwaitEnd,
+    /// A caller waits for a future.
+    AwaitResult,
+    /// A caller waits for a step.
+    AwaitStep,
+}
+
+/// Tells the sleepers of this, and answers whom they wake.
+fn tell(waking: &mut Waking, event: Event) -> Calls {
+    let running = RunState::Running;
+    match event {
+        Event::Step(ask, did, queued) => waking.follow(&ask, &did, running, 3, queued, None),
+        Event::Leaving(ask, did, w) => waking.follow(&ask, &did, running, 3, 0, Some(w)),
+        Event::Closing(ask, did) => waking.follow(&ask, &did, RunState::Shutdown, 3, 0, None),
+        Event::Take(w, idle, queued) => waking.took(SlotId(w), idle, queued),
+        Event::AwaitEnd => waking.await_end(),
+        Event::AwaitResult => waking.await_result(),
+        Event::AwaitStep => waking.await_step(),
     }
-}
-
-// An accepted step that leaves so many tasks queued, and the wake-ups behind it.
-fn step(waking: &mut Waking, ask: Ask, did: Did, state: RunState, queued: u32) -> Calls {
-    let counts = Counts {
-        queued,
-        live: 3,
-        ..Counts::default()
-    };
-    waking.follow(&ask, &did, state, &counts, None);
     waking.release()
 }
 
-fn offer(waking: &mut Waking, offered: Offered, queued: u32) -> Calls {
-    let did = Did::Offer(TASK, offered);
-    step(waking, Ask::Offer(TASK), did, RunState::Running, queued)
-}
-
-fn take(waking: &mut Waking, w: usize, idle: bool, queued: u32) -> Calls {
-    waking.took(SlotId(w), idle, queued);
-    waking.release()
-}
-
-// Three workers that sleep.
-fn asleep<R: Abort>(rt: &R, alloc: Global) -> Waking {
-    let mut waking = Waking::new(alloc, 3).expect(rt, "memory");
+/// Three workers that sleep are told of this, and wake these in turn.
+fn play(rt: &impl Abort, alloc: Global, table: &[(Event, Calls)]) -> Result<(), AllocError> {
+    let mut waking = Waking::new(alloc, 3)?;
     for w in 0..3 {
-        assert_eq!(rt; take(&mut waking, w, true, 0), NOBODY);
+        waking.took(SlotId(w), true, 0);
     }
-    waking
+    same(rt, 0, &waking.release(), &NOBODY);
+    for (at, (event, calls)) in table.iter().enumerate() {
+        same(rt, at, &tell(&mut waking, *event), calls);
+    }
+    Ok(())
 }
 
-#[test]
-fn wakes_one_worker_at_a_time(rt: HostRuntime) {
-    let mut waking = asleep(&rt, rt.alloc());
-    assert_eq!(rt; offer(&mut waking, Offered::Queued, 1), worker(2));
-    assert_eq!(rt; offer(&mut waking, Offered::Queued, 2), NOBODY);
-    assert_eq!(rt; take(&mut waking, 2, false, 1), worker(1));
-    assert_eq!(rt; take(&mut waking, 1, false, 0), NOBODY);
-    assert_eq!(rt; offer(&mut waking, Offered::Hand(SlotId(0)), 0), worker(0));
-    assert_eq!(rt; offer(&mut waking, Offered::Hand(SlotId(2)), 0), NOBODY);
-}
+const FIRST: Calls = Calls {
+    worker: Some(SlotId(0)),
+    ..NOBODY
+};
 
-#[test]
-fn wakes_who_is_to_leave(rt: HostRuntime) {
-    let mut waking = asleep(&rt, rt.alloc());
-    let running = RunState::Running;
-    let counts = Counts::default();
-    waking.follow(
-        &Ask::Tick(9),
-        &Did::Tick(9),
-        running,
-        &counts,
-        Some(SlotId(0)),
-    );
-    assert_eq!(rt; waking.release(), worker(0));
-    assert_eq!(rt; take(&mut waking, 0, false, 0), NOBODY);
-    let all = step(
-        &mut waking,
-        Ask::Shutdown,
-        Did::Shutdown,
-        RunState::Shutdown,
-        0,
-    );
-    assert!(rt; all.everyone);
-    assert_eq!(rt; all.waiters, NO_WAITERS);
-}
+const SECOND: Calls = Calls {
+    worker: Some(SlotId(1)),
+    ..NOBODY
+};
 
-#[test]
-fn wakes_who_waits_for_the_end(rt: HostRuntime) {
-    let mut waking = asleep(&rt, rt.alloc());
-    let running = RunState::Running;
-    waking.await_end();
-    let purge = step(&mut waking, Ask::Purge, Did::Purge(0), running, 0);
-    assert_eq!(rt; purge, NOBODY);
-    let tick = step(&mut waking, Ask::Tick(1), Did::Tick(1), running, 0);
-    assert!(rt; tick.waiters.end);
-    let again = step(&mut waking, Ask::Tick(2), Did::Tick(2), running, 0);
-    assert_eq!(rt; again, NOBODY);
-}
+const THIRD: Calls = Calls {
+    worker: Some(SlotId(2)),
+    ..NOBODY
+};
 
-// What this step wakes where somebody waits for a future.
-fn answered(waking: &mut Waking, ask: Ask, did: Did) -> bool {
-    waking.await_result();
-    let calls = step(waking, ask, did, RunState::Running, 0);
-    calls.waiters.results
-}
+const EVERYONE: Calls = Calls {
+    everyone: true,
+    ..NOBODY
+};
 
-#[test]
-fn wakes_who_waits_for_a_future(rt: HostRuntime) {
-    let mut waking = asleep(&rt, rt.alloc());
-    let (w, t) = (SlotId(0), TASK);
-    let abort = Verdict::Abort;
-    let end = Did::End(w, t, Ok(3));
-    assert!(rt; answered(&mut waking, Ask::End(w, Ok(3)), end));
-    let cancel = Did::Cancel(t, false, true);
-    assert!(rt; answered(&mut waking, Ask::Cancel(t, false), cancel));
-    let removed = Did::Remove(t, true);
-    assert!(rt; answered(&mut waking, Ask::Remove(t), removed));
-    let rejected = Did::Verdict(t, abort, Ruled::Rejected);
-    assert!(rt; answered(&mut waking, Ask::Verdict(t, abort), rejected));
-    assert!(rt; answered(&mut waking, Ask::Tick(4), Did::Tick(4)));
-    let late = Did::Cancel(t, true, false);
-    assert!(rt; !answered(&mut waking, Ask::Cancel(t, true), late));
-    assert!(rt; !answered(&mut waking, Ask::Purge, Did::Purge(1)));
-}
+const FOR_THE_END: Calls = Calls {
+    waiters: Waiters {
+        end: true,
+        ..NO_WAITERS
+    },
+    ..NOBODY
+};
 
-#[test]
-fn wakes_who_waits_for_a_step(rt: HostRuntime) {
-    let mut waking = asleep(&rt, rt.alloc());
-    let running = RunState::Running;
-    waking.await_step();
-    let purge = step(&mut waking, Ask::Purge, Did::Purge(0), running, 0);
-    let steps = Waiters {
+const FOR_RESULTS: Calls = Calls {
+    waiters: Waiters {
+        results: true,
+        ..NO_WAITERS
+    },
+    ..NOBODY
+};
+
+const FOR_STEPS: Calls = Calls {
+    waiters: Waiters {
         steps: true,
         ..NO_WAITERS
-    };
-    assert_eq!(rt; purge.waiters, steps);
-    let again = step(&mut waking, Ask::Purge, Did::Purge(0), running, 0);
-    assert_eq!(rt; again, NOBODY);
+    },
+    ..NOBODY
+};
+
+const OFFER: Ask = Ask::Offer(TASK);
+
+const QUEUED: Did = Did::Offer(TASK, Offered::Queued);
+
+const TO_FIRST: Did = Did::Offer(TASK, Offered::Hand(SlotId(0)));
+
+const TO_THIRD: Did = Did::Offer(TASK, Offered::Hand(SlotId(2)));
+
+const ONE_AT_A_TIME: [(Event, Calls); 6] = [
+    (Event::Step(OFFER, QUEUED, 1), THIRD),
+    (Event::Step(OFFER, QUEUED, 2), NOBODY),
+    (Event::Take(2, false, 1), SECOND),
+    (Event::Take(1, false, 0), NOBODY),
+    (Event::Step(OFFER, TO_FIRST, 0), FIRST),
+    (Event::Step(OFFER, TO_THIRD, 0), NOBODY),
+];
+
+const TO_LEAVE: [(Event, Calls); 3] = [
+    (Event::Leaving(Ask::Tick(9), Did::Tick(9), SlotId(0)), FIRST),
+    (Event::Take(0, false, 0), NOBODY),
+    (Event::Closing(Ask::Shutdown, Did::Shutdown), EVERYONE),
+];
+
+/// The mark of who waits is gone once it was woken.
+const END: [(Event, Calls); 4] = [
+    (Event::AwaitEnd, NOBODY),
+    (Event::Step(Ask::Purge, Did::Purge(0), 0), NOBODY),
+    (Event::Step(Ask::Tick(1), Did::Tick(1), 0), FOR_THE_END),
+    (Event::Step(Ask::Tick(2), Did::Tick(2), 0), NOBODY),
+];
+
+const STEPS: [(Event, Calls); 3] = [
+    (Event::AwaitStep, NOBODY),
+    (Event::Step(Ask::Purge, Did::Purge(0), 0), FOR_STEPS),
+    (Event::Step(Ask::Purge, Did::Purge(0), 0), NOBODY),
+];
+
+const W: SlotId = SlotId(0);
+
+const ABORT: Verdict = Verdict::Abort;
+
+const RESULTS: [(Event, Calls); 14] = [
+    (Event::AwaitResult, NOBODY),
+    (
+        Event::Step(Ask::End(W, Ok(3)), Did::End(W, TASK, Ok(3)), 0),
+        FOR_RESULTS,
+    ),
+    (Event::AwaitResult, NOBODY),
+    (
+        Event::Step(Ask::Cancel(TASK, false), Did::Cancel(TASK, false, true), 0),
+        FOR_RESULTS,
+    ),
+    (Event::AwaitResult, NOBODY),
+    (
+        Event::Step(Ask::Remove(TASK), Did::Remove(TASK, true), 0),
+        FOR_RESULTS,
+    ),
+    (Event::AwaitResult, NOBODY),
+    (
+        Event::Step(
+            Ask::Verdict(TASK, ABORT),
+            Did::Verdict(TASK, ABORT, Ruled::Rejected),
+            0,
+        ),
+        FOR_RESULTS,
+    ),
+    (Event::AwaitResult, NOBODY),
+    (Event::Step(Ask::Tick(4), Did::Tick(4), 0), FOR_RESULTS),
+    (Event::AwaitResult, NOBODY),
+    (
+        Event::Step(Ask::Cancel(TASK, true), Did::Cancel(TASK, true, false), 0),
+        NOBODY,
+    ),
+    (Event::AwaitResult, NOBODY),
+    (Event::Step(Ask::Purge, Did::Purge(1), 0), NOBODY),
+];
+
+#[test]
+fn wakes_one_worker_at_a_time(rt: HostRuntime) -> Result<(), Fail> {
+    play(&rt, rt.alloc(), &ONE_AT_A_TIME)?;
+    Ok(())
+}
+
+#[test]
+fn wakes_who_is_to_leave(rt: HostRuntime) -> Result<(), Fail> {
+    play(&rt, rt.alloc(), &TO_LEAVE)?;
+    Ok(())
+}
+
+#[test]
+fn wakes_who_waits_for_the_end(rt: HostRuntime) -> Result<(), Fail> {
+    play(&rt, rt.alloc(), &END)?;
+    Ok(())
+}
+
+#[test]
+fn wakes_who_waits_for_a_future(rt: HostRuntime) -> Result<(), Fail> {
+    play(&rt, rt.alloc(), &RESULTS)?;
+    Ok(())
+}
+
+#[test]
+fn wakes_who_waits_for_a_step(rt: HostRuntime) -> Result<(), Fail> {
+    play(&rt, rt.alloc(), &STEPS)?;
+    Ok(())
 }

@@ -1,5 +1,6 @@
 //! Thousands of tasks through a bounded queue and four workers: what the pool counts is what its callers count.
 
+use super::compare::same;
 use super::stage::{NO_COUNTS, Pool, ask, asks, counts, does, has_fate, pays, pool, task_in};
 use std::process::Abort;
 use tp_record::entries::{Ask, Did, Grown, Looked, Offered, Ruled, Started};
@@ -53,8 +54,7 @@ fn execute(rt: &impl Abort, pool: &mut Pool, tally: &mut Tally, number: u32) {
         return;
     }
     if let (Ok(Did::Offer(_, Offered::Queued)), _) = ask(rt, pool, Ask::Offer(t)) {
-        let (seconded, _) = ask(rt, pool, Ask::Second(t));
-        return assert!(rt; seconded.is_ok());
+        return does(rt, pool, Ask::Second(t));
     }
     if let (Ok(Did::Grow(_, Grown::Reserve(_))), _) = ask(rt, pool, Ask::Grow(t)) {
         return;
@@ -82,7 +82,8 @@ fn run(rt: &impl Abort, pool: &mut Pool, tally: &mut Tally, w: SlotId) {
     let Some(t) = task_in(pool, w) else { return };
     match ask(rt, pool, Ask::Begin(w)) {
         (Ok(Did::Begin(_, Started::Run(_))), handed) => {
-            return assert_eq!(rt; handed, pays(t.0.wrapping_add(10)));
+            let payload = pays(t.0.wrapping_add(10));
+            return same(rt, 0, &(t, handed), &(t, payload));
         }
         (Ok(_), _) => {
             tally.completed = tally.completed.saturating_add(1);
@@ -158,10 +159,9 @@ fn take_done(rt: &impl Abort, pool: &mut Pool, group: u32) -> u32 {
 /// Each task had its end, and each way to an end was gone often.
 fn adds_up(rt: &impl Abort, tally: &Tally) {
     let run = tally.run.wrapping_add(tally.caller);
-    assert_eq!(rt; run.wrapping_add(tally.cancelled), TASKS);
-    assert!(rt; tally.run > 1000);
-    assert!(rt; tally.caller > 100);
-    assert!(rt; tally.cancelled > 10);
+    same(rt, 0, &run.wrapping_add(tally.cancelled), &TASKS);
+    let often = tally.run > 1000 && tally.caller > 100 && tally.cancelled > 10;
+    same(rt, 1, &often, &true);
 }
 
 /// The pool counts what its callers saw.
@@ -175,14 +175,15 @@ fn counts_the_same(rt: &impl Abort, pool: &Pool, tally: &Tally) {
         largest: 4,
         ..NO_COUNTS
     };
-    assert_eq!(rt; counts(pool), seen);
+    same(rt, 0, &counts(pool), &seen);
 }
 
 /// The tasks of each of the three groups are handed out, and there are no others.
 fn hands_out(rt: &impl Abort, pool: &mut Pool) {
     for group in 0..4 {
         let tasks = if group < 3 { 600 } else { 0 };
-        assert_eq!(rt; take_done(rt, pool, group), tasks);
+        let done = take_done(rt, pool, group);
+        same(rt, 0, &(group, done), &(group, tasks));
     }
 }
 

@@ -1,6 +1,7 @@
 //! Want of memory. An ask of any test that is answered with 4 must change nothing, and is asked once more: so all tests pass also
 //! where the Nth allocation fails, as under `rt try --test --fail-alloc N`.
 
+use super::compare::same;
 use super::stage::Act::{self, Asks};
 use super::stage::{
     NO_COUNTS, NONE, Pool, SLOT_0, SMALL, act_out, asks, pool, read, reads, tells, tells_nothing,
@@ -56,19 +57,17 @@ fn stop(rt: &impl Abort, pool: &mut Pool) {
     let handed = match stop_once(pool) {
         Ok(handed) => handed,
         Err(error) => {
-            assert_eq!(rt; error, PoolError::NoMemory);
-            assert_eq!(rt; read(pool), before);
+            let wanted = (PoolError::NoMemory, before);
+            same(rt, 0, &(error, read(pool)), &wanted);
             waits(rt, pool);
             stop_once(pool).expect(rt, "memory at the second try")
         }
     };
-    assert_eq!(rt; handed.len(), TASKS as usize);
+    same(rt, 0, &handed.len(), &(TASKS as usize));
     for number in 0..TASKS {
-        let payload = Some(number.wrapping_add(10));
-        assert_eq!(rt;
-            handed.get(number as usize).copied(),
-            Some((TaskId(number), payload))
-        );
+        let at = number as usize;
+        let wanted = (TaskId(number), Some(number.wrapping_add(10)));
+        same(rt, at, &handed.get(at), &Some(&wanted));
     }
 }
 

@@ -3,6 +3,7 @@
 
 ghost use Rattle.tp_machine.specs.Stepped.{IsPaid, FitsOutcome};
 
+use super::compare::same;
 use std::alloc::Global;
 use std::process::Abort;
 use tp_machine::answers::Begun;
@@ -146,7 +147,7 @@ pub fn pool(rt: &impl Abort, alloc: Global, config: Config) -> Pool {
     match Machine::new(alloc, config) {
         Ok(pool) => pool,
         Err(error) => {
-            assert_eq!(rt; error, PoolError::NoMemory);
+            same(rt, 0, &error, &PoolError::NoMemory);
             Machine::new(alloc, config).expect(rt, "memory at the second try")
         }
     }
@@ -219,8 +220,9 @@ fn ask_once(rt: &impl Abort, pool: &mut Pool, ask: Ask) -> (Result<Did, PoolErro
     match answer(pool, by, ask, payload) {
         Ok((did, handed)) => {
             let after = read(pool);
-            assert_eq!(rt; after.entries, before.entries.wrapping_add(1));
-            assert_eq!(rt; after.last, Some(Entry { by, ask, did }));
+            let entries = before.entries.wrapping_add(1);
+            let wanted = (entries, Some(Entry { by, ask, did }));
+            same(rt, entries, &(after.entries, after.last), &wanted);
             (Ok(did), handed)
         }
         Err((error, returned)) => {
@@ -228,8 +230,8 @@ fn ask_once(rt: &impl Abort, pool: &mut Pool, ask: Ask) -> (Result<Did, PoolErro
                 Ask::Submit(_) => Some(payload),
                 _ => None,
             };
-            assert_eq!(rt; returned, paid);
-            assert_eq!(rt; read(pool), before);
+            let after = read(pool);
+            same(rt, before.entries, &(returned, after), &(paid, before));
             (Err(error), NONE)
         }
     }
@@ -247,7 +249,7 @@ fn takes_memory(ask: Ask) -> bool {
 pub fn ask(rt: &impl Abort, pool: &mut Pool, ask: Ask) -> (Result<Did, PoolError>, Handed) {
     match ask_once(rt, pool, ask) {
         (Err(PoolError::NoMemory), _) => {
-            assert!(rt; takes_memory(ask));
+            same(rt, 0, &(ask, takes_memory(ask)), &(ask, true));
             ask_once(rt, pool, ask)
         }
         answer => answer,
@@ -263,24 +265,29 @@ pub fn asks(
     paid: Handed,
 ) {
     let played = ask(rt, pool, asked);
-    assert_eq!(rt; played, (answer, paid), "{asked:?}");
+    same(rt, 0, &(asked, played), &(asked, (answer, paid)));
 }
 
 /// This is asked, and done.
 pub fn does(rt: &impl Abort, pool: &mut Pool, asked: Ask) {
     let (answer, _) = ask(rt, pool, asked);
-    assert!(rt; answer.is_ok(), "{asked:?}");
+    same(rt, 0, &(asked, answer.is_ok()), &(asked, true));
+}
+
+/// The refusal of the first tick for which the record has no room; none where it is never full.
+fn refusal_of_ticks(rt: &impl Abort, pool: &mut Pool) -> Option<PoolError> {
+    for _ in 0..SMALL.record_limit {
+        if let (Err(refusal), _) = ask(rt, pool, Ask::Tick(9)) {
+            return Some(refusal);
+        }
+    }
+    None
 }
 
 /// Fills the record up to what is owed.
-pub fn fill(rt: &impl Abort, pool: &mut Pool) {
-    for _ in 0..SMALL.record_limit {
-        match ask(rt, pool, Ask::Tick(9)) {
-            (Ok(_), _) => {}
-            (full, _) => return assert_eq!(rt; full, Err(PoolError::BookFull)),
-        }
-    }
-    assert!(rt; false, "the record is never full");
+fn fill(rt: &impl Abort, pool: &mut Pool) {
+    let full = refusal_of_ticks(rt, pool);
+    same(rt, 0, &full, &Some(PoolError::BookFull));
 }
 
 /// The pool's state, moment and counts are these.
@@ -292,7 +299,7 @@ pub fn reads(rt: &impl Abort, pool: &Pool, state: RunState, moment: u64, counts:
         counts,
         ..reading
     };
-    assert_eq!(rt; reading, wanted);
+    same(rt, reading.entries, &reading, &wanted);
 }
 
 /// What a pool tells of one task.
@@ -329,7 +336,7 @@ pub fn tells(
         result: future,
         promise: Ok(ANY),
     };
-    assert_eq!(rt; told(pool, t), wanted, "{t:?}");
+    same(rt, 0, &(t, told(pool, t)), &(t, wanted));
 }
 
 /// Nothing is told of a task that is not submitted.
@@ -340,7 +347,7 @@ pub fn tells_nothing(rt: &impl Abort, pool: &Pool, t: TaskId) {
         result: Err(PoolError::UnknownTask),
         promise: Err(PoolError::UnknownTask),
     };
-    assert_eq!(rt; told(pool, t), wanted);
+    same(rt, 0, &(t, told(pool, t)), &(t, wanted));
 }
 
 /// Acts a line of a script out.
@@ -349,8 +356,13 @@ fn act_line(rt: &impl Abort, pool: &mut Pool, line: &Act) {
         Act::Asks(asked, answer, paid) => asks(rt, pool, *asked, *answer, *paid),
         Act::Tells(t, place, fate, future) => tells(rt, pool, *t, *place, *fate, *future),
         Act::Unknown(t) => tells_nothing(rt, pool, *t),
-        Act::Holds(w, t) => assert_eq!(rt; task_in(pool, *w), *t, "{w:?}"),
-        Act::Opens(group, is_open) => assert_eq!(rt; pool.group_open(*group), *is_open, "{group}"),
+        Act::Holds(w, t) => same(rt, w.0, &task_in(pool, *w), t),
+        Act::Opens(group, is_open) => same(
+            rt,
+            0,
+            &(*group, is_open_in(pool, *group)),
+            &(*group, *is_open),
+        ),
         Act::Reads(state, moment, counts) => reads(rt, pool, *state, *moment, *counts),
         Act::Fills => fill(rt, pool),
     }
@@ -372,6 +384,11 @@ pub fn plays(rt: &impl Abort, alloc: Global, config: Config, script: &[Act]) {
 /// The task in this slot.
 pub fn task_in(pool: &Pool, w: SlotId) -> Option<TaskId> {
     pool.task_in(w)
+}
+
+/// Whether a task of this group has no fate yet.
+fn is_open_in(pool: &Pool, group: u32) -> bool {
+    pool.group_open(group)
 }
 
 /// Whether the task has a fate.

@@ -1,6 +1,6 @@
 //! Worked rows in which tasks are cancelled, removed or handed back.
 
-use super::plays;
+use super::plays_each;
 
 const ROW_13: &[u8] = b"pool 1 1 unbounded keep 0 abort\n\
 submit future 1\n\
@@ -224,7 +224,5 @@ pub(super) const ROWS: [(&[u8], &[u8]); 6] = [
 
 #[test]
 fn cancels_as_worked_out(rt: HostRuntime) {
-    for (text, output) in &ROWS {
-        assert!(rt; plays(rt.alloc(), text, output));
-    }
+    plays_each(&rt, rt.alloc(), &ROWS);
 }

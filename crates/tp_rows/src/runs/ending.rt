@@ -1,6 +1,6 @@
 //! Worked rows in which a pool is shut down or stopped.
 
-use super::plays;
+use super::plays_each;
 
 const ROW_06: &[u8] = b"pool 1 1 unbounded keep 0 abort\n\
 submit plain 1\n\
@@ -155,7 +155,5 @@ pub(super) const ROWS: [(&[u8], &[u8]); 6] = [
 
 #[test]
 fn ends_as_worked_out(rt: HostRuntime) {
-    for (text, output) in &ROWS {
-        assert!(rt; plays(rt.alloc(), text, output));
-    }
+    plays_each(&rt, rt.alloc(), &ROWS);
 }

@@ -1,6 +1,6 @@
 //! Worked rows in which a pool grows, or its queue takes tasks, or it runs short of room.
 
-use super::plays;
+use super::plays_each;
 
 const ROW_02: &[u8] = b"pool 2 4 handoff keep 5 discard\n";
 
@@ -259,7 +259,5 @@ pub(super) const ROWS: [(&[u8], &[u8]); 8] = [
 
 #[test]
 fn grows_as_worked_out(rt: HostRuntime) {
-    for (text, output) in &ROWS {
-        assert!(rt; plays(rt.alloc(), text, output));
-    }
+    plays_each(&rt, rt.alloc(), &ROWS);
 }

@@ -1,20 +1,11 @@
 //! Texts that are cut, that have a wrong byte, or whose numbers are at an end of their type.
 
-use super::{ROW_01, outcome_of};
+use super::{ROW_01, ending_of};
+use crate::compare::same;
+use crate::streams::last_line;
 use std::alloc::Global;
 use std::test::Fail;
 use tp_types::refusals::PoolError;
-
-/// How many lines of a text are ended.
-fn ended_lines(text: &[u8]) -> u32 {
-    let mut count = 0;
-    for byte in text {
-        if *byte == b'\n' && count < u32::MAX {
-            count += 1;
-        }
-    }
-    count
-}
 
 /// Each cut of a good text is good where it ends with a line, and else its last line is bad. Cut to nothing it has no pool line.
 #[test]
@@ -24,10 +15,9 @@ fn cut_texts_end_at_the_cut_line(rt: HostRuntime) {
         let answer = if text.last() == Some(&b'\n') {
             Ok(())
         } else {
-            Err(PoolError::BadLine(ended_lines(text).wrapping_add(1)))
+            Err(PoolError::BadLine(last_line(text)))
         };
-        let (_, given) = outcome_of(rt.alloc(), text);
-        assert_eq!(rt; given, answer, "the first {end} bytes");
+        same(&rt, end, &ending_of(rt.alloc(), text), &answer);
     }
 }
 
@@ -37,8 +27,7 @@ fn ending_with(alloc: Global, line: &[u8]) -> Result<Result<(), PoolError>, Fail
     text.extend_from_slice(b"pool 1 1 unbounded keep 0 abort\n")?;
     text.extend_from_slice(line)?;
     text.push(b'\n')?;
-    let (_, given) = outcome_of(alloc, text.as_slice());
-    Ok(given)
+    Ok(ending_of(alloc, text.as_slice()))
 }
 
 const BAD_LINES: [&[u8]; 28] = [
@@ -74,9 +63,9 @@ const BAD_LINES: [&[u8]; 28] = [
 
 #[test]
 fn refuses_bad_lines(rt: HostRuntime) -> Result<(), Fail> {
-    for line in &BAD_LINES {
+    for (at, line) in BAD_LINES.iter().enumerate() {
         let given = ending_with(rt.alloc(), line)?;
-        assert_eq!(rt; given, Err(PoolError::BadLine(2)), "{line:?}");
+        same(&rt, at, &given, &Err(PoolError::BadLine(2)));
     }
     Ok(())
 }
@@ -102,11 +91,11 @@ const LAST_AND_PAST: [(&[u8], &[u8]); 9] = [
 /// The last number of each type is good, and the one past it is not; what is asked of it may be refused, which does not end the run.
 #[test]
 fn reads_numbers_to_the_ends_of_their_types(rt: HostRuntime) -> Result<(), Fail> {
-    for (last, past) in &LAST_AND_PAST {
+    for (at, (last, past)) in LAST_AND_PAST.iter().enumerate() {
         let good = ending_with(rt.alloc(), last)?;
-        assert_eq!(rt; good, Ok(()), "{last:?}");
         let bad = ending_with(rt.alloc(), past)?;
-        assert_eq!(rt; bad, Err(PoolError::BadLine(2)), "{past:?}");
+        let wanted = (Ok(()), Err(PoolError::BadLine(2)));
+        same(&rt, at, &(good, bad), &wanted);
     }
     Ok(())
 }
@@ -155,9 +144,8 @@ const POOL_LINES: [(&[u8], Result<(), PoolError>); 12] = [
 
 #[test]
 fn reads_pool_lines_to_the_ends_of_their_numbers(rt: HostRuntime) {
-    for (text, answer) in &POOL_LINES {
-        let (_, given) = outcome_of(rt.alloc(), text);
-        assert_eq!(rt; given, *answer, "{text:?}");
+    for (at, (text, answer)) in POOL_LINES.iter().enumerate() {
+        same(&rt, at, &ending_of(rt.alloc(), text), answer);
     }
 }
 
@@ -165,12 +153,9 @@ fn reads_pool_lines_to_the_ends_of_their_numbers(rt: HostRuntime) {
 #[test]
 fn measures_long_lines(rt: HostRuntime) -> Result<(), Fail> {
     for (length, answer) in [(200, Ok(())), (201, Err(PoolError::BadLine(2)))] {
-        let mut line = Vec::new(rt.alloc());
-        for _ in 0..length {
-            line.push(b'#')?;
-        }
+        let line = vec![in rt.alloc(); b'#'; length]?;
         let given = ending_with(rt.alloc(), line.as_slice())?;
-        assert_eq!(rt; given, answer, "a line of {length} bytes");
+        same(&rt, length, &given, &answer);
     }
     Ok(())
 }

@@ -1,8 +1,10 @@
 //! Files of jobs, read from bytes: worked and hostile texts, and readers that fail.
 
-use super::{Comments, FailsOnce};
+use super::comments;
+use crate::compare::same;
+use crate::streams::{FailsOnce, last_line};
 use std::alloc::{AllocError, Global};
-use std::io;
+use std::io::{self, Read};
 use std::test::Fail;
 use tp_scenario::jobs::{JobLine, Jobs};
 use tp_scenario::read_jobs;
@@ -49,10 +51,15 @@ const fn submitted(outcome: Outcome) -> JobLine {
     }
 }
 
+/// What is read of what a reader gives.
+fn read_from<R: Read>(alloc: Global, reader: &mut R) -> Result<Jobs, PoolError> {
+    read_jobs(alloc, reader)
+}
+
 /// What a text is read as.
 fn read(alloc: Global, text: &[u8]) -> Result<Jobs, PoolError> {
     let mut reader = text;
-    read_jobs(alloc, &mut reader)
+    read_from(alloc, &mut reader)
 }
 
 /// The refusal of a text.
@@ -75,7 +82,7 @@ fn is_worked(jobs: &Jobs) -> bool {
 #[test]
 fn reads_a_worked_file(rt: HostRuntime) -> Result<(), Fail> {
     let jobs = read(rt.alloc(), WORKED)?;
-    assert!(rt; is_worked(&jobs));
+    same(&rt, 0, &is_worked(&jobs), &true);
     Ok(())
 }
 
@@ -84,10 +91,16 @@ fn reads_a_worked_file(rt: HostRuntime) -> Result<(), Fail> {
 fn reads_files_without_jobs(rt: HostRuntime) -> Result<(), Fail> {
     for text in [POOL, b"pool 1 1 unbounded keep 0 abort\n\n# none\n"] {
         let jobs = read(rt.alloc(), text)?;
-        assert!(rt; jobs.jobs.is_empty());
-        assert_eq!(rt; jobs.config.record_limit, 4_096);
+        let seen = (jobs.jobs.len(), jobs.config.record_limit);
+        same(&rt, text.len(), &seen, &(0, 4_096));
     }
     Ok(())
+}
+
+/// The refusal of a text whose second line is this one.
+fn refusal_behind(alloc: Global, line: &[u8]) -> Result<Option<PoolError>, AllocError> {
+    let text = text_with(alloc, line)?;
+    Ok(refusal_of(alloc, text.as_slice()))
 }
 
 /// The pool line and then this line.
@@ -138,10 +151,9 @@ const BAD_LINES: [&[u8]; 34] = [
 
 #[test]
 fn refuses_bad_lines(rt: HostRuntime) -> Result<(), Fail> {
-    for line in &BAD_LINES {
-        let text = text_with(rt.alloc(), line)?;
-        let given = refusal_of(rt.alloc(), text.as_slice());
-        assert_eq!(rt; given, Some(PoolError::BadLine(2)), "{line:?}");
+    for (at, line) in BAD_LINES.iter().enumerate() {
+        let given = refusal_behind(rt.alloc(), line)?;
+        same(&rt, at, &given, &Some(PoolError::BadLine(2)));
     }
     Ok(())
 }
@@ -166,13 +178,13 @@ const LAST_AND_PAST: [(&[u8], Outcome, &[u8]); 3] = [
 
 #[test]
 fn reads_outcomes_to_the_ends_of_their_types(rt: HostRuntime) -> Result<(), Fail> {
-    for (last, outcome, past) in &LAST_AND_PAST {
+    for (at, (last, outcome, past)) in LAST_AND_PAST.iter().enumerate() {
         let good = text_with(rt.alloc(), last)?;
         let jobs = read(rt.alloc(), good.as_slice())?;
-        assert_eq!(rt; jobs.jobs.as_slice(), [executed(*outcome)].as_slice());
-        let bad = text_with(rt.alloc(), past)?;
-        let given = refusal_of(rt.alloc(), bad.as_slice());
-        assert_eq!(rt; given, Some(PoolError::BadLine(2)), "{past:?}");
+        let is_read = jobs.jobs.as_slice() == [executed(*outcome)].as_slice();
+        let bad = refusal_behind(rt.alloc(), past)?;
+        let wanted = (true, Some(PoolError::BadLine(2)));
+        same(&rt, at, &(is_read, bad), &wanted);
     }
     Ok(())
 }
@@ -182,12 +194,8 @@ fn reads_outcomes_to_the_ends_of_their_types(rt: HostRuntime) -> Result<(), Fail
 fn reads_lines_of_200_bytes(rt: HostRuntime) -> Result<(), Fail> {
     for (length, answer) in [(200usize, None), (201, Some(PoolError::BadLine(2)))] {
         let comment = vec![in rt.alloc(); b'#'; length]?;
-        let text = text_with(rt.alloc(), comment.as_slice())?;
-        assert_eq!(rt;
-            refusal_of(rt.alloc(), text.as_slice()),
-            answer,
-            "{length} bytes"
-        );
+        let given = refusal_behind(rt.alloc(), comment.as_slice())?;
+        same(&rt, length, &given, &answer);
     }
     Ok(())
 }
@@ -235,24 +243,13 @@ const REFUSED: [(&[u8], PoolError); 12] = [
 
 #[test]
 fn refuses_in_order(rt: HostRuntime) {
-    for (text, refusal) in &REFUSED {
-        assert_eq!(rt; refusal_of(rt.alloc(), text), Some(*refusal), "{text:?}");
+    for (at, (text, refusal)) in REFUSED.iter().enumerate() {
+        same(&rt, at, &refusal_of(rt.alloc(), text), &Some(*refusal));
     }
 }
 
 /// A pool line, and three lines.
 const SHORT: &[u8] = b"pool 1 1 unbounded keep 0 abort\nexecute 5\n# six\nsubmit !6\n";
-
-/// How many lines of a text are ended.
-fn ended_lines(text: &[u8]) -> u32 {
-    let mut count = 0u32;
-    for byte in text {
-        if *byte == b'\n' {
-            count = count.wrapping_add(1);
-        }
-    }
-    count
-}
 
 /// A file that is cut behind a line is good where the pool line is left. Cut anywhere else its last line
 /// is bad.
@@ -263,13 +260,9 @@ fn cut_files_end_at_the_cut_line(rt: HostRuntime) {
         let answer = if text.last() == Some(&b'\n') {
             None
         } else {
-            Some(PoolError::BadLine(ended_lines(text).wrapping_add(1)))
+            Some(PoolError::BadLine(last_line(text)))
         };
-        assert_eq!(rt;
-            refusal_of(rt.alloc(), text),
-            answer,
-            "the first {end} bytes"
-        );
+        same(&rt, end, &refusal_of(rt.alloc(), text), &answer);
     }
 }
 
@@ -282,8 +275,8 @@ fn refuses_a_reader_that_fails(rt: HostRuntime) {
                 before,
                 error,
             };
-            let given = read_jobs(rt.alloc(), &mut reader).err();
-            assert_eq!(rt; given, Some(PoolError::ReadFailed), "after {before} calls");
+            let given = read_from(rt.alloc(), &mut reader).err();
+            same(&rt, before, &given, &Some(PoolError::ReadFailed));
         }
     }
 }
@@ -296,8 +289,8 @@ fn reads_byte_by_byte(rt: HostRuntime) -> Result<(), Fail> {
         before: usize::MAX,
         error: io::ErrorKind::Other,
     };
-    let jobs = read_jobs(rt.alloc(), &mut reader)?;
-    assert!(rt; is_worked(&jobs));
+    let jobs = read_from(rt.alloc(), &mut reader)?;
+    same(&rt, 0, &is_worked(&jobs), &true);
     Ok(())
 }
 
@@ -309,9 +302,8 @@ fn reads_a_long_file_and_no_longer_one(rt: HostRuntime) {
         (MAX_TEXT_BYTES + 1, Some(PoolError::ReadFailed)),
         (usize::MAX, Some(PoolError::ReadFailed)),
     ] {
-        let mut reader = Comments { given: 0, end };
-        let given = read_jobs(rt.alloc(), &mut reader).err();
-        assert_eq!(rt; given, answer, "a text of {end} bytes");
+        let given = read_from(rt.alloc(), &mut comments(end)).err();
+        same(&rt, end, &given, &answer);
     }
 }
 
@@ -338,17 +330,25 @@ fn is_job(job: &JobLine, number: u32) -> bool {
     }
 }
 
+/// The number of the first job that is another; how many there are where none is.
+fn first_wrong(jobs: &Jobs) -> u32 {
+    let mut number = 0u32;
+    for job in &jobs.jobs {
+        if !is_job(job, number) {
+            return number;
+        }
+        number = number.wrapping_add(1);
+    }
+    number
+}
+
 #[test]
 fn reads_many_jobs(rt: HostRuntime) -> Result<(), Fail> {
     for count in [2_000u32, 60_000] {
         let text = many_jobs(rt.alloc(), count)?;
         let jobs = read(rt.alloc(), text.as_bytes())?;
-        assert_eq!(rt; jobs.jobs.len(), count as usize);
-        let mut number = 0;
-        for job in &jobs.jobs {
-            assert!(rt; is_job(job, number), "job {number}");
-            number = number.wrapping_add(1);
-        }
+        same(&rt, 0, &first_wrong(&jobs), &count);
+        same(&rt, 0, &jobs.jobs.len(), &(count as usize));
     }
     Ok(())
 }
@@ -356,8 +356,9 @@ fn reads_many_jobs(rt: HostRuntime) -> Result<(), Fail> {
 /// Where any one allocation fails, the answer is 4; with ample memory it is all the jobs.
 #[test]
 fn want_of_memory_is_refused(rt: HostRuntime) {
-    match read(rt.alloc(), WORKED) {
-        Ok(jobs) => assert!(rt; is_worked(&jobs)),
-        Err(error) => assert_eq!(rt; error, PoolError::NoMemory),
-    }
+    let is_told = match read(rt.alloc(), WORKED) {
+        Ok(jobs) => is_worked(&jobs),
+        Err(error) => error == PoolError::NoMemory,
+    };
+    same(&rt, 0, &is_told, &true);
 }

@@ -3,8 +3,10 @@
 use super::{
     ROW_01, ROW_01_OUTPUT, ROW_18, ROW_18_OUTPUT, cancelling, ending, growing, refusing, working,
 };
+use crate::compare::same;
 use crate::neighbours::neighbours_agree;
 use std::alloc::{AllocError, Global};
+use std::process::Abort;
 use std::test::Fail;
 use tp_record::entries::Entry;
 use tp_record_text::entries::read_entry;
@@ -48,49 +50,42 @@ fn is_judged(alloc: Global, text: &[u8], output: &[u8]) -> Result<bool, Fail> {
     Ok(run.entries == entries && neighbours_agree(alloc, &config, &asks)?)
 }
 
+/// Each of these rows is judged alike, and its neighbours.
+fn judges_each(rt: &impl Abort, alloc: Global, rows: &[(&[u8], &[u8])]) -> Result<(), Fail> {
+    for (at, (text, output)) in rows.iter().enumerate() {
+        same(rt, at, &is_judged(alloc, text, output)?, &true);
+    }
+    Ok(())
+}
+
+const FIRST_ROWS: [(&[u8], &[u8]); 2] = [(ROW_01, ROW_01_OUTPUT), (ROW_18, ROW_18_OUTPUT)];
+
 #[test]
 fn judges_the_first_rows(rt: HostRuntime) -> Result<(), Fail> {
-    assert!(rt; is_judged(rt.alloc(), ROW_01, ROW_01_OUTPUT)?);
-    assert!(rt; is_judged(rt.alloc(), ROW_18, ROW_18_OUTPUT)?);
-    Ok(())
+    judges_each(&rt, rt.alloc(), &FIRST_ROWS)
 }
 
 #[test]
 fn judges_rows_of_growing_pools(rt: HostRuntime) -> Result<(), Fail> {
-    for (text, output) in &growing::ROWS {
-        assert!(rt; is_judged(rt.alloc(), text, output)?);
-    }
-    Ok(())
+    judges_each(&rt, rt.alloc(), &growing::ROWS)
 }
 
 #[test]
 fn judges_rows_of_refused_tasks(rt: HostRuntime) -> Result<(), Fail> {
-    for (text, output) in &refusing::ROWS {
-        assert!(rt; is_judged(rt.alloc(), text, output)?);
-    }
-    Ok(())
+    judges_each(&rt, rt.alloc(), &refusing::ROWS)
 }
 
 #[test]
 fn judges_rows_of_working_pools(rt: HostRuntime) -> Result<(), Fail> {
-    for (text, output) in &working::ROWS {
-        assert!(rt; is_judged(rt.alloc(), text, output)?);
-    }
-    Ok(())
+    judges_each(&rt, rt.alloc(), &working::ROWS)
 }
 
 #[test]
 fn judges_rows_of_ending_pools(rt: HostRuntime) -> Result<(), Fail> {
-    for (text, output) in &ending::ROWS {
-        assert!(rt; is_judged(rt.alloc(), text, output)?);
-    }
-    Ok(())
+    judges_each(&rt, rt.alloc(), &ending::ROWS)
 }
 
 #[test]
 fn judges_rows_of_cancelled_tasks(rt: HostRuntime) -> Result<(), Fail> {
-    for (text, output) in &cancelling::ROWS {
-        assert!(rt; is_judged(rt.alloc(), text, output)?);
-    }
-    Ok(())
+    judges_each(&rt, rt.alloc(), &cancelling::ROWS)
 }

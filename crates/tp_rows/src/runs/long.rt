@@ -61,9 +61,12 @@ fn plays_many_tasks(rt: HostRuntime) -> Result<(), Fail> {
     for tasks in [1, 12_000] {
         let text = many_tasks(rt.alloc(), tasks)?;
         let output = many_lines(rt.alloc(), tasks)?;
-        assert!(rt;
-            plays(rt.alloc(), text.as_bytes(), output.as_bytes()),
-            "{tasks} tasks"
+        plays(
+            &rt,
+            tasks as usize,
+            rt.alloc(),
+            text.as_bytes(),
+            output.as_bytes(),
         );
     }
     Ok(())
@@ -114,6 +117,6 @@ fn retried_lines(alloc: Global) -> Result<String, AllocError> {
 fn retries_64_times(rt: HostRuntime) -> Result<(), Fail> {
     let text = retried(rt.alloc())?;
     let output = retried_lines(rt.alloc())?;
-    assert!(rt; plays(rt.alloc(), text.as_bytes(), output.as_bytes()));
+    plays(&rt, 64, rt.alloc(), text.as_bytes(), output.as_bytes());
     Ok(())
 }

@@ -1,6 +1,6 @@
 //! Worked rows in which tasks are refused, by each policy.
 
-use super::plays;
+use super::plays_each;
 
 const ROW_11: &[u8] = b"pool 0 1 handoff keep 0 callerruns\n\
 submit plain 1\n\
@@ -255,7 +255,5 @@ pub(super) const ROWS: [(&[u8], &[u8]); 6] = [
 
 #[test]
 fn refuses_as_worked_out(rt: HostRuntime) {
-    for (text, output) in &ROWS {
-        assert!(rt; plays(rt.alloc(), text, output));
-    }
+    plays_each(&rt, rt.alloc(), &ROWS);
 }

@@ -1,6 +1,6 @@
 //! Worked rows in which workers wait, time out or fault, and in which sizes change.
 
-use super::plays;
+use super::plays_each;
 
 const ROW_15: &[u8] = b"pool 0 1 unbounded keep 10 abort\n\
 submit plain 1\n\
@@ -171,7 +171,5 @@ pub(super) const ROWS: [(&[u8], &[u8]); 4] = [
 
 #[test]
 fn works_as_worked_out(rt: HostRuntime) {
-    for (text, output) in &ROWS {
-        assert!(rt; plays(rt.alloc(), text, output));
-    }
+    plays_each(&rt, rt.alloc(), &ROWS);
 }
