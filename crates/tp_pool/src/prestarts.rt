@@ -1,6 +1,6 @@
 //! Workers that are started before there is a task for them. Each start is two steps: a slot is reserved, and
 //! once its thread was made or refused it is opened or given back.
-ghost use Rattle.std.specs.Prelude.{ℕ, ◌≡◌, ◌+◌, ◌*◌, ◌≤◌, [], ◌∷◌, IfOk, IfErr, OnOk, OnErr};
+ghost use Rattle.std.specs.Prelude.{ℕ, ◌≡◌, ◌+◌, ◌*◌, ◌<◌, ◌≤◌, [], ◌∷◌, IfOk, IfErr, OnOk, OnErr};
 ghost use Rattle.tp_record.specs.Step.{Legal};
 ghost use Rattle.tp_locked.specs.Passes.{AddsNone, IsRefusal, LooksOnly, Refuses, entry_of};
 ghost use Rattle.tp_pool.specs.Prestarts.{is_live as is_live_opening, AddsPrestart, AddsStarts, IsRefusedMore, IsServed};
@@ -45,7 +45,7 @@ impl<
         core: u32,
         pass: &mut Pass<G>,
     ) -> Result<(), PoolError>
-        ensures steps { OnOk result ((added most live : ℕ) × (most ≤ added) × AddsStarts G.config (IsServed G.config) most (entry_of pass.old.number (Ask.Core core) (Did.Core core added) ∷ []) pass.old live pass.new) }
+        ensures steps { OnOk result ((added most live : ℕ) × (most ≤ added) × (most < added → most < core → 1024 ≤ most) × AddsStarts G.config (IsServed G.config) most (entry_of pass.old.number (Ask.Core core) (Did.Core core added) ∷ []) pass.old live pass.new) }
         ensures refused { IfErr result (Refuses G.config pass.new.front (Ask.Core core)) }
         ensures unchanged { OnErr result (AddsNone pass.old pass.new) }
     {

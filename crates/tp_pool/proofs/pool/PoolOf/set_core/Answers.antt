@@ -1,4 +1,4 @@
-use Rattle.std.proofs.Common.{◌≤◌, arith}
+use Rattle.std.proofs.Common.{◌≤◌, ◌<◌, arith}
 use Rattle.tp_locked.proofs.Receipts.{reserved}
 use Rattle.tp_pool.specs.Prestarts.{IsServed}
 use Rattle.tp_pool.proofs.Starts.{core_and_starts}
@@ -14,6 +14,7 @@ returns-clause-steps g c =
       c.min-starts.result,
       starts.0,
       within,
+      (λ (fewer : c.min-starts.result < c.in-Ok.added). λ (small : c.min-starts.result < c.args.core). omega (arith, fewer, small)),
       core_and_starts config (IsServed config) c.args.pass.now c.reserve.new.self c.ask.new.pass c.prestart_some.new.pass c.args.core added c.min-starts.result starts.0
           (reserved c.args.pass.now c.reserve.new.self c.reserve.ensures.same) c.in-Ok.ensures.step starts.1,
     )
