@@ -10,9 +10,54 @@ use std::thread::Threads;
 use tp_choices::choices::{Choice, Playing};
 use tp_long::audits::{Refused, audit_lines};
 use tp_long::judging::Judgment;
-use tp_replay::replays::replay;
+use tp_replay::replays::{Replayed, replay};
 use tp_threads::texts::{Unfinished, run_text};
 use tp_types::refusals::PoolError;
+
+/// Plays a scenario beside an auditor. Why steps are refused goes to `errors`, where that is asked for.
+fn replayed<E: Write>(
+    alloc: Global,
+    playing: Playing,
+    text: &[u8],
+    errors: &mut E,
+) -> Result<Replayed, PoolError> {
+    if playing.explains {
+        replay(alloc, text, errors)
+    } else {
+        replay(alloc, text, &mut io::sink())
+    }
+}
+
+/// Plays a scenario beside an auditor, after its run. The answer says whether a refused step is let pass.
+fn play_again<E: Write>(
+    alloc: Global,
+    playing: Playing,
+    text: &[u8],
+    errors: &mut E,
+) -> Result<bool, PoolError> {
+    match replayed(alloc, playing, text, errors) {
+        Ok(replayed) => Ok(!playing.is_strict || replayed.refused == 0),
+        Err(refusal) => Err(refusal),
+    }
+}
+
+/// Plays a scenario, and writes its record's text to `out`. The answer says whether a refused step is let pass.
+fn play_for_record<W: Write, E: Write>(
+    alloc: Global,
+    playing: Playing,
+    text: &[u8],
+    out: &mut W,
+    errors: &mut E,
+) -> Result<bool, PoolError> {
+    let replayed = match replayed(alloc, playing, text, errors) {
+        Ok(replayed) => replayed,
+        Err(refusal) => return Err(refusal),
+    };
+    match replayed.write_record(alloc, out) {
+        Ok(()) => Ok(!playing.is_strict || replayed.refused == 0),
+        Err(refusal) => Err(refusal),
+    }
+}
 
 /// Plays a scenario: its output, or the text of its record, goes to `out`, and to `errors` why steps are refused, where that is
 /// asked for. The answer says whether the run went to its end, and where that is asked for also without a refused step.
@@ -23,23 +68,20 @@ pub fn play<W: Write, E: Write>(
     out: &mut W,
     errors: &mut E,
 ) -> Result<bool, PoolError> {
-    let mut reader = text;
-    let outcome = if playing.prints_record {
-        Ok(())
-    } else {
-        tp_scenario::run::run(alloc, &mut reader, out)
-    };
-    let replayed = match (playing.explains, playing.is_strict || playing.prints_record) {
-        (true, _) => replay(alloc, text, errors),
-        (false, true) => replay(alloc, text, &mut io::sink()),
-        (false, false) => return outcome.map(|()| true),
-    };
-    outcome?;
-    let replayed = replayed?;
     if playing.prints_record {
-        replayed.write_record(alloc, out)?;
+        return play_for_record(alloc, playing, text, out, errors);
     }
-    Ok(!playing.is_strict || replayed.refused == 0)
+    let mut reader = text;
+    let outcome = tp_scenario::run::run(alloc, &mut reader, out);
+    let again = if playing.explains || playing.is_strict {
+        play_again(alloc, playing, text, errors)
+    } else {
+        Ok(true)
+    };
+    match outcome {
+        Ok(()) => again,
+        Err(refusal) => Err(refusal),
+    }
 }
 
 /// Judges a record line by line. The judgment goes to `out`.
