@@ -9,31 +9,23 @@
 //! standard error has the system's reason.
 #![tactic(auto)]
 
+mod choices;
 mod program;
-mod running;
 mod statuses;
-mod telling;
 mod watched;
 
 use program::{program, without_words};
 use std::env;
-use std::io::IsTerminal;
 use std::process::ExitCode;
-use tp_reasons::messages::Style;
 use tp_types::refusals::PoolError;
 
 fn main(rt: HostRuntime) -> ExitCode {
     let alloc = rt.alloc();
     let mut out = rt.stdout();
     let mut errors = rt.stderr();
-    let style = if errors.is_terminal() {
-        Style::Coloured
-    } else {
-        Style::Plain
-    };
     let status = match env::args(&rt) {
         Ok(words) => match words.collect::<Vec<String>>(alloc) {
-            Ok(words) => program(&rt, alloc, words.as_slice(), &mut out, &mut errors, style),
+            Ok(words) => program(&rt, alloc, words.as_slice(), &mut out, &mut errors),
             Err(_) => statuses::finish(&mut out, &Err(PoolError::NoMemory)),
         },
         Err(reason) => without_words(&reason, &mut out, &mut errors),

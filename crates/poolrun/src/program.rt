@@ -1,10 +1,7 @@
 //! The program over any files, words and writers.
 
-use crate::running::{audit_any_length, run};
+use crate::choices::{Choice, Unchosen, chosen};
 use crate::statuses::finish;
-use crate::telling::{
-    finding_in, finding_of, tell, tell_finding, tell_flaw, tell_flaw_in, tell_unread,
-};
 use crate::watched::Watched;
 use clap::error::ErrorKind;
 use std::alloc::Global;
@@ -13,117 +10,65 @@ use std::io::{self, Read, Write};
 use std::rt::Files;
 use std::sync::Wait;
 use std::thread::Threads;
-use tp_choices::choices::{Choice, Unchosen, chosen};
-use tp_long::judging::Judgment;
-use tp_reasons::messages::Style;
-use tp_text::inputs::read_text;
 use tp_types::refusals::PoolError;
 
-/// Does what was chosen with the whole text of a reader, and gives the status.
-fn run_whole<H: Files + Threads + Wait + Copy + Send + 'static, R: Read + Drop, W: Write, E: Write>(
+/// What is told of a text that is too long to be read.
+const TOO_LONG: &str = "the text has more than 1,048,576 bytes";
+
+/// Does what was chosen with the text that a reader gives.
+fn run<H: Threads + Wait + Copy + Send + 'static, R: Read, W: Write>(
     rt: H,
     alloc: Global,
     choice: &Choice,
-    reader: R,
+    reader: &mut R,
     out: &mut W,
-    errors: &mut E,
-    style: Style,
-) -> u8 {
-    let mut reader = Watched::new(reader);
-    let text = match read_text(alloc, &mut reader) {
-        Ok(text) => text,
-        Err(refusal) => {
-            if refusal == PoolError::ReadFailed {
-                tell_unread(errors, choice, &reader);
-            }
-            return finish(out, &Err(refusal));
-        }
-    };
-    let mut left = None;
-    let outcome = run(rt, alloc, choice, text.as_slice(), out, errors, &mut left);
-    let status = finish(out, &outcome);
-    match (&outcome, choice) {
-        (Err(refusal), _) => {
-            let finding = finding_of(alloc, choice, text.as_slice(), *refusal, left.as_ref());
-            tell_finding(alloc, errors, choice.path(), finding, style);
-        }
-        (Ok(false), Choice::Audit(path, _)) => {
-            tell_flaw_in(alloc, errors, path.as_str(), text.as_slice());
-        }
-        _ => {}
-    }
-    status
-}
-
-/// Judges the record of a reader line by line, and gives the status.
-fn run_by_lines<R: Read + Drop, W: Write, E: Write>(
-    alloc: Global,
-    choice: &Choice,
-    reader: R,
-    out: &mut W,
-    errors: &mut E,
-    style: Style,
-) -> u8 {
-    let mut reader = Watched::new(reader);
-    match audit_any_length(alloc, &mut reader, out) {
-        Ok(Judgment::Legal(_)) => 0,
-        Ok(Judgment::Flawed(_, why)) => {
-            tell_flaw(errors, choice.path(), why.as_str());
-            1
-        }
-        Err(refused) => {
-            if refused.refusal == PoolError::ReadFailed {
-                tell_unread(errors, choice, &reader);
-            }
-            let status = finish(out, &Err(refused.refusal));
-            let finding = finding_in(alloc, &refused);
-            tell_finding(alloc, errors, choice.path(), finding, style);
-            status
-        }
-    }
-}
-
-/// Does what was chosen with what a reader gives.
-fn run_reader<
-    H: Files + Threads + Wait + Copy + Send + 'static,
-    R: Read + Drop,
-    W: Write,
-    E: Write,
->(
-    rt: H,
-    alloc: Global,
-    choice: &Choice,
-    reader: R,
-    out: &mut W,
-    errors: &mut E,
-    style: Style,
-) -> u8 {
+) -> Result<bool, PoolError> {
     match choice {
-        Choice::Audit(_, true) => run_by_lines(alloc, choice, reader, out, errors, style),
-        _ => run_whole(rt, alloc, choice, reader, out, errors, style),
+        Choice::Steps(_) => {
+            tp_scenario::run::run(alloc, reader, out)?;
+            Ok(true)
+        }
+        Choice::Threads(_) => {
+            let mut left = None;
+            tp_threads::texts::run_text(rt, alloc, reader, out, &mut left)?;
+            Ok(true)
+        }
+        Choice::Audit(_) => tp_audit_text::audits::audit_text(alloc, reader, out),
     }
 }
 
-/// Does what was chosen with what stands at its path, `-` being the standard input, and gives the status. The output goes to `out`,
-/// and to `errors` what is told beside.
-fn run_choice<H: Files + Input + Threads + Wait + Copy + Send + 'static, W: Write, E: Write>(
+/// Tells the name of what failed, and the reason.
+fn tell<E: Write>(errors: &mut E, name: &str, reason: &io::Error) {
+    let _ = writeln!(errors, "poolrun: {name}: {reason}");
+}
+
+/// Does what was chosen with the text of its file. Where the file can't be opened or read, `errors` is
+/// told its path and the reason.
+fn run_file<H: Files + Threads + Wait + Copy + Send + 'static, W: Write, E: Write>(
     rt: &H,
     alloc: Global,
     choice: &Choice,
     out: &mut W,
     errors: &mut E,
-    style: Style,
-) -> u8 {
-    if choice.path() == "-" {
-        return run_reader(*rt, alloc, choice, rt.reader(), out, errors, style);
-    }
-    match fs::open(rt, choice.path()) {
-        Ok(file) => run_reader(*rt, alloc, choice, file, out, errors, style),
+) -> Result<bool, PoolError> {
+    let path = choice.path();
+    let mut file = match fs::open(rt, path) {
+        Ok(file) => Watched::new(file),
         Err(reason) => {
-            tell(errors, choice.path(), &reason);
-            finish(out, &Err(PoolError::ReadFailed))
+            tell(errors, path, &reason);
+            return Err(PoolError::ReadFailed);
+        }
+    };
+    let outcome = run(*rt, alloc, choice, &mut file, out);
+    if let Err(PoolError::ReadFailed) = outcome {
+        match file.failure() {
+            Some(reason) => tell(errors, path, reason),
+            None => {
+                let _ = writeln!(errors, "poolrun: {path}: {TOO_LONG}");
+            }
         }
     }
+    outcome
 }
 
 /// Gives the parser's text: the version on `out`, status 0; anything else on `errors`, status 2.
@@ -140,19 +85,21 @@ fn show_usage<W: Write, E: Write>(error: &clap::Error, out: &mut W, errors: &mut
 }
 
 /// The status of the program by the words of its command line, its own name first. The output goes to
-/// `out`, a refusal of the whole run as its last line, and to `errors` what is told beside: what is wrong with a text that is
-/// refused, the reason why a file can't be opened or read, or why `out` failed, and the parser's texts.
-pub fn program<H: Files + Input + Threads + Wait + Copy + Send + 'static, W: Write, E: Write>(
+/// `out`, a refusal of the whole run as its last line, and to `errors` what is told beside: the reason
+/// why a file can't be opened or read, or why `out` failed, and the parser's texts.
+pub fn program<H: Files + Threads + Wait + Copy + Send + 'static, W: Write, E: Write>(
     rt: &H,
     alloc: Global,
     words: &[String],
     out: &mut W,
     errors: &mut E,
-    style: Style,
 ) -> u8 {
     let mut out = Watched::new(out);
     let status = match chosen(alloc, words) {
-        Ok(choice) => run_choice(rt, alloc, &choice, &mut out, errors, style),
+        Ok(choice) => {
+            let outcome = run_file(rt, alloc, &choice, &mut out, errors);
+            finish(&mut out, &outcome)
+        }
         Err(Unchosen::NoMemory) => finish(&mut out, &Err(PoolError::NoMemory)),
         Err(Unchosen::Usage(error)) => show_usage(&error, &mut out, errors),
     };

@@ -1,4 +1,0 @@
-//! The command line: what its user chose.
-#![tactic(auto)]
-
-pub mod choices;
