@@ -31,7 +31,8 @@ pub struct CloseFault<G: PoolNaming, J, E> {
 
 impl<G: PoolNaming, J: Job, E: Edge> PoolOf<G, J, E> {
     /// Closes a terminated pool with all passes that its callers got, and answers its record and counters;
-    /// Java has no such call. The record is legal, and each pass's receipts are that pass's entries in it.
+    /// Java has no such call. The record is legal and goes on from what each pass knew, and each pass's
+    /// receipts are that pass's entries in it.
     ///
     /// NotTerminated (20) comes first, and never with a pass that has seen the pool terminated.
     /// MissingPass (21) comes next, where fewer or more passes come back than callers got. Then the call

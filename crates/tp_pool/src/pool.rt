@@ -130,8 +130,8 @@ impl<G: PoolNaming, J: Job, E: Edge> PoolOf<G, J, E> {
         Ok((pool, pass))
     }
 
-    /// Makes a pass for one more caller, which has seen the same state as this caller's; Java's callers need
-    /// none. Callers' and workers' passes are numbered from 0, in the order in which they are made.
+    /// Makes a pass for one more caller, which knows what this caller's pass knows; Java's callers need none.
+    /// Callers' and workers' passes are numbered from 0, in the order in which they are made.
     /// BookFull (5) where the next number would be 4,294,967,295. This caller's pass stays as it is.
     pub fn split_pass<R: Wait>(&self, rt: &R, pass: &mut Pass<G>) -> Result<Pass<G>, PoolError>
         ensures new { IfOk result (λ p. BookAtSome (Task J) G.config (λ b. p ≡ record { number = b.accounts.made; amount = 0; front = pass.old.front; receipts = []; room = p.room })) }

@@ -1,5 +1,5 @@
 //! Futures for a pool's callers, after `ExecutorService`, `FutureTask` and `ExecutorCompletionService`. Each
-//! call takes the pool first, and its caller's pass last where it makes steps.
+//! call takes the pool first, and its caller's pass last where it takes one.
 #![tactic(auto)]
 
 pub mod completions;
