@@ -73,20 +73,14 @@ fn rouse<G: PoolNaming, J>(book: &Book<G, Task<J>>, waking: &mut Waking, ask: &A
 {
     let counts = book.counts();
     let leaving = book.leaving();
-    waking.follow(
-        ask,
-        did,
-        book.state(),
-        counts.live,
-        counts.queued,
-        leaving,
-    );
+    waking.follow(ask, did, book.state(), counts.live, counts.queued, leaving);
 }
 
 mod closing;
 mod controllers;
 mod marks;
 mod readings;
+mod rescues;
 mod submitters;
 mod workers;
 

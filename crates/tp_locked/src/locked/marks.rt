@@ -25,8 +25,7 @@ pub trait Marks<J>: Step<Task<J>> {
         _answer: &Self::Answer,
         _book: &Book<G, Task<J>>,
         _flags: &mut Flags,
-    ) {
-    }
+    ) {}
 }
 
 impl<J: Drop> Marks<J> for Submit {}
