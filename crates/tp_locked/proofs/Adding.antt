@@ -1,6 +1,7 @@
 -- What a step in a hold is to the pass that it was made with.
 use Rattle.std.proofs.Common.{◌≡◌, ℕ, ◌+◌, List, [], ◌∷◌, ◌++◌, refl, ap, sym, ◌∙◌, subst, ⊎_elim}
 use Rattle.std.specs.Prelude.{Result, Ok, Err, IfOk, IfErr}
+use Rattle.std.proofs.lemmas.List.Elements.{All-nil, All-cons}
 use Rattle.tp_types.specs.declared.configs.Config.{Config}
 use Rattle.tp_types.specs.declared.refusals.PoolError.{PoolError}
 use Rattle.tp_types.specs.declared.refusals.PoolError.TheVariants.{TornRecord}
@@ -55,6 +56,7 @@ module _ {J : Type 0} (c : Config) where
     adds_step d moves made paid = record {
       number = ap (λ p. p.number) paid;
       receipts = ap (λ p. p.receipts) paid;
+      own = All-cons (λ (e : Entry). e.by ≡ old.number) (entry_of old.number a d) [] refl (All-nil (λ (e : Entry). e.by ≡ old.number));
       amount = ap (λ p. p.amount) paid;
       leads = (made.old.history, made.goes_on, record { later = []; goes_on = made.shown ∙ made.step.notes });
       legal = legal_made old.number old.front a d moves new.front made;

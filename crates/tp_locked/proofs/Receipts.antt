@@ -1,6 +1,8 @@
 -- Receipts that come after receipts, and fronts after fronts.
 use Rattle.std.proofs.Common.{ℕ, ◌≡◌, ◌+◌, List, [], ◌∷◌, ◌++◌, length, append_assoc, length-append, refl, ap, sym, subst, ◌∙◌, arith}
+use Rattle.std.specs.Prelude.{All}
 use Rattle.std.proofs.lemmas.List.{append-nil}
+use Rattle.std.proofs.lemmas.List.Elements.{All-nil, All-append}
 use Rattle.tp_types.specs.declared.configs.Config.{Config}
 use Rattle.tp_record.specs.declared.entries.Ask.{Ask}
 use Rattle.tp_record.specs.declared.entries.Did.{Did}
@@ -77,6 +79,7 @@ module _ (c : Config) where
   looks_adds old new looks = record {
     number = ap (λ p. p.number) looks.0;
     receipts = ap (λ p. p.receipts) looks.0 ∙ sym (append-nil old.receipts);
+    own = All-nil (λ (e : Entry). e.by ≡ old.number);
     amount = ap (λ p. p.amount) looks.0 ∙ (let none : old.amount ≡ old.amount + 0 = omega arith in none);
     leads = looks.1;
     legal = looks.2;
@@ -91,6 +94,7 @@ module _ (c : Config) where
   adds_both old mid new xs ys a b = record {
     number = b.number ∙ a.number;
     receipts = b.receipts ∙ ap (λ rs. rs ++ ys) a.receipts ∙ append_assoc old.receipts xs ys;
+    own = All-append (λ (e : Entry). e.by ≡ old.number) xs ys a.own (subst (λ (n : ℕ). All (λ (e : Entry). e.by ≡ n) ys) a.number b.own);
     amount = omega (arith, a.amount, b.amount, length-append xs ys);
     leads = leads_both old.front mid.front new.front xs ys a.leads b.leads;
     legal = b.legal;
@@ -101,6 +105,7 @@ module _ (c : Config) where
   adds_looks old mid new xs adds looks = record {
     number = ap (λ p. p.number) looks.0 ∙ adds.number;
     receipts = ap (λ p. p.receipts) looks.0 ∙ adds.receipts;
+    own = adds.own;
     amount = ap (λ p. p.amount) looks.0 ∙ adds.amount;
     leads = leads_on old.front mid.front new.front xs adds.leads looks.1;
     legal = looks.2;
@@ -116,6 +121,7 @@ module _ (c : Config) where
   adds_behind old mid new xs none adds = record {
     number = adds.number ∙ ap (λ p. p.number) none.0;
     receipts = adds.receipts ∙ ap (λ p. p.receipts ++ xs) none.0;
+    own = subst (λ (n : ℕ). All (λ (e : Entry). e.by ≡ n) xs) (ap (λ p. p.number) none.0) adds.own;
     amount = adds.amount ∙ ap (λ p. p.amount + length xs) none.0;
     leads = leads_from old.front mid.front new.front xs none.1 adds.leads;
     legal = adds.legal;

@@ -26,6 +26,7 @@ use std::marker::Model;
 use tp_book::book::Book;
 use tp_book::passes::Pass;
 use tp_book::payers::Payer;
+use tp_book::sights::Sight;
 use tp_glance::glance::Glance;
 use tp_machine::typed::Step;
 use tp_record::entries::{Ask, Did};
@@ -214,6 +215,16 @@ impl<G: PoolNaming, J: Drop> Core<G, J> {
         ensures same { self.new ≡ self.old }
     {
         self.book.show(glance, pass)
+    }
+
+    /// The run state. The sight then knows the whole history, which goes on from what it knew.
+    pub fn show_sight(&mut self, glance: &Glance<G>, sight: &mut Sight<G>) -> RunState
+        ensures state { state_rank result ≡ rank self.old.book.history }
+        ensures seen { sight.new ≡ self.old.book.history }
+        ensures goes_on { IsFrontOf sight.old self.old.book.history }
+        ensures same { self.new ≡ self.old }
+    {
+        self.book.show_sight(glance, sight)
     }
 
     /// The law that the book stands at its history, which is legal in the pool's settings.

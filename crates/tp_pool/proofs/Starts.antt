@@ -1,10 +1,11 @@
 -- Prestarts one after another, with their receipts.
 use Rattle.std.proofs.Common.{◌≡◌, ℕ, ◌+◌, ◌<◌, ◌≤◌, Bool, true, false, List, [], ◌∷◌, ◌++◌, length, length-append, append_assoc, refl, inl, inr, ap, sym, subst, ◌∙◌, ⊎_elim, arith}
-use Rattle.std.specs.Prelude.{flat_map, Some, None}
+use Rattle.std.specs.Prelude.{flat_map, Some, None, Result, Ok, Err, IfOk}
 use Rattle.std.proofs.lemmas.List.{flat_map_more}
 use Rattle.std.proofs.lemmas.Bool.{eqb-true}
 use Rattle.tp_types.specs.declared.configs.Config.{Config}
 use Rattle.tp_types.specs.declared.ids.SlotId.{SlotId}
+use Rattle.tp_types.specs.declared.refusals.PoolError.{PoolError}
 use Rattle.tp_record.specs.declared.entries.Ask.{Ask}
 use Rattle.tp_record.specs.declared.entries.Ask.TheVariants as ask
 use Rattle.tp_record.specs.declared.entries.Did.{Did}
@@ -32,6 +33,15 @@ module _ (c : Config) where
       (λ (x : (w : SlotId) × (staffed : Bool) × (d : Did) × (steps ≡ prestarted by (Some w) ∷ entry_of by (opening w staffed) d ∷ []) × (true ≡ is_live w staffed d)).
       (x.0, x.3 ∙ ap (λ e. prestarted by (Some x.0) ∷ e ∷ []) (live_opening by x.0 x.1 x.2 (sym x.4)))))
       is
+
+  -- a prestart behind room for its receipts
+  prestart_behind : (old mid new : PassView) (live : Bool) → AddsNone old mid → AddsPrestart c mid live new → AddsPrestart c old live new
+  prestart_behind old mid new live none adds =
+      (adds.0, subst (λ by. IsPrestart c by adds.0 live new.front) (ap (λ p. p.number) none.0) adds.1, adds_behind c old mid new adds.0 none adds.2)
+
+  pub prestarts_behind : (old mid new : PassView) (r : Result Bool PoolError) → AddsNone old mid → IfOk r (λ live. AddsPrestart c mid live new) → IfOk r (λ live. AddsPrestart c old live new)
+  prestarts_behind old mid new (Ok live) none adds = prestart_behind old mid new live none adds
+  prestarts_behind old mid new (Err e) none adds = tt
 
   -- so many workers were started, all of which live: what is added then comes behind the entries of their starts
   pub record Started (old : PassView) (live : ℕ) (new : PassView) : Type 0 where

@@ -8,7 +8,8 @@ use Rattle.tp_types.specs.declared.tasks.Kind.{Kind}
 use Rattle.tp_types.specs.declared.tasks.Promise.{Promise}
 use Rattle.tp_record.specs.declared.entries.Ask.TheVariants as ask
 use Rattle.tp_record.specs.declared.entries.Entry.{Entry}
-use Rattle.tp_record.specs.Paths.{Admission, Rejected}
+use Rattle.tp_record.specs.Paths.{Admission, Rejected, Then, Astray}
+use Rattle.tp_paths.specs.Fronts.{goes}
 use Rattle.tp_glance.specs.Word.{IsFrontOf}
 use Rattle.tp_glance.proofs.Fronts.{IsFrontOf_trans}
 use Rattle.tp_book.specs.PassView.{PassView}
@@ -27,9 +28,8 @@ module _ (c : Config) where
         front,
         is.2,
         is.3,
-        is.4,
         ⊎_elim (λ (x : Adds c old front mid). inl (adds_looks c old mid new front x looks))
-            (λ (x : (e : Entry) × Adds c old (front ++ e ∷ []) mid). inr (x.0, adds_looks c old mid new (front ++ x.0 ∷ []) x.1 looks)) is.5,
+            (λ (x : (e : Entry) × (goes is.0 (Then is.2) e.did ≡ Astray) × Adds c old (front ++ e ∷ []) mid). inr (x.0, x.1, adds_looks c old mid new (front ++ x.0 ∷ []) x.2 looks)) is.4,
       )
 
   -- behind room for more
@@ -43,9 +43,8 @@ module _ (c : Config) where
         front,
         is.2,
         is.3,
-        is.4,
         ⊎_elim (λ (x : Adds c mid front new). inl (adds_behind c old mid new front none x))
-            (λ (x : (e : Entry) × Adds c mid (front ++ e ∷ []) new). inr (x.0, adds_behind c old mid new (front ++ x.0 ∷ []) none x.1)) is.5,
+            (λ (x : (e : Entry) × (goes is.0 (Then is.2) e.did ≡ Astray) × Adds c mid (front ++ e ∷ []) new). inr (x.0, x.1, adds_behind c old mid new (front ++ x.0 ∷ []) none x.2)) is.4,
       )
 
   module _ {J : Type 0} (kind : Kind) (job : J) (promise : Promise) where

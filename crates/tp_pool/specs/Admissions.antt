@@ -1,17 +1,18 @@
 -- What submissions come to, and what they add to their caller's pass.
-use Rattle.std.specs.Prelude.{ℕ, ◌≡◌, ◌⊎◌, List, [], ◌∷◌, ◌++◌, Some, Result, IfOk}
+use Rattle.std.specs.Prelude.{ℕ, Bool, ◌≡◌, ◌⊎◌, List, [], ◌∷◌, ◌++◌, Some, Result, IfOk, ⊤}
 use Rattle.tp_types.specs.declared.configs.Config.{Config}
 use Rattle.tp_types.specs.declared.ids.TaskId.{TaskId}
 use Rattle.tp_types.specs.declared.refusals.PoolError.TheVariants as error
 use Rattle.tp_types.specs.declared.tasks.Kind.{Kind}
 use Rattle.tp_types.specs.declared.tasks.Promise.{Promise}
 use Rattle.tp_record.specs.declared.entries.Ask.TheVariants as ask
+use Rattle.tp_record.specs.declared.entries.Did.{Did}
 use Rattle.tp_record.specs.declared.entries.Did.TheVariants as did
 use Rattle.tp_record.specs.declared.entries.Entry.{Entry}
 use Rattle.tp_record.specs.declared.entries.Looked.{Looked}
-use Rattle.tp_record.specs.Paths.{Admission, Accepted, RanHere, Discarded, Rejected, Follow, Astray, IsPath}
+use Rattle.tp_record.specs.Paths.{Admission, Accepted, RanHere, Discarded, Rejected, Follow, Then, Astray, IsPath}
 use Rattle.tp_parts.specs.Payloads.{PutsIn}
-use Rattle.tp_paths.specs.Fronts.{IsFront}
+use Rattle.tp_paths.specs.Fronts.{IsFront, goes}
 use Rattle.tp_glance.specs.Word.{IsFrontOf}
 use Rattle.tp_book.specs.PassView.{PassView}
 use Rattle.tp_locked.specs.Passes.{Adds, AddsNone, Refuses}
@@ -48,14 +49,19 @@ pub record GotJob {J : Type 0} (c : Config) (kind : Kind) (job : J) (promise : P
   pub makes : Makes J c by before (ask.Submit kind) (did.Submit number kind look) (λ old new. PutsIn old new t promise task) then_history
   pub goes_on : IsFrontOf then_history after
 
+-- a further step is to follow
+abbrev pub Awaits : Follow → Type 0
+Awaits (Then fits) = ⊤
+Awaits _ = ⊥
+
 -- the pass has the receipts of the whole path of this task, which is of this kind, and the path ends so
 abbrev pub AddsPath : Config → Kind → TaskId → Admission → PassView → PassView → Type 0
 AddsPath c kind t a old new = (steps : List Entry) × IsPath t.0 steps a × AsksFor kind steps × Adds c old steps new
 
--- it has the receipts of a front of some task's path, and at most one that is not on it
+-- it has the receipts of a front of some task's path behind which a further step was to follow, and at most one that was not to follow there
 abbrev pub AddsFront : Config → PassView → PassView → Type 0
-AddsFront c old new = (t : ℕ) × (front : List Entry) × (f : Follow) × IsFront t front f × ¬ (f ≡ Astray)
-    × (Adds c old front new ⊎ ((e : Entry) × Adds c old (front ++ e ∷ []) new))
+AddsFront c old new = (t : ℕ) × (front : List Entry) × (fits : Did → Bool) × IsFront t front (Then fits)
+    × (Adds c old front new ⊎ ((e : Entry) × (goes t (Then fits) e.did ≡ Astray) × Adds c old (front ++ e ∷ []) new))
 
 module _ {J : Type 0} (c : Config) (kind : Kind) (job : J) (promise : Promise) (old new : PassView) where
   -- a submission of this kind with this job, which promises this, is admitted

@@ -2,7 +2,7 @@
 //! hold in which its look failed, so no step falls between the look and the sleep.
 ghost use Rattle.std.specs.Prelude.{◌≡◌, ◌⊎◌, ◌<◌, length, IfOk, IfErr, OnErr};
 ghost use Rattle.tp_locked.specs.Passes.{AddsStep, AddsNone, LooksOnly, Refuses};
-ghost use Rattle.tp_locked.specs.Moments.{AtFront, BookAtSome};
+ghost use Rattle.tp_locked.specs.Moments.{AtFront, BookAt, BookAtSome};
 ghost use Rattle.tp_locked.specs.Readings.{got, IsFound, IsUndoneAt};
 ghost use Rattle.tp_locked.specs.declared.tasks.Task.{Task};
 
@@ -37,6 +37,30 @@ impl<G: PoolNaming, J: Job, E: Edge> PoolOf<G, J, E> {
         let mut core = shared.hold(rt);
         for _ in rt.forever() {
             if let Some(answer) = core.await_result(t, deadline).transpose() {
+                return answer;
+            }
+            core = shared.conditions.results.wait(rt, core);
+        }
+        unreachable!()
+    }
+
+    /// As `await_result`, with an answer as it is after the record that the pass knows then. That record goes on
+    /// from the one that it knew; the call makes no step.
+    pub fn await_result_with<R: Wait>(
+        &self,
+        rt: &R,
+        t: TaskId,
+        deadline: Option<u64>,
+        pass: &mut Pass<G>,
+    ) -> Result<i64, PoolError>
+        ensures reads { BookAt (Task J) G.config pass.new.front (λ b. IsFound b t.0 deadline (got result)) }
+        ensures looks { LooksOnly G.config pass.old pass.new }
+    {
+        let shared = self.shared();
+        let mut core = shared.hold(rt);
+        for _ in rt.forever() {
+            let found = core.show_awaited(t, deadline, &shared.glance, pass);
+            if let Some(answer) = found.transpose() {
                 return answer;
             }
             core = shared.conditions.results.wait(rt, core);

@@ -6,7 +6,9 @@ ghost use Rattle.tp_record.specs.State.{counts as counts_of, fate_of, slot_at};
 ghost use Rattle.tp_machine.specs.Readings.{HasOpen};
 ghost use Rattle.tp_machine.specs.Seen.{task_of_row};
 ghost use Rattle.tp_locked.specs.Readings.{known, IsPromiseOf, IsResult};
-ghost use Rattle.tp_locked.specs.Moments.{AtFront, AtSome, BookAtSome};
+ghost use Rattle.tp_glance.specs.Word.{IsFrontOf};
+ghost use Rattle.tp_book.specs.BookView.{state_of};
+ghost use Rattle.tp_locked.specs.Moments.{AtFront, AtSome, BookAt, BookAtSome};
 ghost use Rattle.tp_locked.specs.Passes.{LooksOnly};
 ghost use Rattle.tp_locked.specs.declared.tasks.Task.{Task};
 
@@ -14,7 +16,9 @@ use crate::edges::Edge;
 use crate::pool::PoolOf;
 use std::sync::Wait;
 use tp_book::passes::Pass;
+use tp_book::sights::Sight;
 use tp_callbacks::jobs::Job;
+use tp_locked::locked::Core;
 use tp_locked::names::PoolNaming;
 use tp_types::ids::{SlotId, TaskId};
 use tp_types::refusals::PoolError;
@@ -34,6 +38,21 @@ pub struct Reading {
     pub steps: u64,
 }
 
+// What is read of the value under the lock, which shows this run state.
+fn reading_of<G: PoolNaming, J: Job>(core: &Core<G, J>, state: RunState) -> Reading
+    ensures state { result.state ≡ state }
+    ensures counts { result.counts ≡ counts_of (state_of core.now.book) }
+    ensures now { result.now ≡ (state_of core.now.book).now }
+    ensures steps { result.steps ≡ length core.now.book.history }
+{
+    Reading {
+        state,
+        counts: core.counts(),
+        now: core.now(),
+        steps: core.steps(),
+    }
+}
+
 impl<G: PoolNaming, J: Job, E: Edge> PoolOf<G, J, E> {
     /// The run state, the counters, the moment and the record's length, as they are after the record that the
     /// pass knows then. That record goes on from the one that it knew; the call makes no step.
@@ -46,12 +65,28 @@ impl<G: PoolNaming, J: Job, E: Edge> PoolOf<G, J, E> {
         let mut core = shared.hold(rt);
         core.is_book();
         let state = core.show(&shared.glance, pass);
-        Reading {
-            state,
-            counts: core.counts(),
-            now: core.now(),
-            steps: core.steps(),
-        }
+        reading_of(&core, state)
+    }
+
+    /// As `look`, with a sight in place of a pass: for a thread that looks at the pool and makes no step.
+    pub fn look_by<R: Wait>(&self, rt: &R, sight: &mut Sight<G>) -> Reading
+        ensures reads { AtFront G.config sight.new (λ s. (state_rank result.state ≡ s.rank) × (result.counts ≡ counts_of s) × (result.now ≡ s.now)) }
+        ensures steps { result.steps ≡ length sight.new }
+        ensures goes_on { IsFrontOf sight.old sight.new }
+    {
+        let shared = self.shared();
+        let mut core = shared.hold(rt);
+        core.is_book();
+        let state = core.show_sight(&shared.glance, sight);
+        reading_of(&core, state)
+    }
+
+    /// A sight, which knows what the pass knows. It is no pass: a close wants none back, and it may be dropped.
+    pub fn sight(&self, pass: &mut Pass<G>) -> Sight<G>
+        ensures begins { result ≡ pass.old.front }
+        ensures same { pass.new ≡ pass.old }
+    {
+        pass.sight(&self.shared().glance)
     }
 
     /// The run state, as the record has it. `glance` answers without the lock.
@@ -121,6 +156,21 @@ impl<G: PoolNaming, J: Job, E: Edge> PoolOf<G, J, E> {
         ensures { BookAtSome (Task J) G.config (λ b. IsResult b t.0 result) }
     {
         self.shared().hold(rt).result(t)
+    }
+
+    /// As `result`, as it is after the record that the pass knows then. That record goes on from the one that it
+    /// knew; the call makes no step.
+    pub fn result_with<R: Wait>(
+        &self,
+        rt: &R,
+        t: TaskId,
+        pass: &mut Pass<G>,
+    ) -> Result<Option<i64>, PoolError>
+        ensures reads { BookAt (Task J) G.config pass.new.front (λ b. IsResult b t.0 result) }
+        ensures looks { LooksOnly G.config pass.old pass.new }
+    {
+        let shared = self.shared();
+        shared.hold(rt).show_result(t, &shared.glance, pass)
     }
 
     /// The record's length, in entries.

@@ -1,7 +1,6 @@
 //! Submissions: a task's path from its first step to its end, each step in a hold of its own. Between two of
 //! them other threads may make steps, so a submission asks after each answer what comes next.
 ghost use Rattle.std.specs.Prelude.{◌≡◌, ◌⊎◌, ◌+◌, ◌<◌, ◌≤◌, Some, IfSome, IfNone, IfOk, IfErr, OnSome, OnOk, OnErr};
-ghost use Rattle.tp_record.specs.Paths.{Astray};
 ghost use Rattle.tp_record.specs.State.{state};
 ghost use Rattle.tp_record.specs.declared.entries.Ask.{Ask as AskOf};
 ghost use Rattle.tp_parts.specs.Payloads.{PutsIn};
@@ -9,7 +8,7 @@ ghost use Rattle.tp_paths.specs.Fronts.{admission_of, follow_of};
 ghost use Rattle.tp_locked.specs.Left.{IsLeft};
 ghost use Rattle.tp_locked.specs.Passes.{AddsStep, AddsNone, IsRefusal, LooksOnly, Refuses, opening};
 ghost use Rattle.tp_locked.specs.Steps.{Makes};
-ghost use Rattle.tp_pool.specs.Admissions.{task_of, end_of, Admits, IsAdmitted, IsTurnedAway};
+ghost use Rattle.tp_pool.specs.Admissions.{task_of, end_of, Admits, Awaits, IsAdmitted, IsTurnedAway};
 
 use crate::boxes::Boxed;
 use crate::edges::{Boxes, Edge};
@@ -178,7 +177,7 @@ impl<
         requires room { 0 < pass.old.room }
         ensures step { IfSome result (λ d. (ask : AskOf) × AddsStep G.config pass.old ask d pass.new) }
         ensures left { OnSome result (pass.old.room ≤ pass.new.room + 1) }
-        ensures on_path { OnSome result (¬ (follow_of t.0 next ≡ Astray)) }
+        ensures on_path { OnSome result (Awaits (follow_of t.0 next)) }
         ensures unchanged { IfNone result ((pass.new ≡ pass.old) ⊎ LooksOnly G.config pass.old pass.new) }
     {
         let shared = self.shared();

@@ -11,11 +11,11 @@ use Rattle.tp_record.specs.declared.entries.Ask.TheVariants as ask
 use Rattle.tp_record.specs.declared.entries.Did.TheVariants as did
 use Rattle.tp_record.specs.Paths.{Rejected}
 use Rattle.tp_book.specs.PassView.{PassView}
-use Rattle.tp_locked.specs.Passes.{AddsNone, AddsStep, Refuses}
+use Rattle.tp_locked.specs.Passes.{AddsNone, AddsStep, LooksOnly, Refuses}
 use Rattle.tp_locked.specs.declared.answers.Admitted.{Admitted}
 use Rattle.tp_locked.specs.declared.answers.Admitted.TheVariants as admitted
 use Rattle.tp_locked.specs.declared.answers.Refused.{Refused}
-use Rattle.tp_locked.proofs.Receipts.{none_added}
+use Rattle.tp_locked.proofs.Receipts.{looks_none, none_behind, step_behind}
 use Rattle.tp_pool.specs.Admissions.{task_of, end_of, AddsPath, AddsFront, GotJob, IsTurnedAway}
 use Rattle.tp_types.specs.declared.tasks.Promise.{Promise}
 use Rattle.tp_service.specs.Futures.{IsClosed, HasValue, HaveFailed}
@@ -35,30 +35,31 @@ refuses c job promise old new x is =
     (λ (y : Refuses c new.front (ask.Submit kind.Future) x.error × (x.job ≡ Some job) × AddsNone old new). inr (inr (y.0, y.2))))
     is
 
-module _ {P : Type 0} (c : Config) (t : TaskId) (old new : PassView) where
-  -- a cancel that was asked for
-  pub cancels : (r : Result Bool PoolError) → IfOk r (λ effective. AddsStep c old (ask.Cancel t true) (did.Cancel t true effective) new)
-      → IfErr r (Refuses c new.front (ask.Cancel t true)) → OnErr r (AddsNone old new) → AddsCancel P c t old new
-  cancels (Ok effective) step refused none = inl (effective, step)
-  cancels (Err e) step refused none = inr (none, inr (e, refused))
+module _ {P : Type 0} (c : Config) (t : TaskId) where
+  -- a cancel that was asked for behind a look
+  pub cancels : (old mid new : PassView) → LooksOnly c old mid → (r : Result Bool PoolError) → IfOk r (λ effective. AddsStep c mid (ask.Cancel t true) (did.Cancel t true effective) new)
+      → IfErr r (Refuses c new.front (ask.Cancel t true)) → OnErr r (AddsNone mid new) → AddsCancel P c t old new
+  cancels old mid new looks (Ok effective) step refused none = inl (effective, step_behind c old mid new (ask.Cancel t true) (did.Cancel t true effective) (looks_none c old mid looks) step)
+  cancels old mid new looks (Err e) step refused none = inr (none_behind old mid new (looks_none c old mid looks) none, inr (e, refused))
 
   -- none, of a future that is not open
-  pub needs_no_cancel : new ≡ old → IsClosed P c t → AddsCancel P c t old new
-  needs_no_cancel same closed = inr (none_added old new same, inl closed)
+  pub needs_no_cancel : (old new : PassView) → LooksOnly c old new → IsClosed P c new.front t → AddsCancel P c t old new
+  needs_no_cancel old new looks closed = inr (looks_none c old new looks, inl closed)
 
 module _ (P : Type 0) (c : Config) (jobs : ℕ) (tasks : List TaskId) (count : length tasks ≡ jobs) (r : Result ℤ PoolError) where
   -- what any of many comes to
-  pub any_value : (old mid new : PassView) → AddsSubmissions c tasks old mid → IfOk r (λ v. Any (HasValue P c v) tasks) → AddsCancels P c tasks mid new
+  pub any_value : (old mid told new : PassView) → AddsSubmissions c tasks old mid → AddsNone mid told → IfOk r (λ v. Any (HasValue P c v told.front) tasks) → AddsCancels P c tasks told new
       → IfOk r (λ v. IsAnyValue P c jobs v old new)
-  any_value old mid new submits value cancels = valued r value
+  any_value old mid told new submits looks value cancels = valued r value
     where
-      valued : (r : Result ℤ PoolError) → IfOk r (λ v. Any (HasValue P c v) tasks) → IfOk r (λ v. IsAnyValue P c jobs v old new)
-      valued (Ok v) value = record { tasks = tasks; count = count; mid = mid; submits = submits; value = value; cancels = cancels }
+      valued : (r : Result ℤ PoolError) → IfOk r (λ v. Any (HasValue P c v told.front) tasks) → IfOk r (λ v. IsAnyValue P c jobs v old new)
+      valued (Ok v) value = record { tasks = tasks; count = count; mid = mid; told = told; submits = submits; looks = looks; value = value; cancels = cancels }
       valued (Err e) value = tt
 
-  pub no_value : (old new : PassView) → AddsSubmissions c tasks old new → IfErr r (λ e. HaveFailed P c tasks e) → IfErr r (λ e. HasNoValue P c jobs e old new)
-  no_value old new submits failed = refused r failed
+  pub no_value : (old mid new : PassView) → AddsSubmissions c tasks old mid → IfErr r (λ e. (told : PassView) × AddsNone mid told × HaveFailed P c tasks e told new)
+      → IfErr r (λ e. HasNoValue P c jobs e old new)
+  no_value old mid new submits failed = refused r failed
     where
-      refused : (r : Result ℤ PoolError) → IfErr r (λ e. HaveFailed P c tasks e) → IfErr r (λ e. HasNoValue P c jobs e old new)
+      refused : (r : Result ℤ PoolError) → IfErr r (λ e. (told : PassView) × AddsNone mid told × HaveFailed P c tasks e told new) → IfErr r (λ e. HasNoValue P c jobs e old new)
       refused (Ok v) failed = tt
-      refused (Err e) failed = inr (inr (record { tasks = tasks; count = count; submits = submits; failed = failed }))
+      refused (Err e) failed = inr (inr (record { tasks = tasks; count = count; mid = mid; told = failed.0; submits = submits; looks = failed.1; failed = failed.2 }))

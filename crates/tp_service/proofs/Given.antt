@@ -6,35 +6,38 @@ use Rattle.std.specs.Result.{result_transpose}
 use Rattle.tp_types.specs.declared.configs.Config.{Config}
 use Rattle.tp_types.specs.declared.ids.TaskId.{TaskId}
 use Rattle.tp_types.specs.declared.refusals.PoolError.{PoolError}
+use Rattle.tp_book.specs.PassView.{PassView}
+use Rattle.tp_locked.specs.Passes.{LooksOnly}
 use Rattle.tp_locked.specs.Readings.{got, IsResult}
-use Rattle.tp_locked.specs.Moments.{BookAtSome}
+use Rattle.tp_locked.specs.Moments.{BookAt}
 use Rattle.tp_pool.proofs.Got.{got_is}
 use Rattle.tp_service.specs.Futures.{HasValue, Fails, later_fault}
 use Rattle.tp_service.specs.Turns.{Through}
 use Rattle.tp_service.proofs.Turned.{through_next}
 
-module _ {P : Type 0} (c : Config) (t : TaskId) (found : Result (Option ℤ) PoolError) (read : BookAtSome P c (λ b. IsResult b t.0 found)) where
-  given : (r : Result ℤ PoolError) → result_transpose found ≡ Some r → BookAtSome P c (λ b. IsResult b t.0 (got r))
-  given r is = subst (λ f. BookAtSome P c (λ b. IsResult b t.0 f)) (got_is found r is) read
+module _ {P : Type 0} (c : Config) (t : TaskId) (found : Result (Option ℤ) PoolError) (old new : PassView) (looks : LooksOnly c old new) (read : BookAt P c new.front (λ b. IsResult b t.0 found)) where
+  given : (r : Result ℤ PoolError) → result_transpose found ≡ Some r → BookAt P c new.front (λ b. IsResult b t.0 (got r))
+  given r is = subst (λ f. BookAt P c new.front (λ b. IsResult b t.0 f)) (got_is found r is) read
 
-  pub value_given : (v : ℤ) → result_transpose found ≡ Some (Ok v) → HasValue P c v t
+  value_given : (v : ℤ) → result_transpose found ≡ Some (Ok v) → HasValue P c v new.front t
   value_given v is = given (Ok v) is
 
-  pub failure_given : (e : PoolError) (before after : Option ℕ) → result_transpose found ≡ Some (Err e) → after ≡ later_fault before e → Fails P c t before after
-  failure_given e before after is last = (e, given (Err e) is, last)
+  pub failure_given : (e : PoolError) (before after : Option ℕ) → result_transpose found ≡ Some (Err e) → after ≡ later_fault before e → Fails P c t (old, before) (new, after)
+  failure_given e before after is last = (looks, (e, given (Err e) is, last))
 
   -- a look that ends a search among many
-  pub any_given : (xs : List TaskId) → Contains xs t → (r : Option (Result ℤ PoolError)) → r ≡ result_transpose found → IfSome r (λ a. IfOk a (λ v. Any (HasValue P c v) xs))
+  pub any_given : (xs : List TaskId) → Contains xs t → (r : Option (Result ℤ PoolError)) → r ≡ result_transpose found → IfSome r (λ a. IfOk a (λ v. Any (HasValue P c v new.front) xs))
   any_given xs has None is = tt
   any_given xs has (Some (Err e)) is = tt
   any_given xs has (Some (Ok v)) is = (has.0, t, has.1, has.2, value_given v (sym is))
 
 -- a look at the task of this index
-module _ {P : Type 0} (c : Config) (xs : List TaskId) (i : ℕ) (d : TaskId) (within : i < length xs) (found : Result (Option ℤ) PoolError) (read : BookAtSome P c (λ b. IsResult b (get_or xs i d).0 found)) where
-  pub any_at : (r : Option (Result ℤ PoolError)) → r ≡ result_transpose found → IfSome r (λ a. IfOk a (λ v. Any (HasValue P c v) xs))
-  any_at r is = any_given c (get_or xs i d) found read xs (Contains-get_or xs i d within) r is
+module _ {P : Type 0} (c : Config) (xs : List TaskId) (i : ℕ) (d : TaskId) (within : i < length xs) (found : Result (Option ℤ) PoolError) (old new : PassView) (looks : LooksOnly c old new)
+    (read : BookAt P c new.front (λ b. IsResult b (get_or xs i d).0 found)) where
+  pub any_at : (r : Option (Result ℤ PoolError)) → r ≡ result_transpose found → IfSome r (λ a. IfOk a (λ v. Any (HasValue P c v new.front) xs))
+  any_at r is = any_given c (get_or xs i d) found old new looks read xs (Contains-get_or xs i d within) r is
 
-  pub fails_next : (before mid after : Option ℕ) (e : PoolError) → result_transpose found ≡ Some (Err e) → after ≡ later_fault mid e
-      → Through (Fails P c) (take i xs) before mid → Through (Fails P c) (take (i + 1) xs) before after
-  fails_next before mid after e is last turns =
-      through_next (Fails P c) xs i d before mid after within turns (failure_given c (get_or xs i d) found read e mid after is last)
+  pub fails_next : (first : PassView) (before mid after : Option ℕ) (e : PoolError) → result_transpose found ≡ Some (Err e) → after ≡ later_fault mid e
+      → Through (Fails P c) (take i xs) (first, before) (old, mid) → Through (Fails P c) (take (i + 1) xs) (first, before) (new, after)
+  fails_next first before mid after e is last turns =
+      through_next (Fails P c) xs i d (first, before) (old, mid) (new, after) within turns (failure_given c (get_or xs i d) found old new looks read e mid after is last)

@@ -1,13 +1,16 @@
--- What is read of futures, each at some moment.
+-- What a pass is told of futures, each time at the front that it knows then.
 use Rattle.std.specs.Prelude.{ℕ, ℤ, ◌≡◌, ◌≢◌, List, Option, Some, None, Ok, Err}
 use Rattle.tp_types.specs.declared.configs.Config.{Config}
 use Rattle.tp_types.specs.declared.ids.TaskId.{TaskId}
 use Rattle.tp_types.specs.declared.refusals.PoolError.{PoolError}
 use Rattle.tp_types.specs.declared.refusals.PoolError.TheVariants.{Faulted, TimedOut, AllFailed}
+use Rattle.tp_record.specs.declared.entries.Entry.{Entry}
 use Rattle.tp_machine.specs.Readings.{value_in}
 use Rattle.tp_book.specs.BookView.{state_of}
+use Rattle.tp_book.specs.PassView.{PassView}
+use Rattle.tp_locked.specs.Passes.{LooksOnly}
 use Rattle.tp_locked.specs.Readings.{IsFound, IsResult}
-use Rattle.tp_locked.specs.Moments.{BookAtSome}
+use Rattle.tp_locked.specs.Moments.{BookAt}
 use Rattle.tp_service.specs.Turns.{Through}
 
 -- the last fault, where this one came before this refusal
@@ -17,22 +20,30 @@ later_fault before _ = before
 
 -- P is what the pool keeps of a job, c its settings
 module _ (P : Type 0) (c : Config) where
-  -- the future is not open
-  abbrev pub IsClosed : TaskId → Type 0
-  IsClosed t = BookAtSome P c (λ b. value_in (state_of b) t.0 ≢ Ok None)
+  -- at this history the future is not open
+  abbrev pub IsClosed : List Entry → TaskId → Type 0
+  IsClosed history t = BookAt P c history (λ b. value_in (state_of b) t.0 ≢ Ok None)
 
-  -- a wait for it finds that now has reached the deadline
-  abbrev pub IsLate : ℕ → TaskId → Type 0
-  IsLate deadline t = BookAtSome P c (λ b. IsFound b t.0 (Some deadline) (Err TimedOut))
+  -- a wait for it finds there that now has reached the deadline
+  abbrev pub IsLate : ℕ → List Entry → TaskId → Type 0
+  IsLate deadline history t = BookAt P c history (λ b. IsFound b t.0 (Some deadline) (Err TimedOut))
 
-  -- it has this value
-  abbrev pub HasValue : ℤ → TaskId → Type 0
-  HasValue v t = BookAtSome P c (λ b. IsResult b t.0 (Ok (Some v)))
+  -- it has this value there
+  abbrev pub HasValue : ℤ → List Entry → TaskId → Type 0
+  HasValue v history t = BookAt P c history (λ b. IsResult b t.0 (Ok (Some v)))
 
-  -- it has none and is not open, and this is the last fault with it, where that was the last one before
-  abbrev pub Fails : TaskId → Option ℕ → Option ℕ → Type 0
-  Fails t before after = (e : PoolError) × BookAtSome P c (λ b. IsResult b t.0 (Err e)) × (after ≡ later_fault before e)
+  -- the pass looks, and the future is not open then
+  abbrev pub Closes : TaskId → PassView → PassView → Type 0
+  Closes t old new = LooksOnly c old new × IsClosed new.front t
 
-  -- none of these has a value and none is open, and the refusal has the last fault in their order
-  abbrev pub HaveFailed : List TaskId → PoolError → Type 0
-  HaveFailed ts e = (fault : Option ℕ) × (e ≡ AllFailed fault) × Through Fails ts None fault
+  -- so it does for each of these, one after another
+  abbrev pub CloseAll : List TaskId → PassView → PassView → Type 0
+  CloseAll ts old new = Through Closes ts old new
+
+  -- the pass looks, and the future has no value and is not open then; and this is the last fault with it, where that was the last one before
+  abbrev pub Fails : TaskId → PassView × Option ℕ → PassView × Option ℕ → Type 0
+  Fails t before after = LooksOnly c before.0 after.0 × ((e : PoolError) × BookAt P c after.0.front (λ b. IsResult b t.0 (Err e)) × (after.1 ≡ later_fault before.1 e))
+
+  -- so it is with each of these, one after another, and the refusal has the last fault in their order
+  abbrev pub HaveFailed : List TaskId → PoolError → PassView → PassView → Type 0
+  HaveFailed ts e old new = (fault : Option ℕ) × (e ≡ AllFailed fault) × Through Fails ts (old, None) (new, fault)

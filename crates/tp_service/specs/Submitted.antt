@@ -1,5 +1,5 @@
 -- What the calls of a service add to their caller's pass.
-use Rattle.std.specs.Prelude.{ℕ, ℤ, Bool, true, ◌≡◌, ◌⊎◌, ◌<◌, List, length, All, Any}
+use Rattle.std.specs.Prelude.{ℕ, ℤ, Bool, true, ◌≡◌, ◌⊎◌, ◌<◌, List, length, Any}
 use Rattle.tp_types.specs.declared.configs.Config.{Config}
 use Rattle.tp_types.specs.declared.ids.TaskId.{TaskId}
 use Rattle.tp_types.specs.declared.refusals.PoolError.{PoolError}
@@ -14,7 +14,7 @@ use Rattle.tp_book.specs.PassView.{PassView}
 use Rattle.tp_locked.specs.Passes.{AddsNone, AddsStep, Refuses}
 use Rattle.tp_pool.specs.Admissions.{AddsPath, AddsFront, GotJob}
 use Rattle.tp_types.specs.declared.tasks.Promise.{Promise}
-use Rattle.tp_service.specs.Futures.{IsClosed, IsLate, HasValue, HaveFailed}
+use Rattle.tp_service.specs.Futures.{IsClosed, IsLate, HasValue, CloseAll, HaveFailed}
 use Rattle.tp_service.specs.Turns.{Through}
 
 -- the whole path of this task of this kind, which is admitted at its end: accepted, run by its submitter, or discarded
@@ -38,11 +38,11 @@ AddsRefused c e old new =
 
 -- P is what the pool keeps of a job, c its settings
 module _ (P : Type 0) (c : Config) where
-  -- the step that cancels this task with its flag; or none, where its future is not open or the step is refused
+  -- the step that cancels this task with its flag; or none, where at the pass's new front its future is not open or the step is refused
   abbrev pub AddsCancel : TaskId → PassView → PassView → Type 0
   AddsCancel t old new =
       ((effective : Bool) × AddsStep c old (ask.Cancel t true) (did.Cancel t true effective) new)
-      ⊎ (AddsNone old new × (IsClosed P c t ⊎ ((e : PoolError) × Refuses c new.front (ask.Cancel t true) e)))
+      ⊎ (AddsNone old new × (IsClosed P c new.front t ⊎ ((e : PoolError) × Refuses c new.front (ask.Cancel t true) e)))
 
   -- that of each of these tasks, one after another
   abbrev pub AddsCancels : List TaskId → PassView → PassView → Type 0
@@ -62,31 +62,40 @@ module _ (P : Type 0) (c : Config) where
   abbrev pub AreTurnedBack : ℕ → PoolError → PassView → PassView → Type 0
   AreTurnedBack jobs e old new = ((e ≡ error.NoMemory) × (new ≡ old)) ⊎ IsTurnedBack jobs e old new
 
-  -- all these futures are submitted, and then not open
+  -- all these futures are submitted, and then the pass finds each not open
   abbrev pub IsAll : List TaskId → PassView → PassView → Type 0
-  IsAll ts old new = AddsSubmissions c ts old new × All (IsClosed P c) ts
+  IsAll ts old new = (mid : PassView) × AddsSubmissions c ts old mid × CloseAll P c ts mid new
 
-  -- all are submitted, and then not open; or a wait for one finds that it is late, and all are cancelled
+  -- the pass looks, and at its new front one of these is late
+  abbrev pub IsOneLate : ℕ → List TaskId → PassView → PassView → Type 0
+  IsOneLate deadline ts old new = AddsNone old new × Any (IsLate P c deadline new.front) ts
+
+  -- all are submitted, and then found not open; or one of them is late, and all are cancelled
   abbrev pub IsAllUntil : ℕ → List TaskId → PassView → PassView → Type 0
   IsAllUntil deadline ts old new =
       IsAll ts old new
-      ⊎ ((mid : PassView) × AddsSubmissions c ts old mid × Any (IsLate P c deadline) ts × AddsCancels ts mid new)
+      ⊎ ((mid : PassView) × (late : PassView) × AddsSubmissions c ts old mid × IsOneLate deadline ts mid late × AddsCancels ts late new)
 
-  -- so many jobs are submitted; one of them has this value, and all are cancelled
+  -- so many jobs are submitted; at a later front of the pass one of them has this value, and then all are cancelled
   pub record IsAnyValue (jobs : ℕ) (v : ℤ) (old new : PassView) : Type 0 where
     pub tasks : List TaskId
     pub count : length tasks ≡ jobs
     pub mid : PassView
+    pub told : PassView
     pub submits : AddsSubmissions c tasks old mid
-    pub value : Any (HasValue P c v) tasks
-    pub cancels : AddsCancels tasks mid new
+    pub looks : AddsNone mid told
+    pub value : Any (HasValue P c v told.front) tasks
+    pub cancels : AddsCancels tasks told new
 
   -- so many jobs are submitted, and none has a value
   pub record IsNoValue (jobs : ℕ) (e : PoolError) (old new : PassView) : Type 0 where
     pub tasks : List TaskId
     pub count : length tasks ≡ jobs
-    pub submits : AddsSubmissions c tasks old new
-    pub failed : HaveFailed P c tasks e
+    pub mid : PassView
+    pub told : PassView
+    pub submits : AddsSubmissions c tasks old mid
+    pub looks : AddsNone mid told
+    pub failed : HaveFailed P c tasks e told new
 
   -- none of so many jobs gives a value: there are none; or they are not all submitted; or none of them has one
   abbrev pub HasNoValue : ℕ → PoolError → PassView → PassView → Type 0

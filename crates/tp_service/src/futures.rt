@@ -2,7 +2,8 @@
 ghost use Rattle.std.specs.Prelude.{◌≡◌, Some, None, IfOk, IfErr};
 ghost use Rattle.tp_types.specs.declared.tasks.Kind.TheVariants.{Future};
 ghost use Rattle.tp_locked.specs.Readings.{got, IsFound, IsResult};
-ghost use Rattle.tp_locked.specs.Moments.{BookAtSome};
+ghost use Rattle.tp_locked.specs.Moments.{BookAt, BookAtSome};
+ghost use Rattle.tp_locked.specs.Passes.{LooksOnly};
 ghost use Rattle.tp_locked.specs.declared.tasks.Task.{Task};
 ghost use Rattle.tp_pool.specs.Admissions.{task_of as task_of_admitted, IsTurnedAway};
 ghost use Rattle.tp_service.specs.Submitted.{AddsJob};
@@ -85,4 +86,45 @@ pub fn try_get<G: PoolNaming, J: Job, E: Edge, R: Wait>(
     ensures { BookAtSome (Task J) G.config (λ b. IsResult b t.0 result) }
 {
     pool.result(rt, t)
+}
+
+/// As `get`, with a pass: the answer is that at the end of the record that the pass knows then, which goes on
+/// from the one that it knew.
+pub fn get_with<G: PoolNaming, J: Job, E: Edge, R: Wait>(
+    pool: &PoolOf<G, J, E>,
+    rt: &R,
+    t: TaskId,
+    pass: &mut Pass<G>,
+) -> Result<i64, PoolError>
+    ensures reads { BookAt (Task J) G.config pass.new.front (λ b. IsFound b t.0 None (got result)) }
+    ensures looks { LooksOnly G.config pass.old pass.new }
+{
+    pool.await_result_with(rt, t, None, pass)
+}
+
+/// As `get_until`, with a pass, as `get_with`.
+pub fn get_until_with<G: PoolNaming, J: Job, E: Edge, R: Wait>(
+    pool: &PoolOf<G, J, E>,
+    rt: &R,
+    t: TaskId,
+    deadline: u64,
+    pass: &mut Pass<G>,
+) -> Result<i64, PoolError>
+    ensures reads { BookAt (Task J) G.config pass.new.front (λ b. IsFound b t.0 (Some deadline) (got result)) }
+    ensures looks { LooksOnly G.config pass.old pass.new }
+{
+    pool.await_result_with(rt, t, Some(deadline), pass)
+}
+
+/// As `try_get`, with a pass, as `get_with`.
+pub fn try_get_with<G: PoolNaming, J: Job, E: Edge, R: Wait>(
+    pool: &PoolOf<G, J, E>,
+    rt: &R,
+    t: TaskId,
+    pass: &mut Pass<G>,
+) -> Result<Option<i64>, PoolError>
+    ensures reads { BookAt (Task J) G.config pass.new.front (λ b. IsResult b t.0 result) }
+    ensures looks { LooksOnly G.config pass.old pass.new }
+{
+    pool.result_with(rt, t, pass)
 }

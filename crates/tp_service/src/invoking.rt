@@ -1,9 +1,11 @@
 //! Many jobs at once. A cancel that these calls ask for and that is refused is left undone: the answer of the
 //! call says nothing of it.
-ghost use Rattle.std.specs.Prelude.{◌≡◌, vec_len, All, Any, IsTrue, IfOk, IfErr, IfSome};
+ghost use Rattle.std.specs.Prelude.{◌≡◌, vec_len, Any, IsTrue, IfOk, IfErr, IfSome};
 ghost use Rattle.tp_locked.specs.declared.tasks.Task.{Task};
-ghost use Rattle.tp_service.specs.Futures.{later_fault as later_fault_of, HasValue, HaveFailed, IsClosed, IsLate};
-ghost use Rattle.tp_service.specs.Submitted.{AddsCancel, AddsCancels, AddsSubmissions, AreTurnedBack, HasNoValue, IsAll, IsAllUntil, IsAnyValue};
+ghost use Rattle.tp_book.specs.PassView.{PassView};
+ghost use Rattle.tp_locked.specs.Passes.{AddsNone, LooksOnly};
+ghost use Rattle.tp_service.specs.Futures.{later_fault as later_fault_of, Closes, CloseAll, HasValue, HaveFailed, IsLate};
+ghost use Rattle.tp_service.specs.Submitted.{AddsCancel, AddsCancels, AddsSubmissions, AreTurnedBack, HasNoValue, IsAll, IsAllUntil, IsAnyValue, IsOneLate};
 
 use crate::futures::submit;
 use std::alloc::Global;
@@ -27,7 +29,7 @@ fn cancel_open<G: PoolNaming, J: Job, E: Edge, R: Wait>(
 )
     ensures { AddsCancel (Task J) G.config t pass.old pass.new }
 {
-    if pool.result(rt, t) != Ok(None) {
+    if pool.result_with(rt, t, pass) != Ok(None) {
         return;
     }
     let _ = pool.cancel(rt, t, true, pass);
@@ -48,10 +50,15 @@ fn cancel_all<G: PoolNaming, J: Job, E: Edge, R: Wait>(
 }
 
 // Waits until a future is not open any more.
-fn await_closed<G: PoolNaming, J: Job, E: Edge, R: Wait>(pool: &PoolOf<G, J, E>, rt: &R, t: TaskId)
-    ensures { IsClosed (Task J) G.config t }
+fn await_closed<G: PoolNaming, J: Job, E: Edge, R: Wait>(
+    pool: &PoolOf<G, J, E>,
+    rt: &R,
+    t: TaskId,
+    pass: &mut Pass<G>,
+)
+    ensures { Closes (Task J) G.config t pass.old pass.new }
 {
-    let _ = pool.await_result(rt, t, None);
+    let _ = pool.await_result_with(rt, t, None, pass);
 }
 
 // Waits until none of these futures is open.
@@ -59,11 +66,12 @@ fn await_all<G: PoolNaming, J: Job, E: Edge, R: Wait>(
     pool: &PoolOf<G, J, E>,
     rt: &R,
     tasks: &[TaskId],
+    pass: &mut Pass<G>,
 )
-    ensures { All (IsClosed (Task J) G.config) tasks.now }
+    ensures { CloseAll (Task J) G.config tasks.now pass.old pass.new }
 {
     for t in tasks {
-        await_closed(pool, rt, *t);
+        await_closed(pool, rt, *t, pass);
     }
 }
 
@@ -74,11 +82,12 @@ fn closes_by<G: PoolNaming, J: Job, E: Edge, R: Wait>(
     rt: &R,
     t: TaskId,
     deadline: u64,
+    pass: &mut Pass<G>,
 ) -> bool
-    ensures closed { IsTrue result → IsClosed (Task J) G.config t }
-    ensures late { ¬ IsTrue result → IsLate (Task J) G.config deadline t }
+    ensures closed { IsTrue result → Closes (Task J) G.config t pass.old pass.new }
+    ensures late { ¬ IsTrue result → LooksOnly G.config pass.old pass.new × IsLate (Task J) G.config deadline pass.new.front t }
 {
-    pool.await_result(rt, t, Some(deadline)) != Err(PoolError::TimedOut)
+    pool.await_result_with(rt, t, Some(deadline), pass) != Err(PoolError::TimedOut)
 }
 
 // Waits until none of these futures is open, or the deadline has come for one of them.
@@ -87,12 +96,13 @@ fn all_close_by<G: PoolNaming, J: Job, E: Edge, R: Wait>(
     rt: &R,
     tasks: &[TaskId],
     deadline: u64,
+    pass: &mut Pass<G>,
 ) -> bool
-    ensures closed { IsTrue result → All (IsClosed (Task J) G.config) tasks.now }
-    ensures late { ¬ IsTrue result → Any (IsLate (Task J) G.config deadline) tasks.now }
+    ensures closed { IsTrue result → CloseAll (Task J) G.config tasks.now pass.old pass.new }
+    ensures late { ¬ IsTrue result → IsOneLate (Task J) G.config deadline tasks.now pass.old pass.new }
 {
     for t in tasks {
-        if !closes_by(pool, rt, *t, deadline) {
+        if !closes_by(pool, rt, *t, deadline, pass) {
             return false;
         }
     }
@@ -115,14 +125,16 @@ fn any_of<G: PoolNaming, J: Job, E: Edge, R: Wait>(
     pool: &PoolOf<G, J, E>,
     rt: &R,
     tasks: &[TaskId],
+    pass: &mut Pass<G>,
 ) -> Option<Result<i64, PoolError>>
-    ensures value { IfSome result (λ r. IfOk r (λ v. Any (HasValue (Task J) G.config v) tasks.now)) }
-    ensures failed { IfSome result (λ r. IfErr r (λ e. HaveFailed (Task J) G.config tasks.now e)) }
+    ensures value { IfSome result (λ r. IfOk r (λ v. Any (HasValue (Task J) G.config v pass.new.front) tasks.now)) }
+    ensures failed { IfSome result (λ r. IfErr r (λ e. HaveFailed (Task J) G.config tasks.now e pass.old pass.new)) }
+    ensures looks { AddsNone pass.old pass.new }
 {
     let mut open = false;
     let mut fault = None;
     for t in tasks {
-        let found = pool.result(rt, *t).transpose();
+        let found = pool.result_with(rt, *t, pass).transpose();
         match found {
             None => open = true,
             Some(Ok(_)) => return found,
@@ -141,13 +153,15 @@ fn await_any<G: PoolNaming, J: Job, E: Edge, R: Wait>(
     pool: &PoolOf<G, J, E>,
     rt: &R,
     tasks: &[TaskId],
+    pass: &mut Pass<G>,
 ) -> Result<i64, PoolError>
-    ensures value { IfOk result (λ v. Any (HasValue (Task J) G.config v) tasks.now) }
-    ensures failed { IfErr result (λ e. HaveFailed (Task J) G.config tasks.now e) }
+    ensures value { IfOk result (λ v. Any (HasValue (Task J) G.config v pass.new.front) tasks.now) }
+    ensures failed { IfErr result (λ e. (mid : PassView) × AddsNone pass.old mid × HaveFailed (Task J) G.config tasks.now e mid pass.new) }
+    ensures looks { AddsNone pass.old pass.new }
 {
     for _ in rt.forever() {
         let seen = pool.steps(rt);
-        if let Some(answer) = any_of(pool, rt, tasks) {
+        if let Some(answer) = any_of(pool, rt, tasks, pass) {
             return answer;
         }
         pool.wait_step(rt, seen);
@@ -212,7 +226,7 @@ pub fn invoke_all<
     ensures refused { IfErr result (λ e. AreTurnedBack (Task J) G.config (vec_len jobs) e pass.old pass.new) }
 {
     let tasks = submit_all(pool, rt, alloc, jobs, pass)?;
-    await_all(pool, &rt, tasks.as_slice());
+    await_all(pool, &rt, tasks.as_slice(), pass);
     Ok(tasks)
 }
 
@@ -237,7 +251,7 @@ pub fn invoke_all_until<
     ensures refused { IfErr result (λ e. AreTurnedBack (Task J) G.config (vec_len jobs) e pass.old pass.new) }
 {
     let tasks = submit_all(pool, rt, alloc, jobs, pass)?;
-    if all_close_by(pool, &rt, tasks.as_slice(), deadline) {
+    if all_close_by(pool, &rt, tasks.as_slice(), deadline, pass) {
         return Ok(tasks);
     }
     cancel_all(pool, &rt, tasks.as_slice(), pass);
@@ -269,7 +283,7 @@ pub fn invoke_any<
         return Err(PoolError::NoTasks);
     }
     let tasks = submit_all(pool, rt, alloc, jobs, pass)?;
-    let answer = await_any(pool, &rt, tasks.as_slice());
+    let answer = await_any(pool, &rt, tasks.as_slice(), pass);
     if answer.is_err() {
         return answer;
     }

@@ -1,4 +1,4 @@
-use Rattle.std.proofs.Common.{◌+◌, inr, refl, ap, subst, sym, ◌∙◌}
+use Rattle.std.proofs.Common.{◌+◌, inl, inr, refl, ap, subst, sym, ◌∙◌}
 use Rattle.std.specs.Prelude.{Some}
 use Rattle.tp_paths.specs.Fronts.{admission_of, follow_of}
 use Rattle.tp_pool.proofs.Walks.{Walk, begun, walked, admits_at, rejects_at, torn_off}
@@ -61,6 +61,15 @@ returns-in_default-advance g c =
     let t = c.in-Ok.submitted.0 in
     let job = c.args.task.job in record {
       admitted = tt;
-      refused = torn_off g.G.PoolNaming.config c.args.kind job (g.J.Job.promised job) t.0 c.args.pass.now c.loop.pass c.advance.new.pass (follow_of t.0 c.loop.next) c.loop.counter
-          c.loop.invariant c.in_default-advance.ensures.unchanged c.torn.result c.torn.ensures;
+      refused = torn_off g.G.PoolNaming.config c.args.kind job (g.J.Job.promised job) t.0 c.args.pass.now c.loop.pass c.advance.new.pass c.loop.next c.loop.counter
+          c.loop.invariant c.in_default.not-End c.in_default-advance.ensures.unchanged c.torn.result c.torn.ensures;
+    }
+
+pub returns-in_default-next : goal.returns-in_default-next
+returns-in_default-next g c =
+    let t = c.in-Ok.submitted.0 in
+    let job = c.args.task.job in record {
+      admitted = tt;
+      refused = torn_off g.G.PoolNaming.config c.args.kind job (g.J.Job.promised job) t.0 c.args.pass.now c.loop.pass c.loop.pass c.loop.next c.loop.counter
+          c.loop.invariant c.in_default-next.not-End (inl refl) c.torn-in_default-next.result c.torn-in_default-next.ensures;
     }

@@ -16,16 +16,18 @@ returns-in-Ok-clause-report g c =
     let kept = c.all_are_fronts.ensures.same.0 in
     let settings = ap config c.all_are_fronts.ensures.same.1 ∙ c.part-book.ensures.settings in
     let legal = subst (λ k. Legal k (reverse c.in-Ok.report.entries.items)) settings c.in-Ok.ensures.legal in
-    let units = sum_by (λ (p : AccountView). p.amount) c.part-book.result.1.items in record {
+    let workers = c.part-book.result.1.items in record {
+      workers = workers;
       good = c.part-book.ensures.good;
       legal = legal;
       lawful = c.legal_is_lawful.ensures _ _ c.part-book.ensures.good legal;
       ended = subst (λ k. (state k (reverse c.in-Ok.report.entries.items)).rank ≡ 4) settings c.in-Ok.ensures.ended;
       counts = subst (λ k. c.in-Ok.report.counts ≡ counts (state k (reverse c.in-Ok.report.entries.items))) settings c.in-Ok.ensures.counts;
-      shares = (units, subst (λ ps. sum_by (λ p. p.amount) ps + units ≡ length c.in-Ok.report.entries.items) kept c.in-Ok.ensures.shares);
+      shares = subst (λ ps. sum_by (λ p. p.amount) ps + sum_by (λ (p : AccountView). p.amount) workers ≡ length c.in-Ok.report.entries.items) kept c.in-Ok.ensures.shares;
       receipts = subst (λ ps. All (λ p. own p.number c.in-Ok.report.entries.items ≡ p.receipts) ps) kept
           (subst (λ es. All (λ p. own p.number es ≡ p.receipts) c.all_are_fronts.new.passes.items) (sym c.in-Ok.ensures.record) c.in-Ok.ensures.receipts);
       fronts = subst (λ ps. All (λ p. IsFrontOf p.front (reverse c.in-Ok.report.entries.items)) ps) kept c.in-Ok.ensures.fronts;
+      worker_fronts = c.in-Ok.ensures.worker_fronts;
     }
 
 pub returns-in-Err-clause-refused : goal.returns-in-Err-clause-refused

@@ -1,0 +1,23 @@
+use Rattle.std.proofs.Common.{◌≡◌, subst}
+use Rattle.std.specs.Prelude.{Some}
+use Rattle.std.specs.Result.{result_transpose}
+use Rattle.tp_locked.specs.Moments.{BookAt}
+use Rattle.tp_locked.specs.Readings.{IsFound}
+use Rattle.tp_locked.specs.declared.tasks.Task.{Task}
+use Rattle.tp_locked.proofs.Receipts.{later_looks, looks_behind}
+use Rattle.tp_pool.proofs.Got.{got_is}
+use Rattle.tp_pool.proofs.pool.PoolOf.await_result_with.Goals as goal
+
+pub returns-in-Some-transpose : goal.returns-in-Some-transpose
+returns-in-Some-transpose g c =
+    let config = g.G.PoolNaming.config in
+    let found = c.show_awaited-found.result in
+    let answer = c.in-Some-transpose.answer in
+    let is : result_transpose found ≡ Some answer = subst (λ k. k ≡ Some answer) c.transpose.ensures c.in-Some-transpose.is in record {
+      reads = subst (λ r. BookAt (Task g.row.J.Denot) config c.show_awaited-found.new.pass.front (λ b. IsFound b c.args.t.0 c.args.deadline r)) (got_is found answer is) c.show_awaited-found.ensures.reads;
+      looks = looks_behind config c.args.pass.now c.loop.pass c.show_awaited-found.new.pass c.loop.invariant.2 c.show_awaited-found.ensures.looks;
+    }
+
+pub loop-preserved : goal.loop-preserved
+loop-preserved g c =
+    (tt, tt, later_looks g.G.PoolNaming.config c.args.pass.now c.loop.pass c.show_awaited-found.new.pass c.loop.invariant.2 c.show_awaited-found.ensures.looks)

@@ -1,0 +1,9 @@
+use Rattle.std.specs.Prelude.{Result, Ok, Err, IfOk}
+use Rattle.tp_locked.proofs.Receipts.{reserved}
+use Rattle.tp_pool.proofs.Starts.{prestarts_behind}
+use Rattle.tp_pool.proofs.pool.PoolOf.prestart_core.Goals as goal
+
+pub returns-clause-steps : goal.returns-clause-steps
+returns-clause-steps g c =
+    prestarts_behind g.G.PoolNaming.config c.args.pass.now c.reserve.new.self c.prestart.new.pass c.prestart.result
+    (reserved c.args.pass.now c.reserve.new.self c.reserve.ensures.same) c.prestart.ensures.steps
