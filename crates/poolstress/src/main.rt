@@ -10,6 +10,7 @@
 
 mod accounts;
 mod callers;
+mod causes;
 mod chores;
 mod endings;
 mod lives;

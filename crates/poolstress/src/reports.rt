@@ -77,7 +77,10 @@ fn tell<R: Print>(rt: &R, totals: &Totals) -> io::Result<()> {
         "{} jobs accounted for: {} run, {} run by their submitters, {} back, {} discarded, {} cancelled",
         totals.jobs, totals.ran, totals.caller, totals.back, totals.discarded, totals.cancelled
     )?;
-    println!(rt; "{} pools left tasks to nobody", totals.stranded)
+    println!(rt;
+        "pools that left tasks to nobody: {} at core size 0, {} whose worker was refused again, {} for want of room",
+        totals.at_zero, totals.refused, totals.full
+    )
 }
 
 /// Lets so many pools give up a slot that is reserved anew at once; whether all went well.

@@ -31,6 +31,11 @@ impl<
     /// has. Where it can end at once, this call ends it. Where tasks are queued, no worker is there and the core
     /// size is above 0, this call has a worker made for them. The pass has then seen the shutdown.
     ///
+    /// A pool that is shut down ends by itself: a later call whose step leaves it to nobody does the same. Four
+    /// things can still hold its end up. At core size 0 a task whose worker was not made stays queued:
+    /// `set_core(1)`, `remove` or `shutdown_now` is the way out. So it is with a factory that refuses as many
+    /// workers as tasks are queued. A job may wait for its own single worker, and a hook for the end.
+    ///
     /// NoMemory (4) for its receipts, else BookFull (5), which does not come while the pool runs. A refused
     /// call makes no step.
     pub fn shutdown<R: Threads + Wait + Copy + Send + 'static>(
@@ -94,7 +99,8 @@ impl<G: PoolNaming, J: Job, E: Edge> PoolOf<G, J, E> {
     }
 
     /// Waits until the pool is terminated, as `awaitTermination`; where the pool can end, this call ends it.
-    /// The pass has then seen the end. The deadline is a moment in ticks.
+    /// The pass has then seen the end. The deadline is a moment in ticks. Nobody has to wait: a pool that is
+    /// shut down ends by itself, but for what `shutdown` says.
     ///
     /// NoMemory (4) for its receipts, else TimedOut (16) once now has reached the deadline, at once where it
     /// has already: these calls make no step. TornRecord (22) where the book does not take its step `ended`

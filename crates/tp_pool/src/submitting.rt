@@ -81,6 +81,10 @@ impl<
     /// before its submitter was to run it. `RanHere` and `Discarded`: the pool could not take the task, and
     /// the policy had it run or dropped.
     ///
+    /// Where its steps leave a pool that is shut down to nobody, this call also does what is left, with a pass
+    /// of the pool's own: it ends the pool, or has a worker made for the tasks that are queued. So it may call
+    /// the terminated hook and the factory once the pool is shut down.
+    ///
     /// NoMemory (4) or BookFull (5) comes before the first step, with the job and with nothing done.
     /// Rejected (12) comes after the task's whole path, with the job where it was not cancelled.
     /// TornRecord (22) does not come as long as the pool's book is sound.
