@@ -74,7 +74,9 @@ fn main(rt: HostRuntime) -> io::Result<ExitCode> {
         Choice::Reuse(pools) => reused(rt, alloc, pools)?,
         Choice::Left(pools) => left(rt, alloc, pools)?,
         Choice::Usage => {
-            eprintln!(&rt; "usage: poolstress rehearse SEED | stress POOLS [SEED] | reuse POOLS | left POOLS")?;
+            eprintln!(&rt;
+                "usage: poolstress rehearse SEED | stress POOLS [SEED] | reuse POOLS | left POOLS"
+            )?;
             return Ok(ExitCode::from(2));
         }
     };

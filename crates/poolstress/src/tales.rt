@@ -62,7 +62,7 @@ struct Tale {
     run: u32,
 }
 
-const fn tale(core: u32, first: Making, second: Making, queued: u32, way: Way, run: u32) -> Tale {
+fn tale(core: u32, first: Making, second: Making, queued: u32, way: Way, run: u32) -> Tale {
     Tale {
         core,
         first,
@@ -75,21 +75,23 @@ const fn tale(core: u32, first: Making, second: Making, queued: u32, way: Way, r
 
 // The first worker comes when the pool is shut down. At core size 1 the jobs that are queued then are run by another
 // worker, also where that one is made at the second try; at core size 0 they wait for a caller.
-const TALES: [Tale; 13] = [
-    tale(1, Making::Made, Making::Made, 1, Way::Nothing, 1),
-    tale(1, Making::Refused, Making::Made, 1, Way::Nothing, 1),
-    tale(1, Making::NoThread, Making::Made, 1, Way::Nothing, 1),
-    tale(1, Making::Made, Making::Refused, 2, Way::Nothing, 2),
-    tale(1, Making::Refused, Making::NoThread, 2, Way::Nothing, 2),
-    tale(1, Making::NoThread, Making::Refused, 3, Way::Nothing, 3),
-    tale(1, Making::Made, Making::Made, 0, Way::Nothing, 0),
-    tale(1, Making::Refused, Making::Made, 0, Way::Nothing, 0),
-    tale(1, Making::NoThread, Making::Made, 0, Way::Nothing, 0),
-    tale(0, Making::Refused, Making::Made, 0, Way::Removes, 0),
-    tale(0, Making::NoThread, Making::Made, 0, Way::Purges, 0),
-    tale(0, Making::Refused, Making::Made, 2, Way::SetsCore, 3),
-    tale(0, Making::Made, Making::Made, 1, Way::Nothing, 2),
-];
+fn tales() -> [Tale; 13] {
+    [
+        tale(1, Making::Made, Making::Made, 1, Way::Nothing, 1),
+        tale(1, Making::Refused, Making::Made, 1, Way::Nothing, 1),
+        tale(1, Making::NoThread, Making::Made, 1, Way::Nothing, 1),
+        tale(1, Making::Made, Making::Refused, 2, Way::Nothing, 2),
+        tale(1, Making::Refused, Making::NoThread, 2, Way::Nothing, 2),
+        tale(1, Making::NoThread, Making::Refused, 3, Way::Nothing, 3),
+        tale(1, Making::Made, Making::Made, 0, Way::Nothing, 0),
+        tale(1, Making::Refused, Making::Made, 0, Way::Nothing, 0),
+        tale(1, Making::NoThread, Making::Made, 0, Way::Nothing, 0),
+        tale(0, Making::Refused, Making::Made, 0, Way::Removes, 0),
+        tale(0, Making::NoThread, Making::Made, 0, Way::Purges, 0),
+        tale(0, Making::Refused, Making::Made, 2, Way::SetsCore, 3),
+        tale(0, Making::Made, Making::Made, 1, Way::Nothing, 2),
+    ]
+}
 
 const WAITERS: [Waiter; 3] = [Waiter::Awaits, Waiter::Polls, Waiter::Nobody];
 
@@ -181,10 +183,9 @@ pub fn all_end<R: Threads + Wait + Copy + Send + Sync + 'static>(
     alloc: Global,
     pools: u32,
 ) -> Result<(), Mishap> {
-    let mut waiters = WAITERS.iter().cycle();
-    let mut tales = TALES.iter().cycle();
-    for _ in 0..pools {
-        if let (Some(tale), Some(waiter)) = (tales.next(), waiters.next()) {
+    let tales = tales();
+    for pool in 0..pools as usize {
+        if let (Some(tale), Some(waiter)) = (tales.get(pool % 13), WAITERS.get(pool % 3)) {
             ends(rt, alloc, *tale, *waiter)?;
         }
     }
