@@ -16,6 +16,7 @@ pub enum Cause {
 }
 
 // What the record says so far of the pool's core size and of the worker that was asked for last.
+#[derive(Drop)]
 struct Found {
     core: u32,
     refused: bool,
@@ -51,9 +52,9 @@ pub fn cause(settings: &Config, report: &Report, callers: &[u32]) -> Option<Caus
             continue;
         };
         let room = u64::from(settings.record_limit).saturating_sub(steps);
-        return match found {
-            Found { core: 0, .. } => Some(Cause::CoreZero),
-            Found { refused: true, .. } => Some(Cause::Refused),
+        return match (found.core, found.refused) {
+            (0, _) => Some(Cause::CoreZero),
+            (_, true) => Some(Cause::Refused),
             _ if room < owed(queued) => Some(Cause::Full),
             _ => None,
         };
