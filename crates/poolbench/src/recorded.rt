@@ -165,7 +165,7 @@ fn receipts(tasks: u32) -> usize {
 }
 
 // Shuts the pool down, and waits for its end.
-fn end<G: PoolNaming, R: Wait>(
+fn end<G: PoolNaming + Send + Sync + 'static, R: Threads + Wait + Copy + Send + 'static>(
     rt: &R,
     pool: &Recorded<G>,
     pass: &mut Pass<G>,

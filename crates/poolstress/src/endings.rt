@@ -31,8 +31,8 @@ pub fn report<G: PoolNaming, J: Job, E: Edge, R: Wait>(
     }
 }
 
-// The value, once nobody else has it: a thread that was joined may yet let go of it.
-fn sole<T, R: Wait>(rt: &R, shared: Arc<T>) -> T {
+/// The value, once nobody else has it: a thread that was joined may yet let go of it.
+pub fn sole<T, R: Wait>(rt: &R, shared: Arc<T>) -> T {
     let mut shared = shared;
     for _ in rt.forever() {
         match Arc::try_unwrap(shared) {

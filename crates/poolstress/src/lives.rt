@@ -3,6 +3,7 @@ ghost use Rattle.std.specs.Prelude.{◌≡◌};
 
 use crate::accounts::{Books, judge};
 use crate::callers::{Caller, Crew, Role, Told, hire, stop};
+use crate::causes::{Cause, cause};
 use crate::chores::{Chore, Count, count};
 use crate::endings::closed;
 use crate::luck::Luck;
@@ -97,12 +98,31 @@ fn whole_life<
     let pool = Arc::new(alloc, pool)?;
     let (hands, stranded) = live(rt, alloc, &pool, &mut told, plan, &ran)?;
     let (passes, books) = gathered(alloc, hands, told, ran)?;
+    let callers = numbers_of(alloc, &passes)?;
     let report = closed(&rt, pool, passes)?;
     Ok(Account {
         counts: judge(alloc, plan, &report, &books)?,
-        stranded,
+        stranded: explained(stranded, cause(&plan.settings, &report, &callers))?,
         entries: report.entries.len(),
     })
+}
+
+// The numbers of these passes.
+fn numbers_of<G: PoolNaming>(alloc: Global, passes: &[Pass<G>]) -> Result<Vec<u32>, AllocError> {
+    let mut numbers = Vec::new(alloc);
+    for pass in passes {
+        numbers.push(pass.number())?;
+    }
+    Ok(numbers)
+}
+
+// Why the pool had to be stopped, where it had to be.
+fn explained(stranded: bool, cause: Option<Cause>) -> Result<Option<Cause>, Mishap> {
+    match (stranded, cause) {
+        (false, _) => Ok(None),
+        (true, Some(cause)) => Ok(Some(cause)),
+        (true, None) => Err(Mishap::Differs("tasks were left to nobody")),
+    }
 }
 
 // A count for each job.
@@ -180,8 +200,8 @@ fn chores_of(alloc: Global, plan: &Plan, k: u32, ran: &[Count]) -> Result<Vec<Ch
     Ok(chores)
 }
 
-// Waits until the pool is terminated, and stops it where its tasks are left to nobody; whether it did.
-// That comes of a factory that refuses, or of a slot that was given up at a shutdown.
+// Waits until the pool is terminated, and stops it where its tasks are left to nobody; whether it did. A pool does
+// not leave them so but at core size 0, by a factory that refuses again, or for want of room in its record.
 fn attend<G: PoolNaming, R: Wait + Clock>(
     rt: &R,
     pool: &Crew<G>,

@@ -3,12 +3,14 @@
 //! `poolstress stress POOLS [SEED]`: lets so many pools live by chance, 1 being the usual seed, and prints
 //! what became of their jobs.
 //! `poolstress reuse POOLS`: lets so many pools give up a slot that is reserved anew at once.
+//! `poolstress left POOLS`: lets so many pools be shut down and left to nobody.
 //!
 //! The status is 1 where a pool came to what it must not come to, and 2 for any other command line.
 #![tactic(auto)]
 
 mod accounts;
 mod callers;
+mod causes;
 mod chores;
 mod endings;
 mod lives;
@@ -18,10 +20,11 @@ mod mishaps;
 mod plans;
 mod reports;
 mod reuse;
+mod tales;
 mod totals;
 mod whims;
 
-use reports::{rehearsed, reused, stressed};
+use reports::{left, rehearsed, reused, stressed};
 use std::process::ExitCode;
 use std::{env, io};
 
@@ -33,6 +36,7 @@ enum Choice {
     Rehearse(u32),
     Stress(u32, u32),
     Reuse(u32),
+    Left(u32),
     Usage,
 }
 
@@ -56,6 +60,7 @@ fn chosen(words: &[String]) -> Choice {
         ("stress", 3, Some(pools), None) => Choice::Stress(pools, USUAL_SEED),
         ("stress", 4, Some(pools), Some(seed)) => Choice::Stress(pools, seed),
         ("reuse", 3, Some(pools), None) => Choice::Reuse(pools),
+        ("left", 3, Some(pools), None) => Choice::Left(pools),
         _ => Choice::Usage,
     }
 }
@@ -67,8 +72,11 @@ fn main(rt: HostRuntime) -> io::Result<ExitCode> {
         Choice::Rehearse(seed) => rehearsed(rt, alloc, u64::from(seed))?,
         Choice::Stress(pools, seed) => stressed(rt, alloc, u64::from(seed), pools)?,
         Choice::Reuse(pools) => reused(rt, alloc, pools)?,
+        Choice::Left(pools) => left(rt, alloc, pools)?,
         Choice::Usage => {
-            eprintln!(&rt; "usage: poolstress rehearse SEED | stress POOLS [SEED] | reuse POOLS")?;
+            eprintln!(&rt;
+                "usage: poolstress rehearse SEED | stress POOLS [SEED] | reuse POOLS | left POOLS"
+            )?;
             return Ok(ExitCode::from(2));
         }
     };

@@ -4,6 +4,7 @@ use crate::lives::stress;
 use crate::meetings::all_meet;
 use crate::mishaps::Mishap;
 use crate::reuse::all_reuse;
+use crate::tales::all_end;
 use crate::totals::Totals;
 use std::alloc::Global;
 use std::io;
@@ -17,8 +18,11 @@ const REHEARSED: u32 = 8;
 /// The pools of a rehearsal whose jobs run all at once.
 const MEETINGS: u32 = 4;
 
-/// Lets a few pools live by chance, and a few whose jobs run all at once, and prints what is the same
-/// each time; whether all went well.
+/// The pools of a rehearsal that are left to nobody: each tale with each way to wait.
+const LEFT: u32 = 39;
+
+/// Lets a few pools live by chance, a few whose jobs run all at once, and a few that are left to nobody, and
+/// prints what is the same each time; whether all went well.
 pub fn rehearsed<R: Threads + Wait + Clock + Print + Copy + Send + Sync + 'static>(
     rt: R,
     alloc: Global,
@@ -31,9 +35,13 @@ pub fn rehearsed<R: Threads + Wait + Clock + Print + Copy + Send + Sync + 'stati
     if let Err(mishap) = all_meet(rt, alloc, MEETINGS) {
         return misses(&rt, 0, &mishap);
     }
+    if let Err(mishap) = all_end(rt, alloc, LEFT) {
+        return misses(&rt, 0, &mishap);
+    }
     let pools = totals.pools;
     println!(&rt; "{pools} pools closed, each record legal, every job accounted for")?;
     println!(&rt; "{MEETINGS} pools closed, whose jobs ran all at once")?;
+    println!(&rt; "{LEFT} pools closed, which were shut down and left to nobody")?;
     Ok(true)
 }
 
@@ -69,7 +77,10 @@ fn tell<R: Print>(rt: &R, totals: &Totals) -> io::Result<()> {
         "{} jobs accounted for: {} run, {} run by their submitters, {} back, {} discarded, {} cancelled",
         totals.jobs, totals.ran, totals.caller, totals.back, totals.discarded, totals.cancelled
     )?;
-    println!(rt; "{} pools left tasks to nobody", totals.stranded)
+    println!(rt;
+        "pools that left tasks to nobody: {} at core size 0, {} whose worker was refused again, {} for want of room",
+        totals.at_zero, totals.refused, totals.full
+    )
 }
 
 /// Lets so many pools give up a slot that is reserved anew at once; whether all went well.
@@ -82,5 +93,18 @@ pub fn reused<R: Threads + Wait + Print + Copy + Send + Sync + 'static>(
         return misses(&rt, 0, &mishap);
     }
     println!(&rt; "{pools} pools closed, in which a slot was reserved anew")?;
+    Ok(true)
+}
+
+/// Lets so many pools be shut down and left to nobody; whether all went well.
+pub fn left<R: Threads + Wait + Print + Copy + Send + Sync + 'static>(
+    rt: R,
+    alloc: Global,
+    pools: u32,
+) -> io::Result<bool> {
+    if let Err(mishap) = all_end(rt, alloc, pools) {
+        return misses(&rt, 0, &mishap);
+    }
+    println!(&rt; "{pools} pools closed, which were shut down and left to nobody")?;
     Ok(true)
 }

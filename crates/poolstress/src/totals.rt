@@ -1,5 +1,6 @@
 //! What the pools of a run came to, added up.
 
+use crate::causes::Cause;
 use crate::plans::Plan;
 use tp_types::states::Counts;
 
@@ -20,8 +21,12 @@ pub struct Totals {
     pub discarded: u64,
     /// Jobs that were cancelled.
     pub cancelled: u64,
-    /// Pools that were stopped since tasks were left to nobody.
-    pub stranded: u32,
+    /// Pools that were stopped since tasks were left to nobody: at core size 0,
+    pub at_zero: u32,
+    /// since the worker that they asked for was not made,
+    pub refused: u32,
+    /// and since their record had no room for another worker.
+    pub full: u32,
     /// Entries of all records.
     pub entries: u64,
 }
@@ -31,8 +36,8 @@ pub struct Totals {
 pub struct Account {
     /// The counters of its record.
     pub counts: Counts,
-    /// Whether it was stopped since tasks were left to nobody.
-    pub stranded: bool,
+    /// Why it was stopped since tasks were left to nobody, where it was.
+    pub stranded: Option<Cause>,
     /// The entries of its record.
     pub entries: usize,
 }
@@ -42,7 +47,12 @@ impl Totals {
     pub fn add(&mut self, plan: &Plan, account: &Account) {
         self.pools = self.pools.saturating_add(1);
         self.jobs = self.jobs.saturating_add(u64::from(plan.all_jobs()));
-        self.stranded = self.stranded.saturating_add(u32::from(account.stranded));
+        match account.stranded {
+            Some(Cause::CoreZero) => self.at_zero = self.at_zero.saturating_add(1),
+            Some(Cause::Refused) => self.refused = self.refused.saturating_add(1),
+            Some(Cause::Full) => self.full = self.full.saturating_add(1),
+            None => {}
+        }
         self.entries = self.entries.saturating_add(account.entries as u64);
         self.add_fates(&account.counts);
     }

@@ -14,4 +14,5 @@ pub mod Sums
 pub mod Counting
 pub mod Sizes
 pub mod Serves
+pub mod Rescues
 pub mod AllLaws

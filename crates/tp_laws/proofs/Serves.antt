@@ -139,7 +139,7 @@ owed_without_slot c (e ∷ h) config told kept low none t is = by_freed (is_some
         served_said e.did (submitted h) t (place h t) (is_cancelled h t) (owes_look h t) (fits_given c h e.did t told.0) (served_given c h e.did t told.0 count) left.1 (rest keeps.1 runs count t) is
 
 -- where a test counts some, some number passes it
-some_passes : (f : ℕ → Bool) (k n : ℕ) → 1 ≤ count_by f (count_from k n) → (w : ℕ) × (f w ≡ true)
+pub some_passes : (f : ℕ → Bool) (k n : ℕ) → 1 ≤ count_by f (count_from k n) → (w : ℕ) × (f w ≡ true)
 some_passes f k zero some = absurd (let e : 1 ≤ 0 = some in omega arith)
 some_passes f k (suc n) some = by_test (some_passes f (suc k) n) (f k) refl
   where

@@ -1,6 +1,6 @@
 -- The laws of legal records, in the record's words. A history lists the entries latest first, and each front of a record
 -- is a tail of its history, so what is said of every legal history is said of every front.
-use Rattle.std.specs.Prelude.{◌≡◌, nat_lt, ◌≤◌, ◌+◌, ◌⊎◌, ◌||◌, ℕ, Bool, true, false, not, List, [], ◌∷◌, ◌++◌, length, Option, Some, None, count_by, is_some, ⊤, if◌then◌else◌}
+use Rattle.std.specs.Prelude.{◌≡◌, nat_lt, ◌≤◌, ◌+◌, ◌⊎◌, ◌||◌, ℕ, Bool, true, false, not, List, [], ◌∷◌, ◌++◌, length, Option, Some, None, Ok, count_by, is_some, ⊤, if◌then◌else◌}
 use Rattle.std.specs.List.{list_any}
 use Rattle.tp_types.specs.declared.configs.Config.{Config}
 use Rattle.tp_types.specs.declared.configs.QueueKind.{QueueKind}
@@ -8,15 +8,17 @@ use Rattle.tp_types.specs.declared.configs.QueueKind.TheVariants.{Handoff, Unbou
 use Rattle.tp_types.specs.declared.tasks.Fate.{Fate}
 use Rattle.tp_types.specs.declared.tasks.Fate.TheVariants as fate
 use Rattle.tp_record.specs.declared.entries.Entry.{Entry}
+use Rattle.tp_record.specs.declared.entries.Ask.TheVariants as ask
 use Rattle.tp_record.specs.declared.entries.Did.{Did}
 use Rattle.tp_record.specs.declared.entries.Did.TheVariants as did
 use Rattle.tp_record.specs.declared.entries.Opened.TheVariants as opened
 use Rattle.tp_record.specs.declared.entries.Ruled.TheVariants as ruled
 use Rattle.tp_record.specs.declared.entries.Took.TheVariants as took
 use Rattle.tp_record.specs.Lists.{is_it, count_from}
-use Rattle.tp_record.specs.Effects.{sets_maximum}
+use Rattle.tp_record.specs.Effects.{sets_core, sets_maximum}
 use Rattle.tp_record.specs.Fields.{rank, last_set}
 use Rattle.tp_record.specs.State.{state}
+use Rattle.tp_record.specs.Step.{fitting}
 use Rattle.tp_record.specs.Words.{owes_look, was_cancelled, is_submitted, waiting_line, with_submitter, waits_in_queue, in_slot, is_in, is_at_caller, is_gone, begun, is_begun, finishings, queued_by, is_stop, wakes, idle_since, is_slot_now, has_fate, with_fate, submissions, slot_numbers, reserved_by}
 
 -- Places
@@ -105,6 +107,13 @@ abbrev pub Served : List Entry → Type 0
 Served h =
     list_any (λ e. loses_worker e.did) h ≡ false → rank h ≤ 1 → (t : ℕ) → waits_in_queue h t ≡ true →
     (owes_look h t ≡ true) ⊎ ((w : ℕ) × (is_slot_now h w ≡ true))
+
+-- where the pool is shut down and has no slot, a task waits in the queue and the core size is above 0, a prestart reserves a slot, unless the record
+-- has no room for it. A task that owes a second look is one that waits, too
+abbrev pub RescueServes : Config → List Entry → Type 0
+RescueServes c h =
+    rank h ≡ 1 → ((w : ℕ) → is_slot_now h w ≡ false) → (t : ℕ) → waits_in_queue h t ≡ true → 1 ≤ last_set sets_core c.core h →
+    (w : ℕ) → fitting c (state c h) w ask.Prestart ≡ Ok (did.Prestart (Some (record { 0 = w })))
 
 -- Run states
 

@@ -1,7 +1,7 @@
 //! Slots.
 
 ghost use Rattle.std.specs.Prelude.{List, ◌∷◌};
-ghost use Rattle.tp_laws.specs.Laws.{Served, SlotsWithinMaximum};
+ghost use Rattle.tp_laws.specs.Laws.{RescueServes, Served, SlotsWithinMaximum};
 ghost use Rattle.tp_record.specs.Step.{Legal};
 ghost use Rattle.tp_record.specs.declared.entries.Entry.{Entry};
 ghost use Rattle.tp_types.specs.Config.{IsConfig};
@@ -20,4 +20,11 @@ pub fn slots_within_maximum()
 /// as a task came.
 pub fn served()
     ensures { (c : Config) (h : List Entry) → IsConfig c → Legal c h → Served h }
+{}
+
+/// In a pool that is shut down and has no slot, with a task in its queue and a core size above 0, a prestart
+/// reserves a slot, whatever number that gets; for want of room in the record it is refused, and for nothing
+/// else. So a thread that finds tasks left to nobody can have a worker made for them.
+pub fn rescue_serves()
+    ensures { (c : Config) (h : List Entry) → Legal c h → RescueServes c h }
 {}

@@ -5,6 +5,7 @@ pub mod CoreView
 pub mod Drains
 pub mod Flagged
 pub mod Holds
+pub mod Left
 pub mod Moments
 pub mod Names
 pub mod Passes

@@ -81,6 +81,7 @@ mod closing;
 mod controllers;
 mod marks;
 mod readings;
+mod rescues;
 mod submitters;
 mod workers;
 

@@ -3,3 +3,4 @@ pub mod Closing
 pub mod Deeds
 pub mod Endings
 pub mod Prestarts
+pub mod Rescues

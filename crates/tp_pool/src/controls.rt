@@ -83,17 +83,22 @@ impl<G: PoolNaming, J: Job, E: Edge> PoolOf<G, J, E> {
     }
 
     /// Takes the cancelled tasks out of the queue, as `ThreadPoolExecutor.purge`, and answers how many they
-    /// were. NoMemory (4) for its receipt, else BookFull (5).
+    /// were. Where that leaves a pool that is shut down without a task and a worker, this call ends the pool.
+    /// NoMemory (4) for its receipt, else BookFull (5).
     pub fn purge<R: Wait>(&self, rt: &R, pass: &mut Pass<G>) -> Result<u32, PoolError>
         ensures step { IfOk result (λ n. AddsStep G.config pass.old Ask.Purge (Did.Purge n) pass.new) }
         ensures refused { IfErr result (Refuses G.config pass.new.front Ask.Purge) }
         ensures unchanged { OnErr result (AddsNone pass.old pass.new) }
     {
-        self.shared().control(rt, Purge, pass)
+        let shared = self.shared();
+        let (purged, remains) = shared.control_left(rt, Purge, pass);
+        shared.end_left(rt, remains);
+        purged
     }
 
     /// Takes a task out of the queue, as `ThreadPoolExecutor.remove`, and hands its job back unless it was
     /// cancelled. A task that is not in the queue answers `Removal::No`: a worker may have taken it first.
+    /// Where a pool that is shut down is left without a task and a worker, this call ends the pool.
     /// NoMemory (4) for its receipt, else UnknownTask (6) or BookFull (5).
     pub fn remove<R: Wait>(
         &self,
@@ -106,7 +111,10 @@ impl<G: PoolNaming, J: Job, E: Edge> PoolOf<G, J, E> {
         ensures refused { IfErr result (Refuses G.config pass.new.front (Ask.Remove t)) }
         ensures unchanged { OnErr result (AddsNone pass.old pass.new) }
     {
-        match self.shared().control(rt, Remove(t), pass) {
+        let shared = self.shared();
+        let (removed, remains) = shared.control_left(rt, Remove(t), pass);
+        shared.end_left(rt, remains);
+        match removed {
             Ok(handed) => Ok(removal_from(handed)),
             Err(error) => Err(error),
         }

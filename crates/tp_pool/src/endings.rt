@@ -12,21 +12,37 @@ ghost use Rattle.tp_pool.specs.Endings.{AddsAndEnds, IsBarred};
 use crate::edges::Edge;
 use crate::pool::PoolOf;
 use std::sync::Wait;
+use std::thread::Threads;
 use tp_book::passes::Pass;
 use tp_callbacks::jobs::Job;
 use tp_locked::answers::Drained;
 use tp_locked::names::PoolNaming;
 use tp_machine::typed::controllers::Shutdown;
 use tp_record::entries::{Ask, Did};
+use tp_turns::rescues::Remains;
 use tp_types::refusals::PoolError;
 
-impl<G: PoolNaming, J: Job, E: Edge> PoolOf<G, J, E> {
+impl<
+    G: PoolNaming + Send + Sync + 'static,
+    J: Job + 'static,
+    E: Edge + Send + Sync + 'static,
+> PoolOf<G, J, E> {
     /// Shuts the pool down, as `ThreadPoolExecutor.shutdown`: it takes no more tasks, and runs those that it
-    /// has. Where it can end at once, this call ends it. The pass has then seen the shutdown.
+    /// has. Where it can end at once, this call ends it. Where tasks are queued, no worker is there and the core
+    /// size is above 0, this call has a worker made for them. The pass has then seen the shutdown.
+    ///
+    /// A pool that is shut down ends by itself: a later call whose step leaves it to nobody does the same. Four
+    /// things can still hold its end up. At core size 0 a task whose worker was not made stays queued:
+    /// `set_core(1)`, `remove` or `shutdown_now` is the way out. So it is with a factory that refuses as many
+    /// workers as tasks are queued. A job may wait for its own single worker, and a hook for the end.
     ///
     /// NoMemory (4) for its receipts, else BookFull (5), which does not come while the pool runs. A refused
     /// call makes no step.
-    pub fn shutdown<R: Wait>(&self, rt: &R, pass: &mut Pass<G>) -> Result<(), PoolError>
+    pub fn shutdown<R: Threads + Wait + Copy + Send + 'static>(
+        &self,
+        rt: &R,
+        pass: &mut Pass<G>,
+    ) -> Result<(), PoolError>
         ensures steps { OnOk result (AddsAndEnds G.config pass.old Ask.Shutdown Did.Shutdown pass.new) }
         ensures seen { OnOk result (1 ≤ rank pass.new.front) }
         ensures refused { IfErr result (Refuses G.config pass.new.front Ask.Shutdown) }
@@ -36,15 +52,21 @@ impl<G: PoolNaming, J: Job, E: Edge> PoolOf<G, J, E> {
             return Err(error);
         }
         let shared = self.shared();
-        match shared.ask(rt, Shutdown, pass) {
+        let (shut, remains) = shared.ask_left(rt, Shutdown, pass);
+        match shut {
             Ok(()) => {
                 shared.try_end(rt, pass);
+                if remains != Remains::End {
+                    self.rescue(*rt, remains);
+                }
                 Ok(())
             }
             Err(error) => Err(error),
         }
     }
+}
 
+impl<G: PoolNaming, J: Job, E: Edge> PoolOf<G, J, E> {
     /// Stops the pool, as `shutdownNow`: the tasks in its queue are handed back in their order and never
     /// begin. The cancel flags of tasks in slots are set, and a job that runs goes on. Where the pool can end
     /// at once, this call ends it. The pass has then seen the stop.
@@ -77,7 +99,8 @@ impl<G: PoolNaming, J: Job, E: Edge> PoolOf<G, J, E> {
     }
 
     /// Waits until the pool is terminated, as `awaitTermination`; where the pool can end, this call ends it.
-    /// The pass has then seen the end. The deadline is a moment in ticks.
+    /// The pass has then seen the end. The deadline is a moment in ticks. Nobody has to wait: a pool that is
+    /// shut down ends by itself, but for what `shutdown` says.
     ///
     /// NoMemory (4) for its receipts, else TimedOut (16) once now has reached the deadline, at once where it
     /// has already: these calls make no step. TornRecord (22) where the book does not take its step `ended`

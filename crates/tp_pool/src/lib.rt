@@ -16,6 +16,7 @@ pub mod lock;
 pub mod pool;
 mod prestarts;
 pub mod readings;
+mod rescues;
 mod shared;
 mod staffing;
 mod submitting;

@@ -153,7 +153,7 @@ impl<
             Err(error) => return Err(error),
         };
         let staffed = self.staffed(rt, w);
-        match self.shared().open(&rt, w, staffed, pass) {
+        match self.open(rt, w, staffed, pass) {
             Ok(did) => Ok(is_live(w, staffed, &did)),
             Err(_) => Ok(false),
         }

@@ -1,9 +1,10 @@
 //! The value that all threads of a pool share, and the holds of its lock.
 ghost use Rattle.std.specs.Prelude.{◌≡◌, ◌⊎◌, ◌+◌, ◌<◌, ◌≤◌, [], ◌∷◌, length, IsTrue, IfOk, IfErr, OnOk, OnErr};
 ghost use Rattle.tp_record.specs.Fields.{rank};
-ghost use Rattle.tp_record.specs.State.{counts as counts_of};
+ghost use Rattle.tp_record.specs.State.{counts as counts_of, state};
 ghost use Rattle.tp_types.specs.RunState.{state_rank};
 ghost use Rattle.tp_glance.specs.Word.{IsFrontOf};
+ghost use Rattle.tp_locked.specs.Left.{IsLeft};
 ghost use Rattle.tp_locked.specs.Moments.{AtFront};
 ghost use Rattle.tp_locked.specs.Passes.{Adds, AddsNone, AddsStep, IsRefusal, LooksOnly, Refuses, tidied, ended, entry_of};
 ghost use Rattle.tp_locked.specs.Steps.{Makes, Refused as IsRefusedAt, Stops};
@@ -25,6 +26,7 @@ use tp_locked::tasks::Task;
 use tp_machine::typed::Step;
 use tp_machine::typed::controllers::{Ended, Tidy};
 use tp_record::entries::{Ask, Did};
+use tp_turns::rescues::Remains;
 use tp_types::configs::Policy;
 use tp_types::ids::SlotId;
 use tp_types::refusals::PoolError;
@@ -186,6 +188,53 @@ impl<G: PoolNaming, J: Drop, E: Edge> Shared<G, J, E> {
         let answer = core.ask(step, &self.glance, pass);
         self.release(core);
         answer
+    }
+
+    /// As `ask`, and tells what is left to do after it, as the hold of the step knows.
+    #[inline(always)]
+    pub fn ask_left<R: Wait, S: Marks<J> + Step<Task<J>, Load = ()>>(
+        &self,
+        rt: &R,
+        step: S,
+        pass: &mut Pass<G>,
+    ) -> (Result<S::Answer, PoolError>, Remains)
+        requires brings { S.brings step tt }
+        requires room { 0 < pass.old.room }
+        ensures answers { IfOk result.0 (λ x. S.answers step x) }
+        ensures makes { IfOk result.0 (λ x. Makes J G.config pass.old.number pass.old.front (S.ask step) (S.did step x) (S.moves step tt x) pass.new.front) }
+        ensures step { IfOk result.0 (λ x. AddsStep G.config pass.old (S.ask step) (S.did step x) pass.new) }
+        ensures left { OnOk result.0 (pass.old.room ≤ pass.new.room + 1) }
+        ensures refused { IfErr result.0 (λ e. HasNoOutcome (S.ask step) → IsRefusal G.config pass.new.front (S.ask step) e) }
+        ensures unchanged { OnErr result.0 (LooksOnly G.config pass.old pass.new) }
+        ensures remains { IsLeft (state G.config pass.new.front) result.1 }
+    {
+        let mut core = self.hold(rt);
+        let answer = core.ask(step, &self.glance, pass);
+        let remains = core.remains();
+        self.release(core);
+        (answer, remains)
+    }
+
+    /// As `control`, and tells what is left to do after the step.
+    pub fn control_left<R: Wait, S: Marks<J> + Step<Task<J>, Load = ()>>(
+        &self,
+        rt: &R,
+        step: S,
+        pass: &mut Pass<G>,
+    ) -> (Result<S::Answer, PoolError>, Remains)
+        requires brings { S.brings step tt }
+        requires no_outcome { HasNoOutcome (S.ask step) }
+        ensures answers { IfOk result.0 (λ x. S.answers step x) }
+        ensures makes { IfOk result.0 (λ x. Makes J G.config pass.old.number pass.old.front (S.ask step) (S.did step x) (S.moves step tt x) pass.new.front) }
+        ensures step { IfOk result.0 (λ x. AddsStep G.config pass.old (S.ask step) (S.did step x) pass.new) }
+        ensures refused { IfErr result.0 (Refuses G.config pass.new.front (S.ask step)) }
+        ensures unchanged { OnErr result.0 (AddsNone pass.old pass.new) }
+        ensures remains { OnOk result.0 (IsLeft (state G.config pass.new.front) result.1) }
+    {
+        if let Err(error) = pass.reserve(1) {
+            return (Err(error), Remains::Nothing);
+        }
+        self.ask_left(rt, step, pass)
     }
 
     /// As `ask`, for a step with which no outcome comes. The memory of its receipt is taken first, since an

@@ -9,6 +9,7 @@ use std::thread::{Builder, Promise, Threads};
 use tp_book::passes::WorkerPass;
 use tp_callbacks::jobs::Job;
 use tp_locked::names::PoolNaming;
+use tp_turns::rescues::{Remains, rescue};
 use tp_types::ids::SlotId;
 
 // Any result will do.
@@ -91,8 +92,8 @@ fn launch<
 }
 
 // The work of a worker's thread: its turns once its slot is live, then a worker in its place where one is
-// wanted, and at last it hands in its pass and lets go of the pool. Each heir is made by the thread before
-// it, so the line of heirs is counted down.
+// wanted, and what is left to do where that leaves the pool to nobody. At last it hands in its pass and lets go
+// of the pool. Each heir is made by the thread before it, so the line of heirs is counted down.
 #[cycle(staffing)]
 fn run_worker<
     G: PoolNaming + Send + Sync + 'static,
@@ -101,9 +102,33 @@ fn run_worker<
     R: Threads + Wait + Copy + Send + 'static,
 >(rt: R, shared: Arc<Shared<G, J, E>>, w: SlotId, pass: WorkerPass<G>, heirs: u64) {
     let mut post = Post::new(shared, w, pass);
-    if let Some(heir) = post.work(&rt) {
-        let staffed = staff_heir(rt, &post.shared, heir, heirs);
-        post.hand_over(&rt, heir, staffed);
+    let heir = post.work(&rt);
+    let (shared, mut pass) = post.into_parts();
+    if let Some(heir) = heir {
+        let staffed = staff_heir(rt, &shared, heir, heirs);
+        let remains = shared.hand_over(&rt, heir, staffed, &mut pass);
+        save(rt, &shared, &mut pass, remains, heirs);
     }
-    post.finish(&rt);
+    shared.hand_in(&rt, pass);
+    drop(shared);
+}
+
+/// Does what is left to do in a pool that is shut down, round by round: it ends the pool where it can end, or has
+/// a worker made for the tasks that are queued, and tells whether one was. It ends with the first worker that goes
+/// live, or once as many were not made as tasks are queued.
+#[cycle(staffing)]
+pub fn save<
+    G: PoolNaming + Send + Sync + 'static,
+    J: Job + 'static,
+    E: Edge + Send + Sync + 'static,
+    R: Threads + Wait + Copy + Send + 'static,
+>(rt: R, shared: &Arc<Shared<G, J, E>>, pass: &mut WorkerPass<G>, remains: Remains, heirs: u64) {
+    let mut remains = remains;
+    for tried in 0..u32::MAX {
+        let Some(w) = rescue(&rt, &**shared, pass, remains, tried) else {
+            return;
+        };
+        let staffed = staff_heir(rt, shared, w, heirs);
+        remains = shared.hand_over(&rt, w, staffed, pass);
+    }
 }

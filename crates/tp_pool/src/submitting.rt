@@ -1,9 +1,11 @@
 //! Submissions: a task's path from its first step to its end, each step in a hold of its own. Between two of
 //! them other threads may make steps, so a submission asks after each answer what comes next.
-ghost use Rattle.std.specs.Prelude.{◌≡◌, ◌⊎◌, ◌+◌, ◌<◌, ◌≤◌, IfSome, IfNone, IfOk, IfErr, OnSome, OnOk, OnErr};
+ghost use Rattle.std.specs.Prelude.{◌≡◌, ◌⊎◌, ◌+◌, ◌<◌, ◌≤◌, Some, IfSome, IfNone, IfOk, IfErr, OnSome, OnOk, OnErr};
+ghost use Rattle.tp_record.specs.State.{state};
 ghost use Rattle.tp_record.specs.declared.entries.Ask.{Ask as AskOf};
 ghost use Rattle.tp_parts.specs.Payloads.{PutsIn};
 ghost use Rattle.tp_paths.specs.Fronts.{admission_of, follow_of};
+ghost use Rattle.tp_locked.specs.Left.{IsLeft};
 ghost use Rattle.tp_locked.specs.Passes.{AddsStep, AddsNone, IsRefusal, LooksOnly, Refuses, opening};
 ghost use Rattle.tp_locked.specs.Steps.{Makes};
 ghost use Rattle.tp_pool.specs.Admissions.{task_of, end_of, Admits, Awaits, IsAdmitted, IsTurnedAway};
@@ -25,7 +27,8 @@ use tp_machine::typed::submitters::{CallerEnd, Grow, Judge, Look, Offer, Second,
 use tp_machine::typed::workers::Fail;
 use tp_paths::laws::fronts_are_paths;
 use tp_paths::paths::{Ending, Next, follows};
-use tp_record::entries::{Ask, Did, Looked};
+use tp_record::entries::{Ask, Did, Looked, Seconded};
+use tp_turns::rescues::Remains;
 use tp_types::configs::{Policy, Verdict};
 use tp_types::ids::{SlotId, TaskId};
 use tp_types::refusals::PoolError;
@@ -77,6 +80,10 @@ impl<
     /// submission. The answer has the task's number. `Accepted`: the pool has the task, or it was cancelled
     /// before its submitter was to run it. `RanHere` and `Discarded`: the pool could not take the task, and
     /// the policy had it run or dropped.
+    ///
+    /// Where its steps leave a pool that is shut down to nobody, this call also does what is left, with a pass
+    /// of the pool's own: it ends the pool, or has a worker made for the tasks that are queued. So it may call
+    /// the terminated hook and the factory once the pool is shut down.
     ///
     /// NoMemory (4) or BookFull (5) comes before the first step, with the job and with nothing done.
     /// Rejected (12) comes after the task's whole path, with the job where it was not cancelled.
@@ -180,14 +187,70 @@ impl<
         let shared = self.shared();
         match next {
             Next::Offer => shared.offer(&rt, t, pass),
-            Next::Second => shared.second(&rt, t, pass),
+            Next::Second => self.second(rt, t, pass),
             Next::Look => shared.look_again(&rt, t, pass),
             Next::Grow => shared.grow(&rt, t, pass),
-            Next::Judge => shared.judge(&rt, t, self.verdict(&rt, t), held, pass),
+            Next::Judge => self.judge(rt, t, self.verdict(&rt, t), held, pass),
             Next::RunHere => shared.end_here(&rt, t, run_here(held.take())?, pass),
-            Next::Staff(w) => shared.open(&rt, w, self.staffed(rt, w), pass).ok(),
+            Next::Staff(w) => self.open(rt, w, self.staffed(rt, w), pass).ok(),
             Next::End(_) | Next::Astray => None,
         }
+    }
+
+    // The step `second`: what it did. A task that comes back may leave the pool to nobody.
+    #[inline(always)]
+    fn second<R: Threads + Wait + Copy + Send + 'static>(
+        &self,
+        rt: R,
+        t: TaskId,
+        pass: &mut Pass<G>,
+    ) -> Option<Did>
+        requires room { 0 < pass.old.room }
+        ensures step { IfSome result (λ d. AddsStep G.config pass.old (Ask.Second t) d pass.new) }
+        ensures left { OnSome result (pass.old.room ≤ pass.new.room + 1) }
+        ensures unchanged { IfNone result (LooksOnly G.config pass.old pass.new) }
+    {
+        let (did, remains) = self.shared().second(&rt, t, pass);
+        self.rescue(rt, remains);
+        did
+    }
+
+    // The step `verdict`: what it did. A task that its submitter is to run, or that is gone, is handed out.
+    fn judge<R: Threads + Wait + Copy + Send + 'static>(
+        &self,
+        rt: R,
+        t: TaskId,
+        verdict: Verdict,
+        held: &mut Option<Task<J>>,
+        pass: &mut Pass<G>,
+    ) -> Option<Did>
+        requires room { 0 < pass.old.room }
+        ensures step { IfSome result (λ d. AddsStep G.config pass.old (Ask.Verdict t verdict) d pass.new) }
+        ensures left { OnSome result (pass.old.room ≤ pass.new.room + 1) }
+        ensures unchanged { IfNone result (LooksOnly G.config pass.old pass.new) }
+    {
+        let (did, remains) = self.shared().judge(&rt, t, verdict, held, pass);
+        self.rescue(rt, remains);
+        did
+    }
+
+    // Tells whether a worker was made for this slot, and does what that leaves to do.
+    pub(crate) fn open<R: Threads + Wait + Copy + Send + 'static>(
+        &self,
+        rt: R,
+        w: SlotId,
+        staffed: bool,
+        pass: &mut Pass<G>,
+    ) -> Result<Did, PoolError>
+        requires room { 0 < pass.old.room }
+        ensures step { IfOk result (λ d. AddsStep G.config pass.old (opening w staffed) d pass.new) }
+        ensures left { OnOk result (pass.old.room ≤ pass.new.room + 1) }
+        ensures refused { IfErr result (IsRefusal G.config pass.new.front (opening w staffed)) }
+        ensures unchanged { OnErr result (LooksOnly G.config pass.old pass.new) }
+    {
+        let (opened, remains) = self.shared().open(&rt, w, staffed, pass);
+        self.rescue(rt, remains);
+        opened
     }
 
     // The verdict on a refused task: the policy's, or the handler's under `Policy::Own`.
@@ -289,17 +352,25 @@ impl<G: PoolNaming, J: Job, E: Edge> Shared<G, J, E> {
         }
     }
 
-    // The step `second`: what it did.
+    // The step `second`: what it did, and what is left to do where the task came back.
     #[inline(always)]
-    fn second<R: Wait>(&self, rt: &R, t: TaskId, pass: &mut Pass<G>) -> Option<Did>
+    fn second<R: Wait>(&self, rt: &R, t: TaskId, pass: &mut Pass<G>) -> (Option<Did>, Remains)
         requires room { 0 < pass.old.room }
-        ensures step { IfSome result (λ d. AddsStep G.config pass.old (Ask.Second t) d pass.new) }
-        ensures left { OnSome result (pass.old.room ≤ pass.new.room + 1) }
-        ensures unchanged { IfNone result (LooksOnly G.config pass.old pass.new) }
+        ensures step { IfSome result.0 (λ d. AddsStep G.config pass.old (Ask.Second t) d pass.new) }
+        ensures left { OnSome result.0 (pass.old.room ≤ pass.new.room + 1) }
+        ensures unchanged { IfNone result.0 (LooksOnly G.config pass.old pass.new) }
+        ensures remains { result.0 ≡ Some (Did.Second t Seconded.Back) → IsLeft (state G.config pass.new.front) result.1 }
     {
-        match self.ask(rt, Second(t), pass) {
-            Ok(answer) => Some(Did::Second(t, answer)),
-            Err(_) => None,
+        let mut core = self.hold(rt);
+        let answer = core.ask(Second(t), &self.glance, pass);
+        let remains = match answer {
+            Ok(Seconded::Back) => core.remains(),
+            _ => Remains::Nothing,
+        };
+        self.release(core);
+        match answer {
+            Ok(answer) => (Some(Did::Second(t, answer)), remains),
+            Err(_) => (None, remains),
         }
     }
 
@@ -317,7 +388,8 @@ impl<G: PoolNaming, J: Job, E: Edge> Shared<G, J, E> {
         }
     }
 
-    // The step `verdict`: what it did. A task that its submitter is to run, or that is gone, is handed out.
+    // The step `verdict`: what it did, and what is left to do. A task that its submitter is to run, or that is
+    // gone, is handed out.
     fn judge<R: Wait>(
         &self,
         rt: &R,
@@ -325,18 +397,20 @@ impl<G: PoolNaming, J: Job, E: Edge> Shared<G, J, E> {
         verdict: Verdict,
         held: &mut Option<Task<J>>,
         pass: &mut Pass<G>,
-    ) -> Option<Did>
+    ) -> (Option<Did>, Remains)
         requires room { 0 < pass.old.room }
-        ensures step { IfSome result (λ d. AddsStep G.config pass.old (Ask.Verdict t verdict) d pass.new) }
-        ensures left { OnSome result (pass.old.room ≤ pass.new.room + 1) }
-        ensures unchanged { IfNone result (LooksOnly G.config pass.old pass.new) }
+        ensures step { IfSome result.0 (λ d. AddsStep G.config pass.old (Ask.Verdict t verdict) d pass.new) }
+        ensures left { OnSome result.0 (pass.old.room ≤ pass.new.room + 1) }
+        ensures unchanged { IfNone result.0 (LooksOnly G.config pass.old pass.new) }
+        ensures remains { IsLeft (state G.config pass.new.front) result.1 }
     {
-        match self.ask(rt, Judge(t, verdict), pass) {
+        let (judged, remains) = self.ask_left(rt, Judge(t, verdict), pass);
+        match judged {
             Ok(judged) => {
                 *held = judged.payload;
-                Some(judged.did)
+                (Some(judged.did), remains)
             }
-            Err(_) => None,
+            Err(_) => (None, remains),
         }
     }
 
@@ -360,19 +434,20 @@ impl<G: PoolNaming, J: Job, E: Edge> Shared<G, J, E> {
     }
 
     /// Tells, in a hold of its own, whether a worker was made for this slot, and wakes the threads that are
-    /// to hear of it.
+    /// to hear of it. What it did, and what is left to do then.
     pub fn open<R: Wait>(
         &self,
         rt: &R,
         w: SlotId,
         staffed: bool,
         pass: &mut Pass<G>,
-    ) -> Result<Did, PoolError>
+    ) -> (Result<Did, PoolError>, Remains)
         requires room { 0 < pass.old.room }
-        ensures step { IfOk result (λ d. AddsStep G.config pass.old (opening w staffed) d pass.new) }
-        ensures left { OnOk result (pass.old.room ≤ pass.new.room + 1) }
-        ensures refused { IfErr result (IsRefusal G.config pass.new.front (opening w staffed)) }
-        ensures unchanged { OnErr result (LooksOnly G.config pass.old pass.new) }
+        ensures step { IfOk result.0 (λ d. AddsStep G.config pass.old (opening w staffed) d pass.new) }
+        ensures left { OnOk result.0 (pass.old.room ≤ pass.new.room + 1) }
+        ensures refused { IfErr result.0 (IsRefusal G.config pass.new.front (opening w staffed)) }
+        ensures unchanged { OnErr result.0 (LooksOnly G.config pass.old pass.new) }
+        ensures remains { IsLeft (state G.config pass.new.front) result.1 }
     {
         if staffed {
             self.open_live(rt, w, pass)
@@ -381,35 +456,49 @@ impl<G: PoolNaming, J: Job, E: Edge> Shared<G, J, E> {
         }
     }
 
-    // The step `open`: what it did.
-    fn open_live<R: Wait>(&self, rt: &R, w: SlotId, pass: &mut Pass<G>) -> Result<Did, PoolError>
+    // The step `open`: what it did, and what is left to do.
+    fn open_live<R: Wait>(
+        &self,
+        rt: &R,
+        w: SlotId,
+        pass: &mut Pass<G>,
+    ) -> (Result<Did, PoolError>, Remains)
         requires room { 0 < pass.old.room }
-        ensures step { IfOk result (λ d. AddsStep G.config pass.old (Ask.Open w) d pass.new) }
-        ensures left { OnOk result (pass.old.room ≤ pass.new.room + 1) }
-        ensures refused { IfErr result (IsRefusal G.config pass.new.front (Ask.Open w)) }
-        ensures unchanged { OnErr result (LooksOnly G.config pass.old pass.new) }
+        ensures step { IfOk result.0 (λ d. AddsStep G.config pass.old (Ask.Open w) d pass.new) }
+        ensures left { OnOk result.0 (pass.old.room ≤ pass.new.room + 1) }
+        ensures refused { IfErr result.0 (IsRefusal G.config pass.new.front (Ask.Open w)) }
+        ensures unchanged { OnErr result.0 (LooksOnly G.config pass.old pass.new) }
+        ensures remains { IsLeft (state G.config pass.new.front) result.1 }
     {
         let mut core = self.hold(rt);
         let opened = core.open(w, &self.glance, pass);
+        let remains = core.remains();
         self.release(core);
         self.conditions.begun.notify_all();
         match opened {
-            Ok(opened) => Ok(Did::Open(w, opened)),
-            Err(error) => Err(error),
+            Ok(opened) => (Ok(Did::Open(w, opened)), remains),
+            Err(error) => (Err(error), remains),
         }
     }
 
-    // The step `fail`: what it did.
-    fn fail<R: Wait>(&self, rt: &R, w: SlotId, pass: &mut Pass<G>) -> Result<Did, PoolError>
+    // The step `fail`: what it did, and what is left to do.
+    fn fail<R: Wait>(
+        &self,
+        rt: &R,
+        w: SlotId,
+        pass: &mut Pass<G>,
+    ) -> (Result<Did, PoolError>, Remains)
         requires room { 0 < pass.old.room }
-        ensures step { IfOk result (λ d. AddsStep G.config pass.old (Ask.Fail w) d pass.new) }
-        ensures left { OnOk result (pass.old.room ≤ pass.new.room + 1) }
-        ensures refused { IfErr result (IsRefusal G.config pass.new.front (Ask.Fail w)) }
-        ensures unchanged { OnErr result (LooksOnly G.config pass.old pass.new) }
+        ensures step { IfOk result.0 (λ d. AddsStep G.config pass.old (Ask.Fail w) d pass.new) }
+        ensures left { OnOk result.0 (pass.old.room ≤ pass.new.room + 1) }
+        ensures refused { IfErr result.0 (IsRefusal G.config pass.new.front (Ask.Fail w)) }
+        ensures unchanged { OnErr result.0 (LooksOnly G.config pass.old pass.new) }
+        ensures remains { IsLeft (state G.config pass.new.front) result.1 }
     {
-        match self.ask(rt, Fail(w), pass) {
-            Ok(failed) => Ok(Did::Fail(w, failed)),
-            Err(error) => Err(error),
+        let (failed, remains) = self.ask_left(rt, Fail(w), pass);
+        match failed {
+            Ok(failed) => (Ok(Did::Fail(w, failed)), remains),
+            Err(error) => (Err(error), remains),
         }
     }
 }

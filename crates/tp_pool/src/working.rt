@@ -1,10 +1,9 @@
 //! A worker's thread: its turns, and its end.
-ghost use Rattle.std.specs.Prelude.{◌≡◌, List};
-ghost use Rattle.tp_record.specs.declared.entries.Entry.{Entry};
+ghost use Rattle.std.specs.Prelude.{◌≡◌};
 ghost use Rattle.tp_record.specs.State.{state};
 ghost use Rattle.tp_turns.specs.Turns.{bare, told};
 ghost use Rattle.tp_locked.specs.Steps.{taking_of, begun_of, departed_of, IsEndOf};
-ghost use Rattle.tp_pool.specs.Deeds.{Takes, BeginsAt, Ends, Leaves, Opens, Fails, HandsOver, EndsPool};
+ghost use Rattle.tp_pool.specs.Deeds.{Takes, BeginsAt, Ends, Leaves, EndsPool};
 
 use crate::edges::Edge;
 use crate::shared::Shared;
@@ -20,7 +19,7 @@ use tp_locked::roster::Start;
 use tp_locked::tasks::Task;
 use tp_machine::answers::Begun as Started;
 use tp_machine::typed::controllers;
-use tp_machine::typed::workers::{Begin, End, Fail, Leave};
+use tp_machine::typed::workers::{Begin, End, Leave};
 use tp_turns::deeds::{Departed, Ended, Taken};
 use tp_turns::turns::{Begun, Workplace, one_turn};
 use tp_types::ids::{SlotId, TaskId};
@@ -29,8 +28,7 @@ use tp_types::tasks::Outcome;
 /// A worker at its slot.
 #[derive(Drop)]
 pub struct Post<G: PoolNaming, J, E> {
-    /// Its pool.
-    pub shared: Arc<Shared<G, J, E>>,
+    shared: Arc<Shared<G, J, E>>,
     w: SlotId,
     pass: WorkerPass<G>,
     // The slot that is reserved in its place, once it has left.
@@ -91,7 +89,7 @@ impl<
         self.shared.leave(rt, self.w, &mut self.pass)
     }
 
-    // The turn ends here. Its thread has the other worker made right after it, and then ends the pool, so
+    // The turn ends here. Its thread has the other worker made right after it, and then does what is left, so
     // that no turn starts a thread that makes turns.
     fn replace(&mut self, _rt: &R, w: SlotId) {
         self.heir = Some(w);
@@ -133,24 +131,15 @@ impl<G: PoolNaming + Send + Sync + 'static, J: Job + 'static, E: Edge + Send + S
         unreachable!()
     }
 
-    /// Tells whether a worker was made in its place, and ends the pool where it can end now.
-    pub fn hand_over<R: Wait>(&mut self, rt: &R, w: SlotId, staffed: bool)
-        ensures { (mid : List Entry) × HandsOver J G.config self.old.pass.number self.old.pass.front w staffed mid × EndsPool J G.config self.old.pass.number mid self.new.pass.front }
-    {
-        self.shared.hand_over(rt, w, staffed, &mut self.pass);
-        self.shared.try_end_as_worker(rt, &mut self.pass);
-    }
-
-    /// Hands in its pass, and lets go of the pool.
-    pub fn finish<R: Wait>(self, rt: &R) {
+    /// Its pool and its pass, once its turns are over.
+    pub fn into_parts(self) -> (Arc<Shared<G, J, E>>, WorkerPass<G>) {
         let Post {
             shared,
             w: _,
             pass,
             heir: _,
         } = self;
-        shared.hand_in(rt, pass);
-        drop(shared);
+        (shared, pass)
     }
 }
 
@@ -209,37 +198,6 @@ impl<G: PoolNaming, J: Drop, E: Edge> Shared<G, J, E> {
         }
     }
 
-    // One hold of a worker that tells whether another was made in its place.
-    fn hand_over<R: Wait>(&self, rt: &R, w: SlotId, staffed: bool, pass: &mut WorkerPass<G>)
-        ensures asks { HandsOver J G.config pass.old.number pass.old.front w staffed pass.new.front }
-        ensures number { pass.new.number ≡ pass.old.number }
-    {
-        if staffed {
-            self.open_heir(rt, w, pass);
-        } else {
-            self.fail_heir(rt, w, pass);
-        }
-    }
-
-    // The step `open` of a worker's heir.
-    fn open_heir<R: Wait>(&self, rt: &R, w: SlotId, pass: &mut WorkerPass<G>)
-        ensures asks { Opens J G.config pass.old.number pass.old.front w pass.new.front }
-        ensures number { pass.new.number ≡ pass.old.number }
-    {
-        let mut core = self.hold(rt);
-        let _ = core.open(w, &self.glance, pass);
-        self.release(core);
-        self.conditions.begun.notify_all();
-    }
-
-    // The step `fail` of a worker's heir.
-    fn fail_heir<R: Wait>(&self, rt: &R, w: SlotId, pass: &mut WorkerPass<G>)
-        ensures asks { Fails J G.config pass.old.number pass.old.front w pass.new.front }
-        ensures number { pass.new.number ≡ pass.old.number }
-    {
-        let _ = self.step(rt, Fail(w), pass);
-    }
-
     // Sleeps until another thread took the worker off the list of sleepers. Each wake is checked under the
     // lock, since one may be left over from an earlier sleep.
     fn sleep<R: Wait>(&self, rt: &R, w: SlotId) {
@@ -277,8 +235,8 @@ impl<G: PoolNaming, J: Drop, E: Edge> Shared<G, J, E> {
         unreachable!()
     }
 
-    // Takes back the pass of a thread that ends.
-    fn hand_in<R: Wait>(&self, rt: &R, pass: WorkerPass<G>) {
+    /// Takes back the pass of a thread that needs it no more.
+    pub fn hand_in<R: Wait>(&self, rt: &R, pass: WorkerPass<G>) {
         self.hold(rt).hand_in(pass);
         self.conditions.gone.notify_all();
     }

@@ -27,7 +27,7 @@ fn at_the_end(error: PoolError) -> PoolError
 }
 
 // Shuts the pool down and waits for its end.
-fn end<G: PoolNaming, R: Wait>(
+fn end<G: PoolNaming + Send + Sync + 'static, R: Threads + Wait + Copy + Send + 'static>(
     rt: &R,
     pool: &Company<G>,
     pass: &mut Pass<G>,
@@ -45,7 +45,7 @@ fn end<G: PoolNaming, R: Wait>(
 }
 
 // Ends the pool and closes it with this pass, for which the list has room.
-fn closed<G: PoolNaming, R: Wait>(
+fn closed<G: PoolNaming + Send + Sync + 'static, R: Threads + Wait + Copy + Send + 'static>(
     rt: &R,
     pool: Company<G>,
     pass: Pass<G>,

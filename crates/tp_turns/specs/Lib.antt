@@ -1,1 +1,2 @@
+pub mod Rescues
 pub mod Turns

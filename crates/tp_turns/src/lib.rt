@@ -2,4 +2,5 @@
 #![tactic(auto)]
 
 pub mod deeds;
+pub mod rescues;
 pub mod turns;

@@ -149,7 +149,7 @@ pub fn passes<G: PoolNaming, R: Wait>(
     pool.tick(rt, now, pass).is_ok()
 }
 
-fn controls<G: PoolNaming, R: Wait>(
+fn controls<G: PoolNaming + Send + Sync + 'static, R: Threads + Wait + Copy + Send + 'static>(
     rt: &R,
     pool: &Tested<G>,
     board: &Board,

@@ -168,7 +168,7 @@ fn polls<G: PoolNaming, R: Wait>(
     found.map(|t| t.map(|t| t.0)) == answer
 }
 
-fn controls<G: PoolNaming, R: Wait>(
+fn controls<G: PoolNaming + Send + Sync + 'static, R: Threads + Wait + Copy + Send + 'static>(
     rt: &R,
     pool: &Tested<G>,
     control: Control,

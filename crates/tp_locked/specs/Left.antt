@@ -1,0 +1,24 @@
+-- What is left to do in a pool that is shut down and has no slot.
+use Rattle.std.specs.Prelude.{◌≡◌, ◌⊎◌, ◌<◌, length}
+use Rattle.tp_record.specs.State.{State}
+use Rattle.tp_record.specs.Step.{slot_count}
+use Rattle.tp_turns.specs.declared.rescues.Remains.{Remains}
+use Rattle.tp_turns.specs.declared.rescues.Remains.TheVariants as remains
+
+-- the pool can end: it is stopped, or shut down with no task in its queue
+pub record CanEnd (s : State) : Type 0 where
+  pub empty : slot_count s ≡ 0
+  pub ends : (s.rank ≡ 2) ⊎ ((s.rank ≡ 1) × (length s.queue ≡ 0))
+
+-- tasks are queued in a pool that is shut down, and its core size allows a worker for them
+pub record LacksWorker (s : State) : Type 0 where
+  pub empty : slot_count s ≡ 0
+  pub shut : s.rank ≡ 1
+  pub queued : 0 < length s.queue
+  pub core : 0 < s.core
+
+-- this is left
+abbrev pub IsLeft : State → Remains → Type 0
+IsLeft s remains.Nothing = ¬ CanEnd s × ¬ LacksWorker s
+IsLeft s remains.End = CanEnd s
+IsLeft s (remains.Worker queued) = LacksWorker s × (queued ≡ length s.queue)
