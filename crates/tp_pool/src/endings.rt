@@ -19,7 +19,6 @@ use tp_locked::answers::Drained;
 use tp_locked::names::PoolNaming;
 use tp_machine::typed::controllers::Shutdown;
 use tp_record::entries::{Ask, Did};
-use tp_turns::rescues::Remains;
 use tp_types::refusals::PoolError;
 
 impl<
@@ -56,9 +55,7 @@ impl<
         match shut {
             Ok(()) => {
                 shared.try_end(rt, pass);
-                if remains != Remains::End {
-                    self.rescue(*rt, remains);
-                }
+                self.rescue_tasks(*rt, remains);
                 Ok(())
             }
             Err(error) => Err(error),

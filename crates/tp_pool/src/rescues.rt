@@ -121,6 +121,7 @@ impl<
 > PoolOf<G, J, E> {
     /// Does what a step of this thread left to do, with a pass of the pool's own. Where there is no memory or
     /// no number for that pass, it is left to the next such step.
+    #[inline(always)]
     pub(crate) fn rescue<R: Threads + Wait + Copy + Send + 'static>(
         &self,
         rt: R,
@@ -133,8 +134,21 @@ impl<
             rescue_with_own(rt, shared, remains);
         }
     }
+
+    /// As `rescue`, where a worker is left to make: the end is asked for by the caller.
+    pub(crate) fn rescue_tasks<R: Threads + Wait + Copy + Send + 'static>(
+        &self,
+        rt: R,
+        remains: Remains,
+    ) {
+        if let Remains::Worker(_) = remains {
+            self.rescue(rt, remains);
+        }
+    }
 }
 
+#[cold]
+#[inline(never)]
 fn rescue_with_own<
     G: PoolNaming + Send + Sync + 'static,
     J: Job + 'static,
