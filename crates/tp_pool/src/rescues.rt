@@ -7,7 +7,7 @@ ghost use Rattle.tp_pool.specs.Deeds.{HandsOver, Opens, Fails};
 
 use crate::edges::Edge;
 use crate::pool::{Hold, PoolOf};
-use crate::shared::Shared;
+use crate::shared::{Shared, left_in};
 use crate::staffing::save;
 use std::sync::{Arc, Wait};
 use std::thread::Threads;
@@ -94,7 +94,7 @@ impl<G: PoolNaming, J: Drop, E: Edge> Shared<G, J, E> {
     {
         let mut core = self.hold(rt);
         let _ = core.open(w, &self.glance, pass);
-        let remains = core.remains();
+        let remains = left_in(&core);
         self.release(core);
         self.conditions.begun.notify_all();
         remains
@@ -108,7 +108,7 @@ impl<G: PoolNaming, J: Drop, E: Edge> Shared<G, J, E> {
     {
         let mut core = self.hold(rt);
         let _ = core.step(Fail(w), &self.glance, pass);
-        let remains = core.remains();
+        let remains = left_in(&core);
         self.release(core);
         remains
     }

@@ -92,6 +92,15 @@ pub struct Shared<G: PoolNaming, J, E> {
     pub alloc: Global,
 }
 
+/// What is left to do in the pool, as its hold knows.
+#[inline(always)]
+pub fn left_in<G: PoolNaming, J: Drop>(core: &Core<G, J>) -> Remains
+    ensures { IsLeft (state G.config core.now.book.history) result }
+{
+    core.is_book();
+    core.remains()
+}
+
 impl<G: PoolNaming, J: Drop, E: Edge> Shared<G, J, E> {
     /// Takes the lock.
     #[inline(always)]
@@ -210,7 +219,7 @@ impl<G: PoolNaming, J: Drop, E: Edge> Shared<G, J, E> {
     {
         let mut core = self.hold(rt);
         let answer = core.ask(step, &self.glance, pass);
-        let remains = core.remains();
+        let remains = left_in(&core);
         self.release(core);
         (answer, remains)
     }
