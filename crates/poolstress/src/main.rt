@@ -3,7 +3,8 @@
 //! `poolstress stress POOLS [SEED]`: lets so many pools live by chance, 1 being the usual seed, and prints
 //! what became of their jobs.
 //! `poolstress reuse POOLS`: lets so many pools give up a slot that is reserved anew at once.
-//! `poolstress left POOLS`: lets so many pools be shut down and left to nobody.
+//! `poolstress left POOLS`: lets so many pools be shut down and left to nobody, and a submission race with the
+//! shutdown in so many more.
 //!
 //! The status is 1 where a pool came to what it must not come to, and 2 for any other command line.
 #![tactic(auto)]
@@ -13,15 +14,18 @@ mod callers;
 mod causes;
 mod chores;
 mod endings;
+mod fickle;
 mod lives;
 mod luck;
 mod meetings;
 mod mishaps;
 mod plans;
+mod races;
 mod reports;
 mod reuse;
 mod tales;
 mod totals;
+mod waits;
 mod whims;
 
 use reports::{left, rehearsed, reused, stressed};

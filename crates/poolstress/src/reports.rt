@@ -3,6 +3,7 @@
 use crate::lives::stress;
 use crate::meetings::all_meet;
 use crate::mishaps::Mishap;
+use crate::races::all_race;
 use crate::reuse::all_reuse;
 use crate::tales::all_end;
 use crate::totals::Totals;
@@ -21,8 +22,11 @@ const MEETINGS: u32 = 4;
 /// The pools of a rehearsal that are left to nobody: each tale with each way to wait.
 const LEFT: u32 = 39;
 
-/// Lets a few pools live by chance, a few whose jobs run all at once, and a few that are left to nobody, and
-/// prints what is the same each time; whether all went well.
+/// The pools of a rehearsal in which a submission races with the shutdown.
+const RACES: u32 = 12;
+
+/// Lets a few pools live by chance, a few whose jobs run all at once, a few that are left to nobody, and a few in
+/// which a submission races with the shutdown, and prints what is the same each time; whether all went well.
 pub fn rehearsed<R: Threads + Wait + Clock + Print + Copy + Send + Sync + 'static>(
     rt: R,
     alloc: Global,
@@ -38,10 +42,14 @@ pub fn rehearsed<R: Threads + Wait + Clock + Print + Copy + Send + Sync + 'stati
     if let Err(mishap) = all_end(rt, alloc, LEFT) {
         return misses(&rt, 0, &mishap);
     }
+    if let Err(mishap) = all_race(rt, alloc, RACES) {
+        return misses(&rt, 0, &mishap);
+    }
     let pools = totals.pools;
     println!(&rt; "{pools} pools closed, each record legal, every job accounted for")?;
     println!(&rt; "{MEETINGS} pools closed, whose jobs ran all at once")?;
     println!(&rt; "{LEFT} pools closed, which were shut down and left to nobody")?;
+    println!(&rt; "{RACES} pools closed, in which a submission raced with the shutdown")?;
     Ok(true)
 }
 
@@ -96,7 +104,8 @@ pub fn reused<R: Threads + Wait + Print + Copy + Send + Sync + 'static>(
     Ok(true)
 }
 
-/// Lets so many pools be shut down and left to nobody; whether all went well.
+/// Lets so many pools be shut down and left to nobody, and a submission race with the shutdown in so many more;
+/// whether all went well.
 pub fn left<R: Threads + Wait + Print + Copy + Send + Sync + 'static>(
     rt: R,
     alloc: Global,
@@ -106,5 +115,13 @@ pub fn left<R: Threads + Wait + Print + Copy + Send + Sync + 'static>(
         return misses(&rt, 0, &mishap);
     }
     println!(&rt; "{pools} pools closed, which were shut down and left to nobody")?;
-    Ok(true)
+    match all_race(rt, alloc, pools) {
+        Ok(back) => {
+            println!(&rt;
+                "{pools} pools closed, in which a submission raced with the shutdown; {back} tasks came back"
+            )?;
+            Ok(true)
+        }
+        Err(mishap) => misses(&rt, 0, &mishap),
+    }
 }

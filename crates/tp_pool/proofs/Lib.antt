@@ -1,6 +1,7 @@
 pub mod Asked
 pub mod Ends
 pub mod Got
+pub mod Left
 pub mod Starts
 pub mod Submissions
 pub mod Walks

@@ -90,10 +90,7 @@ impl<G: PoolNaming, J: Job, E: Edge> PoolOf<G, J, E> {
         ensures refused { IfErr result (Refuses G.config pass.new.front Ask.Purge) }
         ensures unchanged { OnErr result (AddsNone pass.old pass.new) }
     {
-        let shared = self.shared();
-        let (purged, remains) = shared.control_left(rt, Purge, pass);
-        shared.end_left(rt, remains);
-        purged
+        self.shared().control_and_end(rt, Purge, pass)
     }
 
     /// Takes a task out of the queue, as `ThreadPoolExecutor.remove`, and hands its job back unless it was
@@ -111,10 +108,7 @@ impl<G: PoolNaming, J: Job, E: Edge> PoolOf<G, J, E> {
         ensures refused { IfErr result (Refuses G.config pass.new.front (Ask.Remove t)) }
         ensures unchanged { OnErr result (AddsNone pass.old pass.new) }
     {
-        let shared = self.shared();
-        let (removed, remains) = shared.control_left(rt, Remove(t), pass);
-        shared.end_left(rt, remains);
-        match removed {
+        match self.shared().control_and_end(rt, Remove(t), pass) {
             Ok(handed) => Ok(removal_from(handed)),
             Err(error) => Err(error),
         }

@@ -15,11 +15,14 @@ use tp_types::tasks::Outcome;
 /// object. Each call is made with no lock of the pool held, and several threads may make calls at once.
 ///
 /// Which calls wait for which, where the objects are `Boxes`: each of the factory, the handler and the hooks
-/// answers one ask at a time. A submission asks the factory where it reserves a slot, the handler where it is
-/// refused under `Policy::Own`, and, in a pool that is shut down, the factory or the terminated hook where it
-/// leaves the pool to nobody. A prestart, `set_core` and `shutdown` ask the factory, and may call that hook. So a
-/// factory that submits to its own pool, or shuts it down, may wait for itself. A factory that submits and a
-/// handler that prestarts may wait for each other for ever, in two threads.
+/// answers one ask at a time. A submission asks the factory where it reserves a slot, and the handler where it is
+/// refused under `Policy::Own`. A prestart and `set_core` ask the factory. In a pool that is shut down, a call
+/// whose step leaves it to nobody asks the factory or calls the terminated hook.
+///
+/// So a factory that submits to its own pool or prestarts there may wait for itself. A handler that prestarts, or
+/// whose call does what is left, waits for the factory or the terminated hook; a factory or a hook that submits
+/// may wait for the handler: two such objects may wait for each other for ever. A factory or a hook may shut its
+/// pool down: nothing is left to do while it answers.
 pub trait Edge: Drop {
     /// Asks the thread factory whether this slot may have a worker.
     fn allow<R: Wait>(&self, rt: &R, w: SlotId) -> bool;

@@ -19,7 +19,6 @@ use tp_locked::answers::Drained;
 use tp_locked::names::PoolNaming;
 use tp_machine::typed::controllers::Shutdown;
 use tp_record::entries::{Ask, Did};
-use tp_turns::rescues::Remains;
 use tp_types::refusals::PoolError;
 
 impl<
@@ -31,10 +30,13 @@ impl<
     /// has. Where it can end at once, this call ends it. Where tasks are queued, no worker is there and the core
     /// size is above 0, this call has a worker made for them. The pass has then seen the shutdown.
     ///
-    /// A pool that is shut down ends by itself: a later call whose step leaves it to nobody does the same. Four
-    /// things can still hold its end up. At core size 0 a task whose worker was not made stays queued:
-    /// `set_core(1)`, `remove` or `shutdown_now` is the way out. So it is with a factory that refuses as many
-    /// workers as tasks are queued. A job may wait for its own single worker, and a hook for the end.
+    /// A pool that is shut down ends by itself: a later call whose step leaves it to nobody does the same, with a
+    /// pass of the pool's own. Java's pool never ends there. What can still hold the end up, as in Java: at core
+    /// size 0 (`corePoolSize`) a queued task whose worker was not made; a factory that refuses as many workers as
+    /// tasks are queued (`ThreadFactory.newThread` that answers null); a job that waits for its own single worker
+    /// (`Future.get` within a task); a hook that waits for the end (`awaitTermination` within `terminated`). The
+    /// way out of the first two is a larger core size, `remove` or `shutdown_now`, and that of the third `cancel`
+    /// or `shutdown_now`. Of its own a pool may want memory for that pass, or room in its record for a worker.
     ///
     /// NoMemory (4) for its receipts, else BookFull (5), which does not come while the pool runs. A refused
     /// call makes no step.
@@ -56,9 +58,7 @@ impl<
         match shut {
             Ok(()) => {
                 shared.try_end(rt, pass);
-                if remains != Remains::End {
-                    self.rescue(*rt, remains);
-                }
+                self.rescue_tasks(*rt, remains);
                 Ok(())
             }
             Err(error) => Err(error),

@@ -89,7 +89,8 @@ impl<
 
     /// Starts a core worker, as `prestartCoreThread`, where there are fewer slots than the core size, and
     /// answers whether its slot was opened live. None is started once the pool is stopped, or shut down with
-    /// no task queued. NoMemory (4) for its receipts, else BookFull (5). A refused call makes no step.
+    /// no task queued. Where its worker is not made in a pool that is shut down, this call does what that leaves,
+    /// as `shutdown` says. NoMemory (4) for its receipts, else BookFull (5). A refused call makes no step.
     pub fn prestart_core<R: Threads + Wait + Copy + Send + 'static>(
         &self,
         rt: R,

@@ -7,7 +7,7 @@ ghost use Rattle.tp_pool.specs.Deeds.{HandsOver, Opens, Fails};
 
 use crate::edges::Edge;
 use crate::pool::{Hold, PoolOf};
-use crate::shared::Shared;
+use crate::shared::{Shared, left_in};
 use crate::staffing::save;
 use std::sync::{Arc, Wait};
 use std::thread::Threads;
@@ -94,7 +94,7 @@ impl<G: PoolNaming, J: Drop, E: Edge> Shared<G, J, E> {
     {
         let mut core = self.hold(rt);
         let _ = core.open(w, &self.glance, pass);
-        let remains = core.remains();
+        let remains = left_in(&core);
         self.release(core);
         self.conditions.begun.notify_all();
         remains
@@ -108,7 +108,7 @@ impl<G: PoolNaming, J: Drop, E: Edge> Shared<G, J, E> {
     {
         let mut core = self.hold(rt);
         let _ = core.step(Fail(w), &self.glance, pass);
-        let remains = core.remains();
+        let remains = left_in(&core);
         self.release(core);
         remains
     }
@@ -121,6 +121,7 @@ impl<
 > PoolOf<G, J, E> {
     /// Does what a step of this thread left to do, with a pass of the pool's own. Where there is no memory or
     /// no number for that pass, it is left to the next such step.
+    #[inline(always)]
     pub(crate) fn rescue<R: Threads + Wait + Copy + Send + 'static>(
         &self,
         rt: R,
@@ -133,8 +134,21 @@ impl<
             rescue_with_own(rt, shared, remains);
         }
     }
+
+    /// As `rescue`, where a worker is left to make: the end is asked for by the caller.
+    pub(crate) fn rescue_tasks<R: Threads + Wait + Copy + Send + 'static>(
+        &self,
+        rt: R,
+        remains: Remains,
+    ) {
+        if let Remains::Worker(_) = remains {
+            self.rescue(rt, remains);
+        }
+    }
 }
 
+#[cold]
+#[inline(never)]
 fn rescue_with_own<
     G: PoolNaming + Send + Sync + 'static,
     J: Job + 'static,

@@ -92,6 +92,15 @@ pub struct Shared<G: PoolNaming, J, E> {
     pub alloc: Global,
 }
 
+/// What is left to do in the pool, as its hold knows.
+#[inline(always)]
+pub fn left_in<G: PoolNaming, J: Drop>(core: &Core<G, J>) -> Remains
+    ensures { IsLeft (state G.config core.now.book.history) result }
+{
+    core.is_book();
+    core.remains()
+}
+
 impl<G: PoolNaming, J: Drop, E: Edge> Shared<G, J, E> {
     /// Takes the lock.
     #[inline(always)]
@@ -210,31 +219,9 @@ impl<G: PoolNaming, J: Drop, E: Edge> Shared<G, J, E> {
     {
         let mut core = self.hold(rt);
         let answer = core.ask(step, &self.glance, pass);
-        let remains = core.remains();
+        let remains = left_in(&core);
         self.release(core);
         (answer, remains)
-    }
-
-    /// As `control`, and tells what is left to do after the step.
-    pub fn control_left<R: Wait, S: Marks<J> + Step<Task<J>, Load = ()>>(
-        &self,
-        rt: &R,
-        step: S,
-        pass: &mut Pass<G>,
-    ) -> (Result<S::Answer, PoolError>, Remains)
-        requires brings { S.brings step tt }
-        requires no_outcome { HasNoOutcome (S.ask step) }
-        ensures answers { IfOk result.0 (λ x. S.answers step x) }
-        ensures makes { IfOk result.0 (λ x. Makes J G.config pass.old.number pass.old.front (S.ask step) (S.did step x) (S.moves step tt x) pass.new.front) }
-        ensures step { IfOk result.0 (λ x. AddsStep G.config pass.old (S.ask step) (S.did step x) pass.new) }
-        ensures refused { IfErr result.0 (Refuses G.config pass.new.front (S.ask step)) }
-        ensures unchanged { OnErr result.0 (AddsNone pass.old pass.new) }
-        ensures remains { OnOk result.0 (IsLeft (state G.config pass.new.front) result.1) }
-    {
-        if let Err(error) = pass.reserve(1) {
-            return (Err(error), Remains::Nothing);
-        }
-        self.ask_left(rt, step, pass)
     }
 
     /// As `ask`, for a step with which no outcome comes. The memory of its receipt is taken first, since an
@@ -257,6 +244,30 @@ impl<G: PoolNaming, J: Drop, E: Edge> Shared<G, J, E> {
             return Err(error);
         }
         self.ask(rt, step, pass)
+    }
+
+    /// As `control`; and where the step leaves a pool that is shut down without a task and a worker, it ends the
+    /// pool with a pass of the pool's own.
+    pub fn control_and_end<R: Wait, S: Marks<J> + Step<Task<J>, Load = ()>>(
+        &self,
+        rt: &R,
+        step: S,
+        pass: &mut Pass<G>,
+    ) -> Result<S::Answer, PoolError>
+        requires brings { S.brings step tt }
+        requires no_outcome { HasNoOutcome (S.ask step) }
+        ensures answers { IfOk result (λ x. S.answers step x) }
+        ensures makes { IfOk result (λ x. Makes J G.config pass.old.number pass.old.front (S.ask step) (S.did step x) (S.moves step tt x) pass.new.front) }
+        ensures step { IfOk result (λ x. AddsStep G.config pass.old (S.ask step) (S.did step x) pass.new) }
+        ensures refused { IfErr result (Refuses G.config pass.new.front (S.ask step)) }
+        ensures unchanged { OnErr result (AddsNone pass.old pass.new) }
+    {
+        if let Err(error) = pass.reserve(1) {
+            return Err(error);
+        }
+        let (answer, remains) = self.ask_left(rt, step, pass);
+        self.end_left(rt, remains);
+        answer
     }
 
     /// Makes the step `stop` in a hold of its own, as `ask`. The answer's memory is taken in the same hold,

@@ -13,7 +13,7 @@ ghost use Rattle.tp_pool.specs.Admissions.{task_of, end_of, Admits, Awaits, IsAd
 use crate::boxes::Boxed;
 use crate::edges::{Boxes, Edge};
 use crate::pool::{Hold, PoolOf};
-use crate::shared::Shared;
+use crate::shared::{Shared, left_in};
 use crate::staffing::staff;
 use std::sync::{Arc, Wait};
 use std::thread::Threads;
@@ -21,6 +21,7 @@ use tp_book::passes::Pass;
 use tp_callbacks::flags::CancelFlag;
 use tp_callbacks::jobs::Job;
 use tp_locked::answers::{Admitted, Refused};
+use tp_locked::locked::Core;
 use tp_locked::names::PoolNaming;
 use tp_locked::tasks::Task;
 use tp_machine::typed::submitters::{CallerEnd, Grow, Judge, Look, Offer, Second, Submit};
@@ -61,6 +62,20 @@ fn answer<J: Drop>(t: TaskId, ending: Ending, held: Option<Task<J>>) -> Result<A
             error: PoolError::Rejected(t),
             job: held.map(Task::into_job),
         }),
+    }
+}
+
+// What is left to do after a second look: it is looked for only where the task came back.
+#[inline(always)]
+fn left_by_second<G: PoolNaming, J: Drop>(
+    core: &Core<G, J>,
+    answer: &Result<Seconded, PoolError>,
+) -> Remains
+    ensures { answer.now ≡ Ok Seconded.Back → IsLeft (state G.config core.now.book.history) result }
+{
+    match answer {
+        Ok(Seconded::Back) => left_in(core),
+        _ => Remains::Nothing,
     }
 }
 
@@ -363,10 +378,7 @@ impl<G: PoolNaming, J: Job, E: Edge> Shared<G, J, E> {
     {
         let mut core = self.hold(rt);
         let answer = core.ask(Second(t), &self.glance, pass);
-        let remains = match answer {
-            Ok(Seconded::Back) => core.remains(),
-            _ => Remains::Nothing,
-        };
+        let remains = left_by_second(&core, &answer);
         self.release(core);
         match answer {
             Ok(answer) => (Some(Did::Second(t, answer)), remains),
@@ -472,7 +484,7 @@ impl<G: PoolNaming, J: Job, E: Edge> Shared<G, J, E> {
     {
         let mut core = self.hold(rt);
         let opened = core.open(w, &self.glance, pass);
-        let remains = core.remains();
+        let remains = left_in(&core);
         self.release(core);
         self.conditions.begun.notify_all();
         match opened {

@@ -8,5 +8,5 @@ use Rattle.tp_pool.proofs.pool.PoolOf.remove.Goals as goal
 
 pub returns-in-Ok-clause-step : goal.returns-in-Ok-clause-step
 returns-in-Ok-clause-step g c =
-    subst (λ b. AddsStep g.G.PoolNaming.config c.args.pass.now (ask.Remove c.args.t) (did.Remove c.args.t b) c.control.new.pass)
+    subst (λ b. AddsStep g.G.PoolNaming.config c.args.pass.now (ask.Remove c.args.t) (did.Remove c.args.t b) c.control_and_end.new.pass)
     (removed_is c.in-Ok.handed ∙ ap is_removed (sym c.removal_from.ensures)) c.in-Ok.ensures.step

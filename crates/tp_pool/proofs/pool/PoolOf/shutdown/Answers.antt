@@ -1,18 +1,24 @@
-use Rattle.std.proofs.Common.{◌≤◌}
+use Rattle.std.proofs.Common.{◌≤◌, subst}
+use Rattle.std.specs.Prelude.{IfOk}
 use Rattle.tp_record.specs.Fields.{rank}
 use Rattle.tp_record.specs.declared.entries.Ask.TheVariants as ask
 use Rattle.tp_record.specs.declared.entries.Did.TheVariants as did
+use Rattle.tp_locked.specs.Passes.{AddsStep}
 use Rattle.tp_locked.proofs.Receipts.{reserved}
 use Rattle.tp_pool.proofs.Ends.{reached, step_and_end}
 use Rattle.tp_pool.proofs.pool.PoolOf.shutdown.Goals as goal
 
 pub returns-in-Ok-clause-steps : goal.returns-in-Ok-clause-steps
 returns-in-Ok-clause-steps g c =
-    step_and_end g.G.PoolNaming.config c.args.pass.now c.reserve.new.self c.ask.new.pass c.try_end.new.pass ask.Shutdown did.Shutdown
-    (reserved c.args.pass.now c.reserve.new.self c.reserve.ensures.same) c.in-Ok.ensures.step c.try_end.ensures
+    let step : AddsStep g.G.PoolNaming.config c.reserve.new.self ask.Shutdown did.Shutdown c.ask_left-shut.new.pass =
+    subst (λ r. IfOk r (λ _. AddsStep g.G.PoolNaming.config c.reserve.new.self ask.Shutdown did.Shutdown c.ask_left-shut.new.pass)) c.in-Ok.is c.ask_left-shut.ensures.step in
+    step_and_end g.G.PoolNaming.config c.args.pass.now c.reserve.new.self c.ask_left-shut.new.pass c.try_end.new.pass ask.Shutdown did.Shutdown
+    (reserved c.args.pass.now c.reserve.new.self c.reserve.ensures.same) step c.try_end.ensures
 
 pub returns-in-Ok-clause-seen : goal.returns-in-Ok-clause-seen
 returns-in-Ok-clause-seen g c =
-    let ends = step_and_end g.G.PoolNaming.config c.args.pass.now c.reserve.new.self c.ask.new.pass c.try_end.new.pass ask.Shutdown did.Shutdown
-    (reserved c.args.pass.now c.reserve.new.self c.reserve.ensures.same) c.in-Ok.ensures.step c.try_end.ensures in
+    let step : AddsStep g.G.PoolNaming.config c.reserve.new.self ask.Shutdown did.Shutdown c.ask_left-shut.new.pass =
+    subst (λ r. IfOk r (λ _. AddsStep g.G.PoolNaming.config c.reserve.new.self ask.Shutdown did.Shutdown c.ask_left-shut.new.pass)) c.in-Ok.is c.ask_left-shut.ensures.step in
+    let ends = step_and_end g.G.PoolNaming.config c.args.pass.now c.reserve.new.self c.ask_left-shut.new.pass c.try_end.new.pass ask.Shutdown did.Shutdown
+    (reserved c.args.pass.now c.reserve.new.self c.reserve.ensures.same) step c.try_end.ensures in
     reached g.G.PoolNaming.config c.args.pass.now c.try_end.new.pass _ ends.0 ends.2

@@ -2,9 +2,20 @@ use Rattle.tp_record.specs.declared.entries.Ask.TheVariants as ask
 use Rattle.tp_record.specs.declared.entries.Did.TheVariants as did
 use Rattle.tp_parts.specs.Payloads.{Keeps}
 use Rattle.tp_locked.proofs.Adding.{adds_step}
+use Rattle.tp_pool.proofs.Left.{left_at}
 use Rattle.tp_pool.proofs.shared.Shared.open_live.Goals as goal
 
 pub returns-in-Ok-clause-step : goal.returns-in-Ok-clause-step
 returns-in-Ok-clause-step g c =
     adds_step g.G.PoolNaming.config c.args.pass.now c.open-opened.new.pass (ask.Open c.args.w) (did.Open c.args.w c.in-Ok.opened) Keeps
     c.in-Ok.ensures.makes c.in-Ok.ensures.paid.0
+
+pub returns-in-Ok-clause-remains : goal.returns-in-Ok-clause-remains
+returns-in-Ok-clause-remains g c =
+    left_at {J = g.row.J.Denot} g.G.PoolNaming.config c.deref.result.now c.open-opened.new.self c.open-opened.new.pass.front c.left_in-remains.result c.deref.ensures c.open-opened.ensures.front
+    c.left_in-remains.ensures
+
+pub returns-in-Err-clause-remains : goal.returns-in-Err-clause-remains
+returns-in-Err-clause-remains g c =
+    left_at {J = g.row.J.Denot} g.G.PoolNaming.config c.deref.result.now c.open-opened.new.self c.open-opened.new.pass.front c.left_in-remains.result c.deref.ensures c.open-opened.ensures.front
+    c.left_in-remains.ensures

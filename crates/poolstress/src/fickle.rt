@@ -1,0 +1,116 @@
+//! A pool whose workers may come late, be refused, or not be made.
+
+use crate::chores::{Chore, Count, count, reaches};
+use crate::mishaps::Mishap;
+use std::alloc::Global;
+use std::sync::atomic::Ordering;
+use std::sync::{Arc, Wait};
+use tp_callbacks::gates::Point;
+use tp_pool::edges::{Edge, STACK};
+use tp_pool::pool::PoolOf;
+use tp_types::configs::Verdict;
+use tp_types::ids::{SlotId, TaskId};
+use tp_types::states::RunState;
+use tp_types::tasks::Outcome;
+
+/// What becomes of a worker that was asked for.
+#[derive(Clone, Copy, PartialEq, Eq)]
+pub enum Making {
+    /// It is made.
+    Made,
+    /// The factory refuses it.
+    Refused,
+    /// Its thread can't be made.
+    NoThread,
+}
+
+/// A factory whose first answer waits until it may go on, and hooks that count the pool's ends.
+#[derive(Drop)]
+pub struct Fickle {
+    first: Making,
+    second: Making,
+    asked: Count,
+    goes_on: Count,
+    ends: Count,
+}
+
+impl Fickle {
+    // What becomes of the worker of this ask, the first being 1.
+    fn making(&self, ask: u64) -> Making {
+        match ask {
+            1 => self.first,
+            2 => self.second,
+            _ => Making::Made,
+        }
+    }
+}
+
+impl Edge for Fickle {
+    fn stack(&self) -> usize {
+        match self.making(self.asked.load(Ordering::SeqCst)) {
+            Making::NoThread => usize::MAX,
+            _ => STACK,
+        }
+    }
+
+    fn allow<R: Wait>(&self, _rt: &R, _w: SlotId) -> bool {
+        let before = self.asked.fetch_add(1, Ordering::SeqCst);
+        if before == 0 {
+            reaches(&self.goes_on, 1);
+        }
+        self.making(before.saturating_add(1)) != Making::Refused
+    }
+
+    fn verdict<R: Wait>(&self, _rt: &R, _t: TaskId, _state: RunState) -> Verdict {
+        Verdict::Abort
+    }
+
+    fn before<R: Wait>(&self, _rt: &R, _w: SlotId, _t: TaskId) {}
+
+    fn after<R: Wait>(&self, _rt: &R, _w: SlotId, _t: TaskId, _outcome: Option<&Outcome>) {}
+
+    fn terminated<R: Wait>(&self, _rt: &R) {
+        self.ends.fetch_add(1, Ordering::SeqCst);
+    }
+
+    fn pass(&self, _p: Point, _w: SlotId) {}
+}
+
+/// A pool of such users.
+pub type Left<G> = PoolOf<G, Chore, Fickle>;
+
+/// What the threads of a pool share: the asks, the leave to go on, the ends, and the runs.
+#[derive(Drop)]
+pub struct Signs {
+    /// How often the factory was asked.
+    pub asked: Count,
+    /// 1 where the factory's first answer may come.
+    pub goes_on: Count,
+    /// How often the terminated hook was called.
+    pub ends: Count,
+    /// How many jobs ran.
+    pub ran: Count,
+}
+
+impl Signs {
+    /// Nothing has come about.
+    pub fn new(alloc: Global) -> Result<Signs, Mishap> {
+        Ok(Signs {
+            asked: count(alloc)?,
+            goes_on: count(alloc)?,
+            ends: count(alloc)?,
+            ran: count(alloc)?,
+        })
+    }
+
+    /// The users of a pool of whose first two workers this becomes.
+    pub fn users(&self, first: Making, second: Making) -> Result<Fickle, Mishap> {
+        Ok(Fickle {
+            first,
+            second,
+            asked: Arc::try_clone(&self.asked)?,
+            goes_on: Arc::try_clone(&self.goes_on)?,
+            ends: Arc::try_clone(&self.ends)?,
+        })
+    }
+}

@@ -1,0 +1,148 @@
+//! Submissions that race with a shutdown at core size 0. Where the shutdown falls between a task's offer and its
+//! second look, the task comes back and is rejected, and no worker was ever there: such a pool ends by itself.
+ghost use Rattle.std.specs.Prelude.{◌≡◌};
+
+use crate::chores::{Count, count, reaches};
+use crate::endings::sole;
+use crate::fickle::{Left, Making, Signs};
+use crate::mishaps::Mishap;
+use crate::tales::submit;
+use crate::waits::{WAITERS, Waiter, judge, report, wait};
+use std::alloc::Global;
+use std::hint::spin_loop;
+use std::marker::Brand;
+use std::sync::atomic::Ordering;
+use std::sync::{Arc, Wait};
+use std::thread;
+use std::thread::{JoinHandle, Threads};
+use tp_book::opening::Unopened;
+use tp_book::passes::Pass;
+use tp_pool::closing::Report;
+use tp_pool::names::PoolNaming;
+use tp_record::entries::{Did, Seconded};
+use tp_types::configs::{Config, Policy, QueueKind};
+
+// No core worker, and a queue.
+const SETTINGS: Config = Config {
+    core: 0,
+    maximum: 1,
+    queue: QueueKind::Unbounded,
+    keep: 1,
+    core_timeout: false,
+    policy: Policy::Abort,
+    record_limit: 128,
+};
+
+// The longest time from a submission's start to the shutdown, in turns of spinning.
+const TURNS: u32 = 4_000;
+
+/// Lets a submission race with the shutdown in so many pools, with each way to wait by turns, and answers in how
+/// many of them the task came back at its second look.
+pub fn all_race<R: Threads + Wait + Copy + Send + Sync + 'static>(
+    rt: R,
+    alloc: Global,
+    pools: u32,
+) -> Result<u32, Mishap> {
+    let mut back: u32 = 0;
+    for pool in 0..pools {
+        if let Some(waiter) = WAITERS.get(pool as usize % 3) {
+            let turns = pool.wrapping_mul(7) % TURNS;
+            back = back.saturating_add(u32::from(race(rt, alloc, turns, *waiter)?));
+        }
+    }
+    Ok(back)
+}
+
+// Lets such a pool live, with a shutdown so many turns after the start; whether its task came back.
+fn race<R: Threads + Wait + Copy + Send + Sync + 'static>(
+    rt: R,
+    alloc: Global,
+    turns: u32,
+    waiter: Waiter,
+) -> Result<bool, Mishap> {
+    let unopened = Unopened::new(alloc)?;
+    open::<Brand, R>(rt, alloc, unopened, SETTINGS, turns, waiter)
+}
+
+// Opens a pool under its name.
+fn open<G: PoolNaming + Send + Sync + 'static, R: Threads + Wait + Copy + Send + Sync + 'static>(
+    rt: R,
+    alloc: Global,
+    unopened: Unopened,
+    settings: Config,
+    turns: u32,
+    waiter: Waiter,
+) -> Result<bool, Mishap>
+    requires named { unopened ≡ record { ledger = G.name; parts = G.parts; table = G.table } }
+    requires settings { settings ≡ G.config }
+{
+    let signs = Signs::new(alloc)?;
+    signs.goes_on.fetch_add(1, Ordering::SeqCst);
+    let users = signs.users(Making::Made, Making::Made)?;
+    let (pool, first) = Left::<G>::over(alloc, unopened, settings, users)?;
+    let pool = Arc::new(alloc, pool)?;
+    let mut pass = first;
+    let second = live(rt, alloc, &pool, &mut pass, turns, &signs)?;
+    wait(&rt, &pool, &mut pass, waiter, &signs)?;
+    let mut passes = Vec::new(alloc);
+    passes.push(pass)?;
+    passes.push(second)?;
+    let report = report(&rt, sole(&rt, pool), passes)?;
+    judge(alloc, &settings, &report, &signs)?;
+    Ok(came_back(&report))
+}
+
+// One thread submits, the other shuts the pool down.
+fn live<G: PoolNaming + Send + Sync + 'static, R: Threads + Wait + Copy + Send + Sync + 'static>(
+    rt: R,
+    alloc: Global,
+    pool: &Arc<Left<G>>,
+    pass: &mut Pass<G>,
+    turns: u32,
+    signs: &Signs,
+) -> Result<Pass<G>, Mishap> {
+    let starts = count(alloc)?;
+    let second = pool.split_pass(&rt, pass)?;
+    let other = hire(rt, pool, &starts, &signs.ran, second)?;
+    reaches(&starts, 1);
+    for _ in 0..turns {
+        spin_loop();
+    }
+    pool.shutdown(&rt, pass)?;
+    other.join(&rt)
+}
+
+fn hire<G: PoolNaming + Send + Sync + 'static, R: Threads + Wait + Copy + Send + Sync + 'static>(
+    rt: R,
+    pool: &Arc<Left<G>>,
+    starts: &Count,
+    ran: &Count,
+    pass: Pass<G>,
+) -> Result<JoinHandle<Result<Pass<G>, Mishap>>, Mishap> {
+    let theirs = Arc::try_clone(pool)?;
+    let starts = Arc::try_clone(starts)?;
+    let ran = Arc::try_clone(ran)?;
+    match thread::spawn(&rt, move || submits(rt, theirs, starts, ran, pass)) {
+        Ok(other) => Ok(other),
+        Err(_) => Err(Mishap::NoThread),
+    }
+}
+
+// The thread that submits.
+fn submits<G: PoolNaming + Send + Sync + 'static, R: Threads + Wait + Copy + Send + 'static>(
+    rt: R,
+    pool: Arc<Left<G>>,
+    starts: Count,
+    ran: Count,
+    pass: Pass<G>,
+) -> Result<Pass<G>, Mishap> {
+    let mut pass = pass;
+    starts.fetch_add(1, Ordering::SeqCst);
+    submit(rt, &pool, 0, &ran, &mut pass)?;
+    Ok(pass)
+}
+
+// Whether a task came back from the queue at its second look.
+fn came_back(report: &Report) -> bool {
+    report.entries.iter().any(|entry| matches!(entry.did, Did::Second(_, Seconded::Back)))
+}

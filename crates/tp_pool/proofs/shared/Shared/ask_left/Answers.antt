@@ -1,0 +1,8 @@
+use Rattle.tp_pool.proofs.Left.{left_at, shown_after}
+use Rattle.tp_pool.proofs.shared.Shared.ask_left.Goals as goal
+
+pub returns-clause-remains : goal.returns-clause-remains
+returns-clause-remains g c =
+    let hold = c.ask-answer in
+    left_at {J = g.row.J.Denot} g.G.PoolNaming.config c.deref.result.now hold.new.self hold.new.pass.front c.left_in-remains.result c.deref.ensures
+    (shown_after {J = g.row.J.Denot} (g.S.Step.ask c.args.step) c.deref_mut.result.now hold.new.self hold.new.pass.front hold.result hold.ensures.front hold.ensures.denies) c.left_in-remains.ensures
