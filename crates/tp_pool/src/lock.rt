@@ -18,9 +18,14 @@ pub fn polite<'a, T, R: Wait>(rt: &R, lock: &'a Mutex<T>, pause: u32) -> MutexGu
         if let Some(guard) = lock.try_lock() {
             return guard;
         }
-        for _ in 0..pause {
-            spin_loop();
-        }
+        rest(pause);
     }
     lock.lock(rt)
+}
+
+/// Passes so many turns of `spin_loop`.
+pub fn rest(pause: u32) {
+    for _ in 0..pause {
+        spin_loop();
+    }
 }

@@ -6,6 +6,7 @@ ghost use Rattle.tp_locked.specs.Steps.{taking_of, begun_of, departed_of, IsEndO
 ghost use Rattle.tp_pool.specs.Deeds.{Takes, BeginsAt, Ends, Leaves, EndsPool};
 
 use crate::edges::Edge;
+use crate::lock::{PAUSE, rest};
 use crate::shared::Shared;
 use std::sync::{Arc, Wait};
 use std::thread::Threads;
@@ -24,6 +25,9 @@ use tp_turns::deeds::{Departed, Ended, Taken};
 use tp_turns::turns::{Begun, Workplace, one_turn};
 use tp_types::ids::{SlotId, TaskId};
 use tp_types::tasks::Outcome;
+
+// How often a worker that has nothing to do looks again, with a pause before each look, before it sleeps.
+const DOZES: u32 = 8;
 
 /// A worker at its slot.
 #[derive(Drop)]
@@ -201,11 +205,17 @@ impl<G: PoolNaming, J: Drop, E: Edge> Shared<G, J, E> {
     // Sleeps until another thread took the worker off the list of sleepers. Each wake is checked under the
     // lock, since one may be left over from an earlier sleep.
     fn sleep<R: Wait>(&self, rt: &R, w: SlotId) {
-        for _ in rt.forever() {
+        for _ in 0..DOZES {
+            rest(PAUSE);
             if !self.hold(rt).is_asleep(w) {
                 return;
             }
+        }
+        for _ in rt.forever() {
             self.park(rt, w);
+            if !self.hold(rt).is_asleep(w) {
+                return;
+            }
         }
         unreachable!()
     }
