@@ -173,7 +173,7 @@ impl<G: PoolNaming, J: Drop, E: Edge> Shared<G, J, E> {
         }
     }
 
-    // One hold of a worker that tells its task's outcome.
+    // One hold of a worker that tells its task's outcome. The task's flag is let go of after it.
     #[inline(always)]
     fn end<R: Wait>(&self, rt: &R, w: SlotId, outcome: Outcome, pass: &mut WorkerPass<G>) -> Ended
         ensures asks { Ends J G.config pass.old.number pass.old.front w outcome pass.new.front (IsEndOf (state G.config pass.new.front) w.0 result) }
@@ -182,7 +182,9 @@ impl<G: PoolNaming, J: Drop, E: Edge> Shared<G, J, E> {
         let mut core = self.hold(rt);
         let told = core.step(End(w, outcome), &self.glance, pass);
         let dying = core.is_dying(w);
+        let spent = core.spent();
         self.release(core);
+        drop(spent);
         match told {
             Ok(_) if dying => Ended::Dying,
             Ok(_) => Ended::Live,
