@@ -3,9 +3,9 @@
 use std::hint::spin_loop;
 use std::sync::{Mutex, MutexGuard, Wait};
 
-/// The pause between two looks at the lock, in turns of `spin_loop`: some 3.5 microseconds where a turn takes
-/// 7 nanoseconds.
-pub const PAUSE: u32 = 500;
+/// The pause between two looks at the lock, in turns of `spin_loop`: some 5 microseconds where a turn takes
+/// 5 nanoseconds.
+pub const PAUSE: u32 = 1_000;
 
 // The number of looks before a thread sleeps.
 const LOOKS: u32 = 8;
@@ -18,9 +18,14 @@ pub fn polite<'a, T, R: Wait>(rt: &R, lock: &'a Mutex<T>, pause: u32) -> MutexGu
         if let Some(guard) = lock.try_lock() {
             return guard;
         }
-        for _ in 0..pause {
-            spin_loop();
-        }
+        rest(pause);
     }
     lock.lock(rt)
+}
+
+/// Passes so many turns of `spin_loop`.
+pub fn rest(pause: u32) {
+    for _ in 0..pause {
+        spin_loop();
+    }
 }

@@ -6,6 +6,7 @@ ghost use Rattle.tp_locked.specs.Steps.{taking_of, begun_of, departed_of, IsEndO
 ghost use Rattle.tp_pool.specs.Deeds.{Takes, BeginsAt, Ends, Leaves, EndsPool};
 
 use crate::edges::Edge;
+use crate::lock::{PAUSE, rest};
 use crate::shared::Shared;
 use std::sync::{Arc, Wait};
 use std::thread::Threads;
@@ -24,6 +25,9 @@ use tp_turns::deeds::{Departed, Ended, Taken};
 use tp_turns::turns::{Begun, Workplace, one_turn};
 use tp_types::ids::{SlotId, TaskId};
 use tp_types::tasks::Outcome;
+
+// How often a worker that is listed looks whether it was called, with a pause before each look, before it parks.
+const DOZES: u32 = 8;
 
 /// A worker at its slot.
 #[derive(Drop)]
@@ -169,7 +173,7 @@ impl<G: PoolNaming, J: Drop, E: Edge> Shared<G, J, E> {
         }
     }
 
-    // One hold of a worker that tells its task's outcome.
+    // One hold of a worker that tells its task's outcome. The task's flag is let go of after it.
     #[inline(always)]
     fn end<R: Wait>(&self, rt: &R, w: SlotId, outcome: Outcome, pass: &mut WorkerPass<G>) -> Ended
         ensures asks { Ends J G.config pass.old.number pass.old.front w outcome pass.new.front (IsEndOf (state G.config pass.new.front) w.0 result) }
@@ -178,7 +182,9 @@ impl<G: PoolNaming, J: Drop, E: Edge> Shared<G, J, E> {
         let mut core = self.hold(rt);
         let told = core.step(End(w, outcome), &self.glance, pass);
         let dying = core.is_dying(w);
+        let spent = core.spent();
         self.release(core);
+        drop(spent);
         match told {
             Ok(_) if dying => Ended::Dying,
             Ok(_) => Ended::Live,
@@ -198,14 +204,21 @@ impl<G: PoolNaming, J: Drop, E: Edge> Shared<G, J, E> {
         }
     }
 
-    // Sleeps until another thread took the worker off the list of sleepers. Each wake is checked under the
+    // Sleeps until another thread took the worker off the list of sleepers. It looks a few times before it
+    // parks: where a task comes meanwhile, neither thread makes a system call. Each wake is checked under the
     // lock, since one may be left over from an earlier sleep.
     fn sleep<R: Wait>(&self, rt: &R, w: SlotId) {
-        for _ in rt.forever() {
+        for _ in 0..DOZES {
+            rest(PAUSE);
             if !self.hold(rt).is_asleep(w) {
                 return;
             }
+        }
+        for _ in rt.forever() {
             self.park(rt, w);
+            if !self.hold(rt).is_asleep(w) {
+                return;
+            }
         }
         unreachable!()
     }

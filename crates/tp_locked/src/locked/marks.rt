@@ -73,7 +73,7 @@ impl<J> Marks<J> for Leave {}
 impl<J> Marks<J> for End {
     #[inline(always)]
     fn mark<G: PoolNaming>(self, answer: &TaskId, _book: &Book<G, Task<J>>, flags: &mut Flags) {
-        flags.forget(*answer);
+        flags.retire(*answer);
     }
 }
 
