@@ -5,28 +5,34 @@
 //! The status is 0 where the run went to its end or the record is legal, 1 where it was refused (its
 //! refusal is the last line of the output) or the record has a flaw, and 2 for a bad command line or a
 //! request for help, whose text goes to the standard error. `--version` is printed on the standard
-//! output, with status 0. Where a file can't be opened or read, or the standard output fails, the
-//! standard error has the system's reason.
+//! output, with status 0. Where a text is refused, a record has a flaw, a file can't be opened or read, or
+//! the standard output fails, the standard error says why.
 #![tactic(auto)]
 
-mod choices;
+mod jobs;
 mod program;
-mod statuses;
-mod watched;
 
 use program::{program, without_words};
 use std::env;
+use std::io::IsTerminal;
 use std::process::ExitCode;
+use tp_commands::statuses::finish;
+use tp_reasons::messages::Style;
 use tp_types::refusals::PoolError;
 
 fn main(rt: HostRuntime) -> ExitCode {
     let alloc = rt.alloc();
     let mut out = rt.stdout();
     let mut errors = rt.stderr();
+    let style = if errors.is_terminal() {
+        Style::Coloured
+    } else {
+        Style::Plain
+    };
     let status = match env::args(&rt) {
         Ok(words) => match words.collect::<Vec<String>>(alloc) {
-            Ok(words) => program(&rt, alloc, words.as_slice(), &mut out, &mut errors),
-            Err(_) => statuses::finish(&mut out, &Err(PoolError::NoMemory)),
+            Ok(words) => program(&rt, alloc, words.as_slice(), &mut out, &mut errors, style),
+            Err(_) => finish(&mut out, &Err(PoolError::NoMemory)),
         },
         Err(reason) => without_words(&reason, &mut out, &mut errors),
     };

@@ -1,8 +1,6 @@
 //! The program over any files, words and writers.
 
-use crate::choices::{Choice, Unchosen, chosen};
-use crate::statuses::finish;
-use crate::watched::Watched;
+use crate::jobs::run_threads;
 use clap::error::ErrorKind;
 use std::alloc::Global;
 use std::fs;
@@ -10,65 +8,63 @@ use std::io::{self, Read, Write};
 use std::rt::Files;
 use std::sync::Wait;
 use std::thread::Threads;
+use tp_choices::choices::{Choice, Unchosen, chosen};
+use tp_commands::audits::run_audit;
+use tp_commands::statuses::finish;
+use tp_commands::steps::run_steps;
+use tp_commands::telling::{name_of, tell};
+use tp_commands::watched::Watched;
+use tp_reasons::messages::Style;
 use tp_types::refusals::PoolError;
 
-/// What is told of a text that is too long to be read.
-const TOO_LONG: &str = "the text has more than 1,048,576 bytes";
-
-/// Does what was chosen with the text that a reader gives.
-fn run<H: Threads + Wait + Copy + Send + 'static, R: Read, W: Write>(
+/// Does what was chosen with what a reader gives, and gives the status.
+fn run_reader<
+    H: Files + Threads + Wait + Copy + Send + 'static,
+    R: Read + Drop,
+    W: Write,
+    E: Write,
+>(
     rt: H,
     alloc: Global,
     choice: &Choice,
-    reader: &mut R,
+    reader: R,
     out: &mut W,
-) -> Result<bool, PoolError> {
+    errors: &mut E,
+    style: Style,
+) -> u8 {
+    let name = name_of(choice.path());
     match choice {
-        Choice::Steps(_) => {
-            tp_scenario::run::run(alloc, reader, out)?;
-            Ok(true)
+        Choice::Steps(_, playing) => run_steps(alloc, *playing, name, reader, out, errors, style),
+        Choice::Threads(_, record) => {
+            let record = record.as_ref().map(|record| record.as_str());
+            run_threads(rt, alloc, record, name, reader, out, errors, style)
         }
-        Choice::Threads(_) => {
-            let mut left = None;
-            tp_threads::texts::run_text(rt, alloc, reader, out, &mut left)?;
-            Ok(true)
+        Choice::Audit(_, has_any_length) => {
+            run_audit(alloc, *has_any_length, name, reader, out, errors, style)
         }
-        Choice::Audit(_) => tp_audit_text::audits::audit_text(alloc, reader, out),
     }
 }
 
-/// Tells the name of what failed, and the reason.
-fn tell<E: Write>(errors: &mut E, name: &str, reason: &io::Error) {
-    let _ = writeln!(errors, "poolrun: {name}: {reason}");
-}
-
-/// Does what was chosen with the text of its file. Where the file can't be opened or read, `errors` is
-/// told its path and the reason.
-fn run_file<H: Files + Threads + Wait + Copy + Send + 'static, W: Write, E: Write>(
+/// Does what was chosen with what stands at its path, `-` being the standard input, and gives the status. The output goes to `out`,
+/// and to `errors` what is told beside.
+fn run_choice<H: Files + Input + Threads + Wait + Copy + Send + 'static, W: Write, E: Write>(
     rt: &H,
     alloc: Global,
     choice: &Choice,
     out: &mut W,
     errors: &mut E,
-) -> Result<bool, PoolError> {
-    let path = choice.path();
-    let mut file = match fs::open(rt, path) {
-        Ok(file) => Watched::new(file),
+    style: Style,
+) -> u8 {
+    if choice.path() == "-" {
+        return run_reader(*rt, alloc, choice, rt.reader(), out, errors, style);
+    }
+    match fs::open(rt, choice.path()) {
+        Ok(file) => run_reader(*rt, alloc, choice, file, out, errors, style),
         Err(reason) => {
-            tell(errors, path, &reason);
-            return Err(PoolError::ReadFailed);
-        }
-    };
-    let outcome = run(*rt, alloc, choice, &mut file, out);
-    if let Err(PoolError::ReadFailed) = outcome {
-        match file.failure() {
-            Some(reason) => tell(errors, path, reason),
-            None => {
-                let _ = writeln!(errors, "poolrun: {path}: {TOO_LONG}");
-            }
+            tell(errors, choice.path(), &reason);
+            finish(out, &Err(PoolError::ReadFailed))
         }
     }
-    outcome
 }
 
 /// Gives the parser's text: the version on `out`, status 0; anything else on `errors`, status 2.
@@ -85,21 +81,19 @@ fn show_usage<W: Write, E: Write>(error: &clap::Error, out: &mut W, errors: &mut
 }
 
 /// The status of the program by the words of its command line, its own name first. The output goes to
-/// `out`, a refusal of the whole run as its last line, and to `errors` what is told beside: the reason
-/// why a file can't be opened or read, or why `out` failed, and the parser's texts.
-pub fn program<H: Files + Threads + Wait + Copy + Send + 'static, W: Write, E: Write>(
+/// `out`, a refusal of the whole run as its last line, and to `errors` what is told beside: what is wrong with a text that is
+/// refused, the reason why a file can't be opened or read, or why `out` failed, and the parser's texts.
+pub fn program<H: Files + Input + Threads + Wait + Copy + Send + 'static, W: Write, E: Write>(
     rt: &H,
     alloc: Global,
     words: &[String],
     out: &mut W,
     errors: &mut E,
+    style: Style,
 ) -> u8 {
     let mut out = Watched::new(out);
     let status = match chosen(alloc, words) {
-        Ok(choice) => {
-            let outcome = run_file(rt, alloc, &choice, &mut out, errors);
-            finish(&mut out, &outcome)
-        }
+        Ok(choice) => run_choice(rt, alloc, &choice, &mut out, errors, style),
         Err(Unchosen::NoMemory) => finish(&mut out, &Err(PoolError::NoMemory)),
         Err(Unchosen::Usage(error)) => show_usage(&error, &mut out, errors),
     };

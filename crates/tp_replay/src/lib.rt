@@ -1,4 +1,6 @@
-//! Scenarios played once more, beside an auditor: their records, and why their steps are refused.
+//! Scenarios played once more: what their steps asked and how the pool answered, their records' texts, and why steps are refused.
 #![tactic(auto)]
 
-pub mod replays;
+pub mod plays;
+pub mod records;
+pub mod telling;

@@ -1,7 +1,7 @@
 //! What is told of refused steps; and the record of a scenario.
 
 use std::test::Fail;
-use tp_replay::replays::replay;
+use tp_replay::plays::play_text;
 
 const REFUSED: &[u8] = b"pool 1 1 unbounded keep 5 abort limit 64
 # one task
@@ -54,21 +54,22 @@ end 7
 
 #[test]
 fn tells_why_steps_are_refused(rt: HostRuntime) -> Result<(), Fail> {
-    let mut told = Vec::new(rt.alloc());
-    let replayed = match replay(rt.alloc(), REFUSED, &mut told) {
-        Ok(replayed) => replayed,
+    let play = match play_text(rt.alloc(), REFUSED) {
+        Ok(play) => play,
         Err(refusal) => {
             assert!(rt; false, "{refusal}");
             return Ok(());
         }
     };
+    assert_eq!(rt; play.refused(), 12);
+    let mut told = Vec::new(rt.alloc());
+    assert!(rt; play.explain(rt.alloc(), REFUSED, &mut told).is_ok());
     assert_eq!(rt;
         str::from_utf8(told.as_slice()).unwrap_or(""),
         str::from_utf8(TOLD).unwrap_or("?")
     );
-    assert_eq!(rt; replayed.refused, 12);
     let mut record = Vec::new(rt.alloc());
-    assert!(rt; replayed.write_record(rt.alloc(), &mut record).is_ok());
+    assert!(rt; play.write_record(rt.alloc(), &mut record).is_ok());
     assert_eq!(rt;
         str::from_utf8(record.as_slice()).unwrap_or(""),
         str::from_utf8(RECORD).unwrap_or("?")

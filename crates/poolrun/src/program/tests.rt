@@ -1,5 +1,7 @@
 //! Every way to call the program, over real files in the test's folder.
 
+mod flags;
+mod mistakes;
 mod scenarios;
 mod threads;
 
@@ -25,6 +27,11 @@ state running
 counts submitted=1 run=1 caller=0 rejected=0 discarded=0 handedback=0 removed=0 cancelled=0 completed=1 queued=0 live=1 largest=1
 ";
 
+const LEGAL_OUTPUT: &str = "legal 2
+state tidying
+counts submitted=0 run=0 caller=0 rejected=0 discarded=0 handedback=0 removed=0 cancelled=0 completed=0 queued=0 live=0 largest=0
+";
+
 /// What a call of the program gave.
 #[derive(Debug, Drop)]
 struct Called {
@@ -39,6 +46,14 @@ impl Called {
             && self.out.as_slice() == out.as_bytes()
             && self.errors.as_slice() == errors.as_bytes()
     }
+
+    /// As `gave`, but that the standard error has this part; the empty one says that it has nothing.
+    fn told(&self, status: u8, out: &str, part: &str) -> bool {
+        self.status == status
+            && self.out.as_slice() == out.as_bytes()
+            && self.errors.is_empty() == part.is_empty()
+            && has(&self.errors, part)
+    }
 }
 
 fn words_of(alloc: Global, line: &str) -> Result<Vec<String>, Fail> {
@@ -49,7 +64,7 @@ fn words_of(alloc: Global, line: &str) -> Result<Vec<String>, Fail> {
     Ok(words)
 }
 
-fn call<H: Files + Threads + Wait + Copy + Send + 'static>(
+fn call<H: Files + Input + Threads + Wait + Copy + Send + 'static>(
     rt: &H,
     alloc: Global,
     line: &str,
@@ -57,7 +72,14 @@ fn call<H: Files + Threads + Wait + Copy + Send + 'static>(
     let words = words_of(alloc, line)?;
     let mut out = Vec::new(alloc);
     let mut errors = Vec::new(alloc);
-    let status = program(rt, alloc, words.as_slice(), &mut out, &mut errors);
+    let status = program(
+        rt,
+        alloc,
+        words.as_slice(),
+        &mut out,
+        &mut errors,
+        Style::Plain,
+    );
     Ok(Called {
         status,
         out,
@@ -66,7 +88,7 @@ fn call<H: Files + Threads + Wait + Copy + Send + 'static>(
 }
 
 /// Calls the program by a command on a file of this text.
-fn call_on<H: Files + Threads + Wait + Copy + Send + 'static>(
+fn call_on<H: Files + Input + Threads + Wait + Copy + Send + 'static>(
     rt: &H,
     alloc: Global,
     command: &str,
@@ -89,49 +111,59 @@ fn runs_a_scenario(rt: HostRuntime) -> Result<(), Fail> {
 
 #[test]
 fn ends_with_the_refusal_of_a_run(rt: HostRuntime) -> Result<(), Fail> {
-    for (text, out) in [
-        ("pool 3 2 unbounded keep 0 abort\n", "refused 1 BadSizes\n"),
+    for (text, out, part) in [
+        (
+            "pool 3 2 unbounded keep 0 abort\n",
+            "refused 1 BadSizes\n",
+            "error: a CORE of 3 is above the MAX of 2\n --> refused-run.txt:1:6\n",
+        ),
         (
             "pool 1 1 unbounded keep 0 abort\nsubmit plain 5\nsub",
             "1 submit t0 plain reserve w0\nrefused 23 BadLine 3\n",
+            "error: the text's last line has no line feed at its end\n --> refused-run.txt:3:4\n",
         ),
-        ("", "refused 23 BadLine 1\n"),
+        (
+            "",
+            "refused 23 BadLine 1\n",
+            "error: the text has no pool line\n --> refused-run.txt:1:1\n",
+        ),
     ] {
         let refused = call_on(&rt, rt.alloc(), "steps", "refused-run.txt", text)?;
-        assert!(rt; refused.gave(1, out, ""), "{refused:?}");
+        assert!(rt; refused.told(1, out, part), "{refused:?}");
     }
     Ok(())
 }
 
 #[test]
 fn judges_a_record(rt: HostRuntime) -> Result<(), Fail> {
-    for (text, status, out) in [
+    for (text, status, out, part) in [
         (
             "tprecord 1\npool 1 1 unbounded keep 0 abort\n1 shutdown\n2 tidy\nend 2\n",
             0,
-            "legal 2
-state tidying
-counts submitted=0 run=0 caller=0 rejected=0 discarded=0 handedback=0 removed=0 cancelled=0 completed=0 queued=0 live=0 largest=0
-",
+            LEGAL_OUTPUT,
+            "",
         ),
         (
             "tprecord 1\npool 1 1 unbounded keep 0 abort\n1 tidy\nend 1\n",
             1,
             "flaw 1\n",
+            "poolrun: a-record.txt: line 3: tidy: refused 8 NotThere (the state is running, with 0 slots",
         ),
         (
             "tprecord 1\npool 3 2 unbounded keep 0 abort\nend 1\n",
             1,
             "refused 1 BadSizes\n",
+            "error: a CORE of 3 is above the MAX of 2\n --> a-record.txt:2:6\n",
         ),
         (
             "tprecord 1\npool 1 1 unbounded keep 0 abort\nend 1\n",
             1,
             "refused 24 BadEntry 3\n",
+            "error: the number of entries is wrong\n --> a-record.txt:3:5\n",
         ),
     ] {
         let judged = call_on(&rt, rt.alloc(), "audit", "a-record.txt", text)?;
-        assert!(rt; judged.gave(status, out, ""), "{judged:?}");
+        assert!(rt; judged.told(status, out, part), "{judged:?}");
     }
     Ok(())
 }
@@ -262,7 +294,14 @@ fn tells_that_the_standard_output_fails(rt: HostRuntime) -> Result<(), Fail> {
     ] {
         let words = words_of(alloc, line)?;
         let mut errors = Vec::new(alloc);
-        let status = program(&rt, alloc, words.as_slice(), &mut Full(room), &mut errors);
+        let status = program(
+            &rt,
+            alloc,
+            words.as_slice(),
+            &mut Full(room),
+            &mut errors,
+            Style::Plain,
+        );
         let told: &[u8] = b"poolrun: standard output: no storage space\n";
         assert!(rt;
             status == 1 && errors.as_slice() == told,

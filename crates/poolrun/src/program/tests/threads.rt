@@ -28,7 +28,7 @@ fn printed<H: Abort>(rt: &H, called: Called) -> Result<String, Fail> {
 }
 
 /// Runs the jobs of this text by threads, and has the record judged.
-fn run_jobs<H: Abort + Files + Threads + Wait + Copy + Send + 'static>(
+fn run_jobs<H: Abort + Files + Input + Threads + Wait + Copy + Send + 'static>(
     rt: &H,
     alloc: Global,
     text: &str,
@@ -109,26 +109,74 @@ fn ends_a_run_of_jobs_with_its_refusal(rt: HostRuntime) -> Result<(), Fail> {
     for _ in 0..20 {
         full.push_str("execute 5\n")?;
     }
-    for (text, out) in [
-        (full.as_str(), "refused 5 BookFull\n"),
-        ("", "refused 23 BadLine 1\n"),
+    for (text, out, part) in [
+        (
+            full.as_str(),
+            "refused 5 BookFull\n",
+            "^^^^^^^^^ the record has no room for it: set a greater limit in the pool line",
+        ),
+        (
+            "",
+            "refused 23 BadLine 1\n",
+            "error: the text has no pool line\n",
+        ),
         (
             "pool 2 1 unbounded keep 0 abort\nexecute 5",
             "refused 1 BadSizes\n",
+            "error: a CORE of 2 is above the MAX of 1\n --> refused-jobs.txt:1:6\n",
         ),
         (
             "pool 1 1 unbounded keep 0 abort\nexecute 5\nsubmit plain 5\n",
             "refused 23 BadLine 3\n",
+            "error: this is a line of a scenario\n --> refused-jobs.txt:3:1\n",
         ),
     ] {
         let refused = call_on(&rt, alloc, "threads", "refused-jobs.txt", text)?;
-        assert!(rt; refused.gave(1, out, ""), "{refused:?}");
+        assert!(rt; refused.told(1, out, part), "{refused:?}");
     }
     let unread = call(&rt, alloc, "poolrun threads no-such-file.txt")?;
     let errors = "poolrun: no-such-file.txt: No such file or directory (os error 2)\n";
     assert!(rt;
         unread.gave(1, "refused 25 ReadFailed\n", errors),
         "{unread:?}"
+    );
+    Ok(())
+}
+
+/// Twenty jobs, and room for fewer: the record of those that were run is written all the same, and is legal.
+#[test]
+fn keeps_the_record_of_a_full_pool(rt: HostRuntime) -> Result<(), Fail> {
+    let alloc = rt.alloc();
+    let mut full = String::from_str(alloc, "pool 1 1 unbounded keep 0 abort limit 64\n")?;
+    for _ in 0..20 {
+        full.push_str("execute 5\n")?;
+    }
+    let command = "threads --record kept-record.txt";
+    let refused = call_on(&rt, alloc, command, "full-jobs.txt", full.as_str())?;
+    assert!(rt;
+        refused.told(1, "refused 5 BookFull\n", "error: job "),
+        "{refused:?}"
+    );
+    let judged = call(&rt, alloc, "poolrun audit kept-record.txt")?;
+    assert!(rt;
+        judged.status == 0 && has(&judged.out, "\nstate terminated\n"),
+        "{judged:?}"
+    );
+    let ran = call_on(&rt, alloc, command, "few-jobs.txt", ROW_23)?;
+    let record = fs::read_to_string(&rt, "kept-record.txt")?;
+    assert!(rt; ran.gave(0, record.as_str(), ""), "{ran:?}");
+    fs::remove_file(&rt, "kept-record.txt")?;
+    Ok(())
+}
+
+#[test]
+fn tells_that_the_record_is_not_written(rt: HostRuntime) -> Result<(), Fail> {
+    let command = "threads --record no-such-folder/record.txt";
+    let unkept = call_on(&rt, rt.alloc(), command, "unkept-jobs.txt", ROW_23)?;
+    let errors = "poolrun: no-such-folder/record.txt: No such file or directory (os error 2)\n";
+    assert!(rt;
+        unkept.gave(1, "refused 26 WriteFailed\n", errors),
+        "{unkept:?}"
     );
     Ok(())
 }

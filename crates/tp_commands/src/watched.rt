@@ -8,13 +8,16 @@ use std::io::{self, Read, Write};
 /// the program tells it beside.
 #[derive(Drop)]
 pub struct Watched<T> {
-    inner: T,
+    /// What reads or writes.
+    pub inner: T,
     failure: Option<io::Error>,
 }
 
 impl<T> Watched<T> {
     /// A reader or writer that has not failed.
-    pub fn new(inner: T) -> Watched<T> {
+    pub fn new(inner: T) -> Watched<T>
+        ensures { result.inner ≡ inner }
+    {
         Watched {
             inner,
             failure: None,

@@ -1,9 +1,9 @@
 //! The exit status, and the line of a refusal of the whole run.
 
-ghost use Rattle.std.specs.Prelude.{◌≡◌, IsOk, OnOk};
+ghost use Rattle.std.specs.Prelude.{◌≡◌, ◌≤◌, IsOk, OnOk};
 ghost use Rattle.std.specs.Io.KnownBytes.{Appends};
 ghost use Rattle.tp_text.specs.EndLines.{refused_place, refusal_line};
-ghost use Rattle.poolrun.specs.Status.{status_of};
+ghost use Rattle.tp_commands.specs.Status.{status_of};
 
 use std::io::{self, Write};
 use tp_types::refusals::PoolError;
@@ -35,6 +35,7 @@ pub fn write_refusal<W: Write>(writer: &mut W, refusal: PoolError) -> io::Result
 /// true, 1 where it answered false or was refused. Nothing is known of what a failing writer took.
 pub fn finish<W: Write>(writer: &mut W, outcome: &Result<bool, PoolError>) -> u8
     ensures status { result ≡ status_of outcome.now }
+    ensures few { result ≤ 1 }
     ensures silent { IsOk outcome.now → writer.new ≡ writer.old }
 {
     match outcome {

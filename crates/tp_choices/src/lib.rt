@@ -1,0 +1,4 @@
+//! The command line: what its user chose.
+#![tactic(auto)]
+
+pub mod choices;

@@ -1,0 +1,9 @@
+//! The commands `steps` and `audit`: what they do with a text, with what status they end, and what they tell beside their output.
+#![tactic(auto)]
+
+pub mod audits;
+pub mod statuses;
+pub mod steps;
+pub mod telling;
+pub mod texts;
+pub mod watched;

@@ -1,0 +1,146 @@
+//! The command `steps`: a scenario is played.
+
+ghost use Rattle.std.specs.Prelude.{◌≡◌, ◌≤◌, false, length, true, Ok, IfOk, OnOk, Some};
+ghost use Rattle.tp_replay.specs.Plays.{IsPlayIn, refusals_in};
+ghost use Rattle.tp_scenario.specs.Played.{IsRun};
+ghost use Rattle.tp_commands.specs.Steps.{HasNoRefusal, OfText, PrintsRecord};
+
+use crate::statuses::finish;
+use crate::telling::tell_refusal;
+use crate::texts::whole_text;
+use std::alloc::Global;
+use std::io::{Read, Write};
+use tp_choices::choices::Playing;
+use tp_reasons::messages::Style;
+use tp_reasons::mistakes::Kind;
+use tp_replay::plays::{Play, play_text};
+use tp_types::refusals::PoolError;
+
+/// Whether a play lets the program end well.
+fn passes(playing: Playing, play: &Play) -> bool
+    ensures { playing.is_strict ≡ true → result ≡ true → refusals_in play.now.answers.items ≡ 0 }
+{
+    !playing.is_strict || play.refused() == 0
+}
+
+/// Plays a scenario. Why steps are refused goes to `errors`, where that is asked for.
+fn play_told<E: Write>(
+    alloc: Global,
+    playing: Playing,
+    text: &[u8],
+    errors: &mut E,
+) -> Result<Play, PoolError>
+    requires { length text.now ≤ 1048576 }
+    ensures { IfOk result (IsPlayIn text.now) }
+{
+    let play = match play_text(alloc, text) {
+        Ok(play) => play,
+        Err(refusal) => return Err(refusal),
+    };
+    if playing.explains {
+        if let Err(refusal) = play.explain(alloc, text, errors) {
+            return Err(refusal);
+        }
+    }
+    Ok(play)
+}
+
+/// Plays a scenario, and writes its record's text to `out`. The answer says whether a refused step is let pass.
+fn play_for_record<W: Write, E: Write>(
+    alloc: Global,
+    playing: Playing,
+    text: &[u8],
+    out: &mut W,
+    errors: &mut E,
+) -> Result<bool, PoolError>
+    requires { length text.now ≤ 1048576 }
+    ensures record { OnOk result (PrintsRecord text.now (W.contents out.old) (W.contents out.new)) }
+    ensures strict { playing.is_strict ≡ true → result ≡ Ok true → HasNoRefusal text.now }
+{
+    let play = match play_told(alloc, playing, text, errors) {
+        Ok(play) => play,
+        Err(refusal) => return Err(refusal),
+    };
+    if let Some(line) = play.bad {
+        return Err(PoolError::BadLine(line));
+    }
+    match play.write_record(alloc, out) {
+        Ok(()) => Ok(passes(playing, &play)),
+        Err(refusal) => Err(refusal),
+    }
+}
+
+/// Plays a scenario once more after its run, where a flag asks for it. The answer says whether a refused step is let pass.
+fn play_again<E: Write>(
+    alloc: Global,
+    playing: Playing,
+    text: &[u8],
+    errors: &mut E,
+) -> Result<bool, PoolError>
+    requires { length text.now ≤ 1048576 }
+    ensures strict { playing.is_strict ≡ true → result ≡ Ok true → HasNoRefusal text.now }
+{
+    if !playing.explains && !playing.is_strict {
+        return Ok(true);
+    }
+    match play_told(alloc, playing, text, errors) {
+        Ok(play) => Ok(passes(playing, &play)),
+        Err(refusal) => Err(refusal),
+    }
+}
+
+/// Plays a scenario: its output, or the text of its record, goes to `out`, and to `errors` why steps are refused, where that is
+/// asked for. The answer says whether the run went to its end, and where that is asked for also without a refused step.
+pub fn play<W: Write, E: Write>(
+    alloc: Global,
+    playing: Playing,
+    text: &[u8],
+    out: &mut W,
+    errors: &mut E,
+) -> Result<bool, PoolError>
+    requires { length text.now ≤ 1048576 }
+    ensures run { playing.prints_record ≡ false → OnOk result (IsRun (Some text.now) (W.contents out.old) (W.contents out.new) (Ok tt)) }
+    ensures record { playing.prints_record ≡ true → OnOk result (PrintsRecord text.now (W.contents out.old) (W.contents out.new)) }
+    ensures strict { playing.is_strict ≡ true → result ≡ Ok true → HasNoRefusal text.now }
+{
+    if playing.prints_record {
+        return play_for_record(alloc, playing, text, out, errors);
+    }
+    let mut reader = text;
+    let outcome = tp_scenario::run::run(alloc, &mut reader, out);
+    let again = play_again(alloc, playing, text, errors);
+    match outcome {
+        Ok(()) => again,
+        Err(refusal) => Err(refusal),
+    }
+}
+
+/// Plays the scenario that a reader of this name gives, as `poolrun steps`, and gives the status of the program. What is wrong with
+/// a text that is refused goes to `errors`.
+pub fn run_steps<R: Read + Drop, W: Write, E: Write>(
+    alloc: Global,
+    playing: Playing,
+    name: &str,
+    reader: R,
+    out: &mut W,
+    errors: &mut E,
+    style: Style,
+) -> u8
+    ensures few { result ≤ 1 }
+    ensures run { playing.prints_record ≡ false → result ≡ 0 → IsRun (R.remaining reader) (W.contents out.old) (W.contents out.new) (Ok tt) }
+    ensures record { playing.prints_record ≡ true → result ≡ 0
+        → OfText (R.remaining reader) (λ text. PrintsRecord text (W.contents out.old) (W.contents out.new)) }
+    ensures strict { playing.is_strict ≡ true → result ≡ 0 → OfText (R.remaining reader) HasNoRefusal }
+{
+    let text = match whole_text(alloc, Kind::Scenario, name, reader, errors) {
+        Ok(text) => text,
+        Err(refusal) => return finish(out, &Err(refusal)),
+    };
+    let text = text.as_slice();
+    let outcome = play(alloc, playing, text, out, errors);
+    let status = finish(out, &outcome);
+    if let Err(refusal) = outcome {
+        tell_refusal(alloc, errors, Kind::Scenario, name, text, refusal, style);
+    }
+    status
+}

@@ -1,0 +1,92 @@
+//! What is told on the standard error.
+
+use crate::watched::Watched;
+use std::alloc::Global;
+use std::io::{self, Write};
+use tp_long::audits::{Refused, audit_lines};
+use tp_long::judging::Judgment;
+use tp_reasons::lines::Line;
+use tp_reasons::messages::{Style, write_message};
+use tp_reasons::mistakes::{Finding, Kind};
+use tp_reasons::reasons::{reason, reason_of_line};
+use tp_types::refusals::PoolError;
+
+/// What is told of a text that is too long to be read.
+const TOO_LONG: &str = "the text has more than 1,048,576 bytes";
+
+/// Tells the name of what failed, and the reason.
+pub fn tell<E: Write>(errors: &mut E, name: &str, reason: &io::Error) {
+    let _ = writeln!(errors, "poolrun: {name}: {reason}");
+}
+
+/// Tells why the reader of a text failed, or that it gave too much.
+pub fn tell_unread<R, E: Write>(errors: &mut E, kind: Kind, name: &str, reader: &Watched<R>) {
+    let _ = match (reader.failure(), kind) {
+        (Some(reason), _) => writeln!(errors, "poolrun: {name}: {reason}"),
+        (None, Kind::Record) => writeln!(
+            errors,
+            "poolrun: {name}: {TOO_LONG}, which `poolrun audit --any-length` takes"
+        ),
+        (None, _) => writeln!(errors, "poolrun: {name}: {TOO_LONG}"),
+    };
+}
+
+/// The name of what is read at a path: `-` is the standard input.
+pub fn name_of(path: &str) -> &str {
+    if path == "-" { "standard input" } else { path }
+}
+
+/// Tells what is wrong with the text of this name, where that was found. It is written at once, so that no other line comes between.
+pub fn tell_finding<E: Write>(
+    alloc: Global,
+    errors: &mut E,
+    name: &str,
+    finding: Option<Finding<'_>>,
+    style: Style,
+) {
+    let Some(finding) = finding else {
+        return;
+    };
+    let mut message = Vec::new(alloc);
+    if write_message(&mut message, name, &finding, style).is_ok() {
+        let _ = errors.write_all(message.as_slice());
+    }
+}
+
+/// Tells what is wrong with a text of this kind and name that was refused so, where the refusal speaks of a line of it.
+pub fn tell_refusal<E: Write>(
+    alloc: Global,
+    errors: &mut E,
+    kind: Kind,
+    name: &str,
+    text: &[u8],
+    refusal: PoolError,
+    style: Style,
+) {
+    let finding = reason(alloc, kind, text, refusal).unwrap_or(None);
+    tell_finding(alloc, errors, name, finding, style);
+}
+
+/// Tells why a record has a flaw.
+pub fn tell_flaw<E: Write>(errors: &mut E, name: &str, why: &str) {
+    let _ = writeln!(errors, "poolrun: {name}: {why}");
+}
+
+/// Tells why the record of a text has a flaw.
+pub fn tell_flaw_in<E: Write>(alloc: Global, errors: &mut E, name: &str, text: &[u8]) {
+    let mut reader = text;
+    if let Ok(Judgment::Flawed(_, why)) = audit_lines(alloc, &mut reader) {
+        tell_flaw(errors, name, why.as_str());
+    }
+}
+
+/// What is wrong with a record that was read line by line, if its refusal speaks of a line that is left of it.
+pub fn finding_in(alloc: Global, refused: &Refused) -> Option<Finding<'_>> {
+    let line = refused.line.as_ref()?;
+    let shown = Line {
+        number: line.number,
+        bytes: line.bytes.as_slice(),
+        is_ended: line.is_ended,
+    };
+    reason_of_line(alloc, shown, line.is_behind_end, refused.refusal).unwrap_or(None)
+}

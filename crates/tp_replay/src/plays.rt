@@ -1,0 +1,127 @@
+//! What comes of the steps of a scenario: its answers, without the pool that gave them.
+
+ghost use Rattle.std.specs.Prelude.{◌≡◌, ◌≤◌, [], length, Ok, IfOk, IfErr, IsOkUnless};
+ghost use Rattle.tp_scenario.specs.Answered.{answer_of};
+ghost use Rattle.tp_scenario.specs.Read.{lines_said};
+ghost use Rattle.tp_replay.specs.Plays.{IsPlayIn, IsPlayOf, PlaysOf, RefusesPlay, RefusesSaid, refusals_in};
+
+use std::alloc::Global;
+use tp_record::entries::{Ask, Entry};
+use tp_scenario::lines::ScenarioLine;
+use tp_scenario::scenarios::{Scenario, read_scenario};
+use tp_scenario::step::{Runner, Told};
+use tp_types::configs::Config;
+use tp_types::refusals::PoolError;
+
+/// What a step asked of the pool, and the answer: the entry that it added to the record, or its refusal.
+#[derive(Clone, Copy, Debug)]
+pub struct Answered {
+    /// What was asked.
+    pub ask: Ask,
+    /// How the pool answered.
+    pub answer: Result<Entry, PoolError>,
+}
+
+/// What came of a scenario's steps.
+#[derive(Debug, Drop)]
+pub struct Play {
+    /// The settings of the pool.
+    pub config: Config,
+    /// The steps up to the first bad line, in order, and how the pool answered.
+    pub answers: Vec<Answered>,
+    /// The number of the first bad line behind the pool line, where there is one. Lines count from 1.
+    pub bad: Option<u32>,
+}
+
+/// The entry that a step added to the record, or its refusal.
+fn answer_of(told: Told) -> Result<Entry, PoolError>
+    ensures { result ≡ answer_of told }
+{
+    match told {
+        Ok((entry, _)) => Ok(entry),
+        Err(refusal) => Err(refusal),
+    }
+}
+
+/// Plays the steps on a new pool; NoMemory (4) of the player's own.
+fn play_steps(
+    alloc: Global,
+    runner: &mut Runner,
+    steps: &[ScenarioLine],
+) -> Result<Vec<Answered>, PoolError>
+    requires starts { runner.old ≡ record { config = runner.old.config; history = []; outcomes = [] } }
+    ensures plays { IfOk result (λ answers. PlaysOf runner.old.config steps.now answers.items) }
+    ensures only_memory { IsOkUnless result PoolError.NoMemory }
+{
+    let mut answers = Vec::new(alloc);
+    for step in steps {
+        let ask = runner.ask(step);
+        let Ok(told) = runner.step(step) else {
+            return Err(PoolError::NoMemory);
+        };
+        let answer = answer_of(told);
+        answers.push(Answered { ask, answer })?;
+    }
+    Ok(answers)
+}
+
+/// Plays a scenario that was read.
+fn play_scenario(alloc: Global, scenario: &Scenario) -> Result<Play, PoolError>
+    ensures plays { IfOk result (IsPlayOf (scenario.now.pool, lines_said scenario.now)) }
+    ensures refuses { IfErr result (RefusesSaid (Ok (scenario.now.pool, lines_said scenario.now))) }
+{
+    let config = scenario.pool.config();
+    if let Err(refusal) = config.check() {
+        return Err(refusal);
+    }
+    let mut runner = match Runner::new(alloc, config) {
+        Ok(runner) => runner,
+        Err(refusal) => return Err(refusal),
+    };
+    match play_steps(alloc, &mut runner, scenario.lines.as_slice()) {
+        Ok(answers) => Ok(Play {
+            config,
+            answers,
+            bad: scenario.bad,
+        }),
+        Err(refusal) => Err(refusal),
+    }
+}
+
+/// Plays the steps of a scenario's text up to its first bad line, which the play names. Refused are a bad line before the pool line
+/// or in its place (23), settings that no pool can have (1, 2, 3, 11), and want of memory (4).
+pub fn play_text(alloc: Global, text: &[u8]) -> Result<Play, PoolError>
+    requires { length text.now ≤ 1048576 }
+    ensures plays { IfOk result (IsPlayIn text.now) }
+    ensures refuses { IfErr result (RefusesPlay text.now) }
+{
+    let Ok(said) = read_scenario(alloc, text) else {
+        return Err(PoolError::NoMemory);
+    };
+    match said {
+        Ok(scenario) => play_scenario(alloc, &scenario),
+        Err(line) => Err(PoolError::BadLine(line)),
+    }
+}
+
+/// How many steps were refused.
+fn refused_in(answers: &[Answered]) -> usize
+    ensures { result ≡ refusals_in answers.now }
+{
+    let mut count = 0;
+    for answered in answers {
+        if answered.answer.is_err() {
+            count += 1;
+        }
+    }
+    count
+}
+
+impl Play {
+    /// How many steps were refused.
+    pub fn refused(&self) -> usize
+        ensures { result ≡ refusals_in self.now.answers.items }
+    {
+        refused_in(self.answers.as_slice())
+    }
+}

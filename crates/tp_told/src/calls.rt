@@ -1,0 +1,71 @@
+//! A call of the program, by its command line, with a text in memory in place of the file.
+
+use std::alloc::Global;
+use std::io::Read;
+use std::test::Fail;
+use tp_choices::choices::{Choice, chosen};
+use tp_commands::audits::run_audit;
+use tp_commands::steps::run_steps;
+use tp_commands::telling::name_of;
+use tp_reasons::messages::Style;
+
+/// What a call gave.
+#[derive(Debug, Drop)]
+pub struct Called {
+    /// The status.
+    pub status: u8,
+    /// The standard output.
+    pub out: Vec<u8>,
+    /// The standard error.
+    pub errors: Vec<u8>,
+}
+
+impl Called {
+    /// Whether it gave just this.
+    pub fn gave(&self, status: u8, out: &str, errors: &str) -> bool {
+        self.status == status
+            && self.out.as_slice() == out.as_bytes()
+            && self.errors.as_slice() == errors.as_bytes()
+    }
+}
+
+/// Whether a text has this part.
+pub fn has(text: &[u8], part: &str) -> bool {
+    match str::from_utf8(text) {
+        Ok(text) => text.contains(part),
+        Err(_) => false,
+    }
+}
+
+/// What a command line chooses, behind the program's name.
+fn choice_of(alloc: Global, line: &str) -> Result<Option<Choice>, Fail> {
+    let mut words = Vec::new(alloc);
+    words.push(String::from_str(alloc, "poolrun")?)?;
+    for word in line.split(' ') {
+        words.push(String::from_str(alloc, word)?)?;
+    }
+    Ok(chosen(alloc, words.as_slice()).ok())
+}
+
+/// Calls `steps` or `audit` by this command line, where the file gives what this reader gives. The status is 99 for another line.
+pub fn call<R: Read + Drop>(alloc: Global, line: &str, reader: R) -> Result<Called, Fail> {
+    let mut out = Vec::new(alloc);
+    let mut errors = Vec::new(alloc);
+    let plain = Style::Plain;
+    let status = match choice_of(alloc, line)? {
+        Some(Choice::Steps(path, playing)) => {
+            let name = name_of(path.as_str());
+            run_steps(alloc, playing, name, reader, &mut out, &mut errors, plain)
+        }
+        Some(Choice::Audit(path, any)) => {
+            let name = name_of(path.as_str());
+            run_audit(alloc, any, name, reader, &mut out, &mut errors, plain)
+        }
+        _ => 99,
+    };
+    Ok(Called {
+        status,
+        out,
+        errors,
+    })
+}

@@ -1,0 +1,133 @@
+//! The flags, alone and together; and what they do with texts that are refused.
+
+use crate::calls::{call, has};
+use std::test::Fail;
+
+const GOOD: &str = "pool 1 1 unbounded keep 0 abort
+submit plain 5
+open 0
+";
+
+const GOOD_OUTPUT: &str = "1 submit t0 plain reserve w0
+2 open w0 live
+t0 open
+state running
+counts submitted=1 run=0 caller=0 rejected=0 discarded=0 handedback=0 removed=0 cancelled=0 completed=0 queued=0 live=1 largest=1
+";
+
+const REFUSED_STEP: &str = "pool 1 1 unbounded keep 0 abort
+submit plain 5
+take 3
+open 0
+";
+
+const REFUSED_OUTPUT: &str = "1 submit t0 plain reserve w0
+refused 7 UnknownSlot
+2 open w0 live
+t0 open
+state running
+counts submitted=1 run=0 caller=0 rejected=0 discarded=0 handedback=0 removed=0 cancelled=0 completed=0 queued=0 live=1 largest=1
+";
+
+const REFUSED_RECORD: &str = "tprecord 1
+pool 1 1 unbounded keep 0 abort
+1 submit t0 plain reserve w0
+2 open w0 live
+end 2
+";
+
+const WHY: &str = "line 3: take 3: refused 7 UnknownSlot (slots: w0)\n";
+
+/// A scenario, and what is asked of it: a command, a status, the output, and the standard error.
+const PLAYED: [(&str, u8, &str, &str); 8] = [
+    ("steps", 0, REFUSED_OUTPUT, ""),
+    ("steps --explain", 0, REFUSED_OUTPUT, WHY),
+    ("steps --strict", 1, REFUSED_OUTPUT, ""),
+    ("steps --strict --explain", 1, REFUSED_OUTPUT, WHY),
+    ("steps --record", 0, REFUSED_RECORD, ""),
+    ("steps --record --explain", 0, REFUSED_RECORD, WHY),
+    ("steps --record --strict", 1, REFUSED_RECORD, ""),
+    ("steps --record --explain --strict", 1, REFUSED_RECORD, WHY),
+];
+
+#[test]
+fn plays_with_flags(rt: HostRuntime) -> Result<(), Fail> {
+    for (command, status, out, errors) in PLAYED {
+        let line = format!(in rt.alloc(); "{command} a.txt")?;
+        let played = call(rt.alloc(), line.as_str(), REFUSED_STEP.as_bytes())?;
+        assert!(rt; played.gave(status, out, errors), "{command}: {played:?}");
+    }
+    for line in ["steps --strict -", "steps --strict --explain -"] {
+        let played = call(rt.alloc(), line, GOOD.as_bytes())?;
+        assert!(rt; played.gave(0, GOOD_OUTPUT, ""), "{line}: {played:?}");
+    }
+    Ok(())
+}
+
+/// A command line, a text that is refused, what is printed, and a part of what is told. The status is 1.
+const REFUSED: [(&str, &str, &str, &str); 9] = [
+    (
+        "steps --record -",
+        "pool 1 1 unbounded keep 0 abort\nsub\n",
+        "refused 23 BadLine 2\n",
+        " --> standard input:2:1\n",
+    ),
+    (
+        "steps --explain -",
+        "pool 1 1 unbounded keep 0 abort\ntake 3\nsub\nopen 0\n",
+        "refused 7 UnknownSlot\nrefused 23 BadLine 3\n",
+        "line 2: take 3: refused 7 UnknownSlot (no slots)\nerror: no line begins with 'sub'\n",
+    ),
+    (
+        "steps --record --strict -",
+        "pool 1 1 unbounded keep 0 abort\ntake 3\nsub\n",
+        "refused 23 BadLine 3\n",
+        "error: no line begins with 'sub'\n",
+    ),
+    (
+        "steps --strict --explain -",
+        "",
+        "refused 23 BadLine 1\n",
+        "error: the text has no pool line\n",
+    ),
+    (
+        "steps --record -",
+        "pool 3 2 unbounded keep 0 abort\n",
+        "refused 1 BadSizes\n",
+        "error: a CORE of 3 is above the MAX of 2\n",
+    ),
+    (
+        "audit --any-length -",
+        "",
+        "refused 24 BadEntry 1\n",
+        "error: ",
+    ),
+    (
+        "audit --any-length -",
+        "tprecord 1\npool 1 1 unbounded keep 0 abort\nend 1\n",
+        "refused 24 BadEntry 3\n",
+        "error: the number of entries is wrong\n",
+    ),
+    (
+        "audit --any-length -",
+        "tprecord 1\npool 3 2 unbounded keep 0 abort\n",
+        "refused 1 BadSizes\n",
+        "error: a CORE of 3 is above the MAX of 2\n",
+    ),
+    (
+        "audit --any-length -",
+        "tprecord 1\npool 1 1 unbounded keep 0 abort\n1 tidy\nend 1\n",
+        "flaw 1\n",
+        "poolrun: standard input: line 3: tidy: refused 8 NotThere (the state is running, with 0 slots",
+    ),
+];
+
+#[test]
+fn flags_leave_refusals_as_they_are(rt: HostRuntime) -> Result<(), Fail> {
+    for (line, text, out, part) in REFUSED {
+        let refused = call(rt.alloc(), line, text.as_bytes())?;
+        let is_so = refused.status == 1 && refused.out.as_slice() == out.as_bytes();
+        assert!(rt; is_so && has(&refused.errors, part), "{line}: {refused:?}");
+    }
+    Ok(())
+}
