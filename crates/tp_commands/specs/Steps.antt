@@ -1,5 +1,5 @@
 -- What the command steps does with a scenario.
-use Rattle.std.specs.Prelude.{◌≡◌, ℕ, List, Option, None, Bool, true, false, IfSome}
+use Rattle.std.specs.Prelude.{◌≡◌, ℕ, List, Option, None, IfSome}
 use Rattle.std.specs.Io.KnownBytes.{Appends}
 use Rattle.tp_record_text.specs.RecordText.{record_text}
 use Rattle.tp_replay.specs.declared.plays.Play.{Play}
