@@ -47,21 +47,32 @@ fn choice_of(alloc: Global, line: &str) -> Result<Option<Choice>, Fail> {
     Ok(chosen(alloc, words.as_slice()).ok())
 }
 
+/// Does what was chosen with what a reader gives, and gives the status; 99 where it is neither `steps` nor `audit`.
+fn status_of<R: Read + Drop>(
+    alloc: Global,
+    choice: &Choice,
+    reader: R,
+    out: &mut Vec<u8>,
+    errors: &mut Vec<u8>,
+) -> u8 {
+    let name = name_of(choice.path());
+    let plain = Style::Plain;
+    match choice {
+        Choice::Steps(_path, playing) => {
+            run_steps(alloc, *playing, name, reader, out, errors, plain)
+        }
+        Choice::Audit(_path, any) => run_audit(alloc, *any, name, reader, out, errors, plain),
+        Choice::Threads(_path, _record) => 99,
+    }
+}
+
 /// Calls `steps` or `audit` by this command line, where the file gives what this reader gives. The status is 99 for another line.
 pub fn call<R: Read + Drop>(alloc: Global, line: &str, reader: R) -> Result<Called, Fail> {
     let mut out = Vec::new(alloc);
     let mut errors = Vec::new(alloc);
-    let plain = Style::Plain;
     let status = match choice_of(alloc, line)? {
-        Some(Choice::Steps(path, playing)) => {
-            let name = name_of(path.as_str());
-            run_steps(alloc, playing, name, reader, &mut out, &mut errors, plain)
-        }
-        Some(Choice::Audit(path, any)) => {
-            let name = name_of(path.as_str());
-            run_audit(alloc, any, name, reader, &mut out, &mut errors, plain)
-        }
-        _ => 99,
+        Some(choice) => status_of(alloc, &choice, reader, &mut out, &mut errors),
+        None => 99,
     };
     Ok(Called {
         status,

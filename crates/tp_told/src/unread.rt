@@ -1,7 +1,9 @@
 //! Texts that end nowhere, fail, or are hostile; and records beyond a text's greatest length.
 
 use crate::calls::{call, has};
+use std::alloc::Global;
 use std::io::{self, ErrorKind, Read};
+use std::process::Abort;
 use std::test::Fail;
 
 /// Gives these bytes, and then fails.
@@ -26,23 +28,31 @@ const LINES: [&str; 6] = [
     "audit --any-length -",
 ];
 
+/// What a reader gave before it fails: nothing, a scenario's first line, a record's.
+const BEGUN: [&str; 3] = ["", "pool 1 1 unbounded keep 0 abort\n", "tprecord 1\n"];
+
+/// Calls the program by this command line with readers that fail. Record texts of any length are read line by line, so that a wrong
+/// first line is told before the reader fails.
+fn tells_unread<R: Abort>(rt: &R, alloc: Global, line: &str) -> Result<(), Fail> {
+    for begun in BEGUN {
+        if line == "audit --any-length -" && begun.starts_with("pool") {
+            continue;
+        }
+        let unread = call(alloc, line, Broken(begun.as_bytes()))?;
+        assert!(rt;
+            unread.status == 1
+                && has(&unread.out, "refused 25 ReadFailed\n")
+                && has(&unread.errors, "poolrun: standard input: "),
+            "{line}: {unread:?}"
+        );
+    }
+    Ok(())
+}
+
 #[test]
 fn tells_why_a_reader_fails(rt: HostRuntime) -> Result<(), Fail> {
     for line in LINES {
-        for begun in ["", "pool 1 1 unbounded keep 0 abort\n", "tprecord 1\n"] {
-            if line == "audit --any-length -" && begun.starts_with("pool") {
-                continue;
-            }
-            let unread = call(rt.alloc(), line, Broken(begun.as_bytes()))?;
-            assert!(rt;
-                unread.status == 1 && has(&unread.out, "refused 25 ReadFailed\n"),
-                "{line}: {unread:?}"
-            );
-            assert!(rt;
-                has(&unread.errors, "poolrun: standard input: "),
-                "{line}: {unread:?}"
-            );
-        }
+        tells_unread(&rt, rt.alloc(), line)?;
     }
     Ok(())
 }
