@@ -41,7 +41,7 @@ fn owed(queued: u32) -> u64 {
 
 /// Why tasks were left to nobody when the pool was stopped; these are the numbers of its callers' passes. None where
 /// nothing explains it.
-pub fn cause(settings: &Config, report: &Report, callers: &[u32]) -> Option<Cause> {
+pub fn cause_of(settings: &Config, report: &Report, callers: &[u32]) -> Option<Cause> {
     let mut found = Found {
         core: settings.core,
         refused: false,

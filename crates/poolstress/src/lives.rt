@@ -3,7 +3,7 @@ ghost use Rattle.std.specs.Prelude.{◌≡◌};
 
 use crate::accounts::{Books, judge};
 use crate::callers::{Caller, Crew, Role, Told, hire, stop};
-use crate::causes::{Cause, cause};
+use crate::causes::{Cause, cause_of};
 use crate::chores::{Chore, Count, count};
 use crate::endings::closed;
 use crate::luck::Luck;
@@ -102,7 +102,7 @@ fn whole_life<
     let report = closed(&rt, pool, passes)?;
     Ok(Account {
         counts: judge(alloc, plan, &report, &books)?,
-        stranded: explained(stranded, cause(&plan.settings, &report, &callers))?,
+        stranded: explained(stranded, cause_of(&plan.settings, &report, &callers))?,
         entries: report.entries.len(),
     })
 }

@@ -42,7 +42,7 @@ struct Tale {
     run: u32,
 }
 
-fn tale(core: u32, first: Making, second: Making, queued: u32, way: Way, run: u32) -> Tale {
+fn told(core: u32, first: Making, second: Making, queued: u32, way: Way, run: u32) -> Tale {
     Tale {
         core,
         first,
@@ -57,19 +57,19 @@ fn tale(core: u32, first: Making, second: Making, queued: u32, way: Way, run: u3
 // worker, also where that one is made at the second try; at core size 0 they wait for a caller.
 fn tales() -> [Tale; 13] {
     [
-        tale(1, Making::Made, Making::Made, 1, Way::Nothing, 1),
-        tale(1, Making::Refused, Making::Made, 1, Way::Nothing, 1),
-        tale(1, Making::NoThread, Making::Made, 1, Way::Nothing, 1),
-        tale(1, Making::Made, Making::Refused, 2, Way::Nothing, 2),
-        tale(1, Making::Refused, Making::NoThread, 2, Way::Nothing, 2),
-        tale(1, Making::NoThread, Making::Refused, 3, Way::Nothing, 3),
-        tale(1, Making::Made, Making::Made, 0, Way::Nothing, 0),
-        tale(1, Making::Refused, Making::Made, 0, Way::Nothing, 0),
-        tale(1, Making::NoThread, Making::Made, 0, Way::Nothing, 0),
-        tale(0, Making::Refused, Making::Made, 0, Way::Removes, 0),
-        tale(0, Making::NoThread, Making::Made, 0, Way::Purges, 0),
-        tale(0, Making::Refused, Making::Made, 2, Way::SetsCore, 3),
-        tale(0, Making::Made, Making::Made, 1, Way::Nothing, 2),
+        told(1, Making::Made, Making::Made, 1, Way::Nothing, 1),
+        told(1, Making::Refused, Making::Made, 1, Way::Nothing, 1),
+        told(1, Making::NoThread, Making::Made, 1, Way::Nothing, 1),
+        told(1, Making::Made, Making::Refused, 2, Way::Nothing, 2),
+        told(1, Making::Refused, Making::NoThread, 2, Way::Nothing, 2),
+        told(1, Making::NoThread, Making::Refused, 3, Way::Nothing, 3),
+        told(1, Making::Made, Making::Made, 0, Way::Nothing, 0),
+        told(1, Making::Refused, Making::Made, 0, Way::Nothing, 0),
+        told(1, Making::NoThread, Making::Made, 0, Way::Nothing, 0),
+        told(0, Making::Refused, Making::Made, 0, Way::Removes, 0),
+        told(0, Making::NoThread, Making::Made, 0, Way::Purges, 0),
+        told(0, Making::Refused, Making::Made, 2, Way::SetsCore, 3),
+        told(0, Making::Made, Making::Made, 1, Way::Nothing, 2),
     ]
 }
 
