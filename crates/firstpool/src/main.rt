@@ -13,6 +13,7 @@ use std::process::ExitCode;
 use std::sync::Wait;
 use std::thread::Threads;
 use tp_book::opening::Unopened;
+use tp_book::passes::Pass;
 use tp_pool::closing::Report;
 use tp_pool::factories::Consenting;
 use tp_pool::gates::OpenGate;
@@ -34,6 +35,16 @@ const SETTINGS: Config = Config {
     policy: Policy::Abort,
     record_limit: 4096,
 };
+
+// Shuts the pool down. It is a function of its own, where little else is known: the check shows there that the
+// caller's objects may cross to a thread.
+fn end<G: PoolNaming + Send + Sync + 'static, R: Threads + Wait + Copy + Send + 'static>(
+    rt: R,
+    pool: &Pool<G>,
+    pass: &mut Pass<G>,
+) -> Result<(), PoolError> {
+    pool.shutdown(&rt, pass)
+}
 
 /// A pool's whole life under a name of its own: it is made, runs three jobs, is shut down, and closes with
 /// its record.
@@ -60,7 +71,7 @@ fn life<G: PoolNaming + Send + Sync + 'static, R: Threads + Wait + Copy + Send +
             return Err(refused.error);
         }
     }
-    pool.shutdown(&rt, &mut pass)?;
+    end(rt, &pool, &mut pass)?;
     pool.await_termination(&rt, 1, &mut pass)?;
     let mut passes = Vec::new(alloc);
     passes.push(pass).or(Err(PoolError::NoMemory))?;
