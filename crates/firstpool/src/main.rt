@@ -15,15 +15,16 @@ use std::thread::Threads;
 use tp_book::opening::Unopened;
 use tp_book::passes::Pass;
 use tp_pool::closing::Report;
-use tp_pool::factories::Consenting;
-use tp_pool::gates::OpenGate;
-use tp_pool::handlers::OneVerdict;
-use tp_pool::hooks::NoHooks;
+use tp_pool::edges::Defaults;
 use tp_pool::names::PoolNaming;
-use tp_pool::pool::Pool;
+use tp_pool::pool::PoolOf;
 use tp_record::entries::Did;
-use tp_types::configs::{Config, Policy, QueueKind, Verdict};
+use tp_types::configs::{Config, Policy, QueueKind};
 use tp_types::refusals::PoolError;
+use tp_types::tasks::Kind;
+
+/// A pool of these jobs, for a caller with nothing to say.
+type First<G> = PoolOf<G, Double, Defaults>;
 
 /// Two workers, and a queue that takes any number of tasks.
 const SETTINGS: Config = Config {
@@ -40,7 +41,7 @@ const SETTINGS: Config = Config {
 // caller's objects may cross to a thread.
 fn end<G: PoolNaming + Send + Sync + 'static, R: Threads + Wait + Copy + Send + 'static>(
     rt: R,
-    pool: &Pool<G>,
+    pool: &First<G>,
     pass: &mut Pass<G>,
 ) -> Result<(), PoolError> {
     pool.shutdown(&rt, pass)
@@ -57,17 +58,9 @@ fn life<G: PoolNaming + Send + Sync + 'static, R: Threads + Wait + Copy + Send +
     requires named { unopened ≡ record { ledger = G.name; parts = G.parts; table = G.table } }
     requires settings { settings ≡ G.config }
 {
-    let factory = Box::new(alloc, Consenting).or(Err(PoolError::NoMemory))?;
-    let verdict = Verdict::Abort;
-    let handler = Box::new(alloc, OneVerdict { verdict }).or(Err(PoolError::NoMemory))?;
-    let hooks = Box::new(alloc, NoHooks).or(Err(PoolError::NoMemory))?;
-    let gate = Box::new(alloc, OpenGate).or(Err(PoolError::NoMemory))?;
-    let (pool, mut pass) = Pool::<G>::new(
-        alloc, unopened, settings, factory, handler, hooks, gate,
-    )?;
+    let (pool, mut pass) = First::<G>::over(alloc, unopened, settings, Defaults)?;
     for number in 7..10 {
-        let job = Box::new(alloc, Double { number }).or(Err(PoolError::NoMemory))?;
-        if let Err(refused) = pool.execute(rt, job, &mut pass) {
+        if let Err(refused) = pool.execute_as(rt, Kind::Plain, Double { number }, &mut pass) {
             return Err(refused.error);
         }
     }
