@@ -3,9 +3,9 @@
 use std::hint::spin_loop;
 use std::sync::{Mutex, MutexGuard, Wait};
 
-/// The pause between two looks at the lock, in turns of `spin_loop`: some 3.5 microseconds where a turn takes
-/// 7 nanoseconds.
-pub const PAUSE: u32 = 500;
+/// The pause between two looks at the lock, in turns of `spin_loop`: some 5 microseconds where a turn takes
+/// 5 nanoseconds.
+pub const PAUSE: u32 = 1_000;
 
 // The number of looks before a thread sleeps.
 const LOOKS: u32 = 8;

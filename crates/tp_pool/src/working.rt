@@ -26,7 +26,7 @@ use tp_turns::turns::{Begun, Workplace, one_turn};
 use tp_types::ids::{SlotId, TaskId};
 use tp_types::tasks::Outcome;
 
-// How often a worker that has nothing to do looks again, with a pause before each look, before it sleeps.
+// How often a worker that is listed looks whether it was called, with a pause before each look, before it parks.
 const DOZES: u32 = 8;
 
 /// A worker at its slot.
@@ -204,7 +204,8 @@ impl<G: PoolNaming, J: Drop, E: Edge> Shared<G, J, E> {
         }
     }
 
-    // Sleeps until another thread took the worker off the list of sleepers. Each wake is checked under the
+    // Sleeps until another thread took the worker off the list of sleepers. It looks a few times before it
+    // parks: where a task comes meanwhile, neither thread makes a system call. Each wake is checked under the
     // lock, since one may be left over from an earlier sleep.
     fn sleep<R: Wait>(&self, rt: &R, w: SlotId) {
         for _ in 0..DOZES {
