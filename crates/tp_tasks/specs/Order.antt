@@ -10,6 +10,6 @@ read_byte number byte = (number / 256 + byte * 16777216) % 2 ^ 64
 abbrev pub read : InOrder → List ℕ → InOrder
 read h bytes = record { number = fold read_byte h.number bytes }
 
--- eight numbers in each place, and which of the eight it is
+-- nine numbers in each place, and which of the nine it is
 abbrev pub place : InOrder → ℕ
-place h = h.number / 8 % 16777216 + (h.number % 8 + 1) * 16777216
+place h = h.number / 9 % 16777216 + (h.number % 9 + 1) * 16777216

@@ -3,7 +3,8 @@ ghost use Rattle.std.specs.Prelude.{◌≡◌};
 
 use std::hash::Hasher;
 
-/// Lays numbers that follow one another side by side, eight to a place. Tasks are numbered in order of
+/// Lays numbers that follow one another side by side, nine to a place, as many as a place of the table takes
+/// on average: more would crowd the places, and each look pass over many. Tasks are numbered in order of
 /// submission, so that a new one finds its place beside the last one's, in memory that is at hand.
 #[derive(Clone, Copy)]
 pub struct InOrder {
@@ -27,7 +28,7 @@ impl Hasher for InOrder {
 
     #[inline(always)]
     fn finish(&self) -> u64 {
-        self.number / 8 % 16_777_216 + (self.number % 8 + 1) * 16_777_216
+        self.number / 9 % 16_777_216 + (self.number % 9 + 1) * 16_777_216
     }
 
     #[inline(always)]
