@@ -9,10 +9,11 @@ ghost use Rattle.tp_tasks.specs.Kept.{AreSubmitted, AreCounted, AreGrouped};
 
 use crate::fates::Fates;
 use crate::group::Group;
-use crate::table::Task;
+use crate::table::{Rows, Task};
 use crate::{groups, table};
 use indexmap::IndexMap;
 use std::alloc::Global;
+use std::hash::BuildHasherDefault;
 use tp_record::rows::TaskRow;
 use tp_types::ids::TaskId;
 use tp_types::refusals::PoolError;
@@ -23,7 +24,7 @@ use tp_types::tasks::{Fate, Kind, Outcome, Place, Promise};
 #[derive(Drop)]
 pub struct Tasks<P> {
     alloc: Global,
-    tasks: IndexMap<u32, Task<P>>,
+    tasks: Rows<P>,
     groups: IndexMap<u32, Group>,
     fates: Fates,
     submitted: u32,
@@ -45,7 +46,7 @@ impl<P> Tasks<P> {
     {
         Tasks {
             alloc,
-            tasks: IndexMap::new(alloc),
+            tasks: IndexMap::with_hasher(alloc, BuildHasherDefault::new()),
             groups: IndexMap::new(alloc),
             fates: Fates::none(),
             submitted: 0,
