@@ -14,3 +14,4 @@ pub mod Rosters
 pub mod Roused
 pub mod Steps
 pub mod Waits
+pub mod Watched

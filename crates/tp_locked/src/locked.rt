@@ -83,11 +83,13 @@ mod marks;
 mod readings;
 mod rescues;
 mod submitters;
+mod watching;
 mod workers;
 
 pub use closing::Beside;
 pub use controllers::Look;
 pub use marks::Marks;
+pub use watching::Busy;
 pub use workers::Taking;
 
 impl<G: PoolNaming, J: Drop> Core<G, J> {
