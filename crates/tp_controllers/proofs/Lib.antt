@@ -2,3 +2,4 @@ pub mod Stopping
 pub mod Cancels
 pub mod Purges
 pub mod Removals
+pub mod Settings

@@ -1,3 +1,4 @@
 pub mod Reserved
 pub mod Falls
 pub mod Waiting
+pub mod GivenBack

@@ -1,10 +1,10 @@
 //! The factory made no worker for a reserved slot, as `addWorkerFailed`.
 
-ghost use Rattle.std.specs.Prelude.{ℕ, ◌≡◌, Some, IfOk, IfErr};
-ghost use Rattle.tp_record.specs.State.{slot_at};
+ghost use Rattle.std.specs.Prelude.{IfOk, IfErr};
 ghost use Rattle.tp_parts.specs.Steps.{Stands, Fits, Refuses, Leads};
 ghost use Rattle.tp_parts.specs.Payloads.{Keeps};
 
+use crate::freed::{give_back, turn_away};
 use tp_parts::parts::Parts;
 use tp_record::entries::{Ask, Did, Failed};
 use tp_record::rows::Stage;
@@ -41,28 +41,11 @@ pub fn apply<P>(parts: &mut Parts<P>, w: SlotId, failed: Failed)
     ensures leads { Leads parts.old (Did.Fail w failed) parts.new }
     ensures payloads { Keeps parts.old.tasks parts.new.tasks }
 {
-    let Some(slot) = parts.slots.get(w) else {
-        unreachable!()
-    };
     match failed {
-        Failed::Nothing => give_up(parts, w),
+        Failed::Nothing => give_back(parts, w),
         Failed::Offer(t) => offer(parts, w, t),
-        Failed::Refuse(t) => match slot.stage {
-            Stage::ReservedCore => refuse_core(parts, w, t),
-            _ => refuse_maximum(parts, w, t),
-        },
+        Failed::Refuse(t) => turn_away(parts, w, t),
     }
-}
-
-/// A bare slot is freed.
-fn give_up<P>(parts: &mut Parts<P>, w: SlotId)
-    requires stands { Stands parts.old }
-    requires fits { Fits parts.old (Ask.Fail w) (Did.Fail w Failed.Nothing) }
-    ensures leads { Leads parts.old (Did.Fail w Failed.Nothing) parts.new }
-    ensures payloads { Keeps parts.old.tasks parts.new.tasks }
-{
-    parts.count_entry(3);
-    parts.give_up(w);
 }
 
 /// A slot of the core is freed, and its first task is to be offered to the queue.
@@ -74,31 +57,5 @@ fn offer<P>(parts: &mut Parts<P>, w: SlotId, t: TaskId)
 {
     parts.count_entry(1);
     parts.place_task(t, Place::ToOffer);
-    parts.give_up(w);
-}
-
-/// A slot of the core is freed, and its first task refused.
-fn refuse_core<P>(parts: &mut Parts<P>, w: SlotId, t: TaskId)
-    requires stands { Stands parts.old }
-    requires fits { Fits parts.old (Ask.Fail w) (Did.Fail w (Failed.Refuse t)) }
-    requires seat { slot_at parts.old.slots.slots w.0 ≡ Some (record { stage = Stage.ReservedCore; task = Some t }) }
-    ensures leads { Leads parts.old (Did.Fail w (Failed.Refuse t)) parts.new }
-    ensures payloads { Keeps parts.old.tasks parts.new.tasks }
-{
-    parts.count_entry(10);
-    parts.place_task(t, Place::Refused);
-    parts.give_up(w);
-}
-
-/// A slot up to the maximum is freed, and its first task refused.
-fn refuse_maximum<P>(parts: &mut Parts<P>, w: SlotId, t: TaskId)
-    requires stands { Stands parts.old }
-    requires fits { Fits parts.old (Ask.Fail w) (Did.Fail w (Failed.Refuse t)) }
-    requires seat { slot_at parts.old.slots.slots w.0 ≡ Some (record { stage = Stage.ReservedMaximum; task = Some t }) }
-    ensures leads { Leads parts.old (Did.Fail w (Failed.Refuse t)) parts.new }
-    ensures payloads { Keeps parts.old.tasks parts.new.tasks }
-{
-    parts.count_entry(6);
-    parts.place_task(t, Place::Refused);
     parts.give_up(w);
 }

@@ -5,6 +5,7 @@
 pub mod begin;
 pub mod end;
 pub mod fail;
+mod freed;
 pub mod leave;
 pub mod open;
 mod owed;

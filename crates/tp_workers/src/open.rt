@@ -5,6 +5,7 @@ ghost use Rattle.tp_record.specs.State.{slot_at};
 ghost use Rattle.tp_parts.specs.Steps.{Stands, Fits, Refuses, Leads};
 ghost use Rattle.tp_parts.specs.Payloads.{Keeps};
 
+use crate::freed::{give_back, turn_away};
 use crate::owed::owed_at_take;
 use tp_parts::parts::Parts;
 use tp_record::entries::{Ask, Did, Opened};
@@ -46,20 +47,27 @@ pub fn apply<P>(parts: &mut Parts<P>, w: SlotId, opened: Opened)
     ensures leads { Leads parts.old (Did.Open w opened) parts.new }
     ensures payloads { Keeps parts.old.tasks parts.new.tasks }
 {
+    match opened {
+        Opened::Live => go_live(parts, w),
+        Opened::GivenUp => give_back(parts, w),
+        Opened::GivenUpRefuse(t) => turn_away(parts, w, t),
+    }
+}
+
+/// The slot is live, with its first task where it was reserved for one.
+fn go_live<P>(parts: &mut Parts<P>, w: SlotId)
+    requires stands { Stands parts.old }
+    requires fits { Fits parts.old (Ask.Open w) (Did.Open w Opened.Live) }
+    ensures leads { Leads parts.old (Did.Open w Opened.Live) parts.new }
+    ensures payloads { Keeps parts.old.tasks parts.new.tasks }
+{
     let Some(slot) = parts.slots.get(w) else {
         unreachable!()
     };
-    match opened {
-        Opened::Live => match slot.stage {
-            Stage::ReservedCore => live_core(parts, w),
-            Stage::ReservedMaximum => live_maximum(parts, w),
-            _ => live_bare(parts, w),
-        },
-        Opened::GivenUp => give_up(parts, w),
-        Opened::GivenUpRefuse(t) => match slot.stage {
-            Stage::ReservedCore => refuse_core(parts, w, t),
-            _ => refuse_maximum(parts, w, t),
-        },
+    match slot.stage {
+        Stage::ReservedCore => live_core(parts, w),
+        Stage::ReservedMaximum => live_maximum(parts, w),
+        _ => live_bare(parts, w),
     }
 }
 
@@ -98,41 +106,4 @@ fn live_maximum<P>(parts: &mut Parts<P>, w: SlotId)
 {
     parts.count_entry(1);
     parts.open(w);
-}
-
-/// A bare slot is freed.
-fn give_up<P>(parts: &mut Parts<P>, w: SlotId)
-    requires stands { Stands parts.old }
-    requires fits { Fits parts.old (Ask.Open w) (Did.Open w Opened.GivenUp) }
-    ensures leads { Leads parts.old (Did.Open w Opened.GivenUp) parts.new }
-    ensures payloads { Keeps parts.old.tasks parts.new.tasks }
-{
-    parts.count_entry(3);
-    parts.give_up(w);
-}
-
-/// A slot of the core is freed, and its first task refused.
-fn refuse_core<P>(parts: &mut Parts<P>, w: SlotId, t: TaskId)
-    requires stands { Stands parts.old }
-    requires fits { Fits parts.old (Ask.Open w) (Did.Open w (Opened.GivenUpRefuse t)) }
-    requires seat { slot_at parts.old.slots.slots w.0 ≡ Some (record { stage = Stage.ReservedCore; task = Some t }) }
-    ensures leads { Leads parts.old (Did.Open w (Opened.GivenUpRefuse t)) parts.new }
-    ensures payloads { Keeps parts.old.tasks parts.new.tasks }
-{
-    parts.count_entry(10);
-    parts.place_task(t, Place::Refused);
-    parts.give_up(w);
-}
-
-/// A slot up to the maximum is freed, and its first task refused.
-fn refuse_maximum<P>(parts: &mut Parts<P>, w: SlotId, t: TaskId)
-    requires stands { Stands parts.old }
-    requires fits { Fits parts.old (Ask.Open w) (Did.Open w (Opened.GivenUpRefuse t)) }
-    requires seat { slot_at parts.old.slots.slots w.0 ≡ Some (record { stage = Stage.ReservedMaximum; task = Some t }) }
-    ensures leads { Leads parts.old (Did.Open w (Opened.GivenUpRefuse t)) parts.new }
-    ensures payloads { Keeps parts.old.tasks parts.new.tasks }
-{
-    parts.count_entry(6);
-    parts.place_task(t, Place::Refused);
-    parts.give_up(w);
 }

@@ -1,24 +1,20 @@
-use Rattle.std.proofs.Common.{◌≡◌, suc, ◌-◌, arith}
+use Rattle.std.proofs.Common.{suc}
 use Rattle.tp_record.specs.declared.entries.Ask.TheVariants as ask
 use Rattle.tp_record.specs.declared.entries.Did.TheVariants as did
 use Rattle.tp_shapes.proofs.Controllers.Settings.{core_timeout as core_timeout_effect}
-use Rattle.tp_parts.proofs.Ties.{tied_more}
-use Rattle.tp_parts.proofs.Standing.{few_steps}
-use Rattle.tp_parts.proofs.Leading.{leads_by}
+use Rattle.tp_controllers.proofs.Settings.{few_entries, setting_leads}
 use Rattle.tp_controllers.proofs.core_timeout.apply.Goals as goal
 
 pub count_entry-requires-clause-few : goal.count_entry-requires-clause-few
-count_entry-requires-clause-few g c = let few = few_steps c.args.parts.now c.requires.stands in omega (arith, few)
+count_entry-requires-clause-few g c = few_entries c.args.parts.now c.requires.stands
 
 pub returns-clause-leads : goal.returns-clause-leads
 returns-clause-leads g c =
-    let stands = c.requires.stands in
     let old = c.args.parts.now in
     let n = c.args.on in
     let k = c.count_entry.ensures.rest in
     let r = c.set_core_timeout.ensures.rest in
-    let due : c.set_core_timeout.new.self.due ≡ old.due - 0 = cc in
-    leads_by old c.set_core_timeout.new.self (ask.CoreTimeout n) (did.CoreTimeout n) 0 0 c.requires.fits
+    setting_leads old c.requires.stands c.set_core_timeout.new.self (ask.CoreTimeout n) (did.CoreTimeout n) c.requires.fits
     (λ h legal given sh. (_, core_timeout_effect old.config h n legal given, c.set_core_timeout.ensures.views _ (c.count_entry.ensures.views _ sh.seen)))
-    (cc) (cc) (omega (arith, due))
-    (c.set_core_timeout.ensures.tied old.config (suc old.steps) (c.count_entry.ensures.tied old.config (suc old.steps) (tied_more old.config old.steps old stands.tied)))
+    (cc) (cc) (cc)
+    (λ tied. c.set_core_timeout.ensures.tied old.config (suc old.steps) (c.count_entry.ensures.tied old.config (suc old.steps) tied))

@@ -1,24 +1,20 @@
-use Rattle.std.proofs.Common.{◌≡◌, suc, ◌-◌, arith}
+use Rattle.std.proofs.Common.{suc}
 use Rattle.tp_record.specs.declared.entries.Ask.TheVariants as ask
 use Rattle.tp_record.specs.declared.entries.Did.TheVariants as did
 use Rattle.tp_shapes.proofs.Controllers.Settings.{tick as tick_effect}
-use Rattle.tp_parts.proofs.Ties.{tied_more}
-use Rattle.tp_parts.proofs.Standing.{few_steps}
-use Rattle.tp_parts.proofs.Leading.{leads_by}
+use Rattle.tp_controllers.proofs.Settings.{few_entries, setting_leads}
 use Rattle.tp_controllers.proofs.tick.apply.Goals as goal
 
 pub count_entry-requires-clause-few : goal.count_entry-requires-clause-few
-count_entry-requires-clause-few g c = let few = few_steps c.args.parts.now c.requires.stands in omega (arith, few)
+count_entry-requires-clause-few g c = few_entries c.args.parts.now c.requires.stands
 
 pub returns-clause-leads : goal.returns-clause-leads
 returns-clause-leads g c =
-    let stands = c.requires.stands in
     let old = c.args.parts.now in
     let n = c.args.now in
     let k = c.count_entry.ensures.rest in
     let r = c.set_moment.ensures.rest in
-    let due : c.set_moment.new.self.due ≡ old.due - 0 = cc in
-    leads_by old c.set_moment.new.self (ask.Tick n) (did.Tick n) 0 0 c.requires.fits
+    setting_leads old c.requires.stands c.set_moment.new.self (ask.Tick n) (did.Tick n) c.requires.fits
     (λ h legal given sh. (_, tick_effect old.config h n legal given, c.set_moment.ensures.views _ (c.count_entry.ensures.views _ sh.seen)))
-    (cc) (cc) (omega (arith, due))
-    (c.set_moment.ensures.tied old.config (suc old.steps) (c.count_entry.ensures.tied old.config (suc old.steps) (tied_more old.config old.steps old stands.tied)))
+    (cc) (cc) (cc)
+    (λ tied. c.set_moment.ensures.tied old.config (suc old.steps) (c.count_entry.ensures.tied old.config (suc old.steps) tied))

@@ -1,57 +1,26 @@
-use Rattle.std.proofs.Common.{◌≡◌, Some, ◌⊎◌, inl, inr, sym, subst, ◌∙◌}
-use Rattle.tp_types.specs.declared.ids.SlotId.{SlotId}
-use Rattle.tp_types.specs.declared.ids.TaskId.{TaskId}
+use Rattle.std.proofs.Common.{inr, refl, sym, subst}
 use Rattle.tp_record.specs.declared.entries.Ask.TheVariants as ask
 use Rattle.tp_record.specs.declared.entries.Did.TheVariants as did
 use Rattle.tp_record.specs.declared.entries.Opened.TheVariants as opened
-use Rattle.tp_record.specs.State.{slot_at}
-use Rattle.tp_model.proofs.Given.{Given}
-use Rattle.tp_shapes.proofs.Rows.{bare}
-use Rattle.tp_parts.specs.declared.parts.Parts.{Parts}
-use Rattle.tp_parts.specs.Steps.{Stands, Fits}
-use Rattle.tp_parts.proofs.Standing.{given_here, seat_here}
-use Rattle.tp_workers.proofs.Reserved.{IsFor, reserved_here, is_core, is_maximum, is_bare, is_for_maximum}
+use Rattle.tp_parts.specs.Steps.{Fits, Leads}
 use Rattle.tp_workers.proofs.open.apply.Goals as goal
 
--- what the slot was reserved for whose worker is made
-opened_here : {P : Type 0} (p : Parts P) (stands : Stands p) (w : SlotId) → Fits p (ask.Open w) (did.Open w opened.Live) →
-    (slot_at p.slots.slots w.0 ≡ Some bare) ⊎ ((t : TaskId) × IsFor (slot_at p.slots.slots w.0) t)
-opened_here p stands w fits = by (given_here p stands (ask.Open w) (did.Open w opened.Live) fits)
-  where
-    by : Given p.config stands.history (did.Open w opened.Live) → (slot_at p.slots.slots w.0 ≡ Some bare) ⊎ ((t : TaskId) × IsFor (slot_at p.slots.slots w.0) t)
-    by (inl given) = inl (seat_here p stands w.0 _ _ given.0)
-    by (inr given) = inr (given.0, reserved_here p stands w.0 given.0 given.1)
+pub give_back-requires-clause-fits : goal.give_back-requires-clause-fits
+give_back-requires-clause-fits g c =
+    let fits = subst (λ o. Fits c.args.parts.now (ask.Open c.args.w) (did.Open c.args.w o)) c.in-GivenUp.is c.requires.fits in
+    (ask.Open c.args.w, did.Open c.args.w opened.GivenUp, inr (refl, refl), fits)
 
-pub live_core-requires-clause-seat : goal.live_core-requires-clause-seat
-live_core-requires-clause-seat g c =
-    let p = c.args.parts.now in
-    let fits = subst (λ o. Fits p (ask.Open c.args.w) (did.Open c.args.w o)) c.in-Live.is c.requires.fits in
-    is_core _ c.in-Some.slot (sym c.get.ensures ∙ c.in-Some.is) c.in-ReservedCore.is (opened_here p c.requires.stands c.args.w fits)
+pub turn_away-requires-clause-fits : goal.turn_away-requires-clause-fits
+turn_away-requires-clause-fits g c =
+    let fits = subst (λ o. Fits c.args.parts.now (ask.Open c.args.w) (did.Open c.args.w o)) c.in-GivenUpRefuse.is c.requires.fits in
+    (ask.Open c.args.w, did.Open c.args.w (opened.GivenUpRefuse c.in-GivenUpRefuse.t), inr (refl, refl), fits)
 
-pub live_maximum-requires-clause-seat : goal.live_maximum-requires-clause-seat
-live_maximum-requires-clause-seat g c =
-    let p = c.args.parts.now in
-    let fits = subst (λ o. Fits p (ask.Open c.args.w) (did.Open c.args.w o)) c.in-Live.is c.requires.fits in
-    is_maximum _ c.in-Some.slot (sym c.get.ensures ∙ c.in-Some.is) c.in-ReservedMaximum.is (opened_here p c.requires.stands c.args.w fits)
+pub returns-in-GivenUp-clause-leads : goal.returns-in-GivenUp-clause-leads
+returns-in-GivenUp-clause-leads g c =
+    let fits = subst (λ o. Fits c.args.parts.now (ask.Open c.args.w) (did.Open c.args.w o)) c.in-GivenUp.is c.requires.fits in
+    subst (λ o. Leads c.args.parts.now (did.Open c.args.w o) c.give_back.new.parts) (sym c.in-GivenUp.is) (c.give_back.ensures.leads _ _ (inr (refl, refl)) fits)
 
-pub live_bare-requires : goal.live_bare-requires
-live_bare-requires g c =
-    let p = c.args.parts.now in
-    let fits = subst (λ o. Fits p (ask.Open c.args.w) (did.Open c.args.w o)) c.in-Live.is c.requires.fits in
-    record {
-      stands = c.requires.stands;
-      fits = fits;
-      seat = is_bare _ c.in-Some.slot (sym c.get.ensures ∙ c.in-Some.is) c.in_default-stage.not-ReservedCore c.in_default-stage.not-ReservedMaximum (opened_here p c.requires.stands c.args.w fits);
-    }
-
-pub refuse_maximum-requires : goal.refuse_maximum-requires
-refuse_maximum-requires g c =
-    let p = c.args.parts.now in
-    let t = c.in-GivenUpRefuse.t in
-    let fits = subst (λ o. Fits p (ask.Open c.args.w) (did.Open c.args.w o)) c.in-GivenUpRefuse.is c.requires.fits in
-    let given = given_here p c.requires.stands (ask.Open c.args.w) (did.Open c.args.w (opened.GivenUpRefuse t)) fits in
-    record {
-      stands = c.requires.stands;
-      fits = fits;
-      seat = is_for_maximum _ c.in-Some.slot (sym c.get.ensures ∙ c.in-Some.is) t c.in_default-stage-2.not-ReservedCore (reserved_here p c.requires.stands c.args.w.0 t given.0);
-    }
+pub returns-in-GivenUpRefuse-clause-leads : goal.returns-in-GivenUpRefuse-clause-leads
+returns-in-GivenUpRefuse-clause-leads g c =
+    let fits = subst (λ o. Fits c.args.parts.now (ask.Open c.args.w) (did.Open c.args.w o)) c.in-GivenUpRefuse.is c.requires.fits in
+    subst (λ o. Leads c.args.parts.now (did.Open c.args.w o) c.turn_away.new.parts) (sym c.in-GivenUpRefuse.is) (c.turn_away.ensures.leads _ _ (inr (refl, refl)) fits)

@@ -1,17 +1,15 @@
 use Rattle.std.proofs.Common.{suc, refl, ap, ◌∙◌}
-use Rattle.tp_record.specs.declared.entries.Ask.TheVariants as ask
-use Rattle.tp_record.specs.declared.entries.Did.TheVariants as did
-use Rattle.tp_record.specs.declared.entries.Failed.TheVariants as failed
-use Rattle.tp_shapes.proofs.Workers.Fail.{fail_bare}
 use Rattle.tp_parts.proofs.Standing.{entry_here}
 use Rattle.tp_parts.proofs.Leading.{leads_from}
-use Rattle.tp_workers.proofs.fail.give_up.Goals as goal
+use Rattle.tp_workers.proofs.GivenBack.{given_back}
+use Rattle.tp_workers.proofs.freed.give_back.Goals as goal
 
 pub count_entry-requires : goal.count_entry-requires
 count_entry-requires g c =
     let old = c.args.parts.now in
     let stands = c.requires.stands in
-    let e = entry_here old stands (ask.Fail c.args.w) (did.Fail c.args.w failed.Nothing) _ 3 0 3 c.requires.fits (λ given. fail_bare old.config stands.history c.args.w stands.legal given) refl in
+    let f = c.requires.fits in
+    let e = entry_here old stands f.0 f.1 _ 3 0 3 f.3 (λ given. given_back old.config stands.history c.args.w f.0 f.1 f.2 stands.legal given) refl in
     record { few = e.0; fall = e.1 }
 
 pub returns-clause-leads : goal.returns-clause-leads
@@ -19,7 +17,8 @@ returns-clause-leads g c =
     let old = c.args.parts.now in
     let k = c.count_entry.ensures.rest in
     let r = c.give_up.ensures.rest in
-    leads_from old c.give_up.new.self (ask.Fail c.args.w) (did.Fail c.args.w failed.Nothing) 3 0 3 c.requires.stands c.requires.fits
-    (λ h legal given sh. (_, fail_bare old.config h c.args.w legal given, c.give_up.ensures.views _ (c.count_entry.ensures.views _ sh.seen)))
+    λ a d is fits.
+    leads_from old c.give_up.new.self a d 3 0 3 c.requires.stands fits
+    (λ h legal given sh. (_, given_back old.config h c.args.w a d is legal given, c.give_up.ensures.views _ (c.count_entry.ensures.views _ sh.seen)))
     refl (ap (λ p. p.config) r ∙ ap (λ p. p.config) k) (ap (λ p. p.steps) r ∙ ap (λ p. p.steps) k) (ap (λ p. p.due) r ∙ ap (λ p. p.due) k)
     (λ tied. c.give_up.ensures.tied old.config (suc old.steps) (c.count_entry.ensures.tied old.config (suc old.steps) tied))
