@@ -25,7 +25,7 @@ impl Life for Three {
 
     fn live<G: PoolName, R: Runtime>(self, rt: &R, pool: &PoolIn<G, Three>, pass: &mut Pass<G>, _: &mut Vec<Pass<G>>) -> Result<(), PoolError> {
         for number in 7..10 {
-            pool.execute_as(*rt, Kind::Plain, Any(Double(number)), pass)?;
+            pool.execute_as(rt, Kind::Plain, Any(Double(number)), pass)?;
         }
         Ok(())
     }

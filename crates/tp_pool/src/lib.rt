@@ -10,6 +10,7 @@
 
 pub mod bodies;
 pub mod boxes;
+pub mod callers;
 pub mod closing;
 pub mod controls;
 pub mod edges;
@@ -34,6 +35,7 @@ pub use tp_callbacks::{factories, gates, handlers, hooks};
 pub use tp_locked::{answers, names};
 
 pub use bodies::{Any, Body};
+pub use callers::in_two;
 pub use closing::{CloseFault, Report};
 pub use edges::{Defaults, Edge};
 pub use lives::{Life, PoolIn, PoolName, Runtime, with_pool};

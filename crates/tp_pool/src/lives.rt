@@ -20,6 +20,7 @@ use tp_machine::typed::controllers::Shutdown;
 use tp_turns::rescues::Remains;
 use tp_types::configs::Config;
 use tp_types::refusals::PoolError;
+use tp_types::states::RunState;
 
 /// A pool's name, as `with_pool` picks it: whoever is generic in it can be lent any pool.
 pub trait PoolName: PoolNaming + Send + Sync + 'static {}
@@ -190,12 +191,22 @@ impl<
         ensures seen { 3 ≤ rank pass.new.front }
         ensures legal { Legal G.config pass.new.front }
     {
-        let shared = self.shared();
-        let (_, remains) = shared.ask_left(rt, Shutdown, pass);
+        self.shut(rt, pass);
+        self.shared().await_end_on(rt, pass)
+    }
+
+    // Shuts the pool down, where it runs still, and has a worker made where one is wanted for that.
+    fn shut<R: Runtime>(&self, rt: &R, pass: &mut Pass<G>)
+        requires room { 3 ≤ pass.old.room }
+        ensures room { 2 ≤ pass.new.room }
+    {
+        if self.glance(pass) != RunState::Running {
+            return;
+        }
+        let (_, remains) = self.shared().ask_left(rt, Shutdown, pass);
         if remains != Remains::End {
             self.rescue(*rt, remains);
         }
-        shared.await_end_on(rt, pass)
     }
 
     // Lets the pool go, once no thread has it any more.
