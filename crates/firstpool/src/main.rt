@@ -1,8 +1,7 @@
 //! `firstpool`: a first pool. Three jobs run on two workers; then what became of each is printed.
 #![tactic(auto)]
 
-use std::process::ExitCode;
-use tp_pool::{Any, Body, CancelFlag, Config, Defaults, Did, Kind, Life, Outcome, Pass, PoolError, PoolIn, PoolName, Runtime, with_pool};
+use tp_pool::prelude::*;
 
 /// A job that answers twice its number.
 #[derive(Drop)]
@@ -20,12 +19,14 @@ struct Three;
 
 impl Life for Three {
     type Job = Any<Double>;
+
     type Edge = Defaults;
+
     type Out = ();
 
-    fn live<G: PoolName, R: Runtime>(self, rt: &R, pool: &PoolIn<G, Three>, pass: &mut Pass<G>, _: &mut Vec<Pass<G>>) -> Result<(), PoolError> {
+    fn live<G: PoolName, R: Runtime>(self, at: &mut LentTo<G, R, Three>) -> Result<(), PoolError> {
         for number in 7..10 {
-            pool.execute_as(rt, Kind::Plain, Any(Double(number)), pass)?;
+            at.execute(Any(Double(number)))?;
         }
         Ok(())
     }
@@ -33,11 +34,14 @@ impl Life for Three {
 
 fn main(rt: HostRuntime) -> anyhow::Result<()> {
     let ((), report) = with_pool(&rt, rt.alloc(), Config::fixed(2), Defaults, Three)?;
-    for entry in &report.entries {
-        if let Did::End(_, t, Ok(value)) = entry.did {
-            println!(&rt; "t{} run value {value}", t.0)?;
+    for t in 0..report.counts.submitted {
+        if let Some(Ok(value)) = outcome(&report, TaskId(t)) {
+            println!(&rt; "t{t} run value {value}")?;
         }
     }
-    println!(&rt; "{} submitted, {} run", report.counts.submitted, report.counts.run)?;
+    println!(&rt;
+        "{} submitted, {} run",
+        report.counts.submitted, report.counts.run
+    )?;
     Ok(())
 }

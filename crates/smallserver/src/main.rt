@@ -6,10 +6,7 @@ use std::sync::{Arc, Mutex, Wait};
 use std::thread::Parker;
 use tp_pool::edges::STACK;
 use tp_pool::gates::Point;
-use tp_pool::{
-    Any, Body, CancelFlag, Config, Did, Edge, Kind, Life, Outcome, Pass, PoolError, PoolIn, PoolName, QueueKind, Ruled, RunState, Runtime,
-    SlotId, TaskId, Verdict, in_two, with_pool,
-};
+use tp_pool::prelude::*;
 
 /// A request for the double of a number.
 #[derive(Drop)]
@@ -54,10 +51,17 @@ impl Edge for Desk {
 struct Clients(Arc<Mutex<()>>);
 
 // Hands in requests for these numbers. That one is turned away is in the server's record.
-fn hand_in<G: PoolName, R: Runtime>(rt: &R, server: &PoolIn<G, Clients>, numbers: &[u16], pass: &mut Pass<G>) -> Result<(), PoolError> {
+fn hand_in<G: PoolName, R: Runtime>(
+    rt: &R,
+    server: &PoolIn<G, Clients>,
+    numbers: &[u16],
+    pass: &mut Pass<G>,
+) -> Result<(), PoolError> {
     for number in numbers {
         match server.execute_as(rt, Kind::Plain, Any(Request(*number)), pass) {
-            Err(refused) if !matches!(refused.error, PoolError::Rejected(_)) => return Err(refused.error),
+            Err(refused) if !matches!(refused.error, PoolError::Rejected(_)) => return Err(
+                refused.error,
+            ),
             _ => {}
         }
     }
@@ -66,13 +70,18 @@ fn hand_in<G: PoolName, R: Runtime>(rt: &R, server: &PoolIn<G, Clients>, numbers
 
 impl Life for Clients {
     type Job = Any<Request>;
+
     type Edge = Desk;
+
     type Out = ();
 
-    fn live<G: PoolName, R: Runtime>(self, rt: &R, server: &PoolIn<G, Clients>, one: &mut Pass<G>, others: &mut Vec<Pass<G>>) -> Result<(), PoolError> {
-        let two = server.split_pass(rt, one)?;
+    fn live<G: PoolName, R: Runtime>(
+        self,
+        at: &mut LentTo<G, R, Clients>,
+    ) -> Result<(), PoolError> {
+        let (rt, server) = (at.rt, at.pool);
+        let two = server.split_pass(rt, &mut at.pass)?;
         let turn = &Parker::new();
-        let shut = self.0.lock(rt);
         let first = move |server: &PoolIn<G, Clients>, one: &mut Pass<G>| {
             let well = hand_in(rt, server, &[10, 20, 30, 40], one);
             turn.unpark();
@@ -81,12 +90,14 @@ impl Life for Clients {
         let second = move |server: &PoolIn<G, Clients>, two: Pass<G>| {
             let mut two = two;
             turn.park(rt);
-            let late = server.shutdown(rt, &mut two).and(hand_in(rt, server, &[50, 60], &mut two));
-            (two, late)
+            let shut = server.shutdown(rt, &mut two);
+            let late = hand_in(rt, server, &[50, 60], &mut two);
+            (two, shut.and(late))
         };
-        let (well, (two, late)) = in_two(rt, server, one, two, &first, &second);
-        drop(shut);
-        others.push(two)?;
+        let locked = self.0.lock(rt);
+        let (well, (two, late)) = in_two(rt, server, &mut at.pass, two, &first, &second);
+        drop(locked);
+        at.others.push(two)?;
         well.and(late)
     }
 }

@@ -1,5 +1,5 @@
 -- What a thread that watches a pool reads in one hold.
-use Rattle.std.specs.Prelude.{ℕ, suc, List, [], ◌++◌, Option, option_map, option_to_list}
+use Rattle.std.specs.Prelude.{ℕ, zero, suc, List, [], ◌++◌, Option, option_map, option_to_list}
 use Rattle.tp_record.specs.declared.rows.SlotRow.{SlotRow}
 use Rattle.tp_record.specs.State.{slot_at}
 use Rattle.tp_machine.specs.Seen.{task_of_row}
@@ -11,5 +11,5 @@ busy_at slots w = option_to_list (option_map (λ t. record { slot = record { 0 =
 
 -- the slots of numbers below n that have a task, in the order of their numbers
 abbrev pub busy_below : List (Option SlotRow) → ℕ → List Busy
-busy_below slots 0 = []
+busy_below slots zero = []
 busy_below slots (suc n) = busy_below slots n ++ busy_at slots n

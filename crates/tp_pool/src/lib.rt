@@ -38,7 +38,7 @@ pub use bodies::{Any, Body};
 pub use callers::in_two;
 pub use closing::{CloseFault, Report};
 pub use edges::{Defaults, Edge};
-pub use lives::{Life, PoolIn, PoolName, Runtime, with_pool};
+pub use lives::{Lent, LentTo, Life, PoolIn, PoolName, Runtime, with_pool};
 pub use pool::PoolOf;
 pub use snapshots::{Busy, Snapshot};
 pub use tp_book::passes::Pass;
@@ -57,4 +57,22 @@ pub use tp_types::tasks::{Fate, Kind, Outcome, Place, Promise};
 pub mod jobs {
     pub use crate::boxes::Boxed;
     pub use tp_callbacks::jobs::Job;
+}
+
+/// What a first program names: `use tp_pool::prelude::*;`.
+pub mod prelude {
+    pub use crate::bodies::{Any, Body};
+    pub use crate::callers::in_two;
+    pub use crate::edges::{Defaults, Edge};
+    pub use crate::lives::{Lent, LentTo, Life, PoolIn, PoolName, Runtime, with_pool};
+    pub use tp_book::passes::Pass;
+    pub use tp_callbacks::flags::CancelFlag;
+    pub use tp_callbacks::jobs::Job;
+    pub use tp_locked::answers::{Admitted, Refused};
+    pub use tp_record::entries::{Did, Entry, Ruled};
+    pub use tp_types::configs::{Config, Policy, QueueKind, Verdict};
+    pub use tp_types::ids::{SlotId, TaskId};
+    pub use tp_types::refusals::PoolError;
+    pub use tp_types::states::{Counts, RunState};
+    pub use tp_types::tasks::{Fate, Kind, Outcome, Promise};
 }

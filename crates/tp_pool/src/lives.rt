@@ -2,6 +2,7 @@
 ghost use Rattle.std.specs.Prelude.{◌≡◌, ◌≤◌, IfOk, IfErr};
 ghost use Rattle.tp_record.specs.Fields.{rank};
 ghost use Rattle.tp_record.specs.Step.{Legal};
+ghost use Rattle.tp_pool.specs.Admissions.{IsAdmitted, IsTurnedAway};
 ghost use Rattle.tp_pool.specs.Lives.{IsReport, IsOver};
 
 use crate::closing::{CloseFault, Report, sole};
@@ -15,12 +16,14 @@ use tp_book::opening::Unopened;
 use tp_book::passes::Pass;
 use tp_book::sights::Sight;
 use tp_callbacks::jobs::Job;
+use tp_locked::answers::{Admitted, Refused};
 use tp_locked::names::PoolNaming;
 use tp_machine::typed::controllers::Shutdown;
 use tp_turns::rescues::Remains;
 use tp_types::configs::Config;
 use tp_types::refusals::PoolError;
 use tp_types::states::RunState;
+use tp_types::tasks::Kind;
 
 /// A pool's name, as `with_pool` picks it: whoever is generic in it can be lent any pool.
 pub trait PoolName: PoolNaming + Send + Sync + 'static {}
@@ -32,8 +35,25 @@ pub trait Runtime: Threads + Wait + Copy + Send + Sync + 'static {}
 
 impl<R: Threads + Wait + Copy + Send + Sync + 'static> Runtime for R {}
 
+/// What a life is lent: the pool, the runtime, and a pass. `execute` and `submit` are the calls of most lives;
+/// all others are those of `pool`, by `rt` and with `pass`.
+#[derive(Drop)]
+pub struct Lent<'a, G: PoolNaming, R, J, E> {
+    /// The runtime.
+    pub rt: &'a R,
+    /// The pool.
+    pub pool: &'a PoolOf<G, J, E>,
+    /// The pool's first pass.
+    pub pass: Pass<G>,
+    /// The passes that were split off for threads of the life's own, handed back here.
+    pub others: Vec<Pass<G>>,
+}
+
 /// The pool that a life of this type is lent.
 pub type PoolIn<G, L> = PoolOf<G, <L as Life>::Job, <L as Life>::Edge>;
+
+/// What a life of this type is lent.
+pub type LentTo<'a, G, R, L> = Lent<'a, G, R, <L as Life>::Job, <L as Life>::Edge>;
 
 /// What a caller does with a pool while it is open: `with_pool` opens the pool before it and ends it after it.
 pub trait Life: Drop {
@@ -46,16 +66,40 @@ pub trait Life: Drop {
     /// The answer.
     type Out: Drop;
 
-    /// Lives with the pool, which it is lent with its first pass, and answers what it likes. A thread of its own
-    /// takes a pass that `split_pass` gives; such passes are to be handed back into `others`, else the pool
-    /// is ended with MissingPass (21) and without a report. The life may shut the pool down itself, and need not.
+    /// Lives with the pool that it is lent, and answers what it likes. A thread of its own takes a pass that
+    /// `pool.split_pass` gives; such passes are to be handed back into `others`, else the pool is ended with
+    /// MissingPass (21) and without a report. The life may shut the pool down itself, and need not.
     fn live<G: PoolName, R: Runtime>(
         self,
-        rt: &R,
-        pool: &PoolIn<G, Self>,
-        pass: &mut Pass<G>,
-        others: &mut Vec<Pass<G>>,
+        at: &mut LentTo<'_, G, R, Self>,
     ) -> Result<Self::Out, PoolError>;
+}
+
+impl<
+    G: PoolNaming + Send + Sync + 'static,
+    R: Threads + Wait + Copy + Send + 'static,
+    J: Job + 'static,
+    E: Edge + Send + Sync + 'static,
+> Lent<'_, G, R, J, E> {
+    /// Submits a plain task: `execute_as` with the pass that was lent.
+    pub fn execute(&mut self, job: J) -> Result<Admitted, Refused<J>>
+        ensures admitted { IfOk result (IsAdmitted G.config Kind.Plain job (J.promised job) self.old.pass self.new.pass) }
+        ensures refused { IfErr result (IsTurnedAway G.config Kind.Plain job (J.promised job) self.old.pass self.new.pass) }
+        ensures others { self.new.others.items ≡ self.old.others.items }
+    {
+        self.pool
+            .execute_as(self.rt, Kind::Plain, job, &mut self.pass)
+    }
+
+    /// Submits a task with a future, as `ExecutorService.submit`: `execute_as` with the pass that was lent.
+    pub fn submit(&mut self, job: J) -> Result<Admitted, Refused<J>>
+        ensures admitted { IfOk result (IsAdmitted G.config Kind.Future job (J.promised job) self.old.pass self.new.pass) }
+        ensures refused { IfErr result (IsTurnedAway G.config Kind.Future job (J.promised job) self.old.pass self.new.pass) }
+        ensures others { self.new.others.items ≡ self.old.others.items }
+    {
+        self.pool
+            .execute_as(self.rt, Kind::Future, job, &mut self.pass)
+    }
 }
 
 /// Opens a pool with these settings and objects, lends it to the life, and ends it: whatever the life answers,
@@ -136,9 +180,19 @@ fn lived<G: PoolName, L: Life, R: Runtime>(
     ensures seen { 3 ≤ rank seen.new }
     ensures legal { Legal G.config seen.new }
 {
-    let mut pass = pass;
-    let mut others = Vec::new(alloc);
-    let lived = life.live(rt, &pool, &mut pass, &mut others);
+    let mut at = Lent {
+        rt,
+        pool: &pool,
+        pass,
+        others: Vec::new(alloc),
+    };
+    let lived = life.live(&mut at);
+    let Lent {
+        rt: _,
+        pool: _,
+        pass,
+        others,
+    } = at;
     let report = end(rt, pool, pass, others, last, seen);
     (lived, report)
 }

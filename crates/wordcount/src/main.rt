@@ -6,9 +6,7 @@ use std::alloc::Global;
 use std::process::ExitCode;
 use std::rt::Files;
 use std::{env, fs};
-use tp_pool::{
-    Any, Body, CancelFlag, Config, Defaults, Life, Outcome, Pass, Policy, PoolError, PoolIn, PoolName, QueueKind, Runtime, with_pool,
-};
+use tp_pool::prelude::*;
 use tp_service::futures::get;
 use tp_service::invoking::invoke_all;
 
@@ -27,7 +25,10 @@ impl<H: Files + AllocGlobal + Send + Drop> Body for Text<H> {
     }
 }
 
-/// Runs all jobs, and answers their counts, or why there is none.
+/// A count, or why there is none.
+type Answer = Result<i64, PoolError>;
+
+/// Runs all jobs, and answers their counts.
 #[derive(Drop)]
 struct Count<H> {
     alloc: Global,
@@ -36,15 +37,20 @@ struct Count<H> {
 
 impl<H: Files + AllocGlobal + Send + Drop + 'static> Life for Count<H> {
     type Job = Any<Text<H>>;
-    type Edge = Defaults;
-    type Out = Vec<Result<i64, PoolError>>;
 
-    fn live<G: PoolName, R: Runtime>(self, rt: &R, pool: &PoolIn<G, Self>, pass: &mut Pass<G>, _: &mut Vec<Pass<G>>) -> Result<Vec<Result<i64, PoolError>>, PoolError> {
+    type Edge = Defaults;
+
+    type Out = Vec<Answer>;
+
+    fn live<G: PoolName, R: Runtime>(
+        self,
+        at: &mut LentTo<G, R, Self>,
+    ) -> Result<Vec<Answer>, PoolError> {
         let Count { alloc, texts } = self;
-        let tasks = invoke_all(pool, rt, alloc, texts, pass)?;
+        let tasks = invoke_all(at.pool, at.rt, alloc, texts, &mut at.pass)?;
         let mut counts = Vec::new(alloc);
         for task in &tasks {
-            counts.push(get(pool, rt, *task))?;
+            counts.push(get(at.pool, at.rt, *task))?;
         }
         Ok(counts)
     }
@@ -59,7 +65,12 @@ fn main(rt: HostRuntime) -> anyhow::Result<ExitCode> {
         texts.push(Any(Text { host: rt, path }))?;
     }
     // Two to four workers, and a short queue: where it is full, who submits a job runs it.
-    let settings = Config::fixed(2).maximum(4).queue(QueueKind::Bounded(2)).policy(Policy::CallerRuns).keep(1).record_limit(65_536);
+    let settings = Config::fixed(2)
+        .maximum(4)
+        .queue(QueueKind::Bounded(2))
+        .policy(Policy::CallerRuns)
+        .keep(1)
+        .record_limit(65_536);
     let (counts, _) = with_pool(&rt, alloc, settings, Defaults, Count { alloc, texts })?;
     let mut words = 0i64;
     let mut status = 0;
