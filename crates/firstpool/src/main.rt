@@ -34,14 +34,11 @@ impl Life for Three {
 
 fn main(rt: HostRuntime) -> anyhow::Result<()> {
     let ((), report) = with_pool(&rt, rt.alloc(), Config::fixed(2), Defaults, Three)?;
-    for t in 0..report.counts.submitted {
-        if let Some(Ok(value)) = outcome(&report, TaskId(t)) {
+    let counts = report.counts;
+    for t in 0..counts.submitted {
+        if let Some(Ok(value)) = outcome_of(&report, TaskId(t)) {
             println!(&rt; "t{t} run value {value}")?;
         }
     }
-    println!(&rt;
-        "{} submitted, {} run",
-        report.counts.submitted, report.counts.run
-    )?;
-    Ok(())
+    Ok(println!(&rt; "{} submitted, {} run", counts.submitted, counts.run)?)
 }

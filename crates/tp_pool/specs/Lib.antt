@@ -3,6 +3,7 @@ pub mod Closing
 pub mod Deeds
 pub mod Endings
 pub mod Lives
+pub mod Outcomes
 pub mod Prestarts
 pub mod Rescues
 pub mod Snapshots

@@ -2,7 +2,7 @@
 use Rattle.std.specs.Prelude.{◌≡◌}
 use Rattle.tp_types.specs.RunState.{state_rank}
 use Rattle.tp_record.specs.State.{State, counts}
-use Rattle.tp_locked.specs.Watched.{busy_below}
+use Rattle.tp_locked.specs.Watched.{AreBusy}
 use Rattle.tp_pool.specs.declared.snapshots.Snapshot.{Snapshot}
 
 -- all that is read is of this state
@@ -11,4 +11,4 @@ pub record IsSnapshot (s : State) (v : Snapshot) : Type 0 where
   pub counts : v.counts ≡ counts s
   pub now : v.now ≡ s.now
   pub steps : v.steps ≡ s.steps
-  pub busy : v.busy.items ≡ busy_below s.slots 1024
+  pub busy : AreBusy s.slots v.busy.items

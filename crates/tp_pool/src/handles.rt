@@ -45,11 +45,7 @@ impl<G: PoolNaming, J: Job, E: Edge> PoolOf<G, J, E> {
 impl<G: PoolNaming, J: Job, E: Edge> PoolOf<G, J, E> {
     /// As `close`, with the one pass of a pool that has one caller. NoMemory (4) for the list of passes, else
     /// refused as `close`; after a refusal the pool and the pass come back.
-    pub fn close_one<R: Wait>(
-        self,
-        rt: &R,
-        pass: Pass<G>,
-    ) -> Result<Report, CloseOneFault<G, J, E>>
+    pub fn close_one<R: Wait>(self, rt: &R, pass: Pass<G>) -> Result<Report, CloseOneFault<G, J, E>>
         ensures report { IfOk result (Reports G.config (pass ∷ [])) }
         ensures refused { IfErr result (λ f. (f.error ≡ PoolError.NoMemory) ⊎ KeepsOpen (Task J) G.config (pass ∷ []) f.error) }
         ensures returned { IfErr result (λ f. f.pass ≡ pass) }

@@ -227,7 +227,11 @@ fn end<G: PoolName, J: Job + 'static, E: Edge + Send + Sync + 'static, R: Runtim
     match pool.close(rt, passes) {
         Ok(report) => Ok(report),
         Err(fault) => {
-            let CloseFault { error, pool, passes: _ } = fault;
+            let CloseFault {
+                error,
+                pool,
+                passes: _,
+            } = fault;
             pool.leave(rt);
             Err(error)
         }

@@ -15,8 +15,8 @@ use std::fmt;
 use std::sync::Wait;
 use tp_book::sights::Sight;
 use tp_callbacks::jobs::Job;
-use tp_locked::locked::Core;
 pub use tp_locked::locked::Busy;
+use tp_locked::locked::Core;
 use tp_locked::names::PoolNaming;
 use tp_record::entries::Entry;
 use tp_types::refusals::PoolError;
@@ -48,7 +48,11 @@ impl fmt::Display for Snapshot {
             busy,
         } = self;
         write!(f, "{} at {now}, {steps} steps: ", state.name())?;
-        write!(f, "{} submitted, {} completed, ", counts.submitted, counts.completed)?;
+        write!(
+            f,
+            "{} submitted, {} completed, ",
+            counts.submitted, counts.completed
+        )?;
         write!(f, "{} queued, {} live", counts.queued, counts.live)?;
         for Busy { slot, task } in busy {
             write!(f, ", w{} t{}", slot.0, task.0)?;
@@ -101,10 +105,10 @@ impl<G: PoolNaming, J: Job, E: Edge> PoolOf<G, J, E> {
         ensures goes_on { IsFrontOf sight.old sight.new }
     {
         let shared = self.shared();
-        let mut core = shared.hold(rt);
-        core.is_book();
-        core.show_sight(&shared.glance, sight);
-        snapshot_of(&core, alloc)
+        let mut held = shared.hold(rt);
+        held.is_book();
+        held.show_sight(&shared.glance, sight);
+        snapshot_of(&held, alloc)
     }
 
     /// The entries of the record from the n-th on, counted from 0, the oldest first: a thread that asks with the
@@ -139,9 +143,9 @@ impl<G: PoolNaming, J: Job, E: Edge> PoolOf<G, J, E> {
         ensures goes_on { IsFrontOf sight.old sight.new }
     {
         let shared = self.shared();
-        let mut core = shared.hold(rt);
-        core.is_book();
-        core.show_sight(&shared.glance, sight);
-        core.record_since(alloc, n)
+        let mut held = shared.hold(rt);
+        held.is_book();
+        held.show_sight(&shared.glance, sight);
+        held.record_since(alloc, n)
     }
 }

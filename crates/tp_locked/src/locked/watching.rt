@@ -5,7 +5,7 @@ ghost use Rattle.tp_parts.specs.Payloads.{Keeps};
 ghost use Rattle.tp_book.specs.BookView.{state_of, IsDenied, IsUnmoved};
 ghost use Rattle.tp_locked.specs.Holds.{Holds};
 ghost use Rattle.tp_locked.specs.Passes.{AddsStep, LooksOnly};
-ghost use Rattle.tp_locked.specs.Watched.{busy_below};
+ghost use Rattle.tp_locked.specs.Watched.{AreBusy};
 
 use super::{Core, Look};
 use crate::names::PoolNaming;
@@ -31,7 +31,7 @@ pub struct Busy {
 impl<G: PoolNaming, J: Drop> Core<G, J> {
     /// The slots that have a task, in the order of their numbers. NoMemory (4).
     pub fn busy(&self, alloc: Global) -> Result<Vec<Busy>, PoolError>
-        ensures busy { IfOk result (λ v. v.items ≡ busy_below (state_of self.now.book).slots 1024) }
+        ensures busy { IfOk result (λ v. AreBusy (state_of self.now.book).slots v.items) }
         ensures refused { IfErr result (λ e. e ≡ PoolError.NoMemory) }
     {
         let mut busy = Vec::new(alloc);
