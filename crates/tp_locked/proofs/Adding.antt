@@ -1,6 +1,6 @@
 -- What a step in a hold is to the pass that it was made with.
 use Rattle.std.proofs.Common.{◌≡◌, ℕ, ◌+◌, List, [], ◌∷◌, ◌++◌, refl, ap, sym, ◌∙◌, subst, ⊎_elim}
-use Rattle.std.specs.Prelude.{Result, Ok, Err, IfOk, IfErr}
+use Rattle.std.specs.Prelude.{Result, Ok, Err, IfOk}
 use Rattle.std.proofs.lemmas.List.Elements.{All-nil, All-cons}
 use Rattle.tp_types.specs.declared.configs.Config.{Config}
 use Rattle.tp_types.specs.declared.refusals.PoolError.{PoolError}
@@ -17,7 +17,7 @@ use Rattle.tp_book.specs.PassView.{PassView}
 use Rattle.tp_locked.specs.CoreView.{CoreView}
 use Rattle.tp_locked.specs.Holds.{Denies}
 use Rattle.tp_locked.specs.Rosters.{RosterView}
-use Rattle.tp_locked.specs.Passes.{AddsStep, IsRefusal, LooksOnly, entry_of}
+use Rattle.tp_locked.specs.Passes.{AddsStep, IsRefusal, entry_of}
 use Rattle.tp_locked.specs.Steps.{Makes, Refused}
 use Rattle.tp_locked.specs.Waits.{HasNoOutcome}
 use Rattle.tp_locked.specs.declared.tasks.Task.{Task}
