@@ -132,7 +132,7 @@ pub fn with_pool<L: Life, R: Runtime>(
 
 // The same under a name of the pool's own. The pass with which the pool is ended is made before the life, with
 // room for all receipts of the end, so that no memory is wanted once the pool has threads.
-fn opened<G: PoolName, L: Life, R: Runtime>(
+fn opened<G: PoolNaming + Send + Sync + 'static, L: Life, R: Runtime>(
     rt: &R,
     alloc: Global,
     unopened: Unopened,
