@@ -152,7 +152,7 @@ fn submit<G: PoolNaming + Send + Sync + 'static, R: Threads + Wait + Copy + Send
 ) -> Result<(), Mishap> {
     let ran = Arc::try_clone(ran)?;
     let job = Chore::new(number, work, ran);
-    match pool.execute_as(rt, Kind::Plain, job, pass) {
+    match pool.execute_as(&rt, Kind::Plain, job, pass) {
         Ok(_) => Ok(()),
         Err(refused) => Err(Mishap::Refused(refused.error)),
     }
@@ -181,7 +181,7 @@ fn is_late<G: PoolNaming + Send + Sync + 'static, R: Threads + Wait + Copy + Sen
 ) -> Result<Pass<G>, Mishap> {
     let mut pass = pass;
     submit(rt, &pool, 1, Work::Nothing, &ran, &mut pass)?;
-    match pool.prestart_core(rt, &mut pass) {
+    match pool.prestart_core(&rt, &mut pass) {
         Ok(true) => Ok(pass),
         Ok(false) => Err(Mishap::Differs("no worker was started in the slot's place")),
         Err(error) => Err(Mishap::Refused(error)),

@@ -309,7 +309,7 @@ impl<G: PoolNaming, J: Drop, E: Edge> Shared<G, J, E> {
 
     // The terminated hook, with no lock held, and the step `ended`, by the pass that made the step
     // `tidy`. TornRecord (22) where the book does not take it.
-    fn terminate<R: Wait>(&self, rt: &R, pass: &mut Pass<G>) -> Result<(), PoolError>
+    pub(crate) fn terminate<R: Wait>(&self, rt: &R, pass: &mut Pass<G>) -> Result<(), PoolError>
         requires room { 0 < pass.old.room }
         ensures step { OnOk result (Adds G.config pass.old (ended pass.old.number ∷ []) pass.new) }
         ensures seen { OnOk result (rank pass.new.front ≡ 4) }

@@ -105,7 +105,7 @@ impl<
     /// TornRecord (22) does not come as long as the pool's book is sound.
     pub fn execute_as<R: Threads + Wait + Copy + Send + 'static>(
         &self,
-        rt: R,
+        rt: &R,
         kind: Kind,
         job: J,
         pass: &mut Pass<G>,
@@ -114,7 +114,7 @@ impl<
         ensures refused { IfErr result (IsTurnedAway G.config kind job (J.promised job) pass.old pass.new) }
     {
         match self.reserve(pass) {
-            Ok((kept, flag)) => self.submit(rt, kind, Task { job, flag }, kept, pass),
+            Ok((kept, flag)) => self.submit(*rt, kind, Task { job, flag }, kept, pass),
             Err(error) => Err(Refused {
                 error,
                 job: Some(job),
@@ -302,7 +302,7 @@ impl<G: PoolNaming + Send + Sync + 'static> PoolOf<G, Boxed, Boxes> {
     /// TornRecord (22), which does not come as long as the pool's book is sound.
     pub fn execute<R: Threads + Wait + Copy + Send + 'static>(
         &self,
-        rt: R,
+        rt: &R,
         job: Box<dyn Job>,
         pass: &mut Pass<G>,
     ) -> Result<Admitted, Refused<Boxed>>

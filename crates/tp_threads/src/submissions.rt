@@ -49,7 +49,7 @@ fn submit<G: PoolNaming + Send + Sync + 'static, R: Threads + Wait + Copy + Send
     let scripted = Scripted {
         outcome: job.outcome,
     };
-    match pool.execute_as(rt, kind_of(job), scripted, pass) {
+    match pool.execute_as(&rt, kind_of(job), scripted, pass) {
         Ok(_) => Ok(()),
         Err(refused) => match refused.error {
             PoolError::Rejected(_) => Ok(()),
