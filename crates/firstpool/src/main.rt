@@ -1,9 +1,8 @@
-//! `firstpool`: a first pool. Three jobs run on two workers; then what became of each is printed.
+//! `firstpool`: three jobs, each of which doubles a number, run on two workers. Then it prints what they answered.
 #![tactic(auto)]
 
 use tp_pool::prelude::*;
 
-/// A job that answers twice its number.
 #[derive(Drop)]
 struct Double(u16);
 
@@ -13,14 +12,11 @@ impl Body for Double {
     }
 }
 
-/// What is done with the pool: three jobs are handed in.
 #[derive(Drop)]
 struct Three;
 
-impl Life for Three {
+impl Life<Defaults> for Three {
     type Job = Any<Double>;
-
-    type Edge = Defaults;
 
     type Out = ();
 

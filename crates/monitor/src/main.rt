@@ -29,10 +29,8 @@ struct Service<H> {
     door: Arc<Mutex<()>>,
 }
 
-impl<H: Print + Runtime + Drop> Life for Service<H> {
+impl<H: Print + Runtime + Drop> Life<Defaults> for Service<H> {
     type Job = Any<Guest<H>>;
-
-    type Edge = Defaults;
 
     type Out = ();
 

@@ -13,14 +13,12 @@ use std::thread;
 use std::thread::{JoinHandle, Threads};
 use tp_book::opening::Unopened;
 use tp_book::passes::Pass;
-use tp_callbacks::gates::Point;
-use tp_pool::edges::{Edge, STACK};
+use tp_pool::edges::Edge;
 use tp_pool::names::PoolNaming;
 use tp_pool::pool::PoolOf;
-use tp_types::configs::{Config, Policy, QueueKind, Verdict};
-use tp_types::ids::{SlotId, TaskId};
-use tp_types::states::RunState;
-use tp_types::tasks::{Kind, Outcome};
+use tp_types::configs::{Config, Policy, QueueKind};
+use tp_types::ids::SlotId;
+use tp_types::tasks::Kind;
 
 // Two workers, and a queue.
 const SETTINGS: Config = Config {
@@ -41,28 +39,12 @@ struct Halting {
 }
 
 impl Edge for Halting {
-    fn stack(&self) -> usize {
-        STACK
-    }
-
     fn allow<R: Wait>(&self, _rt: &R, _w: SlotId) -> bool {
         if self.asked.fetch_add(1, Ordering::SeqCst) == 1 {
             reaches(&self.goes_on, 1);
         }
         true
     }
-
-    fn verdict<R: Wait>(&self, _rt: &R, _t: TaskId, _state: RunState) -> Verdict {
-        Verdict::Abort
-    }
-
-    fn before<R: Wait>(&self, _rt: &R, _w: SlotId, _t: TaskId) {}
-
-    fn after<R: Wait>(&self, _rt: &R, _w: SlotId, _t: TaskId, _outcome: Option<&Outcome>) {}
-
-    fn terminated<R: Wait>(&self, _rt: &R) {}
-
-    fn pass(&self, _p: Point, _w: SlotId) {}
 }
 
 type Halted<G> = PoolOf<G, Chore, Halting>;

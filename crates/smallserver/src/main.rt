@@ -4,8 +4,6 @@
 
 use std::sync::{Arc, Mutex, Wait};
 use std::thread::Parker;
-use tp_pool::edges::STACK;
-use tp_pool::gates::Point;
 use tp_pool::prelude::*;
 
 /// A request for the double of a number.
@@ -18,32 +16,14 @@ impl Body for Request {
     }
 }
 
-/// What the server asks of its users: each worker is allowed, and begins no request while the door is locked.
+/// The server's desk: no worker begins a request while the door is locked.
 #[derive(Drop)]
 struct Desk(Arc<Mutex<()>>);
 
 impl Edge for Desk {
-    fn stack(&self) -> usize {
-        STACK
-    }
-
-    fn allow<R: Wait>(&self, _rt: &R, _w: SlotId) -> bool {
-        true
-    }
-
-    fn verdict<R: Wait>(&self, _rt: &R, _t: TaskId, _state: RunState) -> Verdict {
-        Verdict::Abort
-    }
-
     fn before<R: Wait>(&self, rt: &R, _w: SlotId, _t: TaskId) {
         drop(self.0.lock(rt));
     }
-
-    fn after<R: Wait>(&self, _rt: &R, _w: SlotId, _t: TaskId, _outcome: Option<&Outcome>) {}
-
-    fn terminated<R: Wait>(&self, _rt: &R) {}
-
-    fn pass(&self, _p: Point, _w: SlotId) {}
 }
 
 /// Both clients' calls. The server begins no request until they are through.
@@ -53,7 +33,7 @@ struct Clients(Arc<Mutex<()>>);
 // Hands in requests for these numbers. That one is turned away is in the server's record.
 fn hand_in<G: PoolName, R: Runtime>(
     rt: &R,
-    server: &PoolIn<G, Clients>,
+    server: &PoolIn<G, Clients, Desk>,
     numbers: &[u16],
     pass: &mut Pass<G>,
 ) -> Result<(), PoolError> {
@@ -68,26 +48,24 @@ fn hand_in<G: PoolName, R: Runtime>(
     Ok(())
 }
 
-impl Life for Clients {
+impl Life<Desk> for Clients {
     type Job = Any<Request>;
-
-    type Edge = Desk;
 
     type Out = ();
 
     fn live<G: PoolName, R: Runtime>(
         self,
-        at: &mut LentTo<G, R, Clients>,
+        at: &mut LentTo<G, R, Clients, Desk>,
     ) -> Result<(), PoolError> {
         let (rt, server) = (at.rt, at.pool);
         let two = server.split_pass(rt, &mut at.pass)?;
         let turn = &Parker::new();
-        let first = move |server: &PoolIn<G, Clients>, one: &mut Pass<G>| {
+        let first = move |server: &PoolIn<G, Clients, Desk>, one: &mut Pass<G>| {
             let well = hand_in(rt, server, &[10, 20, 30, 40], one);
             turn.unpark();
             well
         };
-        let second = move |server: &PoolIn<G, Clients>, two: Pass<G>| {
+        let second = move |server: &PoolIn<G, Clients, Desk>, two: Pass<G>| {
             let mut two = two;
             turn.park(rt);
             let shut = server.shutdown(rt, &mut two);

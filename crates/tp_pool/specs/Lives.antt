@@ -4,10 +4,19 @@ use Rattle.tp_types.specs.Config.{checked}
 use Rattle.tp_types.specs.declared.configs.Config.{Config}
 use Rattle.tp_types.specs.declared.refusals.PoolError.{PoolError}
 use Rattle.tp_types.specs.declared.refusals.PoolError.TheVariants.{NoMemory, BookFull}
+use Rattle.tp_types.specs.declared.ids.TaskId.{TaskId}
+use Rattle.tp_types.specs.declared.tasks.Kind.TheVariants.{Future}
+use Rattle.tp_types.specs.declared.tasks.Promise.{Promise}
 use Rattle.tp_book.specs.PassView.{PassView}
 use Rattle.tp_book.specs.declared.book.closing.Report.{Report}
 use Rattle.tp_locked.specs.Moments.{AtSome}
+use Rattle.tp_locked.specs.declared.answers.Admitted.{Admitted}
+use Rattle.tp_pool.specs.Admissions.{task_of, IsAdmitted}
 use Rattle.tp_pool.specs.Closing.{Reports}
+
+-- a future with this job, which promises this, is submitted and admitted as task t
+abbrev pub IsSubmitted : {J : Type 0} → Config → J → Promise → PassView → PassView → TaskId → Type 0
+IsSubmitted c job promise old new t = (a : Admitted) × (task_of a ≡ t) × IsAdmitted c Future job promise old new a
 
 -- the report of a pool with these settings that was closed with all passes of its callers
 pub record IsReport (c : Config) (r : Report) : Type 0 where

@@ -36,7 +36,7 @@ pub use bodies::{Any, Body};
 pub use callers::in_two;
 pub use closing::{CloseFault, Report};
 pub use edges::{Defaults, Edge};
-pub use lives::{Lent, LentTo, Life, PoolIn, PoolName, Runtime, with_pool};
+pub use lives::{Futures, Lent, LentTo, Life, PoolIn, PoolName, Runtime, with_pool};
 pub use pool::PoolOf;
 pub use reports::{faulted, outcome_of};
 pub use snapshots::{Busy, Snapshot};
@@ -65,7 +65,7 @@ pub mod prelude {
     pub use crate::bodies::{Any, Body};
     pub use crate::callers::in_two;
     pub use crate::edges::{Defaults, Edge};
-    pub use crate::lives::{Lent, LentTo, Life, PoolIn, PoolName, Runtime, with_pool};
+    pub use crate::lives::{Futures, Lent, LentTo, Life, PoolIn, PoolName, Runtime, with_pool};
     pub use crate::reports::outcome_of;
     pub use tp_book::passes::Pass;
     pub use tp_callbacks::flags::CancelFlag;

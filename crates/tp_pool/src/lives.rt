@@ -1,12 +1,16 @@
 //! A pool's whole life in one call: it is opened, lived in, shut down, waited for and closed.
-ghost use Rattle.std.specs.Prelude.{◌≡◌, ◌≤◌, IfOk, IfErr};
+ghost use Rattle.std.specs.Prelude.{◌≡◌, ◌≤◌, None, IfOk, IfErr};
 ghost use Rattle.tp_record.specs.Fields.{rank};
 ghost use Rattle.tp_record.specs.Step.{Legal};
-ghost use Rattle.tp_pool.specs.Admissions.{IsAdmitted, IsTurnedAway};
-ghost use Rattle.tp_pool.specs.Lives.{IsReport, IsOver};
+ghost use Rattle.tp_locked.specs.Moments.{BookAt};
+ghost use Rattle.tp_locked.specs.Passes.{LooksOnly};
+ghost use Rattle.tp_locked.specs.Readings.{got, IsFound};
+ghost use Rattle.tp_locked.specs.declared.tasks.Task.{Task};
+ghost use Rattle.tp_pool.specs.Admissions.{task_of as task_of_admitted, IsAdmitted, IsTurnedAway};
+ghost use Rattle.tp_pool.specs.Lives.{IsSubmitted, IsReport, IsOver};
 
 use crate::closing::{CloseFault, Report, sole};
-use crate::edges::Edge;
+use crate::edges::{Defaults, Edge};
 use crate::pool::{Hold, PoolOf};
 use std::alloc::Global;
 use std::marker::Brand;
@@ -21,6 +25,7 @@ use tp_locked::names::PoolNaming;
 use tp_machine::typed::controllers::Shutdown;
 use tp_turns::rescues::Remains;
 use tp_types::configs::Config;
+use tp_types::ids::TaskId;
 use tp_types::refusals::PoolError;
 use tp_types::states::RunState;
 use tp_types::tasks::Kind;
@@ -35,12 +40,14 @@ pub trait Runtime: Threads + Wait + Copy + Send + Sync + 'static {}
 
 impl<R: Threads + Wait + Copy + Send + Sync + 'static> Runtime for R {}
 
-/// What a life is lent: the pool, the runtime, and a pass. `execute` and `submit` are the calls of most lives;
+/// What a life is lent: the pool, the runtime, and a pass. `execute`, `submit` and `get` are the calls of most lives;
 /// all others are those of `pool`, by `rt` and with `pass`.
 #[derive(Drop)]
 pub struct Lent<'a, G: PoolNaming, R, J, E> {
     /// The runtime.
     pub rt: &'a R,
+    /// The memory that the pool was made in.
+    pub alloc: Global,
     /// The pool.
     pub pool: &'a PoolOf<G, J, E>,
     /// The pool's first pass.
@@ -49,19 +56,17 @@ pub struct Lent<'a, G: PoolNaming, R, J, E> {
     pub others: Vec<Pass<G>>,
 }
 
-/// The pool that a life of this type is lent.
-pub type PoolIn<G, L> = PoolOf<G, <L as Life>::Job, <L as Life>::Edge>;
+/// The pool that a life of this type is lent, with these objects of its caller.
+pub type PoolIn<G, L, E = Defaults> = PoolOf<G, <L as Life<E>>::Job, E>;
 
-/// What a life of this type is lent.
-pub type LentTo<'a, G, R, L> = Lent<'a, G, R, <L as Life>::Job, <L as Life>::Edge>;
+/// What a life of this type is lent, with these objects of its caller.
+pub type LentTo<'a, G, R, L, E = Defaults> = Lent<'a, G, R, <L as Life<E>>::Job, E>;
 
-/// What a caller does with a pool while it is open: `with_pool` opens the pool before it and ends it after it.
-pub trait Life: Drop {
+/// What a caller does with a pool while it is open: `with_pool` opens the pool before it and ends it after it. `E`
+/// are the caller's objects: `Defaults` for none.
+pub trait Life<E>: Drop {
     /// The jobs of the pool.
     type Job: Job + 'static;
-
-    /// The caller's objects: `Defaults` for none.
-    type Edge: Edge + Send + Sync + 'static;
 
     /// The answer.
     type Out: Drop;
@@ -71,7 +76,7 @@ pub trait Life: Drop {
     /// MissingPass (21) and without a report. The life may shut the pool down itself, and need not.
     fn live<G: PoolName, R: Runtime>(
         self,
-        at: &mut LentTo<'_, G, R, Self>,
+        at: &mut LentTo<'_, G, R, Self, E>,
     ) -> Result<Self::Out, PoolError>;
 }
 
@@ -91,14 +96,72 @@ impl<
             .execute_as(self.rt, Kind::Plain, job, &mut self.pass)
     }
 
-    /// Submits a task with a future, as `ExecutorService.submit`: `execute_as` with the pass that was lent.
-    pub fn submit(&mut self, job: J) -> Result<Admitted, Refused<J>>
-        ensures admitted { IfOk result (IsAdmitted G.config Kind.Future job (J.promised job) self.old.pass self.new.pass) }
+    /// Submits a task with a future, as `ExecutorService.submit`, and answers its number, also where its submitter ran
+    /// it or the policy discarded it. NoMemory (4) or BookFull (5), with the job and with nothing done; Rejected (12),
+    /// with the job where it was not cancelled; TornRecord (22), which does not come as long as the pool's book is
+    /// sound.
+    pub fn submit(&mut self, job: J) -> Result<TaskId, Refused<J>>
+        ensures submitted { IfOk result (λ t. IsSubmitted G.config job (J.promised job) self.old.pass self.new.pass t) }
         ensures refused { IfErr result (IsTurnedAway G.config Kind.Future job (J.promised job) self.old.pass self.new.pass) }
         ensures others { self.new.others.items ≡ self.old.others.items }
     {
-        self.pool
+        match self
+            .pool
             .execute_as(self.rt, Kind::Future, job, &mut self.pass)
+        {
+            Ok(admitted) => Ok(task_of(admitted)),
+            Err(refused) => Err(refused),
+        }
+    }
+
+    /// Waits until a future is not open any more, and answers its value, as `Future.get`. It makes no step.
+    ///
+    /// UnknownTask (6) where no submission got this number; NotFuture (9) for a plain task; CancelledTask (13), as a
+    /// `CancellationException`; Faulted (14) with the fault's code, as an `ExecutionException`; Lost (15) with the
+    /// fate of a task that left without running, at which Java waits for ever.
+    pub fn get(&mut self, t: TaskId) -> Result<i64, PoolError>
+        ensures reads { BookAt (Task J) G.config self.new.pass.front (λ b. IsFound b t.0 None (got result)) }
+        ensures looks { LooksOnly G.config self.old.pass self.new.pass }
+        ensures others { self.new.others.items ≡ self.old.others.items }
+    {
+        self.pool
+            .await_result_with(self.rt, t, None, &mut self.pass)
+    }
+}
+
+/// A life of jobs with futures: each is submitted, and then the answer of each is waited for. They are answered in the
+/// jobs' order, with the errors of `Lent::get`. As `ExecutorService.invokeAll`, but that the jobs before a refused one
+/// run to their end.
+#[derive(Drop)]
+pub struct Futures<J>(pub Vec<J>);
+
+impl<J: Job + 'static, E: Edge + Send + Sync + 'static> Life<E> for Futures<J> {
+    type Job = J;
+
+    type Out = Vec<Result<i64, PoolError>>;
+
+    fn live<G: PoolName, R: Runtime>(
+        self,
+        at: &mut LentTo<'_, G, R, Self, E>,
+    ) -> Result<Self::Out, PoolError> {
+        let mut tasks = Vec::new(at.alloc);
+        for job in self.0 {
+            tasks.push(at.submit(job)?)?;
+        }
+        let mut answers = Vec::new(at.alloc);
+        for task in &tasks {
+            answers.push(at.get(*task))?;
+        }
+        Ok(answers)
+    }
+}
+
+// The task of a submission that was admitted, also of a discarded one.
+fn task_of(admitted: Admitted) -> TaskId
+    ensures { result ≡ task_of_admitted admitted }
+{
+    match admitted {
+        Admitted::Accepted(t) | Admitted::RanHere(t, _) | Admitted::Discarded(t) => t,
     }
 }
 
@@ -113,11 +176,11 @@ impl<
 /// where there is none for a pool: then the life is dropped. Else the life's own error; else MissingPass (21) where
 /// not all passes were handed back, NoMemory (4) for the list of passes, or TornRecord (22), which does not
 /// come as long as the pool's book is sound.
-pub fn with_pool<L: Life, R: Runtime>(
+pub fn with_pool<L: Life<E>, E: Edge + Send + Sync + 'static, R: Runtime>(
     rt: &R,
     alloc: Global,
     settings: Config,
-    edge: L::Edge,
+    edge: E,
     life: L,
 ) -> Result<(L::Out, Report), PoolError>
     ensures report { IfOk result (λ r. IsReport settings r.1) }
@@ -127,17 +190,22 @@ pub fn with_pool<L: Life, R: Runtime>(
         Ok(unopened) => unopened,
         Err(error) => return Err(error),
     };
-    opened::<Brand, L, R>(rt, alloc, unopened, settings, edge, life)
+    opened::<Brand, L, E, R>(rt, alloc, unopened, settings, edge, life)
 }
 
 // The same under a name of the pool's own. The pass with which the pool is ended is made before the life, with
 // room for all receipts of the end, so that no memory is wanted once the pool has threads.
-fn opened<G: PoolNaming + Send + Sync + 'static, L: Life, R: Runtime>(
+fn opened<
+    G: PoolNaming + Send + Sync + 'static,
+    L: Life<E>,
+    E: Edge + Send + Sync + 'static,
+    R: Runtime,
+>(
     rt: &R,
     alloc: Global,
     unopened: Unopened,
     settings: Config,
-    edge: L::Edge,
+    edge: E,
     life: L,
 ) -> Result<(L::Out, Report), PoolError>
     requires named { unopened ≡ record { ledger = G.name; parts = G.parts; table = G.table } }
@@ -145,7 +213,7 @@ fn opened<G: PoolNaming + Send + Sync + 'static, L: Life, R: Runtime>(
     ensures report { IfOk result (λ r. IsReport settings r.1) }
     ensures over { IfErr result (IsOver settings) }
 {
-    let (pool, mut pass) = match PoolIn::<G, L>::over(alloc, unopened, settings, edge) {
+    let (pool, mut pass) = match PoolIn::<G, L, E>::over(alloc, unopened, settings, edge) {
         Ok(opened) => opened,
         Err(error) => return Err(error),
     };
@@ -166,10 +234,10 @@ fn opened<G: PoolNaming + Send + Sync + 'static, L: Life, R: Runtime>(
 }
 
 // The life and the end after it: the sight has then seen that the pool has no worker any more.
-fn lived<G: PoolName, L: Life, R: Runtime>(
+fn lived<G: PoolName, L: Life<E>, E: Edge + Send + Sync + 'static, R: Runtime>(
     rt: &R,
     alloc: Global,
-    pool: PoolIn<G, L>,
+    pool: PoolIn<G, L, E>,
     life: L,
     pass: Pass<G>,
     last: Pass<G>,
@@ -182,6 +250,7 @@ fn lived<G: PoolName, L: Life, R: Runtime>(
 {
     let mut at = Lent {
         rt,
+        alloc,
         pool: &pool,
         pass,
         others: Vec::new(alloc),
@@ -189,6 +258,7 @@ fn lived<G: PoolName, L: Life, R: Runtime>(
     let lived = life.live(&mut at);
     let Lent {
         rt: _,
+        alloc: _,
         pool: _,
         pass,
         others,

@@ -2,55 +2,40 @@
 //! the files' order. The status is 1 where a file can't be read.
 #![tactic(auto)]
 
-use std::alloc::Global;
 use std::process::ExitCode;
-use std::rt::Files;
 use std::{env, fs};
 use tp_pool::prelude::*;
-use tp_service::futures::get;
 use tp_service::invoking::invoke_all;
 
 /// A body that answers how many words a file has, or the fault 1 where it can't be read as a text.
 #[derive(Drop)]
-struct Text<H> {
-    host: H,
-    path: String,
-}
+struct Text(HostRuntime, String);
 
-impl<H: Files + AllocGlobal + Send + Drop> Body for Text<H> {
+impl Body for Text {
     fn run(&mut self, _cancel: &CancelFlag) -> Outcome {
-        let text = fs::read_to_string(&self.host, self.path.as_str()).or(Err(1u32))?;
+        let text = fs::read_to_string(&self.0, self.1.as_str()).or(Err(1u32))?;
         let words = u32::try_from(text.as_str().split_whitespace().count()).or(Err(1u32))?;
         Ok(i64::from(words))
     }
 }
 
-/// A count, or why there is none.
-type Answer = Result<i64, PoolError>;
-
-/// Runs all jobs, and answers their counts.
+/// Runs these jobs, and answers their counts.
 #[derive(Drop)]
-struct Count<H> {
-    alloc: Global,
-    texts: Vec<Any<Text<H>>>,
-}
+struct Count(Vec<Any<Text>>);
 
-impl<H: Files + AllocGlobal + Send + Drop + 'static> Life for Count<H> {
-    type Job = Any<Text<H>>;
+impl Life<Defaults> for Count {
+    type Job = Any<Text>;
 
-    type Edge = Defaults;
-
-    type Out = Vec<Answer>;
+    type Out = Vec<Result<i64, PoolError>>;
 
     fn live<G: PoolName, R: Runtime>(
         self,
-        at: &mut LentTo<G, R, Self>,
-    ) -> Result<Vec<Answer>, PoolError> {
-        let Count { alloc, texts } = self;
-        let tasks = invoke_all(at.pool, at.rt, alloc, texts, &mut at.pass)?;
-        let mut counts = Vec::new(alloc);
+        at: &mut LentTo<G, R, Count>,
+    ) -> Result<Self::Out, PoolError> {
+        let tasks = invoke_all(at.pool, at.rt, at.alloc, self.0, &mut at.pass)?;
+        let mut counts = Vec::new(at.alloc);
         for task in &tasks {
-            counts.push(get(at.pool, at.rt, *task))?;
+            counts.push(at.get(*task))?;
         }
         Ok(counts)
     }
@@ -61,28 +46,22 @@ fn main(rt: HostRuntime) -> anyhow::Result<ExitCode> {
     let paths = env::args(&rt)?.skip(1).collect::<Vec<String>>(alloc)?;
     let mut texts = Vec::new(alloc);
     for path in &paths {
-        let path = path.clone()?;
-        texts.push(Any(Text { host: rt, path }))?;
+        texts.push(Any(Text(rt, path.clone()?)))?;
     }
-    // Two to four workers, and a short queue: where it is full, who submits a job runs it.
-    let settings = Config::fixed(2)
-        .maximum(4)
+    // A short queue: where it is full, who submits a job runs it.
+    let settings = Config::fixed(4)
         .queue(QueueKind::Bounded(2))
-        .policy(Policy::CallerRuns)
-        .keep(1)
-        .record_limit(65_536);
-    let (counts, _) = with_pool(&rt, alloc, settings, Defaults, Count { alloc, texts })?;
+        .policy(Policy::CallerRuns);
+    let (counts, _) = with_pool(&rt, alloc, settings, Defaults, Count(texts))?;
     let mut words = 0i64;
-    let mut status = 0;
     for (path, count) in paths.iter().zip(&counts) {
         if let Ok(count) = count {
             words = words.saturating_add(*count);
             println!(&rt; "{count:5} {path}")?;
         } else {
-            status = 1;
             println!(&rt; "    ? {path}")?;
         }
     }
     println!(&rt; "{words:5} words")?;
-    Ok(ExitCode::from(status))
+    Ok(ExitCode::from(u8::from(counts.iter().any(Result::is_err))))
 }
