@@ -139,12 +139,6 @@ impl<G: PoolNaming, J: Drop, E: Edge> Shared<G, J, E> {
         }
     }
 
-    /// Tells the thread that was made for this slot that the slot is given up.
-    pub fn give_up<R: Wait>(&self, rt: &R, w: SlotId) {
-        self.hold(rt).give_up(w);
-        self.conditions.begun.notify_all();
-    }
-
     /// Sleeps at this slot's place until a thread wakes it, or for no reason.
     pub fn park<R: Wait>(&self, rt: &R, w: SlotId) {
         if let Some(parker) = self.parkers.get(w.0) {

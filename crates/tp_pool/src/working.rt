@@ -127,21 +127,12 @@ impl<G: PoolNaming + Send + Sync + 'static, J: Job + 'static, E: Edge + Send + S
         if !self.shared.await_start(rt, self.w, &self.pass) {
             return None;
         }
-        self.take_name();
         for _ in rt.forever() {
             if !one_turn(rt, self).goes_on() {
                 return self.heir;
             }
         }
         unreachable!()
-    }
-
-    // Names the thread. One that is told that its slot is given up takes none, since it may be its maker's thread.
-    fn take_name(&self) {
-        let Shared { edge, alloc, .. } = &*self.shared;
-        if let Some(name) = edge.name(*alloc, self.w) {
-            let _ = os::set_thread_name(name.as_bytes());
-        }
     }
 
     /// Its pool and its pass, once its turns are over.
