@@ -13,7 +13,7 @@ use std::thread::{JoinHandle, Threads};
 use std::time::{Clock, Duration, Instant};
 use tp_book::opening::Unopened;
 use tp_book::passes::Pass;
-use tp_pool::edges::Defaults;
+use tp_pool::defaults::Defaults;
 use tp_pool::names::PoolNaming;
 use tp_pool::pool::PoolOf;
 use tp_types::configs::{Config, Policy, QueueKind};

@@ -1,5 +1,4 @@
 //! The caller's objects, as a pool calls them.
-ghost use Rattle.std.specs.Prelude.{◌≡◌, true};
 
 use std::alloc::Global;
 use std::sync::{Mutex, Wait};
@@ -113,33 +112,5 @@ impl Edge for Boxes {
 
     fn pass(&self, p: Point, w: SlotId) {
         self.gate.before(p, w);
-    }
-}
-
-/// The objects of a caller that has none of its own: each worker is allowed, each verdict is Abort, the hooks
-/// do nothing, and the gate is open. Java's constructors fill in a default factory and `AbortPolicy`
-/// likewise.
-#[derive(Drop)]
-pub struct Defaults;
-
-impl Edge for Defaults {
-    ghost use Rattle.tp_pool.specs.declared.edges.TheConstants.{STACK};
-
-    fn allow<R: Wait>(&self, _rt: &R, _w: SlotId) -> bool
-        ensures { result ≡ true }
-    {
-        true
-    }
-
-    fn verdict<R: Wait>(&self, _rt: &R, _t: TaskId, _state: RunState) -> Verdict
-        ensures { result ≡ Verdict.Abort }
-    {
-        Verdict::Abort
-    }
-
-    fn stack(&self) -> usize
-        ensures { result ≡ STACK }
-    {
-        STACK
     }
 }

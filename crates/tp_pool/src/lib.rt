@@ -13,6 +13,7 @@ pub mod boxes;
 pub mod callers;
 pub mod closing;
 pub mod controls;
+pub mod defaults;
 pub mod edges;
 pub mod endings;
 pub mod futures;
@@ -35,7 +36,8 @@ mod working;
 pub use bodies::{Any, Body};
 pub use callers::in_two;
 pub use closing::{CloseFault, Report};
-pub use edges::{Defaults, Edge};
+pub use defaults::Defaults;
+pub use edges::Edge;
 pub use lives::{Futures, Lent, LentTo, Life, PoolIn, PoolName, Runtime, with_pool};
 pub use pool::PoolOf;
 pub use reports::{faulted, outcome_of};
@@ -64,7 +66,8 @@ pub mod jobs {
 pub mod prelude {
     pub use crate::bodies::{Any, Body};
     pub use crate::callers::in_two;
-    pub use crate::edges::{Defaults, Edge};
+    pub use crate::defaults::Defaults;
+    pub use crate::edges::Edge;
     pub use crate::lives::{Futures, Lent, LentTo, Life, PoolIn, PoolName, Runtime, with_pool};
     pub use crate::reports::outcome_of;
     pub use tp_book::passes::Pass;

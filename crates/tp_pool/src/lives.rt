@@ -10,7 +10,8 @@ ghost use Rattle.tp_pool.specs.Admissions.{task_of as task_of_admitted, IsAdmitt
 ghost use Rattle.tp_pool.specs.Lives.{IsSubmitted, IsReport, IsOver};
 
 use crate::closing::{CloseFault, Report, sole};
-use crate::edges::{Defaults, Edge};
+use crate::defaults::Defaults;
+use crate::edges::Edge;
 use crate::pool::{Hold, PoolOf};
 use std::alloc::Global;
 use std::marker::Brand;

@@ -7,7 +7,7 @@ use crate::scripted::Scripted;
 use std::sync::Wait;
 use std::thread::Threads;
 use tp_book::passes::Pass;
-use tp_pool::edges::Defaults;
+use tp_pool::defaults::Defaults;
 use tp_pool::names::PoolNaming;
 use tp_pool::pool::PoolOf;
 use tp_scenario::jobs::JobLine;
