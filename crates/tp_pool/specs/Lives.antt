@@ -7,9 +7,13 @@ use Rattle.tp_types.specs.declared.refusals.PoolError.TheVariants.{NoMemory, Boo
 use Rattle.tp_types.specs.declared.ids.TaskId.{TaskId}
 use Rattle.tp_types.specs.declared.tasks.Kind.TheVariants.{Future}
 use Rattle.tp_types.specs.declared.tasks.Promise.{Promise}
+use Rattle.tp_record.specs.declared.entries.Ask.TheVariants as ask
+use Rattle.tp_record.specs.declared.entries.Entry.{Entry}
+use Rattle.tp_record.specs.Fields.{rank}
 use Rattle.tp_book.specs.PassView.{PassView}
 use Rattle.tp_book.specs.declared.book.closing.Report.{Report}
 use Rattle.tp_locked.specs.Moments.{AtSome}
+use Rattle.tp_locked.specs.Passes.{IsRefusal}
 use Rattle.tp_locked.specs.declared.answers.Admitted.{Admitted}
 use Rattle.tp_pool.specs.Admissions.{task_of, IsAdmitted}
 use Rattle.tp_pool.specs.Closing.{Reports}
@@ -30,3 +34,7 @@ IsUnopened c e = (checked c ≡ Err e) ⊎ (e ≡ NoMemory) ⊎ (e ≡ BookFull)
 -- no pool was opened; or one was, and it has come to where no slot is left
 abbrev pub IsOver : Config → PoolError → Type 0
 IsOver c e = IsUnopened c e ⊎ AtSome c (λ s. 3 ≤ s.rank)
+
+-- at this history the pool is shut down, or a shutdown is refused
+abbrev pub IsShut : Config → List Entry → Type 0
+IsShut c h = (1 ≤ rank h) ⊎ ((e : PoolError) × IsRefusal c h ask.Shutdown e)

@@ -7,7 +7,7 @@ ghost use Rattle.tp_locked.specs.Passes.{LooksOnly};
 ghost use Rattle.tp_locked.specs.Readings.{got, IsFound};
 ghost use Rattle.tp_locked.specs.declared.tasks.Task.{Task};
 ghost use Rattle.tp_pool.specs.Admissions.{task_of as task_of_admitted, IsAdmitted, IsTurnedAway};
-ghost use Rattle.tp_pool.specs.Lives.{IsSubmitted, IsReport, IsOver};
+ghost use Rattle.tp_pool.specs.Lives.{IsSubmitted, IsReport, IsOver, IsShut};
 
 use crate::closing::{CloseFault, Report, sole};
 use crate::defaults::Defaults;
@@ -321,13 +321,14 @@ impl<
         ensures legal { Legal G.config pass.new.front }
     {
         self.shut(rt, pass);
-        self.shared().await_end_on(rt, pass)
+        self.await_shut(rt, pass)
     }
 
     // Shuts the pool down, where it runs still, and has a worker made where one is wanted for that.
     fn shut<R: Runtime>(&self, rt: &R, pass: &mut Pass<G>)
         requires room { 3 ≤ pass.old.room }
         ensures room { 2 ≤ pass.new.room }
+        ensures shut { IsShut G.config pass.new.front }
     {
         if self.glance(pass) != RunState::Running {
             return;
@@ -336,6 +337,16 @@ impl<
         if remains != Remains::End {
             self.rescue(*rt, remains);
         }
+    }
+
+    // Waits for the end of a pool that is shut down.
+    fn await_shut<R: Runtime>(&self, rt: &R, pass: &mut Pass<G>) -> Result<(), PoolError>
+        requires room { 2 ≤ pass.old.room }
+        requires shut { IsShut G.config pass.old.front }
+        ensures seen { 3 ≤ rank pass.new.front }
+        ensures legal { Legal G.config pass.new.front }
+    {
+        self.shared().await_end_on(rt, pass)
     }
 
     // Lets the pool go, once no thread has it any more.
