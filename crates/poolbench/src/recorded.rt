@@ -13,7 +13,7 @@ use std::thread::{JoinHandle, Threads};
 use std::time::{Clock, Duration, Instant};
 use tp_book::opening::Unopened;
 use tp_book::passes::Pass;
-use tp_pool::edges::Defaults;
+use tp_pool::defaults::Defaults;
 use tp_pool::names::PoolNaming;
 use tp_pool::pool::PoolOf;
 use tp_types::configs::{Config, Policy, QueueKind};
@@ -65,7 +65,7 @@ fn open<
 {
     let (pool, first) = Recorded::<G>::over(alloc, unopened, settings, Defaults)?;
     let mut pass = first;
-    pool.prestart_all(rt, &mut pass)?;
+    pool.prestart_all(&rt, &mut pass)?;
     settle(&rt);
     match course {
         Course::Through(crowd) => through(rt, alloc, Arc::new(alloc, pool)?, pass, crowd),
@@ -82,7 +82,7 @@ fn submits<G: PoolNaming + Send + Sync + 'static, R: Threads + Wait + Copy + Sen
 ) -> Result<(), Unmeasured> {
     for _ in 0..tasks {
         let job = Parcel::new(alloc, None)?;
-        if let Err(refused) = pool.execute_as(rt, Kind::Plain, job, pass) {
+        if let Err(refused) = pool.execute_as(&rt, Kind::Plain, job, pass) {
             return Err(Unmeasured::Refused(refused.error));
         }
     }
@@ -198,7 +198,7 @@ fn one_start<
     let mark = Arc::new(alloc, AtomicU64::new(0))?;
     let job = Parcel::new(alloc, Some(Arc::try_clone(&mark)?))?;
     let start = Instant::now(&rt)?;
-    if let Err(refused) = pool.execute_as(rt, Kind::Plain, job, pass) {
+    if let Err(refused) = pool.execute_as(&rt, Kind::Plain, job, pass) {
         return Err(Unmeasured::Refused(refused.error));
     }
     await_mark(&mark);

@@ -158,7 +158,7 @@ fn submit<G: PoolNaming + Send + Sync + 'static, R: Threads + Wait + Copy + Send
 ) -> Result<(), Mishap> {
     let number = job.number;
     let kind = kind_of(kinds, number);
-    let answer = match pool.execute_as(rt, kind, job, &mut told.pass) {
+    let answer = match pool.execute_as(&rt, kind, job, &mut told.pass) {
         Ok(admitted) => Ok(admitted),
         Err(refused) => {
             told.takes_back(refused.job)?;
@@ -249,13 +249,13 @@ fn start<G: PoolNaming + Send + Sync + 'static, R: Threads + Wait + Copy + Send 
 ) -> Result<(), Mishap> {
     match luck.below(3) {
         0 => {
-            borne(pool.set_core(rt, luck.below(9), pass))?;
+            borne(pool.set_core(&rt, luck.below(9), pass))?;
         }
         1 => {
-            borne(pool.prestart_core(rt, pass))?;
+            borne(pool.prestart_core(&rt, pass))?;
         }
         _ => {
-            borne(pool.prestart_all(rt, pass))?;
+            borne(pool.prestart_all(&rt, pass))?;
         }
     }
     Ok(())
@@ -272,7 +272,7 @@ fn end<G: PoolNaming + Send + Sync + 'static, R: Threads + Wait + Copy + Send + 
     if way != 0 {
         pool.shutdown(&rt, &mut told.pass)?;
         pause(luck);
-        borne(pool.prestart_all(rt, &mut told.pass))?;
+        borne(pool.prestart_all(&rt, &mut told.pass))?;
     }
     if way != 1 {
         stop(&rt, pool, told)?;

@@ -5,13 +5,9 @@ use crate::mishaps::Mishap;
 use std::alloc::Global;
 use std::sync::atomic::Ordering;
 use std::sync::{Arc, Wait};
-use tp_callbacks::gates::Point;
 use tp_pool::edges::{Edge, STACK};
 use tp_pool::pool::PoolOf;
-use tp_types::configs::Verdict;
-use tp_types::ids::{SlotId, TaskId};
-use tp_types::states::RunState;
-use tp_types::tasks::Outcome;
+use tp_types::ids::SlotId;
 
 /// What becomes of a worker that was asked for.
 #[derive(Clone, Copy, PartialEq, Eq)]
@@ -61,19 +57,9 @@ impl Edge for Fickle {
         self.making(before.saturating_add(1)) != Making::Refused
     }
 
-    fn verdict<R: Wait>(&self, _rt: &R, _t: TaskId, _state: RunState) -> Verdict {
-        Verdict::Abort
-    }
-
-    fn before<R: Wait>(&self, _rt: &R, _w: SlotId, _t: TaskId) {}
-
-    fn after<R: Wait>(&self, _rt: &R, _w: SlotId, _t: TaskId, _outcome: Option<&Outcome>) {}
-
     fn terminated<R: Wait>(&self, _rt: &R) {
         self.ends.fetch_add(1, Ordering::SeqCst);
     }
-
-    fn pass(&self, _p: Point, _w: SlotId) {}
 }
 
 /// A pool of such users.

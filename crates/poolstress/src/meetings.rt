@@ -117,7 +117,7 @@ fn submit<G: PoolNaming + Send + Sync + 'static, R: Threads + Wait + Copy + Send
     pass: &mut Pass<G>,
 ) -> Result<(), Mishap> {
     let number = job.number;
-    match pool.execute_as(rt, Kind::Plain, job, pass) {
+    match pool.execute_as(&rt, Kind::Plain, job, pass) {
         Ok(Admitted::Accepted(t)) if t == TaskId(number) => Ok(()),
         Ok(_) => Err(Mishap::Job(number, "was not accepted")),
         Err(refused) => Err(Mishap::Refused(refused.error)),

@@ -13,14 +13,12 @@ use std::thread;
 use std::thread::{JoinHandle, Threads};
 use tp_book::opening::Unopened;
 use tp_book::passes::Pass;
-use tp_callbacks::gates::Point;
-use tp_pool::edges::{Edge, STACK};
+use tp_pool::edges::Edge;
 use tp_pool::names::PoolNaming;
 use tp_pool::pool::PoolOf;
-use tp_types::configs::{Config, Policy, QueueKind, Verdict};
-use tp_types::ids::{SlotId, TaskId};
-use tp_types::states::RunState;
-use tp_types::tasks::{Kind, Outcome};
+use tp_types::configs::{Config, Policy, QueueKind};
+use tp_types::ids::SlotId;
+use tp_types::tasks::Kind;
 
 // Two workers, and a queue.
 const SETTINGS: Config = Config {
@@ -41,28 +39,12 @@ struct Halting {
 }
 
 impl Edge for Halting {
-    fn stack(&self) -> usize {
-        STACK
-    }
-
     fn allow<R: Wait>(&self, _rt: &R, _w: SlotId) -> bool {
         if self.asked.fetch_add(1, Ordering::SeqCst) == 1 {
             reaches(&self.goes_on, 1);
         }
         true
     }
-
-    fn verdict<R: Wait>(&self, _rt: &R, _t: TaskId, _state: RunState) -> Verdict {
-        Verdict::Abort
-    }
-
-    fn before<R: Wait>(&self, _rt: &R, _w: SlotId, _t: TaskId) {}
-
-    fn after<R: Wait>(&self, _rt: &R, _w: SlotId, _t: TaskId, _outcome: Option<&Outcome>) {}
-
-    fn terminated<R: Wait>(&self, _rt: &R) {}
-
-    fn pass(&self, _p: Point, _w: SlotId) {}
 }
 
 type Halted<G> = PoolOf<G, Chore, Halting>;
@@ -152,7 +134,7 @@ fn submit<G: PoolNaming + Send + Sync + 'static, R: Threads + Wait + Copy + Send
 ) -> Result<(), Mishap> {
     let ran = Arc::try_clone(ran)?;
     let job = Chore::new(number, work, ran);
-    match pool.execute_as(rt, Kind::Plain, job, pass) {
+    match pool.execute_as(&rt, Kind::Plain, job, pass) {
         Ok(_) => Ok(()),
         Err(refused) => Err(Mishap::Refused(refused.error)),
     }
@@ -181,7 +163,7 @@ fn is_late<G: PoolNaming + Send + Sync + 'static, R: Threads + Wait + Copy + Sen
 ) -> Result<Pass<G>, Mishap> {
     let mut pass = pass;
     submit(rt, &pool, 1, Work::Nothing, &ran, &mut pass)?;
-    match pool.prestart_core(rt, &mut pass) {
+    match pool.prestart_core(&rt, &mut pass) {
         Ok(true) => Ok(pass),
         Ok(false) => Err(Mishap::Differs("no worker was started in the slot's place")),
         Err(error) => Err(Mishap::Refused(error)),

@@ -179,7 +179,7 @@ fn go_on<G: PoolNaming + Send + Sync + 'static, R: Threads + Wait + Copy + Send 
             pool.cancel(&rt, TaskId(0), false, pass)?;
             pool.purge(&rt, pass)?;
         }
-        Way::SetsCore => pool.set_core(rt, 1, pass)?,
+        Way::SetsCore => pool.set_core(&rt, 1, pass)?,
     }
     Ok(())
 }
@@ -193,7 +193,7 @@ pub fn submit<G: PoolNaming + Send + Sync + 'static, R: Threads + Wait + Copy + 
     pass: &mut Pass<G>,
 ) -> Result<(), Mishap> {
     let job = Chore::new(number, Work::Nothing, Arc::try_clone(ran)?);
-    match pool.execute_as(rt, Kind::Future, job, pass) {
+    match pool.execute_as(&rt, Kind::Future, job, pass) {
         Ok(_) => Ok(()),
         Err(refused) => match refused.error {
             PoolError::Rejected(_) => Ok(()),

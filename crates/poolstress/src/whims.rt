@@ -7,7 +7,7 @@ use std::sync::Wait;
 use std::sync::atomic::{AtomicU64, Ordering};
 use std::thread;
 use tp_callbacks::gates::Point;
-use tp_pool::edges::{Edge, STACK};
+use tp_pool::edges::Edge;
 use tp_types::configs::Verdict;
 use tp_types::ids::{SlotId, TaskId};
 use tp_types::states::RunState;
@@ -52,10 +52,6 @@ impl Whims {
 }
 
 impl Edge for Whims {
-    fn stack(&self) -> usize {
-        STACK
-    }
-
     fn allow<R: Wait>(&self, _rt: &R, _w: SlotId) -> bool {
         let mut luck = self.luck();
         pause(&mut luck);

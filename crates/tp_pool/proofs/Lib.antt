@@ -1,4 +1,5 @@
 pub mod Asked
+pub mod Endless
 pub mod Ends
 pub mod Got
 pub mod Left

@@ -1,6 +1,6 @@
 //! The caller's objects, as a pool calls them.
-ghost use Rattle.std.specs.Prelude.{◌≡◌, true};
 
+use std::alloc::Global;
 use std::sync::{Mutex, Wait};
 use tp_callbacks::factories::ThreadFactory;
 use tp_callbacks::gates::{Gate, Point};
@@ -24,26 +24,39 @@ use tp_types::tasks::Outcome;
 /// may wait for the handler: two such objects may wait for each other for ever. A factory or a hook may shut its
 /// pool down: nothing is left to do while it answers.
 pub trait Edge: Drop {
-    /// Asks the thread factory whether this slot may have a worker.
-    fn allow<R: Wait>(&self, rt: &R, w: SlotId) -> bool;
+    /// Asks the thread factory whether this slot may have a worker. It may, unless said.
+    fn allow<R: Wait>(&self, _rt: &R, _w: SlotId) -> bool {
+        true
+    }
 
-    /// Asks the rejection handler for its verdict on this task, in a pool in this run state.
-    fn verdict<R: Wait>(&self, rt: &R, t: TaskId, state: RunState) -> Verdict;
+    /// Asks the rejection handler for its verdict on this task, in a pool in this run state: Abort, unless said.
+    fn verdict<R: Wait>(&self, _rt: &R, _t: TaskId, _state: RunState) -> Verdict {
+        Verdict::Abort
+    }
 
     /// Calls the hook before a task, as `beforeExecute`.
-    fn before<R: Wait>(&self, rt: &R, w: SlotId, t: TaskId);
+    fn before<R: Wait>(&self, _rt: &R, _w: SlotId, _t: TaskId) {}
 
     /// Calls the hook after a task, as `afterExecute`, with no outcome where the task was skipped.
-    fn after<R: Wait>(&self, rt: &R, w: SlotId, t: TaskId, outcome: Option<&Outcome>);
+    fn after<R: Wait>(&self, _rt: &R, _w: SlotId, _t: TaskId, _outcome: Option<&Outcome>) {}
 
     /// Calls the hook of the pool's end, as `ThreadPoolExecutor.terminated`.
-    fn terminated<R: Wait>(&self, rt: &R);
+    fn terminated<R: Wait>(&self, _rt: &R) {}
 
     /// Passes the gate at this point of the turn of this slot's worker.
-    fn pass(&self, p: Point, w: SlotId);
+    fn pass(&self, _p: Point, _w: SlotId) {}
 
-    /// The stack of a worker's thread, in bytes.
-    fn stack(&self) -> usize;
+    /// The stack of a worker's thread, in bytes: `STACK`, unless said.
+    fn stack(&self) -> usize {
+        STACK
+    }
+
+    /// The name of a worker's thread, as `Thread.setName`: that of slot 3 is `zk-w3`, unless said. Tools such as
+    /// `ps` show its first 15 bytes. With None, as for want of memory, the thread keeps the name of the thread that
+    /// made it.
+    fn name(&self, alloc: Global, w: SlotId) -> Option<String> {
+        format!(in alloc; "zk-w{}", w.0).ok()
+    }
 }
 
 /// The stack of a worker's thread, in bytes, where the caller asks for no other: 2 MiB.
@@ -99,45 +112,5 @@ impl Edge for Boxes {
 
     fn pass(&self, p: Point, w: SlotId) {
         self.gate.before(p, w);
-    }
-
-    fn stack(&self) -> usize {
-        STACK
-    }
-}
-
-/// The objects of a caller that has none of its own: each worker is allowed, each verdict is Abort, the hooks
-/// do nothing, and the gate is open. Java's constructors fill in a default factory and `AbortPolicy`
-/// likewise.
-#[derive(Drop)]
-pub struct Defaults;
-
-impl Edge for Defaults {
-    ghost use Rattle.tp_pool.specs.declared.edges.TheConstants.{STACK};
-
-    fn allow<R: Wait>(&self, _rt: &R, _w: SlotId) -> bool
-        ensures { result ≡ true }
-    {
-        true
-    }
-
-    fn verdict<R: Wait>(&self, _rt: &R, _t: TaskId, _state: RunState) -> Verdict
-        ensures { result ≡ Verdict.Abort }
-    {
-        Verdict::Abort
-    }
-
-    fn before<R: Wait>(&self, _rt: &R, _w: SlotId, _t: TaskId) {}
-
-    fn after<R: Wait>(&self, _rt: &R, _w: SlotId, _t: TaskId, _outcome: Option<&Outcome>) {}
-
-    fn terminated<R: Wait>(&self, _rt: &R) {}
-
-    fn pass(&self, _p: Point, _w: SlotId) {}
-
-    fn stack(&self) -> usize
-        ensures { result ≡ STACK }
-    {
-        STACK
     }
 }

@@ -1,32 +1,83 @@
 //! A pool of threads after `ThreadPoolExecutor`: its calls, the objects that its users write, and its
 //! answers.
 //!
-//! A user hands in jobs, and with the making of a pool a thread factory, a rejection handler, hooks and a
-//! gate. The pool calls all of them outside its lock, so each of them may ask the pool for its state, its
-//! counters and its steps. The pages of the traits say which calls from within would wait for ever.
+//! `with_pool` has a pool for the time of one call, and ends it on every path. A user hands in jobs, and with
+//! the making of a pool a thread factory, a rejection handler, hooks and a gate, or `Defaults` for all of
+//! them. The pool calls all of them outside its lock, so each of them may ask the pool for its state, its
+//! counters and its steps. The pages of the traits say which calls from within would wait for ever. All that a
+//! caller names can be imported from here.
 #![tactic(auto)]
 
+pub mod bodies;
 pub mod boxes;
+pub mod callers;
 pub mod closing;
 pub mod controls;
+pub mod defaults;
 pub mod edges;
 pub mod endings;
 pub mod futures;
+pub mod handles;
+pub mod lives;
 pub mod lock;
 pub mod pool;
 mod prestarts;
 pub mod readings;
+mod refusing;
+pub mod reports;
 mod rescues;
 mod shared;
+pub mod snapshots;
 mod staffing;
 mod submitting;
+mod waits;
 mod working;
 
+pub use bodies::{Any, Body};
+pub use callers::in_two;
+pub use closing::{CloseFault, Report};
+pub use defaults::Defaults;
+pub use edges::Edge;
+pub use lives::{Futures, Lent, LentTo, Life, PoolIn, PoolName, Runtime, with_pool};
+pub use pool::PoolOf;
+pub use reports::{faulted, outcome_of};
+pub use snapshots::{Busy, Snapshot};
+pub use tp_book::passes::Pass;
+pub use tp_book::sights::Sight;
+pub use tp_callbacks::flags::CancelFlag;
+pub use tp_callbacks::jobs::Job;
 pub use tp_callbacks::{factories, gates, handlers, hooks};
+pub use tp_locked::answers::{Admitted, Drained, Refused, Removal};
 pub use tp_locked::{answers, names};
+pub use tp_record::entries::{Ask, Did, Entry, Ruled};
+pub use tp_types::configs::{Config, Policy, QueueKind, Verdict};
+pub use tp_types::ids::{SlotId, TaskId};
+pub use tp_types::refusals::PoolError;
+pub use tp_types::states::{Counts, RunState};
+pub use tp_types::tasks::{Fate, Kind, Outcome, Place, Promise};
 
 /// The bodies that a pool runs.
 pub mod jobs {
     pub use crate::boxes::Boxed;
     pub use tp_callbacks::jobs::Job;
+}
+
+/// What a first program names: `use tp_pool::prelude::*;`.
+pub mod prelude {
+    pub use crate::bodies::{Any, Body};
+    pub use crate::callers::in_two;
+    pub use crate::defaults::Defaults;
+    pub use crate::edges::Edge;
+    pub use crate::lives::{Futures, Lent, LentTo, Life, PoolIn, PoolName, Runtime, with_pool};
+    pub use crate::reports::outcome_of;
+    pub use tp_book::passes::Pass;
+    pub use tp_callbacks::flags::CancelFlag;
+    pub use tp_callbacks::jobs::Job;
+    pub use tp_locked::answers::{Admitted, Refused};
+    pub use tp_record::entries::{Did, Entry, Ruled};
+    pub use tp_types::configs::{Config, Policy, QueueKind, Verdict};
+    pub use tp_types::ids::{SlotId, TaskId};
+    pub use tp_types::refusals::PoolError;
+    pub use tp_types::states::{Counts, RunState};
+    pub use tp_types::tasks::{Fate, Kind, Outcome, Promise};
 }

@@ -31,6 +31,9 @@ use tp_types::states::RunState;
 /// A pool of threads, as `ThreadPoolExecutor`, over jobs `J` and the caller's objects `E`. Its calls take
 /// `&self`, so that many threads may share it. A call that makes steps takes a pass: each entry of the record
 /// has the number of the pass that asked for it.
+///
+/// A pool that is dropped is not shut down: its workers run what is queued, then wait, and end with the process.
+/// A drop has no runtime by which it could take the lock. `with_pool` ends its pool on every path.
 #[derive(Drop)]
 pub struct PoolOf<G: PoolNaming, J, E> {
     pub(crate) hold: Hold<G, J, E>,

@@ -41,7 +41,7 @@ impl<
     /// call makes no step.
     pub fn set_core<R: Threads + Wait + Copy + Send + 'static>(
         &self,
-        rt: R,
+        rt: &R,
         core: u32,
         pass: &mut Pass<G>,
     ) -> Result<(), PoolError>
@@ -53,13 +53,13 @@ impl<
         if let Err(error) = pass.reserve(1 + 2 * most as usize) {
             return Err(error);
         }
-        let added = match self.shared().ask(&rt, Core(core), pass) {
+        let added = match self.shared().ask(rt, Core(core), pass) {
             Ok(added) => added,
             Err(error) => return Err(error),
         };
         // A size does not grow by more than itself, nor than there may be workers.
         let starts = added.min(most);
-        self.prestart_some(rt, starts, pass);
+        self.prestart_some(*rt, starts, pass);
         Ok(())
     }
 
@@ -93,7 +93,7 @@ impl<
     /// as `shutdown` says. NoMemory (4) for its receipts, else BookFull (5). A refused call makes no step.
     pub fn prestart_core<R: Threads + Wait + Copy + Send + 'static>(
         &self,
-        rt: R,
+        rt: &R,
         pass: &mut Pass<G>,
     ) -> Result<bool, PoolError>
         ensures steps { IfOk result (λ live. AddsPrestart G.config pass.old live pass.new) }
@@ -103,7 +103,7 @@ impl<
         if let Err(error) = pass.reserve(2) {
             return Err(error);
         }
-        self.prestart(rt, pass)
+        self.prestart(*rt, pass)
     }
 
     /// Starts core workers until there are as many slots as the core size, as `prestartAllCoreThreads`, and
@@ -114,7 +114,7 @@ impl<
     /// step. A later refusal ends the call and is not answered.
     pub fn prestart_all<R: Threads + Wait + Copy + Send + 'static>(
         &self,
-        rt: R,
+        rt: &R,
         pass: &mut Pass<G>,
     ) -> Result<u32, PoolError>
         ensures steps { IfOk result (λ live. AddsStarts G.config (IsRefusedMore G.config) 1024 [] pass.old live pass.new) }
@@ -125,7 +125,7 @@ impl<
             return Err(error);
         }
         for live in 0..MAX_WORKERS {
-            match self.prestart(rt, pass) {
+            match self.prestart(*rt, pass) {
                 Ok(true) => {}
                 Ok(false) => return Ok(live),
                 Err(error) if live == 0 => return Err(error),

@@ -139,12 +139,6 @@ impl<G: PoolNaming, J: Drop, E: Edge> Shared<G, J, E> {
         }
     }
 
-    /// Tells the thread that was made for this slot that the slot is given up.
-    pub fn give_up<R: Wait>(&self, rt: &R, w: SlotId) {
-        self.hold(rt).give_up(w);
-        self.conditions.begun.notify_all();
-    }
-
     /// Sleeps at this slot's place until a thread wakes it, or for no reason.
     pub fn park<R: Wait>(&self, rt: &R, w: SlotId) {
         if let Some(parker) = self.parkers.get(w.0) {
@@ -309,7 +303,7 @@ impl<G: PoolNaming, J: Drop, E: Edge> Shared<G, J, E> {
 
     // The terminated hook, with no lock held, and the step `ended`, by the pass that made the step
     // `tidy`. TornRecord (22) where the book does not take it.
-    fn terminate<R: Wait>(&self, rt: &R, pass: &mut Pass<G>) -> Result<(), PoolError>
+    pub(crate) fn terminate<R: Wait>(&self, rt: &R, pass: &mut Pass<G>) -> Result<(), PoolError>
         requires room { 0 < pass.old.room }
         ensures step { OnOk result (Adds G.config pass.old (ended pass.old.number ∷ []) pass.new) }
         ensures seen { OnOk result (rank pass.new.front ≡ 4) }

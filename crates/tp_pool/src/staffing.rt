@@ -4,21 +4,18 @@ ghost use Rattle.std.specs.Thread.{IsSend, IsSync};
 use crate::edges::Edge;
 use crate::shared::Shared;
 use crate::working::Post;
-use std::sync::{Arc, Wait};
-use std::thread::{Builder, Promise, Threads};
+use std::alloc::Global;
+use std::sync::{Arc, Mutex, Wait};
+use std::thread::{Builder, Threads};
 use tp_book::passes::WorkerPass;
 use tp_callbacks::jobs::Job;
 use tp_locked::names::PoolNaming;
 use tp_turns::rescues::{Remains, rescue};
 use tp_types::ids::SlotId;
 
-// Any result will do.
-#[derive(Drop)]
-struct Free;
-
-impl Promise<()> for Free {
-    ghost kept_by = { λ _ _. Unit {0} };
-}
+// A worker's pass, kept for its thread, which takes it as it begins. Where no thread can be made, whoever wanted one
+// still has the pass: no close would find all passes without it.
+type Kept<G> = Arc<Mutex<Option<WorkerPass<G>>>>;
 
 /// Has a worker made for this slot, and tells whether one was: the factory is asked, and where it consents a
 /// pass and a thread are made. The thread waits to be told of its slot. No lock is held while the factory
@@ -46,49 +43,52 @@ pub fn staff_heir<
     if !shared.edge.allow(&rt, w) {
         return false;
     }
-    let Ok(theirs) = Arc::try_clone(shared) else {
+    let Some((kept, theirs)) = keepers(shared.alloc) else {
         return false;
     };
     let enlisted = shared.hold(&rt).enlist(w, &shared.glance);
-    match enlisted {
-        Ok(pass) => launch(rt, shared, theirs, w, pass, heirs),
-        Err(_) => false,
+    let Ok(pass) = enlisted else {
+        return false;
+    };
+    *kept.lock(&rt) = Some(pass);
+    if launch(rt, shared, w, theirs, heirs) {
+        return true;
     }
+    let left = kept.lock(&rt).take();
+    if let Some(pass) = left {
+        shared.hand_in(&rt, pass);
+    }
+    false
 }
 
-// Starts the thread. Where none can be made, its work is done here: told that its slot is given up, it only
-// hands its pass in, since no close would find all passes without it. It is a function of its own, where
-// little else is known: the check shows there that the pool may cross to a thread.
+// Both ends of what keeps a worker's pass: for whoever wants the worker, and for its thread.
+fn keepers<G: PoolNaming>(alloc: Global) -> Option<(Kept<G>, Kept<G>)> {
+    let kept = Arc::new(alloc, Mutex::new(None)).ok()?;
+    let theirs = Arc::try_clone(&kept).ok()?;
+    Some((kept, theirs))
+}
+
+// Starts the thread, and tells whether it could be made. It is a function of its own, where little else is known: the
+// check shows there that the pool may cross to a thread.
 #[cycle(staffing)]
 fn launch<
     G: PoolNaming + Send + Sync + 'static,
     J: Job + 'static,
     E: Edge + Send + Sync + 'static,
     R: Threads + Wait + Copy + Send + 'static,
->(
-    rt: R,
-    shared: &Arc<Shared<G, J, E>>,
-    theirs: Arc<Shared<G, J, E>>,
-    w: SlotId,
-    pass: WorkerPass<G>,
-    heirs: u64,
-) -> bool {
+>(rt: R, shared: &Arc<Shared<G, J, E>>, w: SlotId, kept: Kept<G>, heirs: u64) -> bool {
+    let Ok(theirs) = Arc::try_clone(shared) else {
+        return false;
+    };
     let work = move ||
         requires { IsSend R.row × IsSend G.row × IsSync G.row × IsSend E.row × IsSync E.row }
-    { run_worker(rt, theirs, w, pass, heirs) };
-    let builder = Builder::new().stack_size(shared.edge.stack());
-    match builder.spawn_with(&rt, Free, work) {
-        Ok(handle) => {
-            drop(handle);
-            true
-        }
-        Err(refused) => {
-            shared.give_up(&rt, w);
-            let run = refused.value;
-            run();
-            false
-        }
-    }
+    { run_worker(rt, theirs, w, kept, heirs) };
+    let thread = Builder::new().stack_size(shared.edge.stack());
+    let thread = match shared.edge.name(shared.alloc, w) {
+        Some(name) => thread.name(name),
+        None => thread,
+    };
+    thread.spawn(&rt, work).is_ok()
 }
 
 // The work of a worker's thread: its turns once its slot is live, then a worker in its place where one is
@@ -100,7 +100,10 @@ fn run_worker<
     J: Job + 'static,
     E: Edge + Send + Sync + 'static,
     R: Threads + Wait + Copy + Send + 'static,
->(rt: R, shared: Arc<Shared<G, J, E>>, w: SlotId, pass: WorkerPass<G>, heirs: u64) {
+>(rt: R, shared: Arc<Shared<G, J, E>>, w: SlotId, kept: Kept<G>, heirs: u64) {
+    let Some(pass) = kept.lock(&rt).take() else {
+        return;
+    };
     let mut post = Post::new(shared, w, pass);
     let heir = post.work(&rt);
     let (shared, mut pass) = post.into_parts();

@@ -115,7 +115,7 @@ impl<
     /// TornRecord (22) does not come as long as the pool's book is sound.
     pub fn execute_as<R: Threads + Wait + Copy + Send + 'static>(
         &self,
-        rt: R,
+        rt: &R,
         kind: Kind,
         job: J,
         pass: &mut Pass<G>,
@@ -124,7 +124,7 @@ impl<
         ensures refused { IfErr result (IsTurnedAway G.config kind job (J.promised job) pass.old pass.new) }
     {
         match reserve(pass) {
-            Ok(()) => self.submit(rt, kind, job, pass),
+            Ok(()) => self.submit(*rt, kind, job, pass),
             Err(error) => Err(Refused {
                 error,
                 job: Some(job),
@@ -291,7 +291,7 @@ impl<G: PoolNaming + Send + Sync + 'static> PoolOf<G, Boxed, Boxes> {
     /// TornRecord (22), which does not come as long as the pool's book is sound.
     pub fn execute<R: Threads + Wait + Copy + Send + 'static>(
         &self,
-        rt: R,
+        rt: &R,
         job: Box<dyn Job>,
         pass: &mut Pass<G>,
     ) -> Result<Admitted, Refused<Boxed>>

@@ -47,7 +47,7 @@ impl CompletionService {
     >(
         &self,
         pool: &PoolOf<G, J, E>,
-        rt: R,
+        rt: &R,
         job: J,
         pass: &mut Pass<G>,
     ) -> Result<TaskId, Refused<J>>

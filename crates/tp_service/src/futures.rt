@@ -38,7 +38,7 @@ pub fn submit<
     J: Job + 'static,
     E: Edge + Send + Sync + 'static,
     R: Threads + Wait + Copy + Send + 'static,
->(pool: &PoolOf<G, J, E>, rt: R, job: J, pass: &mut Pass<G>) -> Result<TaskId, Refused<J>>
+>(pool: &PoolOf<G, J, E>, rt: &R, job: J, pass: &mut Pass<G>) -> Result<TaskId, Refused<J>>
     ensures submitted { IfOk result (λ t. AddsJob G.config Future job (J.promised job) t pass.old pass.new) }
     ensures refused { IfErr result (IsTurnedAway G.config Future job (J.promised job) pass.old pass.new) }
 {

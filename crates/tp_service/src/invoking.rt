@@ -178,7 +178,7 @@ fn submit_all<
     R: Threads + Wait + Copy + Send + 'static,
 >(
     pool: &PoolOf<G, J, E>,
-    rt: R,
+    rt: &R,
     alloc: Global,
     jobs: Vec<J>,
     pass: &mut Pass<G>,
@@ -195,7 +195,7 @@ fn submit_all<
             Ok(t) => tasks.push_reserved(t),
             Err(refused) => {
                 let earlier = tasks.as_slice();
-                cancel_all(pool, &rt, earlier, pass);
+                cancel_all(pool, rt, earlier, pass);
                 return Err(refused.error);
             }
         }
@@ -216,7 +216,7 @@ pub fn invoke_all<
     R: Threads + Wait + Copy + Send + 'static,
 >(
     pool: &PoolOf<G, J, E>,
-    rt: R,
+    rt: &R,
     alloc: Global,
     jobs: Vec<J>,
     pass: &mut Pass<G>,
@@ -226,7 +226,7 @@ pub fn invoke_all<
     ensures refused { IfErr result (λ e. AreTurnedBack (Task J) G.config (vec_len jobs) e pass.old pass.new) }
 {
     let tasks = submit_all(pool, rt, alloc, jobs, pass)?;
-    await_all(pool, &rt, tasks.as_slice(), pass);
+    await_all(pool, rt, tasks.as_slice(), pass);
     Ok(tasks)
 }
 
@@ -240,7 +240,7 @@ pub fn invoke_all_until<
     R: Threads + Wait + Copy + Send + 'static,
 >(
     pool: &PoolOf<G, J, E>,
-    rt: R,
+    rt: &R,
     alloc: Global,
     jobs: Vec<J>,
     deadline: u64,
@@ -251,10 +251,10 @@ pub fn invoke_all_until<
     ensures refused { IfErr result (λ e. AreTurnedBack (Task J) G.config (vec_len jobs) e pass.old pass.new) }
 {
     let tasks = submit_all(pool, rt, alloc, jobs, pass)?;
-    if all_close_by(pool, &rt, tasks.as_slice(), deadline, pass) {
+    if all_close_by(pool, rt, tasks.as_slice(), deadline, pass) {
         return Ok(tasks);
     }
-    cancel_all(pool, &rt, tasks.as_slice(), pass);
+    cancel_all(pool, rt, tasks.as_slice(), pass);
     Ok(tasks)
 }
 
@@ -271,7 +271,7 @@ pub fn invoke_any<
     R: Threads + Wait + Copy + Send + 'static,
 >(
     pool: &PoolOf<G, J, E>,
-    rt: R,
+    rt: &R,
     alloc: Global,
     jobs: Vec<J>,
     pass: &mut Pass<G>,
@@ -283,10 +283,10 @@ pub fn invoke_any<
         return Err(PoolError::NoTasks);
     }
     let tasks = submit_all(pool, rt, alloc, jobs, pass)?;
-    let answer = await_any(pool, &rt, tasks.as_slice(), pass);
+    let answer = await_any(pool, rt, tasks.as_slice(), pass);
     if answer.is_err() {
         return answer;
     }
-    cancel_all(pool, &rt, tasks.as_slice(), pass);
+    cancel_all(pool, rt, tasks.as_slice(), pass);
     answer
 }

@@ -2,7 +2,6 @@
 
 use std::alloc::Global;
 use std::sync::Wait;
-use std::thread::{self, Threads};
 use tp_book::passes::Pass;
 use tp_pool::closing::Report;
 use tp_pool::edges::Edge;
@@ -43,21 +42,4 @@ pub fn closed<G: PoolNaming, J: Job, E: Edge, R: Wait>(
         Ok(report) => Ok(report),
         Err(fault) => Err(fault.error),
     }
-}
-
-/// Both calls, each in a thread of its own. Each type that crosses is a parameter, so that each is shown to
-/// cross by itself.
-pub fn in_two<
-    S: Sync,
-    T: Send + Drop,
-    A: Send + Drop,
-    B: Send + Drop,
-    F: Fn(&S, T) -> A + Sync,
-    H: Fn(&S, T) -> B + Sync,
-    R: Threads + Sync,
->(rt: &R, shared: &S, one: T, two: T, f: &F, h: &H) -> (A, B)
-    requires first { F.IsAlwaysCallable f.now }
-    requires second { H.IsAlwaysCallable h.now }
-{
-    thread::join(rt, move || f(shared, one), move || h(shared, two))
 }

@@ -10,7 +10,7 @@ use std::thread::Threads;
 use tp_book::opening::Unopened;
 use tp_book::passes::Pass;
 use tp_pool::closing::Report;
-use tp_pool::edges::Defaults;
+use tp_pool::defaults::Defaults;
 use tp_pool::names::PoolNaming;
 use tp_scenario::jobs::{JobLine, Jobs};
 use tp_types::configs::Config;

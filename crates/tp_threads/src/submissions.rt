@@ -7,7 +7,7 @@ use crate::scripted::Scripted;
 use std::sync::Wait;
 use std::thread::Threads;
 use tp_book::passes::Pass;
-use tp_pool::edges::Defaults;
+use tp_pool::defaults::Defaults;
 use tp_pool::names::PoolNaming;
 use tp_pool::pool::PoolOf;
 use tp_scenario::jobs::JobLine;
@@ -49,7 +49,7 @@ fn submit<G: PoolNaming + Send + Sync + 'static, R: Threads + Wait + Copy + Send
     let scripted = Scripted {
         outcome: job.outcome,
     };
-    match pool.execute_as(rt, kind_of(job), scripted, pass) {
+    match pool.execute_as(&rt, kind_of(job), scripted, pass) {
         Ok(_) => Ok(()),
         Err(refused) => match refused.error {
             PoolError::Rejected(_) => Ok(()),

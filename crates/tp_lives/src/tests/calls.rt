@@ -50,7 +50,7 @@ pub fn make<G: PoolNaming + Send + Sync + 'static, R: Threads + Wait + Copy + Se
     pass: &mut Pass<G>,
 ) -> Result<(), PoolError> {
     match call {
-        Call::Core(core) => pool.set_core(*rt, core, pass),
+        Call::Core(core) => pool.set_core(rt, core, pass),
         Call::Maximum(maximum) => pool.set_maximum(rt, maximum, pass),
         Call::Keep(keep) => pool.set_keep(rt, keep, pass),
         Call::CoreTimeout(on) => pool.allow_core_timeout(rt, on, pass),

@@ -9,9 +9,9 @@ use std::test::Fail;
 use std::thread::Threads;
 use tp_book::passes::Pass;
 use tp_pool::hooks::NoHooks;
+use tp_pool::in_two;
 use tp_pool::names::PoolNaming;
 use tp_pool::pool::Pool;
-use tp_stage::endings::in_two;
 use tp_types::refusals::PoolError;
 
 // The first caller's steps: a tick, and when the second has stepped a wait that is late at once.

@@ -122,7 +122,7 @@ fn life<G: PoolNaming + Send + Sync + 'static, R: Abort + Threads + Wait + Copy 
     )?;
     for number in 0..2 {
         let job = Box::new(alloc, Looking).or(Err(PoolError::NoMemory))?;
-        let answer = pool.execute(rt, job, &mut pass);
+        let answer = pool.execute(&rt, job, &mut pass);
         assert!(&rt; is_answer(&answer, number), "job {number}");
     }
     pool.shutdown(&rt, &mut pass)?;

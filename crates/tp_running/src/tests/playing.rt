@@ -38,7 +38,7 @@ pub fn handed<G: PoolNaming + Send + Sync + 'static, R: Threads + Wait + Copy + 
     job: Chore,
     pass: &mut Pass<G>,
 ) -> Result<Admitted, Refused<Chore>> {
-    pool.execute_as(rt, kind, job, pass)
+    pool.execute_as(&rt, kind, job, pass)
 }
 
 fn is_run(ran: Outcome, answer: Answer) -> bool {
@@ -105,9 +105,9 @@ pub fn started<G: PoolNaming + Send + Sync + 'static, R: Threads + Wait + Copy +
     pass: &mut Pass<G>,
 ) -> Result<bool, PoolError> {
     match start {
-        Start::All(live) => pool.prestart_all(rt, pass).map(|started| started == live),
-        Start::One(live) => pool.prestart_core(rt, pass).map(|started| started == live),
-        Start::Core(core) => pool.set_core(rt, core, pass).map(|()| true),
+        Start::All(live) => pool.prestart_all(&rt, pass).map(|started| started == live),
+        Start::One(live) => pool.prestart_core(&rt, pass).map(|started| started == live),
+        Start::Core(core) => pool.set_core(&rt, core, pass).map(|()| true),
     }
 }
 

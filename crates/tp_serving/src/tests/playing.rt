@@ -62,9 +62,9 @@ fn submitted<G: PoolNaming + Send + Sync + 'static, R: Threads + Wait + Copy + S
     pass: &mut Pass<G>,
 ) -> Result<TaskId, Refused<Chore>> {
     match kind {
-        Kind::Plain => pool.execute_as(rt, Kind::Plain, job, pass).map(task_of),
-        Kind::Future => submit(pool, rt, job, pass),
-        Kind::Group(group) => CompletionService::new(group).submit(pool, rt, job, pass),
+        Kind::Plain => pool.execute_as(&rt, Kind::Plain, job, pass).map(task_of),
+        Kind::Future => submit(pool, &rt, job, pass),
+        Kind::Group(group) => CompletionService::new(group).submit(pool, &rt, job, pass),
     }
 }
 
@@ -134,14 +134,14 @@ fn invokes<G: PoolNaming + Send + Sync + 'static, R: Threads + Wait + Copy + Sen
     };
     match many {
         Many::All(_, from) => {
-            are_answered(invoke_all(pool, rt, alloc, jobs, pass), from, deeds.len())
+            are_answered(invoke_all(pool, &rt, alloc, jobs, pass), from, deeds.len())
         }
         Many::AllUntil(_, deadline, from) => {
-            let found = invoke_all_until(pool, rt, alloc, jobs, deadline, pass);
+            let found = invoke_all_until(pool, &rt, alloc, jobs, deadline, pass);
             are_answered(found, from, deeds.len())
         }
-        Many::AllRefused(_, error) => is_refused(invoke_all(pool, rt, alloc, jobs, pass), error),
-        Many::Any(_, answer) => invoke_any(pool, rt, alloc, jobs, pass) == answer,
+        Many::AllRefused(_, error) => is_refused(invoke_all(pool, &rt, alloc, jobs, pass), error),
+        Many::Any(_, answer) => invoke_any(pool, &rt, alloc, jobs, pass) == answer,
     }
 }
 

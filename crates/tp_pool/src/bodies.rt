@@ -1,0 +1,29 @@
+//! Jobs without a promise of their own.
+
+use tp_callbacks::flags::CancelFlag;
+use tp_callbacks::jobs::Job;
+use tp_types::tasks::{Outcome, Promise, WIDEST, as_widest};
+
+/// A body that promises nothing of its outcome, as a `Callable<Long>`. In an `Any` it is a job.
+pub trait Body: Send + Drop {
+    /// Runs the body, as `Job::call`: it answers a value, or a fault's code where a Java body throws.
+    fn run(&mut self, cancel: &CancelFlag) -> Outcome;
+}
+
+/// A job of this body. It promises the widest: any value, or a fault.
+#[derive(Drop)]
+pub struct Any<B>(pub B);
+
+impl<B: Body> Job for Any<B> {
+    ghost use Rattle.tp_types.specs.declared.tasks.TheConstants.{WIDEST};
+
+    ghost promised = { λ _. WIDEST };
+
+    fn promise(&self) -> Promise {
+        WIDEST
+    }
+
+    fn call(&mut self, cancel: &CancelFlag) -> Outcome {
+        as_widest(self.0.run(cancel))
+    }
+}

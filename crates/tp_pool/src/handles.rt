@@ -1,0 +1,76 @@
+//! Handles of a pool, for several owners; and its close with one pass.
+ghost use Rattle.std.specs.Prelude.{◌≡◌, ◌⊎◌, [], ◌∷◌, IfOk, IfErr};
+ghost use Rattle.tp_locked.specs.Closing.{KeepsOpen};
+ghost use Rattle.tp_locked.specs.declared.tasks.Task.{Task};
+ghost use Rattle.tp_pool.specs.Closing.{Reports};
+
+use crate::closing::{CloseFault, Report};
+use crate::edges::Edge;
+use crate::pool::{Hold, PoolOf};
+use std::sync::{Arc, Wait};
+use tp_book::passes::Pass;
+use tp_callbacks::jobs::Job;
+use tp_locked::names::PoolNaming;
+use tp_types::refusals::PoolError;
+
+/// The answer of a close with one pass that was refused: the pool comes back, with the pass.
+#[derive(Drop)]
+pub struct CloseOneFault<G: PoolNaming, J, E> {
+    /// The refusal: NoMemory (4), NotTerminated (20), MissingPass (21) or TornRecord (22).
+    pub error: PoolError,
+    /// The pool, handed back.
+    pub pool: PoolOf<G, J, E>,
+    /// The pass, handed back.
+    pub pass: Pass<G>,
+}
+
+impl<G: PoolNaming, J: Job, E: Edge> PoolOf<G, J, E> {
+    /// One more handle of this pool, for an owner of its own, as a copied reference in Java. A close by one handle waits until
+    /// the others are dropped. NoMemory (4), or TornRecord (22) where a close found the pool's record torn.
+    pub fn handle(&self) -> Result<PoolOf<G, J, E>, PoolError>
+        ensures refused { IfErr result (λ e. (e ≡ PoolError.NoMemory) ⊎ (e ≡ PoolError.TornRecord)) }
+    {
+        let Hold::Many(shared) = &self.hold else {
+            return Err(PoolError::TornRecord);
+        };
+        match Arc::try_clone(shared) {
+            Ok(shared) => Ok(PoolOf {
+                hold: Hold::Many(shared),
+            }),
+            Err(_) => Err(PoolError::NoMemory),
+        }
+    }
+}
+
+impl<G: PoolNaming, J: Job, E: Edge> PoolOf<G, J, E> {
+    /// As `close`, with the one pass of a pool that has one caller. NoMemory (4) for the list of passes, else
+    /// refused as `close`; after a refusal the pool and the pass come back.
+    pub fn close_one<R: Wait>(self, rt: &R, pass: Pass<G>) -> Result<Report, CloseOneFault<G, J, E>>
+        ensures report { IfOk result (Reports G.config (pass ∷ [])) }
+        ensures refused { IfErr result (λ f. (f.error ≡ PoolError.NoMemory) ⊎ KeepsOpen (Task J) G.config (pass ∷ []) f.error) }
+        ensures returned { IfErr result (λ f. f.pass ≡ pass) }
+    {
+        let mut passes = Vec::new(self.shared().alloc);
+        if let Err(failed) = passes.push(pass) {
+            return Err(CloseOneFault {
+                error: PoolError::NoMemory,
+                pool: self,
+                pass: failed.value,
+            });
+        }
+        match self.close(rt, passes) {
+            Ok(report) => Ok(report),
+            Err(fault) => {
+                let CloseFault {
+                    error,
+                    pool,
+                    mut passes,
+                } = fault;
+                let Some(pass) = passes.pop() else {
+                    unreachable!()
+                };
+                Err(CloseOneFault { error, pool, pass })
+            }
+        }
+    }
+}

@@ -1,0 +1,151 @@
+//! What a thread sees that watches a running pool: all of one moment, read in one hold of the lock. It makes no
+//! step and needs no pass.
+ghost use Rattle.std.specs.Prelude.{◌≡◌, drop, reverse, IfOk, IfErr};
+ghost use Rattle.tp_record.specs.Step.{Legal};
+ghost use Rattle.tp_glance.specs.Word.{IsFrontOf};
+ghost use Rattle.tp_book.specs.BookView.{state_of};
+ghost use Rattle.tp_locked.specs.Moments.{AtFront, AtSome, BookAtSome};
+ghost use Rattle.tp_locked.specs.declared.tasks.Task.{Task};
+ghost use Rattle.tp_pool.specs.Snapshots.{IsSnapshot};
+
+use crate::edges::Edge;
+use crate::pool::PoolOf;
+use std::alloc::Global;
+use std::fmt;
+use std::sync::Wait;
+use tp_book::sights::Sight;
+use tp_callbacks::jobs::Job;
+pub use tp_locked::locked::Busy;
+use tp_locked::locked::Core;
+use tp_locked::names::PoolNaming;
+use tp_record::entries::Entry;
+use tp_types::refusals::PoolError;
+use tp_types::states::{Counts, RunState};
+
+/// What a pool does, all of one moment. It prints as one line: the run state, the moment, the counters that change
+/// while a pool runs, and each slot that has a task.
+#[derive(Drop)]
+pub struct Snapshot {
+    /// The run state.
+    pub state: RunState,
+    /// The twelve counters: `queued` is the length of the queue.
+    pub counts: Counts,
+    /// The moment, in ticks.
+    pub now: u64,
+    /// The record's length, in entries.
+    pub steps: u64,
+    /// Each slot that has a task, with it, in the order of their numbers.
+    pub busy: Vec<Busy>,
+}
+
+impl fmt::Display for Snapshot {
+    fn fmt<W: fmt::Write>(&self, f: &mut fmt::Formatter<W>) -> fmt::Result {
+        let Snapshot {
+            state,
+            counts,
+            now,
+            steps,
+            busy,
+        } = self;
+        write!(f, "{} at {now}, {steps} steps: ", state.name())?;
+        write!(
+            f,
+            "{} submitted, {} completed, ",
+            counts.submitted, counts.completed
+        )?;
+        write!(f, "{} queued, {} live", counts.queued, counts.live)?;
+        for Busy { slot, task } in busy {
+            write!(f, ", w{} t{}", slot.0, task.0)?;
+        }
+        Ok(())
+    }
+}
+
+// What is read of the value under the lock.
+fn snapshot_of<G: PoolNaming, J: Job>(
+    core: &Core<G, J>,
+    alloc: Global,
+) -> Result<Snapshot, PoolError>
+    ensures reads { IfOk result (IsSnapshot (state_of core.now.book)) }
+    ensures refused { IfErr result (λ e. e ≡ PoolError.NoMemory) }
+{
+    match core.busy(alloc) {
+        Ok(busy) => Ok(Snapshot {
+            state: core.state(),
+            counts: core.counts(),
+            now: core.now(),
+            steps: core.steps(),
+            busy,
+        }),
+        Err(error) => Err(error),
+    }
+}
+
+impl<G: PoolNaming, J: Job, E: Edge> PoolOf<G, J, E> {
+    /// What the pool does now; Java has `toString` and single getters. NoMemory (4) for the list of slots.
+    pub fn snapshot<R: Wait>(&self, rt: &R, alloc: Global) -> Result<Snapshot, PoolError>
+        ensures reads { IfOk result (λ v. AtSome G.config (λ s. IsSnapshot s v)) }
+        ensures refused { IfErr result (λ e. e ≡ PoolError.NoMemory) }
+    {
+        let core = self.shared().hold(rt);
+        core.is_book();
+        snapshot_of(&core, alloc)
+    }
+
+    /// As `snapshot`, as it is after the record that the sight knows then. That record goes on from the one that
+    /// it knew. NoMemory (4) for the list of slots.
+    pub fn snapshot_by<R: Wait>(
+        &self,
+        rt: &R,
+        alloc: Global,
+        sight: &mut Sight<G>,
+    ) -> Result<Snapshot, PoolError>
+        ensures reads { IfOk result (λ v. AtFront G.config sight.new (λ s. IsSnapshot s v)) }
+        ensures refused { IfErr result (λ e. e ≡ PoolError.NoMemory) }
+        ensures goes_on { IsFrontOf sight.old sight.new }
+    {
+        let shared = self.shared();
+        let mut held = shared.hold(rt);
+        held.is_book();
+        held.show_sight(&shared.glance, sight);
+        snapshot_of(&held, alloc)
+    }
+
+    /// The entries of the record from the n-th on, counted from 0, the oldest first: a thread that asks with the
+    /// number of entries that it has seen gets each entry once. The copy is made in the hold, so who asks for many
+    /// holds up the pool. NoMemory (4) for the copy.
+    pub fn record_since<R: Wait>(
+        &self,
+        rt: &R,
+        alloc: Global,
+        n: u64,
+    ) -> Result<Vec<Entry>, PoolError>
+        ensures entries { IfOk result (λ v. BookAtSome (Task J) G.config (λ b. v.items ≡ drop n (reverse b.history))) }
+        ensures refused { IfErr result (λ e. e ≡ PoolError.NoMemory) }
+    {
+        let core = self.shared().hold(rt);
+        core.is_book();
+        core.record_since(alloc, n)
+    }
+
+    /// As `record_since`, of the record that the sight knows then. That record goes on from the one that it knew,
+    /// and is legal in the pool's settings. NoMemory (4) for the copy.
+    pub fn record_since_by<R: Wait>(
+        &self,
+        rt: &R,
+        alloc: Global,
+        n: u64,
+        sight: &mut Sight<G>,
+    ) -> Result<Vec<Entry>, PoolError>
+        ensures entries { IfOk result (λ v. v.items ≡ drop n (reverse sight.new)) }
+        ensures legal { Legal G.config sight.new }
+        ensures refused { IfErr result (λ e. e ≡ PoolError.NoMemory) }
+        ensures goes_on { IsFrontOf sight.old sight.new }
+    {
+        let shared = self.shared();
+        let mut held = shared.hold(rt);
+        held.is_book();
+        held.show_sight(&shared.glance, sight);
+        held.record_since(alloc, n)
+    }
+}

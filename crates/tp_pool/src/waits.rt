@@ -1,0 +1,68 @@
+//! The wait for a pool's end, with a deadline or with none.
+ghost use Rattle.std.specs.Prelude.{◌≡◌, ◌⊎◌, ◌≤◌, [], ◌∷◌, true, IfErr, OnOk};
+ghost use Rattle.tp_record.specs.Fields.{rank};
+ghost use Rattle.tp_locked.specs.Moments.{AtFront};
+ghost use Rattle.tp_locked.specs.Passes.{Adds, AddsNone, tidied, ended};
+ghost use Rattle.tp_locked.specs.Readings.{has_come};
+ghost use Rattle.tp_pool.specs.Endings.{IsBarred};
+
+use crate::edges::Edge;
+use crate::pool::PoolOf;
+use crate::shared::Shared;
+use std::sync::Wait;
+use tp_book::passes::Pass;
+use tp_callbacks::jobs::Job;
+use tp_locked::locked::Look;
+use tp_locked::names::PoolNaming;
+use tp_record::entries::Ask;
+use tp_types::refusals::PoolError;
+
+impl<G: PoolNaming, J: Job, E: Edge> PoolOf<G, J, E> {
+    /// As `await_termination`, with a deadline in ticks or, where it is None, with none. NoMemory (4) for its
+    /// receipts, else TimedOut (16) once now has reached the deadline, or TornRecord (22), which does not come
+    /// as long as the pool's book is sound.
+    pub fn await_end<R: Wait>(
+        &self,
+        rt: &R,
+        deadline: Option<u64>,
+        pass: &mut Pass<G>,
+    ) -> Result<(), PoolError>
+        ensures steps { OnOk result (Adds G.config pass.old [] pass.new ⊎ Adds G.config pass.old (tidied pass.old.number ∷ ended pass.old.number ∷ []) pass.new) }
+        ensures seen { OnOk result (rank pass.new.front ≡ 4) }
+        ensures late { IfErr result (λ e. e ≡ PoolError.TimedOut → AtFront G.config pass.new.front (λ s. (has_come deadline s.now ≡ true) × ¬ (s.rank ≡ 4))) }
+        ensures refused { IfErr result (λ e. ((e ≡ PoolError.NoMemory) × AddsNone pass.old pass.new)
+            ⊎ ((e ≡ PoolError.TimedOut) × Adds G.config pass.old [] pass.new)
+            ⊎ ((e ≡ PoolError.TornRecord) × IsBarred G.config pass.new.front Ask.Ended × Adds G.config pass.old (tidied pass.old.number ∷ []) pass.new)) }
+    {
+        if let Some(deadline) = deadline {
+            return self.await_termination(rt, deadline, pass);
+        }
+        if let Err(error) = pass.reserve(2) {
+            return Err(error);
+        }
+        self.shared().await_end_on(rt, pass)
+    }
+}
+
+impl<G: PoolNaming, J: Drop, E: Edge> Shared<G, J, E> {
+    /// As `await_end`, with no deadline.
+    pub fn await_end_on<R: Wait>(&self, rt: &R, pass: &mut Pass<G>) -> Result<(), PoolError>
+        requires room { 2 ≤ pass.old.room }
+        ensures steps { OnOk result (Adds G.config pass.old [] pass.new ⊎ Adds G.config pass.old (tidied pass.old.number ∷ ended pass.old.number ∷ []) pass.new) }
+        ensures seen { OnOk result (rank pass.new.front ≡ 4) }
+        ensures refused { IfErr result (λ e. (e ≡ PoolError.TornRecord) × IsBarred G.config pass.new.front Ask.Ended × Adds G.config pass.old (tidied pass.old.number ∷ []) pass.new) }
+    {
+        let mut core = self.hold(rt);
+        for _ in rt.forever() {
+            match core.look_on(&self.glance, pass) {
+                Look::Terminated => return Ok(()),
+                Look::Tidied => {
+                    self.release(core);
+                    return self.terminate(rt, pass);
+                }
+                Look::Late | Look::Waits => core = self.conditions.end.wait(rt, core),
+            }
+        }
+        unreachable!()
+    }
+}
