@@ -36,12 +36,21 @@ fn given(entry: &Entry, t: TaskId) -> Option<Outcome>
 pub fn faulted(report: &Report) -> usize
     ensures { result ≡ count_by is_fault report.now.entries.items }
 {
-    report
-        .entries
-        .iter()
-        .filter(|entry| matches!(
-            entry.did,
-            Did::End(_, _, Err(_)) | Did::CallerEnd(_, Err(_))
-        ))
-        .count()
+    let mut faults = 0;
+    for entry in &report.entries {
+        if says_fault(entry) {
+            faults += 1;
+        }
+    }
+    faults
+}
+
+// Whether a body ended with a fault by this entry.
+fn says_fault(entry: &Entry) -> bool
+    ensures { result ≡ is_fault entry.now }
+{
+    matches!(
+        entry.did,
+        Did::End(_, _, Err(_)) | Did::CallerEnd(_, Err(_))
+    )
 }
