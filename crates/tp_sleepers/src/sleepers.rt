@@ -71,6 +71,14 @@ impl Sleepers {
         }
     }
 
+    /// Whether no worker sleeps.
+    #[inline(always)]
+    pub fn none_sleeps(&self) -> bool
+        ensures { IsTrue result ↔ (sleeping self.now ≡ 0) }
+    {
+        self.listed.is_empty()
+    }
+
     /// How many were woken and look for a task.
     pub fn searching(&self) -> usize
         ensures { result ≡ searching self.now }

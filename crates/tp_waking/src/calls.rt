@@ -1,7 +1,7 @@
 //! Whom a thread wakes once it has let go of a pool's lock.
 ghost use Rattle.std.specs.Prelude.{ℕ, ◌≡◌, ◌↔◌, IsTrue};
 ghost use Rattle.tp_waking.specs.Calls.{IsCalled};
-ghost use Rattle.tp_waking.specs.declared.calls.TheConstants.{NOBODY};
+ghost use Rattle.tp_waking.specs.declared.calls.TheConstants.{NOBODY, NO_WAITERS};
 
 use tp_types::ids::SlotId;
 
@@ -22,6 +22,21 @@ pub const NO_WAITERS: Waiters = Waiters {
     results: false,
     steps: false,
 };
+
+impl Waiters {
+    /// Whether nobody waits.
+    #[inline(always)]
+    pub fn is_none(&self) -> bool
+        ensures { IsTrue result ↔ (self.now ≡ NO_WAITERS) }
+    {
+        let Waiters {
+            end,
+            results,
+            steps,
+        } = *self;
+        !(end || results || steps)
+    }
+}
 
 /// Who is to be woken. One worker has a place of its own, since no hold calls two by name. Were it to call a
 /// second one, all workers would be woken: a worker that is woken in vain sleeps again.
@@ -62,11 +77,6 @@ impl Calls {
     pub fn is_nobody(&self) -> bool
         ensures { IsTrue result ↔ (self.now ≡ NOBODY) }
     {
-        let Waiters {
-            end,
-            results,
-            steps,
-        } = self.waiters;
-        self.worker.is_none() && !(self.everyone || end || results || steps)
+        self.worker.is_none() && !self.everyone && self.waiters.is_none()
     }
 }

@@ -7,6 +7,7 @@ ghost use Rattle.tp_waking.specs.declared.calls.TheConstants.{NO_WAITERS, NOBODY
 ghost use Rattle.tp_waking.specs.Calls.{IsCalled};
 ghost use Rattle.tp_waking.specs.Follows.{Follows};
 ghost use Rattle.tp_waking.specs.Heard.{IsHeardBy};
+ghost use Rattle.tp_waking.specs.Quiet.{IsQuiet};
 ghost use Rattle.tp_waking.specs.Told.{IsTold, EndsIdling, HasLooked};
 
 use crate::calls::{Calls, NO_WAITERS, NOBODY, Waiters};
@@ -71,6 +72,15 @@ impl Waking {
         let calls = self.calls;
         self.calls = NOBODY;
         calls
+    }
+
+    /// Whether no worker sleeps and nobody waits: then no step concerns anybody. So it is most of the time, while
+    /// all workers work.
+    #[inline(always)]
+    pub fn is_quiet(&self) -> bool
+        ensures { IsTrue result → IsQuiet self.now }
+    {
+        self.sleepers.none_sleeps() && self.awaited.is_none()
     }
 
     /// After an accepted step, which leaves the pool in this state, with so many live workers and queued tasks;
