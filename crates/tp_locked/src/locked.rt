@@ -1,5 +1,5 @@
 //! The value under a pool's lock.
-ghost use Rattle.std.specs.Prelude.{◌≡◌, ◌+◌, ◌<◌, ◌≤◌, [], replicate, IfOk, IfErr, OnOk, OnErr};
+ghost use Rattle.std.specs.Prelude.{◌≡◌, ◌↔◌, ◌+◌, ◌<◌, ◌≤◌, [], replicate, IsTrue, IfOk, IfErr, OnOk, OnErr};
 ghost use Rattle.tp_types.specs.Config.{IsConfig};
 ghost use Rattle.tp_types.specs.RunState.{state_rank};
 ghost use Rattle.tp_record.specs.Fields.{rank};
@@ -66,15 +66,20 @@ impl<G: PoolNaming, J> Model for Core<G, J> {
     ghost invariant = { λ c. (config c.book ≡ G.config) × IsConfig G.config × IsSettled (waits c.book) c.waking.sleepers };
 }
 
-// Whom an accepted step concerns: the workers that sleep, and the waiters.
+// Whom an accepted step concerns: the workers that sleep, and the waiters. While all work and nobody waits, it is
+// nobody, and nothing is counted.
 #[inline(always)]
 fn rouse<G: PoolNaming, J>(book: &Book<G, Task<J>>, waking: &mut Waking, ask: &Ask, did: &Did)
     ensures settled { IsSettled (waits book.now) waking.new.sleepers }
     ensures roused { IsRoused book.now waking.old waking.new ask.now did.now }
 {
+    let state = book.state();
+    if waking.is_quiet() {
+        return;
+    }
     let counts = book.counts();
     let leaving = book.leaving();
-    waking.follow(ask, did, book.state(), counts.live, counts.queued, leaving);
+    waking.follow(ask, did, state, counts.live, counts.queued, leaving);
 }
 
 mod closing;
@@ -240,8 +245,15 @@ impl<G: PoolNaming, J: Drop> Core<G, J> {
         self.book.is_balanced();
     }
 
-    /// Which threads are to be woken once the lock is let go.
+    /// Whether no thread is to be woken, as after most holds.
     #[inline(always)]
+    pub fn calls_nobody(&self) -> bool
+        ensures { IsTrue result ↔ (self.now.waking.calls ≡ NOBODY) }
+    {
+        self.waking.calls.is_nobody()
+    }
+
+    /// Which threads are to be woken once the lock is let go.
     pub fn release(&mut self) -> Calls
         ensures calls { result ≡ self.old.waking.calls }
         ensures told { self.new ≡ record self.old { waking = record self.old.waking { calls = NOBODY } } }

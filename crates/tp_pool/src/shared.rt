@@ -112,15 +112,20 @@ impl<G: PoolNaming, J: Drop, E: Edge> Shared<G, J, E> {
     /// needs the lock. Most holds concern none.
     #[inline(always)]
     pub fn release(&self, core: MutexGuard<'_, Core<G, J>>) {
-        let mut core = core;
-        let calls = core.release();
-        drop(core);
-        if !calls.is_nobody() {
-            self.wake(&calls);
+        if core.calls_nobody() {
+            return drop(core);
         }
+        self.release_and_wake(core);
     }
 
     #[inline(never)]
+    fn release_and_wake(&self, core: MutexGuard<'_, Core<G, J>>) {
+        let mut core = core;
+        let calls = core.release();
+        drop(core);
+        self.wake(&calls);
+    }
+
     fn wake(&self, calls: &Calls) {
         if let Some(w) = calls.worker {
             self.unpark(w);
