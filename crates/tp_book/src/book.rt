@@ -52,8 +52,8 @@ impl<G: Naming, P> Model for Book<G, P> {
 
 impl<G: Naming, P> Book<G, P> {
     /// Makes a pool with these settings: the book, the word of its run state, and the pass of number 0. The
-    /// pool runs, has no tasks, and stands at tick 0. Room for the whole record is taken and written here,
-    /// since a page that is touched first within a hold is paid for by each thread that waits for the lock.
+    /// pool runs, has no tasks, and stands at tick 0. Room for the whole record, and for the first tasks, is
+    /// taken and written here: `Machine::roomy`.
     ///
     /// BadSizes (1), BadCapacity (2), BadLimit (3) or KeepZero (11), as `ThreadPoolExecutor`'s constructor
     /// throws `IllegalArgumentException`; good settings are refused with NoMemory (4) alone.
@@ -62,6 +62,8 @@ impl<G: Naming, P> Book<G, P> {
         unopened: Unopened,
         settings: Config,
     ) -> Result<(Book<G, P>, Glance<G>, Pass<G>), PoolError>
+    where
+        P: Drop,
         requires { unopened ≡ record { ledger = G.name; parts = G.parts; table = G.table } }
         ensures empty { IfOk result (λ r. r.0.history ≡ []) }
         ensures config { IfOk result (λ r. config r.0 ≡ settings) }
@@ -70,8 +72,7 @@ impl<G: Naming, P> Book<G, P> {
         ensures good { OnOk result (IsConfig settings) }
         ensures refused { IfErr result (λ e. (checked settings ≡ Err e) ⊎ ((e ≡ PoolError.NoMemory) × IsConfig settings)) }
     {
-        let mut machine = Machine::new(alloc, settings)?;
-        machine.write_room();
+        let machine = Machine::roomy(alloc, settings)?;
         let (mut accounts, glance, mut seat) = unopened.open::<G>();
         let Ok(pass) = accounts.new_pass(alloc, &glance, &mut seat) else {
             unreachable!()

@@ -46,3 +46,32 @@ impl CancelFlag {
         self.word.load(Ordering::SeqCst)
     }
 }
+
+/// Both holds of a task's flag: the pool's, which sets it, and the job's, which looks at it.
+#[derive(Drop)]
+pub struct FlagPair {
+    /// The pool's.
+    pub kept: CancelFlag,
+    /// The job's.
+    pub lent: CancelFlag,
+}
+
+impl FlagPair {
+    /// A flag that is not set, with both of its holds. NoMemory (4) where there is no memory for it.
+    pub fn new(alloc: Global) -> Result<FlagPair, PoolError>
+        ensures { IfErr result (λ e. e ≡ PoolError.NoMemory) }
+    {
+        let kept = CancelFlag::new(alloc)?;
+        let lent = kept.share()?;
+        Ok(FlagPair { kept, lent })
+    }
+
+    /// Whether the flag serves another task as a new one does. It does not where it is set, nor where its job
+    /// shared it and a third hold is left: who has that one would hear of the other task's cancel.
+    #[inline(always)]
+    pub fn serves_again(&self) -> bool {
+        Arc::strong_count(&self.kept.word) == 2
+            && Arc::strong_count(&self.lent.word) == 2
+            && !self.kept.is_set()
+    }
+}

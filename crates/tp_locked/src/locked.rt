@@ -103,12 +103,16 @@ impl<G: PoolNaming, J: Drop> Core<G, J> {
         ensures refused { IfErr result (λ e. e ≡ PoolError.NoMemory) }
     {
         let slots = MAX_WORKERS as usize;
-        let (Ok(waking), Ok(roster)) = (Waking::new(alloc, slots), Roster::new(alloc, slots)) else {
+        let (Ok(flags), Ok(waking), Ok(roster)) = (
+            Flags::new(alloc),
+            Waking::new(alloc, slots),
+            Roster::new(alloc, slots),
+        ) else {
             return Err(PoolError::NoMemory);
         };
         Ok(Core {
             book,
-            flags: Flags::new(alloc),
+            flags,
             waking,
             roster,
         })

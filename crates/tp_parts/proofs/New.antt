@@ -5,7 +5,6 @@ use Rattle.std.specs.List.{Contains}
 use Rattle.tp_types.specs.Config.{IsConfig}
 use Rattle.tp_types.specs.declared.configs.Config.{Config}
 use Rattle.tp_types.specs.declared.states.RunState.TheVariants.{Running}
-use Rattle.tp_types.specs.declared.tasks.Fate.{Fate}
 use Rattle.tp_record.specs.Fields.{is_live}
 use Rattle.tp_record.specs.State.{slot_at}
 use Rattle.tp_queue.specs.declared.queues.Queue.{Queue}
@@ -14,7 +13,7 @@ use Rattle.tp_queue.specs.Waiting.{first_waiting}
 use Rattle.tp_slots.specs.Table.{Table}
 use Rattle.tp_tasks.specs.declared.tasks.Tasks.{Tasks}
 use Rattle.tp_tasks.specs.Table.{row_of_task, promise_of_task, payload_of_task}
-use Rattle.tp_tasks.specs.Tasks.{task_of, done_of, fated_of, submissions}
+use Rattle.tp_tasks.specs.Tasks.{HasNone}
 use Rattle.tp_parts.specs.declared.parts.Parts.{Parts}
 use Rattle.tp_parts.specs.Shows.{numbers}
 use Rattle.tp_parts.specs.Tied.{IsNew, waits, KeepsPromise}
@@ -41,9 +40,8 @@ module _ {P : Type 0} where
 
   pub new_parts : (c : Config) (tasks : Tasks P) (queue : Queue) (slots : Table) → IsConfig c → waiting_of queue ≡ first_waiting c.queue →
       slots.slots ≡ [] → slots.idling ≡ [] → slots.places ≡ c.maximum → slots.idlings ≡ 0 →
-      ((t : ℕ) → task_of tasks t ≡ None) → ((g : ℕ) → done_of tasks g ≡ []) → ((f : Fate) → fated_of tasks f ≡ 0) → submissions tasks ≡ 0 →
-      IsNew c (first_parts c tasks queue slots)
-  new_parts c tasks queue slots config first none unordered places idled no_tasks no_done no_fates no_submissions =
+      HasNone tasks → IsNew c (first_parts c tasks queue slots)
+  new_parts c tasks queue slots config first none unordered places idled nothing =
       record {
         shows = record {
           entries = refl;
@@ -54,14 +52,14 @@ module _ {P : Type 0} where
             keep_alive = refl;
             times_out = refl;
             present = refl;
-            submitted = sym no_submissions;
+            submitted = sym nothing.submitted;
             rows = λ t known. absurd (let n : ⊥ = omega (arith, known) in n);
-            unknown = λ t past. ap row_of_task (no_tasks t);
-            fates = λ f. sym (no_fates f);
+            unknown = λ t past. ap row_of_task (nothing.tasks t);
+            fates = λ f. sym (nothing.fates f);
             queued = sym (ap (λ w. numbers w.items) first);
             seats = λ w. ap (λ xs. slot_at xs w) (sym none);
             order = sym unordered;
-            done = λ g. sym (no_done g);
+            done = λ g. sym (nothing.done g);
             completed = refl;
             most = refl;
           };
@@ -76,13 +74,13 @@ module _ {P : Type 0} where
           sizes = config.greatest_core;
           places = omega (arith, places);
           kind = ap (λ w. w.kind) first;
-          queue_places = λ is. omega (arith, no_submissions);
+          queue_places = λ is. let n = nothing.submitted in omega (arith, n);
           offers = let n = ap (λ w. w.offers) first in omega (arith, n);
           idlings = omega (arith, idled);
           numbered = λ t k has. let no = subst (λ xs. Contains xs (t, k)) (ap (λ w. w.items) first) has in let below = no.1 in absurd (let n : ⊥ = omega (arith, below) in n);
-          payloads = λ t. ap (λ k. is_some (payload_of_task k)) (no_tasks t) ∙ ap (λ k. waits (row_of_task k)) (sym (no_tasks t));
-          promises = λ t. subst (λ k. KeepsPromise (promise_of_task k) (row_of_task k)) (sym (no_tasks t)) tt;
+          payloads = λ t. ap (λ k. is_some (payload_of_task k)) (nothing.tasks t) ∙ ap (λ k. waits (row_of_task k)) (sym (nothing.tasks t));
+          promises = λ t. subst (λ k. KeepsPromise (promise_of_task k) (row_of_task k)) (sym (nothing.tasks t)) tt;
         };
-        payloads = λ t. ap payload_of_task (no_tasks t);
-        promises = λ t. ap promise_of_task (no_tasks t);
+        payloads = λ t. ap payload_of_task (nothing.tasks t);
+        promises = λ t. ap promise_of_task (nothing.tasks t);
       }

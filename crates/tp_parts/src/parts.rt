@@ -2,6 +2,7 @@
 
 ghost use Rattle.std.specs.Prelude.{IfOk};
 ghost use Rattle.tp_types.specs.Config.{IsConfig};
+ghost use Rattle.tp_tasks.specs.Tasks.{HasNone};
 ghost use Rattle.tp_parts.specs.Tied.{IsNew};
 
 use std::alloc::{AllocError, Global};
@@ -45,10 +46,13 @@ pub struct Parts<P> {
 }
 
 impl<P> Parts<P> {
-    /// A pool without tasks that runs, at tick 0. The places of a bounded queue and those of the slots below the maximum are
-    /// taken here; an error is want of memory, refusal 4.
-    pub fn new(alloc: Global, config: Config) -> Result<Parts<P>, AllocError>
-        requires { IsConfig config }
+    /// A pool that runs, at tick 0, and keeps its tasks in these, of which there are none yet. The places of a bounded queue
+    /// and those of the slots below the maximum are taken here; an error is want of memory, refusal 4.
+    pub fn new(alloc: Global, config: Config, tasks: Tasks<P>) -> Result<Parts<P>, AllocError>
+    where
+        P: Drop,
+        requires good { IsConfig config }
+        requires none { HasNone tasks }
         ensures { IfOk result (IsNew config) }
     {
         let queue = Queue::new(alloc, config.queue)?;
@@ -56,7 +60,7 @@ impl<P> Parts<P> {
         Ok(Parts {
             config,
             steps: 0,
-            tasks: Tasks::new(alloc),
+            tasks,
             queue,
             slots,
             state: RunState::Running,

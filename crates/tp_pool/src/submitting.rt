@@ -8,6 +8,7 @@ ghost use Rattle.tp_paths.specs.Fronts.{admission_of, follow_of};
 ghost use Rattle.tp_locked.specs.Left.{IsLeft};
 ghost use Rattle.tp_locked.specs.Passes.{AddsStep, AddsNone, IsRefusal, LooksOnly, Refuses, opening};
 ghost use Rattle.tp_locked.specs.Steps.{Makes};
+ghost use Rattle.tp_locked.specs.declared.tasks.Task.{Task as TaskOf};
 ghost use Rattle.tp_pool.specs.Admissions.{task_of, end_of, Admits, Awaits, IsAdmitted, IsTurnedAway};
 
 use crate::boxes::Boxed;
@@ -15,10 +16,10 @@ use crate::edges::{Boxes, Edge};
 use crate::pool::{Hold, PoolOf};
 use crate::shared::{Shared, left_in};
 use crate::staffing::staff;
-use std::sync::{Arc, Wait};
+use std::sync::{Arc, MutexGuard, Wait};
 use std::thread::Threads;
 use tp_book::passes::Pass;
-use tp_callbacks::flags::CancelFlag;
+use tp_callbacks::flags::FlagPair;
 use tp_callbacks::jobs::Job;
 use tp_locked::answers::{Admitted, Refused};
 use tp_locked::locked::Core;
@@ -47,6 +48,15 @@ fn torn<J>() -> Refused<J>
         error: PoolError::TornRecord,
         job: None,
     }
+}
+
+// Room for the receipts of a submission. NoMemory (4).
+fn reserve<G: PoolNaming>(pass: &mut Pass<G>) -> Result<(), PoolError>
+    ensures room { OnOk result (512 ≤ pass.new.room) }
+    ensures same { AddsNone pass.old pass.new }
+    ensures refused { IfErr result (λ e. e ≡ PoolError.NoMemory) }
+{
+    pass.reserve(MOST_STEPS)
 }
 
 // The answer of a submission that has come to this end.
@@ -113,32 +123,12 @@ impl<
         ensures admitted { IfOk result (IsAdmitted G.config kind job (J.promised job) pass.old pass.new) }
         ensures refused { IfErr result (IsTurnedAway G.config kind job (J.promised job) pass.old pass.new) }
     {
-        match self.reserve(pass) {
-            Ok((kept, flag)) => self.submit(*rt, kind, Task { job, flag }, kept, pass),
+        match reserve(pass) {
+            Ok(()) => self.submit(*rt, kind, job, pass),
             Err(error) => Err(Refused {
                 error,
                 job: Some(job),
             }),
-        }
-    }
-
-    // The memory of a submission: room for its receipts, and two holds of its task's flag, one of which the
-    // pool keeps.
-    fn reserve(&self, pass: &mut Pass<G>) -> Result<(CancelFlag, CancelFlag), PoolError>
-        ensures room { OnOk result (512 ≤ pass.new.room) }
-        ensures same { AddsNone pass.old pass.new }
-        ensures refused { IfErr result (λ e. e ≡ PoolError.NoMemory) }
-    {
-        if let Err(error) = pass.reserve(MOST_STEPS) {
-            return Err(error);
-        }
-        let flag = match CancelFlag::new(self.shared().alloc) {
-            Ok(flag) => flag,
-            Err(error) => return Err(error),
-        };
-        match flag.share() {
-            Ok(kept) => Ok((kept, flag)),
-            Err(error) => Err(error),
         }
     }
 
@@ -147,20 +137,19 @@ impl<
         &self,
         rt: R,
         kind: Kind,
-        task: Task<J>,
-        kept: CancelFlag,
+        job: J,
         pass: &mut Pass<G>,
     ) -> Result<Admitted, Refused<J>>
         requires room { 512 ≤ pass.old.room }
-        ensures admitted { IfOk result (IsAdmitted G.config kind task.job (J.promised task.job) pass.old pass.new) }
-        ensures refused { IfErr result (IsTurnedAway G.config kind task.job (J.promised task.job) pass.old pass.new) }
+        ensures admitted { IfOk result (IsAdmitted G.config kind job (J.promised job) pass.old pass.new) }
+        ensures refused { IfErr result (IsTurnedAway G.config kind job (J.promised job) pass.old pass.new) }
     {
-        let (t, look) = match self.shared().submit(&rt, kind, task, kept, pass) {
+        let (t, look) = match self.shared().submit(&rt, kind, job, pass) {
             Ok(submitted) => submitted,
-            Err((error, task)) => {
+            Err((error, job)) => {
                 return Err(Refused {
                     error,
-                    job: Some(task.into_job()),
+                    job: Some(job),
                 });
             }
         };
@@ -314,29 +303,53 @@ impl<G: PoolNaming + Send + Sync + 'static> PoolOf<G, Boxed, Boxes> {
 }
 
 impl<G: PoolNaming, J: Job, E: Edge> Shared<G, J, E> {
-    // The first step of a submission, in a hold of its own. NoMemory (4) or BookFull (5), with the task.
+    // The first step of a submission, in a hold of its own. NoMemory (4) or BookFull (5), with the job.
     #[inline(always)]
     fn submit<R: Wait>(
         &self,
         rt: &R,
         kind: Kind,
-        task: Task<J>,
-        kept: CancelFlag,
+        job: J,
         pass: &mut Pass<G>,
-    ) -> Result<(TaskId, Looked), (PoolError, Task<J>)>
+    ) -> Result<(TaskId, Looked), (PoolError, J)>
         requires room { 0 < pass.old.room }
-        ensures makes { IfOk result (λ x. Makes J G.config pass.old.number pass.old.front (Ask.Submit kind) (Did.Submit x.0 kind x.1) (λ old new. PutsIn old new x.0.0 (J.promised task.job) task) pass.new.front) }
+        ensures makes { IfOk result (λ x. (task : TaskOf J) × (task.job ≡ job) × Makes J G.config pass.old.number pass.old.front (Ask.Submit kind) (Did.Submit x.0 kind x.1) (λ old new. PutsIn old new x.0.0 (J.promised job) task) pass.new.front) }
         ensures step { IfOk result (λ x. AddsStep G.config pass.old (Ask.Submit kind) (Did.Submit x.0 kind x.1) pass.new) }
         ensures left { OnOk result (pass.old.room ≤ pass.new.room + 1) }
         ensures refused { IfErr result (λ r. Refuses G.config pass.new.front (Ask.Submit kind) r.0) }
-        ensures returned { IfErr result (λ r. r.1 ≡ task) }
+        ensures returned { IfErr result (λ r. r.1 ≡ job) }
         ensures unchanged { OnErr result (AddsNone pass.old pass.new) }
     {
-        let promise = task.job.promise();
-        let mut core = self.hold(rt);
+        let promise = job.promise();
+        let (mut core, FlagPair { kept, lent }) = match self.hold_with_flag(rt) {
+            Ok(held) => held,
+            Err(error) => return Err((error, job)),
+        };
+        let task = Task { job, flag: lent };
         let submitted = core.submit(Submit { kind, promise }, task, kept, &self.glance, pass);
         self.release(core);
-        submitted
+        match submitted {
+            Ok(submitted) => Ok(submitted),
+            Err((error, task)) => Err((error, task.into_job())),
+        }
+    }
+
+    // Takes the lock, with a flag for a task that comes: one that served before, where there is one. Else a new one
+    // is made with no lock held. NoMemory (4).
+    #[inline(always)]
+    fn hold_with_flag<R: Wait>(
+        &self,
+        rt: &R,
+    ) -> Result<(MutexGuard<'_, Core<G, J>>, FlagPair), PoolError>
+        ensures { IfErr result (λ e. e ≡ PoolError.NoMemory) }
+    {
+        let mut core = self.hold(rt);
+        if let Some(flags) = core.take_flag() {
+            return Ok((core, flags));
+        }
+        self.release(core);
+        let flags = FlagPair::new(self.alloc)?;
+        Ok((self.hold(rt), flags))
     }
 
     // The step `look`, after a retry: what it did.

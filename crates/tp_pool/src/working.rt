@@ -37,6 +37,8 @@ pub struct Post<G: PoolNaming, J, E> {
     pass: WorkerPass<G>,
     // The slot that is reserved in its place, once it has left.
     heir: Option<SlotId>,
+    // The flag of the job that it ran last, until the pool has it back.
+    flag: Option<CancelFlag>,
 }
 
 impl<
@@ -78,7 +80,9 @@ impl<
 
     fn run(&mut self, job: J, flag: CancelFlag) -> Outcome {
         let mut job = job;
-        job.call(&flag)
+        let outcome = job.call(&flag);
+        self.flag = Some(flag);
+        outcome
     }
 
     fn after(&mut self, rt: &R, t: TaskId, outcome: Option<Outcome>) {
@@ -86,7 +90,8 @@ impl<
     }
 
     fn end(&mut self, rt: &R, outcome: Outcome) -> Ended {
-        self.shared.end(rt, self.w, outcome, &mut self.pass)
+        let flag = self.flag.take();
+        self.shared.end(rt, self.w, outcome, flag, &mut self.pass)
     }
 
     fn leave(&mut self, rt: &R) -> Departed {
@@ -118,6 +123,7 @@ impl<G: PoolNaming + Send + Sync + 'static, J: Job + 'static, E: Edge + Send + S
             w,
             pass,
             heir: None,
+            flag: None,
         }
     }
 
@@ -142,6 +148,7 @@ impl<G: PoolNaming + Send + Sync + 'static, J: Job + 'static, E: Edge + Send + S
             w: _,
             pass,
             heir: _,
+            flag: _,
         } = self;
         (shared, pass)
     }
@@ -173,16 +180,27 @@ impl<G: PoolNaming, J: Drop, E: Edge> Shared<G, J, E> {
         }
     }
 
-    // One hold of a worker that tells its task's outcome. The task's flag is let go of after it.
+    // One hold of a worker that tells its task's outcome, and gives back the flag of its job. A flag that does not
+    // serve again is let go of after it.
     #[inline(always)]
-    fn end<R: Wait>(&self, rt: &R, w: SlotId, outcome: Outcome, pass: &mut WorkerPass<G>) -> Ended
+    fn end<R: Wait>(
+        &self,
+        rt: &R,
+        w: SlotId,
+        outcome: Outcome,
+        flag: Option<CancelFlag>,
+        pass: &mut WorkerPass<G>,
+    ) -> Ended
         ensures asks { Ends J G.config pass.old.number pass.old.front w outcome pass.new.front (IsEndOf (state G.config pass.new.front) w.0 result) }
         ensures number { pass.new.number ≡ pass.old.number }
     {
         let mut core = self.hold(rt);
         let told = core.step(End(w, outcome), &self.glance, pass);
         let dying = core.is_dying(w);
-        let spent = core.spent();
+        let spent = match flag {
+            Some(flag) => core.give_back(flag),
+            None => None,
+        };
         self.release(core);
         drop(spent);
         match told {

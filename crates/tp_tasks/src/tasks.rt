@@ -1,6 +1,6 @@
 //! The tasks of a pool, by number.
 
-ghost use Rattle.std.specs.Prelude.{ℕ, ◌≡◌, ◌↔◌, ◌+◌, ◌-◌, ◌<◌, ◌^◌, ◌&&◌, ◌++◌, ◌∷◌, [], true, false, not, drop, length, slice_get, option_map, nat_eq, IsTrue, IsSome, IsOkUnless, OnOk, Some, None, if◌then◌else◌};
+ghost use Rattle.std.specs.Prelude.{ℕ, ◌≡◌, ◌↔◌, ◌+◌, ◌-◌, ◌<◌, ◌^◌, ◌&&◌, ◌++◌, ◌∷◌, [], true, false, not, drop, length, slice_get, option_map, nat_eq, IsTrue, IsSome, IsOkUnless, IfOk, OnOk, Some, None, if◌then◌else◌};
 ghost use Rattle.tp_types.specs.declared.tasks.Fate.{Fate};
 ghost use Rattle.tp_record.specs.declared.rows.TaskRow.{TaskRow};
 ghost use Rattle.tp_record.specs.State.{fate_of, is_fate, no_row};
@@ -12,7 +12,7 @@ use crate::group::Group;
 use crate::table::{Rows, Task};
 use crate::{groups, table};
 use indexmap::IndexMap;
-use std::alloc::Global;
+use std::alloc::{AllocError, Global};
 use std::hash::BuildHasherDefault;
 use tp_record::rows::TaskRow;
 use tp_types::ids::TaskId;
@@ -35,14 +35,11 @@ pub struct Tasks<P> {
 }
 
 impl<P> Tasks<P> {
-    ghost use Rattle.tp_tasks.specs.Tasks.{task_of, row_of, promise_of, number_of, payload_of, done_of, fated_of, submissions, IsReady, IsOpenIn, KeepsOthers, KeepsDone, KeepsFates, SetsRow, IsUnchanged};
+    ghost use Rattle.tp_tasks.specs.Tasks.{task_of, row_of, promise_of, number_of, payload_of, done_of, fated_of, submissions, HasNone, IsReady, IsOpenIn, KeepsOthers, KeepsDone, KeepsFates, SetsRow, IsUnchanged};
 
     /// No tasks. It takes no memory.
     pub fn new(alloc: Global) -> Tasks<P>
-        ensures tasks { (t : ℕ) → task_of result t ≡ None }
-        ensures done { (g : ℕ) → done_of result g ≡ [] }
-        ensures fates { (f : Fate) → fated_of result f ≡ 0 }
-        ensures submitted { submissions result ≡ 0 }
+        ensures { HasNone result }
     {
         Tasks {
             alloc,
@@ -51,6 +48,22 @@ impl<P> Tasks<P> {
             fates: Fates::none(),
             submitted: 0,
         }
+    }
+
+    /// No tasks, and memory for this many, which is written here: so no page is touched first where a task comes. More tasks
+    /// have the table grow. AllocError where there is no memory for them.
+    pub fn with_room(alloc: Global, places: u32) -> Result<Tasks<P>, AllocError>
+    where
+        P: Drop,
+        ensures { IfOk result HasNone }
+    {
+        Ok(Tasks {
+            alloc,
+            tasks: table::written(alloc, places)?,
+            groups: IndexMap::new(alloc),
+            fates: Fates::none(),
+            submitted: 0,
+        })
     }
 
     /// Makes memory for one more task of this kind: its own place, and one among the completed tasks of its group. Want of

@@ -1,4 +1,4 @@
-use Rattle.std.proofs.Common.{◌+◌, inl, inr, refl, ap, subst, sym, ◌∙◌}
+use Rattle.std.proofs.Common.{◌+◌, inl, inr, refl, ap, subst, sym}
 use Rattle.std.specs.Prelude.{Some}
 use Rattle.tp_paths.specs.Fronts.{admission_of, follow_of}
 use Rattle.tp_pool.proofs.Walks.{Walk, begun, walked, admits_at, rejects_at, torn_off}
@@ -7,16 +7,17 @@ use Rattle.tp_pool.proofs.pool.PoolOf.submit.Goals as goal
 pub loop-init : goal.loop-init
 loop-init g c =
     let t = c.in-Ok.submitted.0 in
-    let job = c.args.task.job in
+    let got = c.in-Ok.ensures.makes in
+    let job = c.args.job in
     let promise = g.J.Job.promised job in
     subst (λ f. Walk g.G.PoolNaming.config c.args.kind job promise t.0 c.args.pass.now f 1 c.submit.new.pass) (sym c.follows-next.ensures)
-    (begun g.G.PoolNaming.config c.args.kind job promise c.fronts_are_paths.ensures.begins t c.in-Ok.submitted.1 c.args.pass.now c.submit.new.pass c.args.task refl
-    c.in-Ok.ensures.makes c.in-Ok.ensures.step c.requires.room c.in-Ok.ensures.left)
+    (begun g.G.PoolNaming.config c.args.kind job promise c.fronts_are_paths.ensures.begins t c.in-Ok.submitted.1 c.args.pass.now c.submit.new.pass got.0 got.1
+    got.2 c.in-Ok.ensures.step c.requires.room c.in-Ok.ensures.left)
 
 pub loop-preserved : goal.loop-preserved
 loop-preserved g c =
     let t = c.in-Ok.submitted.0.0 in
-    let job = c.args.task.job in
+    let job = c.args.job in
     let promise = g.J.Job.promised job in
     let step = c.in-Some.ensures.step in
     subst (λ f. Walk g.G.PoolNaming.config c.args.kind job promise t c.args.pass.now f (c.loop.counter + 1) c.advance.new.pass) (sym c.after-next.ensures)
@@ -26,33 +27,33 @@ loop-preserved g c =
 pub returns-in-Err-clause-refused : goal.returns-in-Err-clause-refused
 returns-in-Err-clause-refused g c =
     let refused = c.in-Err.ensures in
-    inr (inr (refused.refused, ap (λ j. Some j) (c.into_job.ensures ∙ ap (λ k. k.job) refused.returned), refused.unchanged))
+    inr (inr (refused.refused, ap (λ j. Some j) refused.returned, refused.unchanged))
 
 pub returns-in-End-clause-admitted : goal.returns-in-End-clause-admitted
 returns-in-End-clause-admitted g c =
     let t = c.in-Ok.submitted.0 in
-    let job = c.args.task.job in
+    let job = c.args.job in
     admits_at g.G.PoolNaming.config c.args.kind job (g.J.Job.promised job) c.fronts_are_paths.ensures.ends t c.args.pass.now c.loop.pass (follow_of t.0 c.loop.next) c.loop.counter (admission_of c.in-End.ending)
     (ap (λ n. follow_of t.0 n) c.in-End.is) c.loop.invariant c.answer.result c.answer.ensures.admitted
 
 pub returns-in-End-clause-refused : goal.returns-in-End-clause-refused
 returns-in-End-clause-refused g c =
     let t = c.in-Ok.submitted.0 in
-    let job = c.args.task.job in
+    let job = c.args.job in
     rejects_at g.G.PoolNaming.config c.args.kind job (g.J.Job.promised job) c.fronts_are_paths.ensures.ends t c.args.pass.now c.loop.pass (follow_of t.0 c.loop.next) c.loop.counter c.in-End.ending
     (ap (λ n. follow_of t.0 n) c.in-End.is) c.loop.invariant c.answer.result c.answer.ensures.rejected
 
 pub returns-in-End-next-clause-admitted : goal.returns-in-End-next-clause-admitted
 returns-in-End-next-clause-admitted g c =
     let t = c.in-Ok.submitted.0 in
-    let job = c.args.task.job in
+    let job = c.args.job in
     admits_at g.G.PoolNaming.config c.args.kind job (g.J.Job.promised job) c.fronts_are_paths.ensures.ends t c.args.pass.now c.loop.pass (follow_of t.0 c.loop.next) c.loop.counter (admission_of c.in-End-next.ending)
     (ap (λ n. follow_of t.0 n) c.in-End-next.is) c.loop.invariant c.answer-in-End-next.result c.answer-in-End-next.ensures.admitted
 
 pub returns-in-End-next-clause-refused : goal.returns-in-End-next-clause-refused
 returns-in-End-next-clause-refused g c =
     let t = c.in-Ok.submitted.0 in
-    let job = c.args.task.job in
+    let job = c.args.job in
     rejects_at g.G.PoolNaming.config c.args.kind job (g.J.Job.promised job) c.fronts_are_paths.ensures.ends t c.args.pass.now c.loop.pass (follow_of t.0 c.loop.next) c.loop.counter c.in-End-next.ending
     (ap (λ n. follow_of t.0 n) c.in-End-next.is) c.loop.invariant c.answer-in-End-next.result c.answer-in-End-next.ensures.rejected
 

@@ -3,4 +3,4 @@ use Rattle.tp_pool.proofs.Walks.{Walk}
 use Rattle.tp_pool.proofs.pool.PoolOf.submit.Given as goal
 
 abbrev pub invariant-loop : goal.invariant-loop
-invariant-loop g l = Walk g.G.PoolNaming.config l.fn.kind l.fn.task.job (g.J.Job.promised l.fn.task.job) l.t.0 l.fn.pass (follow_of l.t.0 l.next) l.counter l.pass
+invariant-loop g l = Walk g.G.PoolNaming.config l.fn.kind l.fn.job (g.J.Job.promised l.fn.job) l.t.0 l.fn.pass (follow_of l.t.0 l.next) l.counter l.pass
