@@ -1,21 +1,31 @@
-use Rattle.std.proofs.Common.{◌≡◌, ◌+◌, ◌≤◌, subst}
-use Rattle.std.specs.Prelude.{IfOk}
+use Rattle.std.proofs.Common.{◌≡◌, ◌+◌, ◌≤◌, inl, inr, refl, subst}
 use Rattle.tp_record.specs.declared.entries.Ask.TheVariants as ask
 use Rattle.tp_record.specs.declared.entries.Did.TheVariants as did
 use Rattle.tp_parts.specs.Payloads.{PutsIn}
+use Rattle.tp_locked.proofs.Adding.{adds_step, refusal}
 use Rattle.tp_locked.specs.Steps.{Makes}
-use Rattle.tp_pool.proofs.Got.{added_with}
+use Rattle.tp_locked.specs.declared.tasks.Task.{Task}
 use Rattle.tp_pool.proofs.shared.Shared.submit.Goals as goal
 
-pub returns-clause-makes : goal.returns-clause-makes
-returns-clause-makes g c =
-    subst (λ p. IfOk c.submit-submitted.result
-    (λ x. Makes g.row.J.Denot g.G.PoolNaming.config c.args.pass.now.number c.args.pass.now.front (ask.Submit c.args.kind) (did.Submit x.0 c.args.kind x.1)
-    (λ old new. PutsIn old new x.0.0 p c.args.task) c.submit-submitted.new.pass.front)) c.promise-promise.ensures c.submit-submitted.ensures.makes
+pub returns-in-Ok-submitted-clause-makes : goal.returns-in-Ok-submitted-clause-makes
+returns-in-Ok-submitted-clause-makes g c =
+    let x = c.in-Ok-submitted.submitted in
+    let task : Task g.row.J.Denot = record { job = c.args.job; flag = c.in-Ok.held.1.lent } in (
+      task,
+      refl,
+      subst (λ p. Makes g.row.J.Denot g.G.PoolNaming.config c.args.pass.now.number c.args.pass.now.front (ask.Submit c.args.kind) (did.Submit x.0 c.args.kind x.1)
+      (λ old new. PutsIn old new x.0.0 p task) c.submit-submitted.new.pass.front) c.promise-promise.ensures c.in-Ok-submitted.ensures.makes,
+    )
 
-pub returns-clause-step : goal.returns-clause-step
-returns-clause-step g c =
-    let old = c.args.pass.now in
-    let new = c.submit-submitted.new.pass in
-    added_with g.G.PoolNaming.config old new (ask.Submit c.args.kind) (old.room ≤ new.room + 1) (λ x. did.Submit x.0 c.args.kind x.1)
-    (λ x old new. PutsIn old new x.0.0 c.promise-promise.result c.args.task) c.submit-submitted.result c.submit-submitted.ensures.makes c.submit-submitted.ensures.paid
+pub returns-in-Ok-submitted-clause-step : goal.returns-in-Ok-submitted-clause-step
+returns-in-Ok-submitted-clause-step g c =
+    let x = c.in-Ok-submitted.submitted in
+    let task : Task g.row.J.Denot = record { job = c.args.job; flag = c.in-Ok.held.1.lent } in
+    adds_step g.G.PoolNaming.config c.args.pass.now c.submit-submitted.new.pass (ask.Submit c.args.kind) (did.Submit x.0 c.args.kind x.1)
+    (λ old new. PutsIn old new x.0.0 c.promise-promise.result task) c.in-Ok-submitted.ensures.makes c.in-Ok-submitted.ensures.paid.0
+
+pub returns-in-Err-submitted-clause-refused : goal.returns-in-Err-submitted-clause-refused
+returns-in-Err-submitted-clause-refused g c = elim c.in-Err-submitted.ensures.refused [
+  | inl want ↦ inl want
+  | inr refused ↦ inr (refusal g.G.PoolNaming.config c.args.pass.now.front (ask.Submit c.args.kind) _ c.submit-submitted.new.pass.front refused tt)
+]
