@@ -1,8 +1,13 @@
-//! `firstpool`: three jobs, each of which doubles a number, run on two workers. Then it prints what they answered.
+//! `firstpool`: a first pool. Three jobs run on two workers; then what became of each is printed.
 #![tactic(auto)]
 
+ghost use Rattle.std.specs.Prelude.{◌≡◌};
+
+use std::alloc::Global;
+use std::marker::Brand;
 use tp_pool::prelude::*;
 
+/// A job that answers twice its number.
 #[derive(Drop)]
 struct Double(u16);
 
@@ -12,24 +17,43 @@ impl Body for Double {
     }
 }
 
-#[derive(Drop)]
-struct Three;
+/// A pool of these jobs, for a caller with nothing to say.
+type First<G> = PoolOf<G, Any<Double>, Defaults>;
 
-impl Life<Defaults> for Three {
-    type Job = Any<Double>;
+// Shuts the pool down. It is a function of its own, where little else is known: the check shows there that the
+// caller's objects may cross to a thread.
+fn shut<G: PoolName, R: Runtime>(
+    rt: &R,
+    pool: &First<G>,
+    pass: &mut Pass<G>,
+) -> Result<(), PoolError> {
+    pool.shutdown(rt, pass)
+}
 
-    type Out = ();
-
-    fn live<G: PoolName, R: Runtime>(self, at: &mut LentTo<G, R, Three>) -> Result<(), PoolError> {
-        for number in 7..10 {
-            at.execute(Any(Double(number)))?;
-        }
-        Ok(())
+/// A pool's whole life under a name of its own: it is made, runs three jobs, is shut down, and closes with
+/// its record.
+fn life<G: PoolName, R: Runtime>(
+    rt: &R,
+    alloc: Global,
+    unopened: Unopened,
+    settings: Config,
+) -> Result<Report, PoolError>
+    requires named { unopened ≡ record { ledger = G.name; parts = G.parts; table = G.table } }
+    requires settings { settings ≡ G.config }
+{
+    let (pool, mut pass) = First::<G>::over(alloc, unopened, settings, Defaults)?;
+    for number in 7..10 {
+        pool.execute_as(rt, Kind::Plain, Any(Double(number)), &mut pass)?;
     }
+    shut(rt, &pool, &mut pass)?;
+    pool.await_end(rt, None, &mut pass)?;
+    Ok(pool.close_one(rt, pass)?)
 }
 
 fn main(rt: HostRuntime) -> anyhow::Result<()> {
-    let ((), report) = with_pool(&rt, rt.alloc(), Config::fixed(2), Defaults, Three)?;
+    let alloc = rt.alloc();
+    let unopened = Unopened::new(alloc)?;
+    let report = life::<Brand, HostRuntime>(&rt, alloc, unopened, Config::fixed(2))?;
     let counts = report.counts;
     for t in 0..counts.submitted {
         if let Some(Ok(value)) = outcome_of(&report, TaskId(t)) {

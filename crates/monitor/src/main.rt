@@ -2,7 +2,10 @@
 //! prints what the pool does. Then the door opens.
 #![tactic(auto)]
 
+ghost use Rattle.std.specs.Prelude.{◌≡◌};
+
 use std::alloc::Global;
+use std::marker::Brand;
 use std::sync::{Arc, Mutex, Wait};
 use std::thread::Parker;
 use tp_pool::prelude::*;
@@ -21,82 +24,94 @@ impl<H: Wait + Send + Drop> Body for Guest<H> {
     }
 }
 
-/// The service, and who watches it.
-#[derive(Drop)]
-struct Service<H> {
-    host: H,
-    alloc: Global,
-    door: Arc<Mutex<()>>,
-}
-
-impl<H: Print + Runtime + Drop> Life<Defaults> for Service<H> {
-    type Job = Any<Guest<H>>;
-
-    type Out = ();
-
-    fn live<G: PoolName, R: Runtime>(self, at: &mut LentTo<G, R, Self>) -> Result<(), PoolError> {
-        let (rt, pool) = (at.rt, at.pool);
-        let Service { host, alloc, door } = self;
-        let door = &door;
-        let (ready, printed) = (&Parker::new(), &Parker::new());
-        let serve = move |pool: &PoolIn<G, Self>, pass: &mut Pass<G>| {
-            let served = hand_in(rt, host, pool, door, pass);
-            ready.unpark();
-            printed.park(rt);
-            served
-        };
-        let watch = move |pool: &PoolIn<G, Self>, (): ()| {
-            ready.park(rt);
-            let told = tell(rt, host, alloc, pool);
-            printed.unpark();
-            told
-        };
-        let shut = door.lock(rt);
-        let (served, told) = in_two(rt, pool, &mut at.pass, (), &serve, &watch);
-        drop(shut);
-        served.and(told)
-    }
-}
+/// A pool of guests.
+type Service<G, R> = PoolOf<G, Any<Guest<R>>, Defaults>;
 
 // Hands in four jobs, and waits until two of them are begun and two queued: then the record has 14 entries.
-fn hand_in<G: PoolName, H: Print + Runtime + Drop, R: Runtime>(
+fn hand_in<G: PoolName, R: Runtime + Drop>(
     rt: &R,
-    host: H,
-    pool: &PoolIn<G, Service<H>>,
+    pool: &Service<G, R>,
     door: &Arc<Mutex<()>>,
     pass: &mut Pass<G>,
 ) -> Result<(), PoolError> {
     for _ in 0..4 {
         let door = Arc::try_clone(door)?;
-        pool.execute_as(rt, Kind::Plain, Any(Guest { host, door }), pass)?;
+        pool.execute_as(rt, Kind::Plain, Any(Guest { host: *rt, door }), pass)?;
     }
     pool.wait_step(rt, 13);
     Ok(())
 }
 
 // Prints what the pool does now.
-fn tell<G: PoolName, H: Print + Runtime + Drop, R: Runtime>(
+fn tell<G: PoolName, R: Print + Runtime + Drop>(
     rt: &R,
-    host: H,
     alloc: Global,
-    pool: &PoolIn<G, Service<H>>,
+    pool: &Service<G, R>,
 ) -> Result<(), PoolError> {
     let seen = pool.snapshot(rt, alloc)?;
-    println!(&host; "{seen}").or(Err(PoolError::WriteFailed))
+    println!(rt; "{seen}").or(Err(PoolError::WriteFailed))
+}
+
+// One thread serves, and the other one watches, once the first has handed in its jobs.
+fn serve<G: PoolName, R: Print + Runtime + Drop>(
+    rt: &R,
+    alloc: Global,
+    pool: &Service<G, R>,
+    door: &Arc<Mutex<()>>,
+    pass: &mut Pass<G>,
+) -> Result<(), PoolError> {
+    let (ready, printed) = (&Parker::new(), &Parker::new());
+    let served = move |pool: &Service<G, R>, pass: &mut Pass<G>| {
+        let served = hand_in(rt, pool, door, pass);
+        ready.unpark();
+        printed.park(rt);
+        served
+    };
+    let watched = move |pool: &Service<G, R>, (): ()| {
+        ready.park(rt);
+        let told = tell(rt, alloc, pool);
+        printed.unpark();
+        told
+    };
+    let (served, told) = in_two(rt, pool, pass, (), &served, &watched);
+    served.and(told)
+}
+
+// Shuts the pool down. It is a function of its own, where little else is known: the check shows there that the
+// caller's objects may cross to a thread.
+fn shut<G: PoolName, R: Runtime + Drop>(
+    rt: &R,
+    pool: &Service<G, R>,
+    pass: &mut Pass<G>,
+) -> Result<(), PoolError> {
+    pool.shutdown(rt, pass)
+}
+
+/// The service's whole life under a name of its own.
+fn life<G: PoolName, R: Print + Runtime + Drop>(
+    rt: &R,
+    alloc: Global,
+    unopened: Unopened,
+    settings: Config,
+) -> Result<Report, PoolError>
+    requires named { unopened ≡ record { ledger = G.name; parts = G.parts; table = G.table } }
+    requires settings { settings ≡ G.config }
+{
+    let door = Arc::new(alloc, Mutex::new(()))?;
+    let (pool, mut pass) = Service::<G, R>::over(alloc, unopened, settings, Defaults)?;
+    let locked = door.lock(rt);
+    let served = serve(rt, alloc, &pool, &door, &mut pass);
+    drop(locked);
+    shut(rt, &pool, &mut pass)?;
+    pool.await_end(rt, None, &mut pass)?;
+    served?;
+    Ok(pool.close_one(rt, pass)?)
 }
 
 fn main(rt: HostRuntime) -> anyhow::Result<()> {
     let alloc = rt.alloc();
-    let door = Arc::new(alloc, Mutex::new(()))?;
-    let service = Service {
-        host: rt,
-        alloc,
-        door,
-    };
-    let ((), report) = with_pool(&rt, alloc, Config::fixed(2), Defaults, service)?;
-    println!(&rt;
-        "{} submitted, {} run",
-        report.counts.submitted, report.counts.run
-    )?;
-    Ok(())
+    let unopened = Unopened::new(alloc)?;
+    let report = life::<Brand, HostRuntime>(&rt, alloc, unopened, Config::fixed(2))?;
+    let counts = report.counts;
+    Ok(println!(&rt; "{} submitted, {} run", counts.submitted, counts.run)?)
 }

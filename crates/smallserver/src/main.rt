@@ -2,43 +2,51 @@
 //! a queue of two places, and the second one shuts it down. It prints what became of each request.
 #![tactic(auto)]
 
-use std::sync::{Arc, Mutex, Wait};
-use std::thread::Parker;
-use tp_pool::prelude::*;
+mod opening;
+
+use opening::{Server, served};
+use std::sync::Wait;
+use std::thread::{Parker, Threads};
+use tp_book::passes::Pass;
+use tp_callbacks::flags::CancelFlag;
+use tp_pool::jobs::Job;
+use tp_pool::names::PoolNaming;
+use tp_record::entries::{Did, Ruled};
+use tp_types::refusals::PoolError;
+use tp_types::tasks::{Kind, Outcome, Promise};
 
 /// A request for the double of a number.
 #[derive(Drop)]
-struct Request(u16);
+pub struct Request(u16);
 
-impl Body for Request {
-    fn run(&mut self, _cancel: &CancelFlag) -> Outcome {
+impl Job for Request {
+    ghost use Rattle.std.specs.Prelude.{false, pos};
+    ghost use Rattle.tp_types.specs.declared.tasks.Promise.{Promise};
+
+    ghost promised = { λ j. record { low = pos 0; high = pos 131070; may_fault = false } };
+
+    fn promise(&self) -> Promise {
+        Promise {
+            low: 0,
+            high: 131_070,
+            may_fault: false,
+        }
+    }
+
+    fn call(&mut self, _cancel: &CancelFlag) -> Outcome {
         Ok(2 * i64::from(self.0))
     }
 }
 
-/// The server's desk: no worker begins a request while the door is locked.
-#[derive(Drop)]
-struct Desk(Arc<Mutex<()>>);
-
-impl Edge for Desk {
-    fn before<R: Wait>(&self, rt: &R, _w: SlotId, _t: TaskId) {
-        drop(self.0.lock(rt));
-    }
-}
-
-/// Both clients' calls. The server begins no request until they are through.
-#[derive(Drop)]
-struct Clients(Arc<Mutex<()>>);
-
 // Hands in requests for these numbers. That one is turned away is in the server's record.
-fn hand_in<G: PoolName, R: Runtime>(
-    rt: &R,
-    server: &PoolIn<G, Clients, Desk>,
+fn hand_in<G: PoolNaming + Send + Sync + 'static, R: Threads + Wait + Copy + Send + 'static>(
+    rt: R,
+    server: &Server<G>,
     numbers: &[u16],
     pass: &mut Pass<G>,
 ) -> Result<(), PoolError> {
     for number in numbers {
-        match server.execute_as(rt, Kind::Plain, Any(Request(*number)), pass) {
+        match server.execute_as(&rt, Kind::Plain, Request(*number), pass) {
             Err(refused) if !matches!(refused.error, PoolError::Rejected(_)) => return Err(
                 refused.error,
             ),
@@ -48,43 +56,32 @@ fn hand_in<G: PoolName, R: Runtime>(
     Ok(())
 }
 
-impl Life<Desk> for Clients {
-    type Job = Any<Request>;
+/// The first client's calls; then the second one may come.
+pub fn first<G: PoolNaming + Send + Sync + 'static, R: Threads + Wait + Copy + Send + 'static>(
+    rt: R,
+    server: &Server<G>,
+    turn: &Parker,
+    pass: &mut Pass<G>,
+) -> Result<(), PoolError> {
+    let well = hand_in(rt, server, &[10, 20, 30, 40], pass);
+    turn.unpark();
+    well
+}
 
-    type Out = ();
-
-    fn live<G: PoolName, R: Runtime>(
-        self,
-        at: &mut LentTo<G, R, Clients, Desk>,
-    ) -> Result<(), PoolError> {
-        let (rt, server) = (at.rt, at.pool);
-        let two = server.split_pass(rt, &mut at.pass)?;
-        let turn = &Parker::new();
-        let first = move |server: &PoolIn<G, Clients, Desk>, one: &mut Pass<G>| {
-            let well = hand_in(rt, server, &[10, 20, 30, 40], one);
-            turn.unpark();
-            well
-        };
-        let second = move |server: &PoolIn<G, Clients, Desk>, two: Pass<G>| {
-            let mut two = two;
-            turn.park(rt);
-            let shut = server.shutdown(rt, &mut two);
-            let late = hand_in(rt, server, &[50, 60], &mut two);
-            (two, shut.and(late))
-        };
-        let locked = self.0.lock(rt);
-        let (well, (two, late)) = in_two(rt, server, &mut at.pass, two, &first, &second);
-        drop(locked);
-        at.others.push(two)?;
-        well.and(late)
-    }
+/// The second client's calls, once it may come: it shuts the server down, and is too late itself.
+pub fn second<G: PoolNaming + Send + Sync + 'static, R: Threads + Wait + Copy + Send + 'static>(
+    rt: R,
+    server: &Server<G>,
+    turn: &Parker,
+    pass: &mut Pass<G>,
+) -> Result<(), PoolError> {
+    turn.park(&rt);
+    server.shutdown(&rt, pass)?;
+    hand_in(rt, server, &[50, 60], pass)
 }
 
 fn main(rt: HostRuntime) -> anyhow::Result<()> {
-    let door = Arc::new(rt.alloc(), Mutex::new(()))?;
-    let desk = Desk(Arc::try_clone(&door)?);
-    let settings = Config::fixed(1).queue(QueueKind::Bounded(2));
-    let ((), report) = with_pool(&rt, rt.alloc(), settings, desk, Clients(door))?;
+    let report = served(rt, rt.alloc())?;
     for entry in &report.entries {
         match entry.did {
             Did::Shutdown => println!(&rt; "the server closes")?,

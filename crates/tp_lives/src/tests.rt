@@ -7,7 +7,5 @@ mod lock;
 mod memory;
 mod receipts;
 mod settings;
-mod sharing;
 mod threads;
 mod waits;
-mod whole;

@@ -6,3 +6,4 @@ pub mod Left
 pub mod Starts
 pub mod Submissions
 pub mod Walks
+pub mod Watched

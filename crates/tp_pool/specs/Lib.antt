@@ -2,7 +2,6 @@ pub mod Admissions
 pub mod Closing
 pub mod Deeds
 pub mod Endings
-pub mod Lives
 pub mod Outcomes
 pub mod Prestarts
 pub mod Rescues

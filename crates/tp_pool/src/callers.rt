@@ -1,6 +1,18 @@
-//! Two callers at once.
+//! What callers are generic in, and two callers at once.
 
+use std::sync::Wait;
 use std::thread::{self, Threads};
+use tp_locked::names::PoolNaming;
+
+/// A pool's name: who is generic in it can call any pool.
+pub trait PoolName: PoolNaming + Send + Sync + 'static {}
+
+impl<G: PoolNaming + Send + Sync + 'static> PoolName for G {}
+
+/// A runtime by which a pool starts its threads and waits, as `HostRuntime`.
+pub trait Runtime: Threads + Wait + Copy + Send + Sync + 'static {}
+
+impl<R: Threads + Wait + Copy + Send + Sync + 'static> Runtime for R {}
 
 /// Makes both calls, each in a thread of its own, and answers what both came to. Each thread shares `shared`,
 /// as the pool, and has what it takes along for itself, as a pass.

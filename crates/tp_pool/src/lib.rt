@@ -1,9 +1,8 @@
 //! A pool of threads after `ThreadPoolExecutor`: its calls, the objects that its users write, and its
 //! answers.
 //!
-//! `with_pool` has a pool for the time of one call, and ends it on every path. A user hands in jobs, and with
-//! the making of a pool a thread factory, a rejection handler, hooks and a gate, or `Defaults` for all of
-//! them. The pool calls all of them outside its lock, so each of them may ask the pool for its state, its
+//! A user hands in jobs, and with the making of a pool a thread factory, a rejection handler, hooks and a gate, or
+//! `Defaults` for all of them. The pool calls all of them outside its lock, so each of them may ask the pool for its state, its
 //! counters and its steps. The pages of the traits say which calls from within would wait for ever. All that a
 //! caller names can be imported from here.
 #![tactic(auto)]
@@ -18,7 +17,6 @@ pub mod edges;
 pub mod endings;
 pub mod futures;
 pub mod handles;
-pub mod lives;
 pub mod lock;
 pub mod pool;
 mod prestarts;
@@ -34,11 +32,10 @@ mod waits;
 mod working;
 
 pub use bodies::{Any, Body};
-pub use callers::in_two;
+pub use callers::{PoolName, Runtime, in_two};
 pub use closing::{CloseFault, Report};
 pub use defaults::Defaults;
 pub use edges::Edge;
-pub use lives::{Futures, Lent, LentTo, Life, PoolIn, PoolName, Runtime, with_pool};
 pub use pool::PoolOf;
 pub use reports::{faulted, outcome_of};
 pub use snapshots::{Busy, Snapshot};
@@ -65,11 +62,13 @@ pub mod jobs {
 /// What a first program names: `use tp_pool::prelude::*;`.
 pub mod prelude {
     pub use crate::bodies::{Any, Body};
-    pub use crate::callers::in_two;
+    pub use crate::callers::{PoolName, Runtime, in_two};
+    pub use crate::closing::Report;
     pub use crate::defaults::Defaults;
     pub use crate::edges::Edge;
-    pub use crate::lives::{Futures, Lent, LentTo, Life, PoolIn, PoolName, Runtime, with_pool};
+    pub use crate::pool::PoolOf;
     pub use crate::reports::outcome_of;
+    pub use tp_book::opening::Unopened;
     pub use tp_book::passes::Pass;
     pub use tp_callbacks::flags::CancelFlag;
     pub use tp_callbacks::jobs::Job;

@@ -33,7 +33,7 @@ use tp_types::states::RunState;
 /// has the number of the pass that asked for it.
 ///
 /// A pool that is dropped is not shut down: its workers run what is queued, then wait, and end with the process.
-/// A drop has no runtime by which it could take the lock. `with_pool` ends its pool on every path.
+/// A drop has no runtime by which it could take the lock.
 #[derive(Drop)]
 pub struct PoolOf<G: PoolNaming, J, E> {
     pub(crate) hold: Hold<G, J, E>,

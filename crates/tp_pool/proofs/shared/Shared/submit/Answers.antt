@@ -14,7 +14,7 @@ returns-in-Ok-submitted-clause-makes g c =
       task,
       refl,
       subst (λ p. Makes g.row.J.Denot g.G.PoolNaming.config c.args.pass.now.number c.args.pass.now.front (ask.Submit c.args.kind) (did.Submit x.0 c.args.kind x.1)
-      (λ old new. PutsIn old new x.0.0 p task) c.submit-submitted.new.pass.front) c.promise-promise.ensures c.in-Ok-submitted.ensures.makes,
+          (λ old new. PutsIn old new x.0.0 p task) c.submit-submitted.new.pass.front) c.promise-promise.ensures c.in-Ok-submitted.ensures.makes,
     )
 
 pub returns-in-Ok-submitted-clause-step : goal.returns-in-Ok-submitted-clause-step
