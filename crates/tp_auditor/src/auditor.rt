@@ -17,6 +17,7 @@ use crate::queue::Queue;
 use crate::seats::Seats;
 use crate::tables::Tables;
 use std::alloc::Global;
+use std::marker::Model;
 use tp_audit::plain::{are_same, fates_of};
 use tp_audit::summary::{Flaw, Summary};
 use tp_plain::counts::fated;
@@ -39,8 +40,18 @@ pub struct Auditor {
     tables: Tables,
 }
 
+impl Model for Auditor {
+    ghost use Rattle.tp_auditor.specs.Audited.{IsJudging, Judge};
+
+    ghost Value = { Judge };
+
+    ghost view = { λ a. record { config = a.config; tables = a.tables } };
+
+    ghost invariant = { λ a. IsJudging a.config a.tables };
+}
+
 impl Auditor {
-    ghost use Rattle.tp_auditor.specs.Audited.{settings, Judged, IsJudging};
+    ghost use Rattle.tp_auditor.specs.Audited.{settings, Judged};
 
     /// An auditor of a pool that is made with `config`, before the first entry. Want of memory is NoMemory (4).
     pub fn new(alloc: Global, config: &Config) -> Result<Auditor, Flaw>
@@ -63,13 +74,11 @@ impl Auditor {
     /// number, counted from 1, as a flaw. After a flaw, and where there is no memory (4), the auditor is as it was. The pass
     /// that the entry names is free, and so is the number of a new slot, if it is no slot then.
     pub fn push(&mut self, entry: &Entry) -> Result<(), Flaw>
-        requires { IsJudging self.old }
         ensures given { OnOk result ((h : List Told) → Judged self.old h → steps.Gives (settings self.old) (states.state (settings self.old) h) entry.now.ask entry.now.did) }
         ensures told { OnOk result ((h : List Told) → Judged self.old h → Judged self.new (entry.now ∷ h)) }
         ensures flaw { (n : ℕ) → result ≡ Err (Flaw.At n) → (h : List Told) → Judged self.old h
             → (n ≡ suc (length h)) × (steps.Gives (settings self.old) (states.state (settings self.old) h) entry.now.ask entry.now.did → ⊥) }
         ensures same { OnErr result ((h : List Told) → Judged self.old h → Judged self.new h) }
-        ensures judging { IsJudging self.new }
         ensures settings { settings self.new ≡ settings self.old }
     {
         match self.is_given(entry.ask, entry.did) {
@@ -85,7 +94,6 @@ impl Auditor {
 
     /// What the entries told so far say at their end. Want of memory is NoMemory (4).
     pub fn finish(&self) -> Result<Summary, Flaw>
-        requires { IsJudging self.now }
         ensures summary { IfOk result (λ s. (h : List Told) → Judged self.now h → IsSummary (settings self.now) h s) }
         ensures refused { IsOkUnless result Flaw.NoMemory }
     {
@@ -107,7 +115,6 @@ impl Auditor {
     /// What the step gives for an ask after the entries told so far, where a slot that it makes gets the number `made`; else
     /// its refusal, which is BookFull (5) too where `made` is a slot. Want of memory is NoMemory (4).
     pub fn answer(&self, ask: Ask, made: SlotId) -> Result<Did, PoolError>
-        requires { IsJudging self.now }
         ensures given { IfOk result (λ did. (h : List Told) → Judged self.now h
             → steps.Gives (settings self.now) (states.state (settings self.now) h) ask did) }
     {
@@ -125,7 +132,6 @@ impl Auditor {
 
     /// Whether the step gives this entry after those told before.
     fn is_given(&self, ask: Ask, did: Did) -> Result<bool, PoolError>
-        requires { IsJudging self.now }
         ensures given { IfOk result (λ b. (h : List Told) → Judged self.now h
             → IsTrue b ↔ steps.Gives (settings self.now) (states.state (settings self.now) h) ask did) }
         ensures refused { IsOkUnless result PoolError.NoMemory }
@@ -139,7 +145,6 @@ impl Auditor {
 
     /// Whether the ask is answered so, without a look at the room.
     fn fits(&self, ask: Ask, did: Did) -> Result<bool, PoolError>
-        requires { IsJudging self.now }
         ensures fits { IfOk result (λ b. (h : List Told) → Judged self.now h
             → IsTrue b ↔ (steps.fitting (settings self.now) (states.state (settings self.now) h) (unwrap_or (reserves did) 0) ask ≡ Ok did)) }
         ensures refused { IsOkUnless result PoolError.NoMemory }

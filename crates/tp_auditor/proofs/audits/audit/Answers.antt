@@ -9,8 +9,7 @@ use Rattle.tp_audit.specs.declared.summary.Flaw.{Flaw}
 use Rattle.tp_audit.specs.declared.summary.Flaw.TheVariants.{At, NoMemory}
 use Rattle.tp_audit.specs.declared.summary.Summary.{Summary}
 use Rattle.tp_audit.specs.Audit.{IsSummary, IsFlawOf, IsFirstFlaw}
-use Rattle.tp_auditor.specs.declared.auditor.Auditor.{Auditor}
-use Rattle.tp_auditor.specs.Audited.{Judged}
+use Rattle.tp_auditor.specs.Audited.{Judge, Judged}
 use Rattle.tp_auditor.proofs.Judging.{flaw_at}
 use Rattle.tp_auditor.proofs.audits.audit.Goals as goal
 
@@ -36,7 +35,7 @@ if_ok (Ok s) P holds = holds
 if_ok (Err f) P holds = tt
 
 -- what is said of each history that was told is said of this one
-at_history : (r : Result Summary Flaw) (a : Auditor) (h : List Entry) → Judged a h → IfOk r (λ s. (k : List Entry) → Judged a k → IsSummary a.config k s) → IfOk r (λ s. IsSummary a.config h s)
+at_history : (r : Result Summary Flaw) (a : Judge) (h : List Entry) → Judged a h → IfOk r (λ s. (k : List Entry) → Judged a k → IsSummary a.config k s) → IfOk r (λ s. IsSummary a.config h s)
 at_history (Ok s) a h judged is = is h judged
 at_history (Err f) a h judged is = tt
 
