@@ -61,7 +61,8 @@ module _ (c : Config) (h : List Entry) (config : IsConfig c) (legal : Legal c h)
         none_idling = λ later front parts. ranks.none_idling c front (told_at later front parts);
         tidy_once = λ later front parts. ranks.tidy_once c front (told_at later front parts);
         ended_once = λ later front parts. ranks.ended_once c front (told_at later front parts);
-        no_slots_after_tidy = λ later e front parts. slots.none_after_tidy c later e front (told_whole later (e ∷ front) parts);
+        no_slots_after_tidy = λ later front parts between e before is.
+            slots.none_after_tidy c between e before (subst (λ x. Told c x) is (told_at later front parts));
         second_look_owed_after_stop = λ later front parts. seconds.second_look_owed c front (told_at later front parts);
         owed_after_tidy = λ later front parts. places.owed_after_tidy c front (told_at later front parts);
         served = λ later front parts. serves.served c front config (told_at later front parts);

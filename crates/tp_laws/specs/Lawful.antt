@@ -46,7 +46,7 @@ pub record IsLawful (c : Config) (h : List Entry) : Type 0 where
   -- the end of the pool
   pub tidy_once : AtEachFront h (λ later front. TidyOnce front)
   pub ended_once : AtEachFront h (λ later front. EndedOnce front)
-  pub no_slots_after_tidy : AtEachEntry h NoSlotsAfterTidy
+  pub no_slots_after_tidy : AtEachFront h (λ later front. AtEachEntry front NoSlotsAfterTidy)
   pub second_look_owed_after_stop : AtEachFront h (λ later front. SecondLookOwedAfterStop front)
   pub owed_after_tidy : AtEachFront h (λ later front. OwedAfterTidy front)
   -- workers, and the sizes

@@ -8,11 +8,12 @@ ghost use Rattle.tp_types.specs.declared.tasks.Fate.{Fate};
 ghost use Rattle.tp_types.specs.declared.tasks.Place.TheVariants as at;
 ghost use Rattle.tp_record.specs.declared.entries.Entry.{Entry};
 ghost use Rattle.tp_record.specs.declared.rows.SlotRow.{SlotRow};
-ghost use Rattle.tp_record.specs.Fields.{submitted, kind, is_cancelled, now, place, outcome, owes_second, retries, queue, is_queued_place, task_row, is_slot, slot_row, is_live, is_live_stage, live, largest};
+ghost use Rattle.tp_record.specs.Fields.{submitted, kind, is_cancelled, now, place, outcome, owes_second, retries, queue, is_queued_place, task_row, is_slot, slot_row, is_live, is_live_stage, idling, live, largest};
 ghost use Rattle.tp_record.specs.State.{state, fate_of, is_fate, counts};
 ghost use Rattle.tp_record.specs.Step.{Legal, done_of};
 ghost use Rattle.tp_record.specs.Words.{submissions, is_submitted, kind_of, was_cancelled, moment, waits_in_queue, in_slot, is_held_in, is_taken_in, is_running_in, with_submitter, is_at_caller, is_gone, waiting_line, slot_for, is_slot_now, is_live_now, is_busy, idle_since, is_dying, is_at_take, live_slots, largest_live, has_fate, begun, is_begun, is_waiting, done_in_group, counters, owes_look, retry_count, body_outcome};
 ghost use Rattle.tp_model.specs.Seats.{slot_of};
+ghost use Rattle.tp_words.specs.IdleLine.{idle_line};
 ghost use Rattle.tp_words.specs.Agrees.{submitter_of, is_caller_place, is_gone_place, is_running_place, is_waiting_place, is_held_at, is_taken_at, is_running_at, idle_of, is_dying_stage, is_busy_row, is_taking_row};
 
 /// The submissions are counted alike, and the submitted tasks are those with a smaller number. Kinds,
@@ -81,7 +82,8 @@ pub fn queue_agrees()
 {}
 
 /// The slots are those with a reservation that no later entry freed. A reserved slot is for what its
-/// stage says; the others are live, and busy, idle since some moment, dying, or about to take.
+/// stage says; the others are live, and busy, idle since some moment, dying, or about to take. The idle
+/// ones are in the order in which they took nothing.
 pub fn slots_agree()
     ensures slots { (h : List Entry) (w : ℕ) → is_slot_now h w ≡ is_slot h w }
     ensures reserved { (c : Config) (h : List Entry) (w : ℕ) (r : SlotRow) → Legal c h →
@@ -92,6 +94,7 @@ pub fn slots_agree()
         is_busy h w ≡ is_busy_row (slot_row h w) }
     ensures idle { (h : List Entry) (w : ℕ) (r : SlotRow) → slot_row h w ≡ Some r →
         idle_since h w ≡ idle_of r.stage }
+    ensures order { (c : Config) (h : List Entry) → Legal c h → idle_line h ≡ idling h }
     ensures dying { (h : List Entry) (w : ℕ) (r : SlotRow) → slot_row h w ≡ Some r →
         is_dying h w ≡ is_dying_stage r.stage }
     ensures taking { (c : Config) (h : List Entry) (w : ℕ) → Legal c h →
