@@ -10,10 +10,6 @@ pub record Judge : Type 0 where
   pub config : Config
   pub tables : Tables
 
--- some legal history was told
-abbrev pub IsJudging : Config → Tables → Type 0
-IsJudging c t = (h : List Entry) × StandsAt c h t
-
 -- the settings of the pool whose record is judged
 abbrev pub settings : Judge → Config
 settings a = a.config

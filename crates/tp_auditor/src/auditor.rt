@@ -32,7 +32,7 @@ use tp_types::tasks::Fate;
 
 /// Judges the record of a pool, one entry at a time. Each entry costs what it changes: the first `shutdown` and a `stop` as
 /// many slots and tasks as they wake and hand back, a `purge` as the queue is long, all others the same or by the logarithm of
-/// what is kept. The memory goes by the numbers of tasks and slots.
+/// what is kept. The memory goes by the numbers of tasks and slots. What it was told and took is at each moment a legal record.
 #[derive(Drop)]
 pub struct Auditor {
     alloc: Global,
@@ -41,13 +41,14 @@ pub struct Auditor {
 }
 
 impl Model for Auditor {
-    ghost use Rattle.tp_auditor.specs.Audited.{IsJudging, Judge};
+    ghost use Rattle.tp_auditor.specs.Audited.{Judge};
+    ghost use Rattle.tp_auditor.specs.Tables.{Stands};
 
     ghost Value = { Judge };
 
     ghost view = { λ a. record { config = a.config; tables = a.tables } };
 
-    ghost invariant = { λ a. IsJudging a.config a.tables };
+    ghost invariant = { λ a. Stands a.config a.tables };
 }
 
 impl Auditor {

@@ -1,5 +1,5 @@
 -- How a run of a scenario ends, case by case.
-use Rattle.std.proofs.Common.{◌≡◌, ◌≢◌, ◌⊎◌, inl, inr, ℕ, List, [], ◌++◌, length, take, false, Option, Some, None, Result, Ok, Err, IfSome, unwrap_or, refl, sym, ◌∙◌, ap, subst, append_assoc}
+use Rattle.std.proofs.Common.{◌≡◌, ◌⊎◌, inl, inr, ℕ, List, [], ◌++◌, length, take, false, Option, Some, None, Ok, Err, IfSome, unwrap_or, refl, sym, ◌∙◌, ap, subst, append_assoc}
 use Rattle.std.specs.Io.KnownBytes.{Appends}
 use Rattle.std.proofs.KnownBytes.{Keeps-refl}
 use Rattle.std.proofs.Math.Seq.{take-length}
@@ -111,12 +111,3 @@ unread input old e (inr is) = subst (λ x. IsRun input old old (Err x)) (sym is)
 -- a run that was not written
 pub unwritten : (input old new : Option (List ℕ)) (e : PoolError) → e ≡ WriteFailed → IsRun input old new (Err e)
 unwritten input old new e is = subst (λ x. IsRun input old new (Err x)) (sym is) tt
-
--- a run that was not read is not one that was not written
-pub not_unwritten : {A : Type 0} (e : PoolError) → (e ≡ ReadFailed) ⊎ (e ≡ NoMemory) → ◌≢◌ {A = Result A PoolError} (Err e) (Err WriteFailed)
-not_unwritten {A = A} e (inl is) same = let f : ◌≡◌ {A = Result A PoolError} (Err ReadFailed) (Err WriteFailed) = ap (λ x. Err x) (sym is) ∙ same in cc
-not_unwritten {A = A} e (inr is) same = let f : ◌≡◌ {A = Result A PoolError} (Err NoMemory) (Err WriteFailed) = ap (λ x. Err x) (sym is) ∙ same in cc
-
--- nor the other way round
-pub not_unread : {A : Type 0} (e : PoolError) → e ≡ WriteFailed → ◌≢◌ {A = Result A PoolError} (Err e) (Err ReadFailed)
-not_unread {A = A} e is same = let f : ◌≡◌ {A = Result A PoolError} (Err WriteFailed) (Err ReadFailed) = ap (λ x. Err x) (sym is) ∙ same in cc

@@ -47,3 +47,12 @@ write_refused {W = W} {A = A} {B = B} old new e tells = (
   λ is. tells.0 (ap (λ x. Err x) (ap (λ (r : Result B PoolError). refusal_or r e) is)),
   λ other. tells.1 (λ is. other (ap (λ x. Err x) (ap (λ (r : Result A PoolError). refusal_or r e) is))),
 )
+
+-- what was not read is not what was not written
+pub not_unwritten : {A : Type 0} (e : PoolError) → (e ≡ ReadFailed) ⊎ (e ≡ NoMemory) → ◌≢◌ {A = Result A PoolError} (Err e) (Err WriteFailed)
+not_unwritten {A = A} e (inl is) same = let f : ◌≡◌ {A = Result A PoolError} (Err ReadFailed) (Err WriteFailed) = ap (λ x. Err x) (sym is) ∙ same in cc
+not_unwritten {A = A} e (inr is) same = let f : ◌≡◌ {A = Result A PoolError} (Err NoMemory) (Err WriteFailed) = ap (λ x. Err x) (sym is) ∙ same in cc
+
+-- nor the other way round
+pub not_unread : {A : Type 0} (e : PoolError) → e ≡ WriteFailed → ◌≢◌ {A = Result A PoolError} (Err e) (Err ReadFailed)
+not_unread {A = A} e is same = let f : ◌≡◌ {A = Result A PoolError} (Err WriteFailed) (Err ReadFailed) = ap (λ x. Err x) (sym is) ∙ same in cc

@@ -1,8 +1,8 @@
 use Rattle.std.proofs.Common.{Err, subst}
 use Rattle.std.specs.Io.KnownBytes.{Appends}
 use Rattle.tp_scenario.specs.Played.{IsPlayed}
-use Rattle.tp_text.proofs.Watchings.{none_written, not_read, not_written, read_refused, read_unwritten, read_well, write_refused, written_well}
-use Rattle.tp_scenario.proofs.Endings.{not_unread, not_unwritten, played_inner, ran, unread, unwritten}
+use Rattle.tp_text.proofs.Watchings.{none_written, not_read, not_unread, not_unwritten, not_written, read_refused, read_unwritten, read_well, write_refused, written_well}
+use Rattle.tp_scenario.proofs.Endings.{played_inner, ran, unread, unwritten}
 use Rattle.tp_scenario.proofs.run.run.Goals as goal
 
 pub returns-in-Err-clause-runs : goal.returns-in-Err-clause-runs

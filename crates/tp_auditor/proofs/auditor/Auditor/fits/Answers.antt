@@ -10,7 +10,7 @@ use Rattle.tp_auditor.proofs.auditor.Auditor.fits.Goals as goal
 
 pub returns-in-Ok-clause-fits : goal.returns-in-Ok-clause-fits
 returns-in-Ok-clause-fits c = λ h at.
-    let self = c.args.self.now in
+    let self = c.self.inside in
     let s = state self.config h in
     let n : c.unwrap_or.result ≡ unwrap_or (reserves c.args.did) 0 = cc (c.unwrap_or.ensures, c.reserved_by.ensures) in
     let a = answer_shown self.config h self.tables at c.fitting.result c.unwrap_or.result c.args.ask c.first_asked-first.result c.first_asked-first.ensures c.fitting.ensures in
@@ -20,7 +20,7 @@ returns-in-Ok-clause-fits c = λ h at.
 
 pub returns-in-Err-clause-fits : goal.returns-in-Err-clause-fits
 returns-in-Err-clause-fits c = λ h at.
-    let self = c.args.self.now in
+    let self = c.self.inside in
     let s = state self.config h in
     let n : c.unwrap_or.result ≡ unwrap_or (reserves c.args.did) 0 = cc (c.unwrap_or.ensures, c.reserved_by.ensures) in
     let a = answer_shown self.config h self.tables at c.fitting.result c.unwrap_or.result c.args.ask c.first_asked-first.result c.first_asked-first.ensures c.fitting.ensures in

@@ -8,21 +8,21 @@ use Rattle.tp_auditor.proofs.Standing.{few_shown, due_shown}
 use Rattle.tp_auditor.proofs.auditor.Auditor.is_given.Goals as goal
 
 pub has_room-requires-clause-sizes : goal.has_room-requires-clause-sizes
-has_room-requires-clause-sizes c = few_shown c.args.self.now.config c.requires.0 c.args.self.now.tables c.requires.1
+has_room-requires-clause-sizes c = few_shown c.self.inside.config c.self.invariant.0 c.self.inside.tables c.self.invariant.1
 
 pub has_room-requires-clause-due : goal.has_room-requires-clause-due
-has_room-requires-clause-due c = due_shown c.args.self.now.config c.requires.0 c.args.self.now.tables c.requires.1
+has_room-requires-clause-due c = due_shown c.self.inside.config c.self.invariant.0 c.self.inside.tables c.self.invariant.1
 
 pub returns-in-Ok-false-clause-given : goal.returns-in-Ok-false-clause-given
 returns-in-Ok-false-clause-given c = λ h at.
-    let self = c.args.self.now in
+    let self = c.self.inside in
     let d = c.args.did in
     let fits = subst (λ b. IsTrue b ↔ (fitting self.config (state self.config h) (unwrap_or (reserves d) 0) c.args.ask ≡ Ok d)) c.in-Ok-false.field-0-test (c.in-Ok-false.ensures.fits h at) in
     unfit self.config h self.tables at c.args.ask d fits
 
 pub returns-then-has_free_number-clause-given : goal.returns-then-has_free_number-clause-given
 returns-then-has_free_number-clause-given c = λ h at.
-    let self = c.args.self.now in
+    let self = c.self.inside in
     let d = c.args.did in
     let fits = subst (λ b. IsTrue b ↔ (fitting self.config (state self.config h) (unwrap_or (reserves d) 0) c.args.ask ≡ Ok d)) c.in-Ok-true.field-0-test (c.in-Ok-true.ensures.fits h at) in
     subst (λ b. IsTrue (b && c.has_room.result) ↔ Gives self.config (state self.config h) c.args.ask d) c.if-has_free_number.true
