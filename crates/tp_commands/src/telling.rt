@@ -20,12 +20,7 @@ pub fn tell<E: Write>(errors: &mut E, name: &str, reason: &io::Error) {
 }
 
 /// Tells why the reader of a text failed, or that it gave too much.
-pub fn tell_unread<R, E: Write>(
-    errors: &mut E,
-    kind: Kind,
-    name: &str,
-    reader: &WatchedReader<R>,
-) {
+pub fn tell_unread<R, E: Write>(errors: &mut E, kind: Kind, name: &str, reader: &WatchedReader<R>) {
     let _ = match (reader.failure(), kind) {
         (Some(reason), _) => writeln!(errors, "poolrun: {name}: {reason}"),
         (None, Kind::Record) => writeln!(

@@ -1,10 +1,10 @@
 //! The worked rows as asks, the refused ones among them: a run of them answers what the row's output says, and both auditors call
 //! its record legal, and answer the same of each that has one entry wrong.
 
+use super::long::{retried, retried_lines};
 use super::{
     ROW_01, ROW_01_OUTPUT, ROW_18, ROW_18_OUTPUT, cancelling, ending, growing, refusing, working,
 };
-use super::long::{retried, retried_lines};
 use crate::compare::same;
 use crate::judged::judged;
 use crate::neighbours::neighbours_agree;
@@ -53,11 +53,7 @@ fn asks_of(alloc: Global, config: Config, text: &str) -> Result<Vec<(u32, Ask)>,
 }
 
 /// Whether an answer is what a line of the output says: an entry, or a refusal.
-fn is_told(
-    alloc: Global,
-    answer: &Result<Did, PoolError>,
-    line: &str,
-) -> Result<bool, AllocError> {
+fn is_told(alloc: Global, answer: &Result<Did, PoolError>, line: &str) -> Result<bool, AllocError> {
     match answer {
         Ok(did) => match read_entry(line.as_bytes()) {
             Some((_, entry)) => Ok(entry.did == *did),
