@@ -156,19 +156,15 @@ fn judges_rows_of_cancelled_tasks(rt: HostRuntime) -> Result<(), Fail> {
     judges_each(&rt, rt.alloc(), &cancelling::ROWS)
 }
 
-/// How many asks of the first rows are refused.
+/// The asks of a row are not the accepted ones alone: row 18 has two that are refused.
 #[test]
 fn asks_what_is_refused(rt: HostRuntime) -> Result<(), Fail> {
-    let Ok(text) = str::from_utf8(ROW_18) else {
-        return Ok(());
-    };
-    let mut refused = 0usize;
+    let text = str::from_utf8(ROW_18).unwrap_or("");
+    let mut refused = 0;
     if let Some(config) = config_of(text) {
         let asks = asks_of(rt.alloc(), config, text)?;
         let run = run_asks(rt.alloc(), config, &asks)?;
-        for answer in &run.answers {
-            refused = refused.saturating_add(usize::from(answer.is_err()));
-        }
+        refused = run.answers.iter().filter(|answer| answer.is_err()).count();
     }
     same(&rt, 18, &refused, &2);
     Ok(())
