@@ -182,7 +182,9 @@ fn are_retries_legal(alloc: Global) -> Result<bool, Fail> {
     }
     let run = run_asks(alloc, config, &asks)?;
     match judged(alloc, &config, &run.entries) {
-        Some(Ok(summary)) => Ok(summary.fates.as_slice() == [None, Some(Fate::Discarded)]),
+        Some(Ok(summary)) => Ok(
+            summary.fates.as_slice() == [None, Some(Fate::Discarded)].as_slice(),
+        ),
         _ => Ok(false),
     }
 }
