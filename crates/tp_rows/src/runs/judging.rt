@@ -181,10 +181,9 @@ fn are_retries_legal(alloc: Global) -> Result<bool, Fail> {
         return Ok(false);
     }
     let run = run_asks(alloc, config, &asks)?;
+    let fates = [None, Some(Fate::Discarded)];
     match judged(alloc, &config, &run.entries) {
-        Some(Ok(summary)) => Ok(
-            summary.fates.as_slice() == [None, Some(Fate::Discarded)].as_slice(),
-        ),
+        Some(Ok(summary)) => Ok(summary.fates.as_slice() == fates.as_slice()),
         _ => Ok(false),
     }
 }
