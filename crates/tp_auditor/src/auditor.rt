@@ -41,10 +41,15 @@ pub struct Auditor {
 }
 
 impl Model for Auditor {
+    ghost use Rattle.std.specs.Coded.{codes};
     ghost use Rattle.tp_auditor.specs.Audited.{Judge};
-    ghost use Rattle.tp_auditor.specs.Tables.{Stands};
+    ghost use Rattle.tp_auditor.specs.contracts.tables.Tables as kept;
 
     ghost Value = { Judge };
+
+    ghost coded = { Prim.hlevel (codes, kept.the_row.coded) };
+
+    ghost use Rattle.tp_auditor.specs.Tables.{Stands};
 
     ghost view = { λ a. record { config = a.config; tables = a.tables } };
 
@@ -87,10 +92,10 @@ impl Auditor {
             Ok(false) => return Err(Flaw::At(self.tables.steps as usize + 1)),
             Err(_) => return Err(Flaw::NoMemory),
         }
-        match self.tables.note(entry.did) {
-            Ok(()) => Ok(()),
-            Err(_) => Err(Flaw::NoMemory),
-        }
+        let Ok(()) = self.tables.note(entry.did) else {
+            return Err(Flaw::NoMemory);
+        };
+        Ok(())
     }
 
     /// What the entries told so far say at their end. Want of memory is NoMemory (4).
