@@ -49,10 +49,10 @@ not_long None text P known short = tt
 not_long (Some xs) text P known short = λ long. absurd (omega (arith, ap length known))
 
 -- a text is refused otherwise than a reader or a writer is
-pub refused_inner : {A : Type 0} (text : List ℕ) (e : PoolError) → IsRefusedText text e → outer_err {A = A} (Err e) ≡ false
-refused_inner text e (inl memory) = ap is_outer memory
-refused_inner text e (inr (inl pool)) = same_outer (Err e) (checked pool.config) (sym pool.refused) ∙ checked_inner pool.config
-refused_inner text e (inr (inr wrong)) = ap is_outer wrong.1
+pub refused_inner : (A : Type 0) (text : List ℕ) (e : PoolError) → IsRefusedText text e → outer_err {A = A} (Err e) ≡ false
+refused_inner A text e (inl memory) = ap is_outer memory
+refused_inner A text e (inr (inl pool)) = same_outer (Err e) (checked pool.config) (sym pool.refused) ∙ checked_inner pool.config
+refused_inner A text e (inr (inr wrong)) = ap is_outer wrong.1
 
 -- an audit whose judgment was not written
 pub unwritten : (input old new : Option (List ℕ)) (e : PoolError) → e ≡ WriteFailed → IsAudit input old new (Err e)

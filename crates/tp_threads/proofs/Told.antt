@@ -23,11 +23,11 @@ file_written {A = A} input e (inl unread) = λ is.
 file_written {A = A} input e (inr read) = not_written {A = A} (Err e) (jobs_inner read.0 (Err e) read.2)
 
 -- a run is refused otherwise than a reader or a writer is
-pub run_inner : {A : Type 0} (c : Config) (e : PoolError) → RefusesRun c e → outer_err {A = A} (Err e) ≡ false
-run_inner c e (inl settings) = same_outer (Err e) (checked c) (sym settings) ∙ checked_inner c
-run_inner c e (inr (inl memory)) = ap is_outer memory
-run_inner c e (inr (inr (inl full))) = ap is_outer full
-run_inner c e (inr (inr (inr torn))) = ap is_outer torn
+pub run_inner : (A : Type 0) (c : Config) (e : PoolError) → RefusesRun c e → outer_err {A = A} (Err e) ≡ false
+run_inner A c e (inl settings) = same_outer (Err e) (checked c) (sym settings) ∙ checked_inner c
+run_inner A c e (inr (inl memory)) = ap is_outer memory
+run_inner A c e (inr (inr (inl full))) = ap is_outer full
+run_inner A c e (inr (inr (inr torn))) = ap is_outer torn
 
 -- what a writer alone refuses was read
 pub was_read : {A : Type 0} (r : Result A PoolError) → IsOkUnless r WriteFailed → r ≢ Err ReadFailed

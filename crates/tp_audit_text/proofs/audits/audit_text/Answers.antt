@@ -1,4 +1,4 @@
-use Rattle.std.proofs.Common.{subst}
+use Rattle.std.proofs.Common.{Bool, subst}
 use Rattle.std.specs.Io.KnownBytes.{Appends}
 use Rattle.tp_text.proofs.Watchings.{none_written, not_read, not_unread, not_unwritten, not_written, read_refused, read_unwritten, read_well, write_refused, written_well}
 use Rattle.tp_audit_text.specs.AuditText.{IsRefusedText}
@@ -24,11 +24,11 @@ returns-in-Err-judge_text-clause-long g c = not_long (g.R.Read.remaining c.args.
 
 pub returns-in-Err-judge_text-clause-tells_reader : goal.returns-in-Err-judge_text-clause-tells_reader
 returns-in-Err-judge_text-clause-tells_reader g c =
-    read_well c.args.reader.now c.read_text.new.reader c.in-Ok.text _ c.in-Ok.ensures.unread (refused_inner c.as_slice.result.now c.in-Err-judge_text.refusal c.in-Err-judge_text.ensures)
+    read_well c.args.reader.now c.read_text.new.reader c.in-Ok.text _ c.in-Ok.ensures.unread (refused_inner Bool c.as_slice.result.now c.in-Err-judge_text.refusal c.in-Err-judge_text.ensures)
 
 pub returns-in-Err-judge_text-clause-tells_writer : goal.returns-in-Err-judge_text-clause-tells_writer
 returns-in-Err-judge_text-clause-tells_writer g c =
-    none_written c.args.writer.now _ (not_written _ (refused_inner c.as_slice.result.now c.in-Err-judge_text.refusal c.in-Err-judge_text.ensures))
+    none_written c.args.writer.now _ (not_written _ (refused_inner Bool c.as_slice.result.now c.in-Err-judge_text.refusal c.in-Err-judge_text.ensures))
 
 pub returns-in-Err-write_text-clause-audits : goal.returns-in-Err-write_text-clause-audits
 returns-in-Err-write_text-clause-audits g c = unwritten _ _ _ c.in-Err-write_text.refusal c.in-Err-write_text.ensures.only_writing

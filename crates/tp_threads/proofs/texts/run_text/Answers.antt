@@ -26,11 +26,11 @@ returns-in-Err-run_jobs-clause-long g c = never_long Jobs (Unit {0}) (g.I.Read.r
 
 pub returns-in-Err-run_jobs-clause-tells_reader : goal.returns-in-Err-run_jobs-clause-tells_reader
 returns-in-Err-run_jobs-clause-tells_reader g c =
-    read_well c.args.reader.now c.read_jobs.new.reader c.in-Ok.jobs _ c.in-Ok.ensures.tells (run_inner c.in-Ok.jobs.config c.in-Err-run_jobs.error c.in-Err-run_jobs.ensures.refused)
+    read_well c.args.reader.now c.read_jobs.new.reader c.in-Ok.jobs _ c.in-Ok.ensures.tells (run_inner (Unit {0}) c.in-Ok.jobs.config c.in-Err-run_jobs.error c.in-Err-run_jobs.ensures.refused)
 
 pub returns-in-Err-run_jobs-clause-tells_writer : goal.returns-in-Err-run_jobs-clause-tells_writer
 returns-in-Err-run_jobs-clause-tells_writer g c =
-    none_written c.args.writer.now _ (not_written _ (run_inner c.in-Ok.jobs.config c.in-Err-run_jobs.error c.in-Err-run_jobs.ensures.refused))
+    none_written c.args.writer.now _ (not_written _ (run_inner (Unit {0}) c.in-Ok.jobs.config c.in-Err-run_jobs.error c.in-Err-run_jobs.ensures.refused))
 
 pub returns-clause-written : goal.returns-clause-written
 returns-clause-written g c =
