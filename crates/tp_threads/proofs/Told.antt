@@ -1,6 +1,6 @@
 -- What a run of a file of jobs tells of its reader and its writer: a refusal of the file or of the run is none of theirs.
-use Rattle.std.proofs.Common.{◌≡◌, ◌≢◌, inl, inr, sym, ap, ◌∙◌, false, Option, List, ℕ, Result, Ok, Err}
-use Rattle.std.specs.Prelude.{IsOkUnless, OnOk}
+use Rattle.std.proofs.Common.{◌≡◌, ◌≢◌, ◌⊎◌, inl, inr, sym, ap, ◌∙◌, false, Option, List, ℕ, Result, Ok, Err}
+use Rattle.std.specs.Prelude.{IfErr, IsOkUnless, OnOk}
 use Rattle.tp_types.specs.Config.{checked}
 use Rattle.tp_types.specs.declared.configs.Config.{Config}
 use Rattle.tp_types.specs.declared.refusals.PoolError.{PoolError}
@@ -38,3 +38,8 @@ was_read (Err e) only is = not_unread e only is
 pub on_ok : {A E : Type 0} (r : Result A E) (P Q : Type 0) → (P → Q) → OnOk r P → OnOk r Q
 on_ok (Ok a) P Q follows holds = follows holds
 on_ok (Err e) P Q follows holds = tt
+
+-- a refusal of the writer's is one of two kinds
+pub or_unwritten : {A : Type 0} (r : Result A PoolError) (P : PoolError → Type 0) → IsOkUnless r WriteFailed → IfErr r (λ e. (e ≡ WriteFailed) ⊎ P e)
+or_unwritten (Ok a) P only = tt
+or_unwritten (Err e) P only = inl only
