@@ -31,7 +31,7 @@ use Rattle.tp_room.proofs.OwedLaws.{room_is_enough}
 use Rattle.tp_text.specs.Fits.{Fits32, Fits64}
 use Rattle.tp_text.specs.Pools.{FitsQueue}
 use Rattle.tp_record_text.specs.EntryFits.{IsInRange, IsStep, asked}
-use Rattle.tp_record_text.specs.RecordText.{FitsConfig, HasText, written_limit}
+use Rattle.tp_record_text.specs.RecordText.{FitsConfig, HasText}
 
 -- an answer, where it is none of a refusal, is of the form of this ask
 abbrev HasForm : Ask → Answer → Type 0

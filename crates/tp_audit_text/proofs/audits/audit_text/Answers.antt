@@ -1,6 +1,5 @@
 use Rattle.std.proofs.Common.{Bool, subst}
-use Rattle.std.specs.Io.KnownBytes.{Appends}
-use Rattle.tp_text.proofs.Watchings.{none_written, not_read, not_unread, not_unwritten, not_written, read_refused, read_unwritten, read_well, write_refused, written_well}
+use Rattle.tp_text.proofs.Watchings.{none_written, not_unread, not_unwritten, not_written, read_refused, read_unwritten, read_well, write_refused}
 use Rattle.tp_audit_text.specs.AuditText.{IsRefusedText}
 use Rattle.tp_audit_text.proofs.Written.{not_long, refused, refused_inner, unread, unwritten}
 use Rattle.tp_audit_text.proofs.audits.audit_text.Goals as goal

@@ -1,4 +1,4 @@
-use Rattle.std.proofs.Common.{Err, subst}
+use Rattle.std.proofs.Common.{subst}
 use Rattle.std.specs.Io.KnownBytes.{Appends}
 use Rattle.tp_scenario.specs.Played.{IsPlayed}
 use Rattle.tp_text.proofs.Watchings.{none_written, not_read, not_unread, not_unwritten, not_written, read_refused, read_unwritten, read_well, write_refused, written_well}
