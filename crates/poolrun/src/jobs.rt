@@ -12,6 +12,8 @@ use tp_commands::texts::whole_text;
 use tp_reasons::messages::Style;
 use tp_reasons::mistakes::Kind;
 use tp_reasons::scenarios::in_job_refused;
+use tp_text::watched::{WatchedReader, WatchedWriter};
+use tp_text::writing::write_text;
 use tp_threads::texts::{Unfinished, run_text};
 use tp_types::refusals::PoolError;
 
@@ -41,22 +43,21 @@ fn run_jobs<H: Files + Threads + Wait + Copy + Send + 'static, W: Write, E: Writ
     alloc: Global,
     record: Option<&str>,
     text: &[u8],
-    out: &mut W,
+    out: &mut WatchedWriter<W>,
     errors: &mut E,
     kept: &mut Option<Unfinished>,
 ) -> Result<bool, PoolError> {
-    let mut reader = text;
+    let mut reader = WatchedReader::new(text);
     let mut written = Vec::new(alloc);
-    let outcome = run_text(rt, alloc, &mut reader, &mut written, kept);
+    let mut writer = WatchedWriter::new(&mut written);
+    let outcome = run_text(rt, alloc, &mut reader, &mut writer, kept);
     if let Some(left) = kept {
         // The run is refused as its submission is, and not as the file is.
         let _ = write_file(&rt, record, left.text.as_slice(), errors);
     }
     outcome?;
     write_file(&rt, record, written.as_slice(), errors)?;
-    if out.write_all(written.as_slice()).is_err() || out.flush().is_err() {
-        return Err(PoolError::WriteFailed);
-    }
+    write_text(out, written.as_slice())?;
     Ok(true)
 }
 
@@ -73,7 +74,7 @@ pub fn run_threads<
     record: Option<&str>,
     name: &str,
     reader: R,
-    out: &mut W,
+    out: &mut WatchedWriter<W>,
     errors: &mut E,
     style: Style,
 ) -> u8 {

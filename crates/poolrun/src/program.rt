@@ -13,8 +13,8 @@ use tp_commands::audits::run_audit;
 use tp_commands::statuses::finish;
 use tp_commands::steps::run_steps;
 use tp_commands::telling::{name_of, tell};
-use tp_commands::watched::Watched;
 use tp_reasons::messages::Style;
+use tp_text::watched::WatchedWriter;
 use tp_types::refusals::PoolError;
 
 /// Does what was chosen with what a reader gives, and gives the status.
@@ -28,7 +28,7 @@ fn run_reader<
     alloc: Global,
     choice: &Choice,
     reader: R,
-    out: &mut W,
+    out: &mut WatchedWriter<W>,
     errors: &mut E,
     style: Style,
 ) -> u8 {
@@ -51,7 +51,7 @@ fn run_choice<H: Files + Input + Threads + Wait + Copy + Send + 'static, W: Writ
     rt: &H,
     alloc: Global,
     choice: &Choice,
-    out: &mut W,
+    out: &mut WatchedWriter<W>,
     errors: &mut E,
     style: Style,
 ) -> u8 {
@@ -91,7 +91,7 @@ pub fn program<H: Files + Input + Threads + Wait + Copy + Send + 'static, W: Wri
     errors: &mut E,
     style: Style,
 ) -> u8 {
-    let mut out = Watched::new(out);
+    let mut out = WatchedWriter::new(out);
     let status = match chosen(alloc, words) {
         Ok(choice) => run_choice(rt, alloc, &choice, &mut out, errors, style),
         Err(Unchosen::NoMemory) => finish(&mut out, &Err(PoolError::NoMemory)),

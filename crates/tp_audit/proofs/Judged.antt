@@ -1,6 +1,6 @@
 -- Fronts of a record, and what a legal record says of its length and its rank.
 use Rattle.std.proofs.Common.{◌≡◌, ℕ, zero, suc, ◌+◌, ◌-◌, ◌<◌, ◌≤◌, Bool, true, false, cond, List, [], ◌∷◌, ◌++◌, length, take, drop, reverse, get_or, max, Some, None, Ok, Err, refl, sym, ap, ◌∙◌, ◌⊎◌, inl, inr, subst, arith, append_assoc, length-take, ◌↔◌, IsTrue}
-use Rattle.std.specs.Prelude.{unwrap_or, IfSome}
+use Rattle.std.specs.Prelude.{Result, unwrap_or, IfOk, IfSome}
 use Rattle.std.proofs.lemmas.Bool.{leb-true}
 use Rattle.std.proofs.lemmas.List.{reverse-append, take-append-drop, drop_more}
 use Rattle.tp_types.specs.declared.configs.Config.{Config}
@@ -15,6 +15,11 @@ use Rattle.tp_record.specs.State.{State, state, next, due}
 use Rattle.tp_record.specs.Step.{Answer, Gives, Legal, step, within_room, leaves_room, is_free_for}
 use Rattle.tp_plain.proofs.Histories.{history_more}
 use Rattle.tp_audit.specs.Audit.{IsFirstFlaw, OneJudgment}
+
+-- what holds at all events holds of an Ok
+pub if_ok : {T E : Type 0} (r : Result T E) (P : Type 0) → P → IfOk r (λ s. P)
+if_ok (Ok s) P holds = holds
+if_ok (Err f) P holds = tt
 
 -- an entry is within the record's limit
 within_limit : (c : Config) (s : State) (a : Answer) (d : Did) → within_room c s a ≡ Ok d → suc s.steps ≤ c.record_limit

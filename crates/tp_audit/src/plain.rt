@@ -5,6 +5,7 @@ ghost use Rattle.tp_types.specs.Config.{IsConfig};
 ghost use Rattle.tp_record.specs.Effects.{reserves};
 ghost use Rattle.tp_record.specs.State as states;
 ghost use Rattle.tp_record.specs.Step as steps;
+ghost use Rattle.tp_laws.specs.Lawful.{IsLawful};
 ghost use Rattle.tp_plain.specs.Snapshot.{shown, IsSmall};
 ghost use Rattle.tp_audit.specs.Audit.{IsSummary, IsFlawOf, OneJudgment};
 
@@ -97,12 +98,13 @@ fn summary_of(alloc: Global, config: &Config, entries: &[Entry]) -> Result<Summa
 
 /// Judges the record of a pool that was made with `config`, by filters over the list: its counters,
 /// its run state and its tasks' fates, exactly where each entry is one that the step gives after those
-/// before it; else the number of the first that it does not give. The passes that the entries name are
-/// free, and so is the number of a new slot, if it is no slot then. Want of memory is answered as such;
-/// a slot numbered w takes a table of w + 1 places.
+/// before it; else the number of the first that it does not give. All laws hold of a record that has
+/// counters. The passes that the entries name are free, and so is the number of a new slot, if it is no
+/// slot then. Want of memory is answered as such; a slot numbered w takes a table of w + 1 places.
 pub fn audit_plain(alloc: Global, config: &Config, entries: &[Entry]) -> Result<Summary, Flaw>
     requires { IsConfig config.now }
     ensures legal { IfOk result (λ s. steps.Legal config.now (reverse entries.now)) }
+    ensures lawful { IfOk result (λ s. IsLawful config.now (reverse entries.now)) }
     ensures summary { IfOk result (λ s. IsSummary config.now (reverse entries.now) s) }
     ensures flaw { IfErr result (λ f. IsFlawOf config.now entries.now f) }
 {

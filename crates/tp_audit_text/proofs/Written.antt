@@ -1,5 +1,5 @@
 -- What is written of a judgment, and what a refused audit leaves.
-use Rattle.std.proofs.Common.{◌≡◌, ◌⊎◌, ◌<◌, ◌≤◌, ℕ, List, [], ◌++◌, length, reverse, Option, Some, None, Err, IfSome, unwrap_or, refl, sym, ◌∙◌, ap, subst, arith, inl, inr}
+use Rattle.std.proofs.Common.{◌≡◌, false, ◌⊎◌, ◌<◌, ◌≤◌, ℕ, List, [], ◌++◌, length, reverse, Option, Some, None, Err, IfSome, unwrap_or, refl, sym, ◌∙◌, ap, subst, arith, inl, inr}
 use Rattle.std.proofs.KnownBytes.{Keeps-refl}
 use Rattle.tp_types.specs.declared.configs.Config.{Config}
 use Rattle.tp_types.specs.declared.refusals.PoolError.{PoolError}
@@ -8,12 +8,14 @@ use Rattle.tp_types.specs.declared.states.Counts.{Counts}
 use Rattle.tp_types.specs.declared.states.RunState.{RunState}
 use Rattle.tp_types.specs.declared.states.RunState.TheVariants.{Running, Shutdown, Stop, Tidying, Terminated}
 use Rattle.tp_types.specs.RunState.{state_rank}
+use Rattle.tp_types.specs.Config.{checked}
 use Rattle.tp_record.specs.declared.entries.Entry.{Entry}
 use Rattle.tp_record.specs.Fields.{rank}
 use Rattle.tp_audit.specs.declared.summary.Summary.{Summary}
 use Rattle.tp_audit.specs.Audit.{IsSummary}
 use Rattle.tp_text.specs.EndLines.{counts_line, state_at, state_line}
 use Rattle.tp_text.proofs.Outputs.{known_or}
+use Rattle.tp_text.proofs.Refusals.{checked_inner, is_outer, outer_err, same_outer}
 use Rattle.tp_audit_text.specs.AuditText.{IsAudit, IsRefusedText, legal_line, legal_lines}
 
 state_back : (s : RunState) → state_at (state_rank s) ≡ s
@@ -45,3 +47,13 @@ refused input old text e known is = ((text, known, is), Keeps-refl old)
 pub not_long : (input : Option (List ℕ)) (text : List ℕ) (P : Type 0) → IfSome input (λ xs. text ≡ xs) → length text ≤ 1048576 → IfSome input (λ xs. 1048576 < length xs → P)
 not_long None text P known short = tt
 not_long (Some xs) text P known short = λ long. absurd (omega (arith, ap length known))
+
+-- a text is refused otherwise than a reader or a writer is
+pub refused_inner : (A : Type 0) (text : List ℕ) (e : PoolError) → IsRefusedText text e → outer_err {A = A} (Err e) ≡ false
+refused_inner A text e (inl memory) = ap is_outer memory
+refused_inner A text e (inr (inl pool)) = same_outer (Err e) (checked pool.config) (sym pool.refused) ∙ checked_inner pool.config
+refused_inner A text e (inr (inr wrong)) = ap is_outer wrong.1
+
+-- an audit whose judgment was not written
+pub unwritten : (input old new : Option (List ℕ)) (e : PoolError) → e ≡ WriteFailed → IsAudit input old new (Err e)
+unwritten input old new e is = subst (λ x. IsAudit input old new (Err x)) (sym is) tt

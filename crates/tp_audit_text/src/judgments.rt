@@ -1,7 +1,7 @@
 //! The judgment of a record, and its lines.
 ghost use Rattle.std.specs.Prelude.{◌≡◌, ◌≤◌, ◌++◌, List, length, reverse, string_bytes, IfOk, IsOkUnless};
 ghost use Rattle.tp_record.specs.declared.entries.Entry.{Entry as Told};
-ghost use Rattle.tp_auditor.specs.Audited.{settings, Judged, IsJudging};
+ghost use Rattle.tp_auditor.specs.Audited.{settings, Judged};
 ghost use Rattle.tp_text.specs.EndLines.{counts_line, state_line};
 ghost use Rattle.tp_audit_text.specs.AuditText.{IsJudged, JudgesText, flaw_line, legal_line};
 ghost use Rattle.tp_audit_text.specs.Judging.{IsToldBy};
@@ -61,7 +61,6 @@ fn legal(alloc: Global, entries: usize, summary: &Summary) -> Result<Vec<u8>, Po
 
 /// The judgment of a legal record of so many entries, which the auditor was told.
 fn legal_judgment(alloc: Global, auditor: &Auditor, entries: u32) -> Result<Judgment, PoolError>
-    requires { IsJudging auditor.now }
     ensures judged { IfOk result (λ j. (es : List Told) → Judged auditor.now (reverse es) → entries ≡ length es
         → IsJudged (settings auditor.now) es j.legal j.lines.items) }
     ensures only_memory { IsOkUnless result PoolError.NoMemory }
@@ -77,7 +76,6 @@ fn legal_judgment(alloc: Global, auditor: &Auditor, entries: u32) -> Result<Judg
 
 /// The judgment of a record of so many entries, which were told.
 pub fn judge(alloc: Global, judging: &Judging, entries: u32) -> Result<Judgment, PoolError>
-    requires { (es : List Told) × IsToldBy judging.now.auditor judging.now.flaw es }
     ensures judged { IfOk result (λ j. (es : List Told) → IsToldBy judging.now.auditor judging.now.flaw es → entries ≡ length es
         → IsJudged (settings judging.now.auditor) es j.legal j.lines.items) }
     ensures only_memory { IsOkUnless result PoolError.NoMemory }

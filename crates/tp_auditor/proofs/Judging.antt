@@ -25,6 +25,7 @@ use Rattle.tp_audit.specs.declared.summary.Summary.{Summary}
 use Rattle.tp_audit.specs.Audit.{IsSummary, IsFirstFlaw}
 use Rattle.tp_audit.proofs.Judged.{rank-le, first_flaw}
 use Rattle.tp_auditor.specs.declared.tables.Tables.{Tables}
+use Rattle.tp_auditor.specs.Audited.{Judge, Judged}
 use Rattle.tp_auditor.specs.Done.{done_in}
 use Rattle.tp_auditor.specs.Owed.{room_by, due_by}
 use Rattle.tp_auditor.specs.Tables.{shown, undone, grouped, completion, with_completion, handed_out, StandsAt, Suits, SuitsAll}
@@ -217,6 +218,18 @@ stands_first c t config kept done owed = record {
   legal = tt;
   shows = record { kept = kept; done = done; due = owed };
 }
+
+-- an auditor's value, and the fields that it is the view of
+
+module _ (c : Config) (t : Tables) (a : Judge) (is : record { config = c; tables = t } ≡ a) (h : List Entry) where
+  pub judged_now : StandsAt c h t → Judged a h
+  judged_now at = subst (λ (x : Judge). StandsAt x.config h x.tables) is at
+
+  pub judged_inside : Judged a h → StandsAt c h t
+  judged_inside at = subst (λ (x : Judge). StandsAt x.config h x.tables) (sym is) at
+
+  pub gives_inside : (k : Ask) (d : Did) → Gives a.config (state a.config h) k d → Gives c (state c h) k d
+  gives_inside k d gives = subst (λ (x : Judge). Gives x.config (state x.config h) k d) (sym is) gives
 
 -- the first entry that is not given, by the number that the auditor tells
 pub flaw_at : (c : Config) (es : List Entry) (i n : ℕ) (f : Entry) → i < length es → Legal c (reverse (take i es)) → n ≡ suc (length (reverse (take i es))) →

@@ -17,6 +17,7 @@ use crate::queue::Queue;
 use crate::seats::Seats;
 use crate::tables::Tables;
 use std::alloc::Global;
+use std::marker::Model;
 use tp_audit::plain::{are_same, fates_of};
 use tp_audit::summary::{Flaw, Summary};
 use tp_plain::counts::fated;
@@ -31,7 +32,7 @@ use tp_types::tasks::Fate;
 
 /// Judges the record of a pool, one entry at a time. Each entry costs what it changes: the first `shutdown` and a `stop` as
 /// many slots and tasks as they wake and hand back, a `purge` as the queue is long, all others the same or by the logarithm of
-/// what is kept. The memory goes by the numbers of tasks and slots.
+/// what is kept. The memory goes by the numbers of tasks and slots. What it was told and took is at each moment a legal record.
 #[derive(Drop)]
 pub struct Auditor {
     alloc: Global,
@@ -39,8 +40,24 @@ pub struct Auditor {
     tables: Tables,
 }
 
+impl Model for Auditor {
+    ghost use Rattle.std.specs.Coded.{codes};
+    ghost use Rattle.tp_auditor.specs.Audited.{Judge};
+    ghost use Rattle.tp_auditor.specs.contracts.tables.Tables as kept;
+
+    ghost Value = { Judge };
+
+    ghost coded = { Prim.hlevel (codes, kept.the_row.coded) };
+
+    ghost use Rattle.tp_auditor.specs.Tables.{Stands};
+
+    ghost view = { λ a. record { config = a.config; tables = a.tables } };
+
+    ghost invariant = { λ a. Stands a.config a.tables };
+}
+
 impl Auditor {
-    ghost use Rattle.tp_auditor.specs.Audited.{settings, Judged, IsJudging};
+    ghost use Rattle.tp_auditor.specs.Audited.{settings, Judged};
 
     /// An auditor of a pool that is made with `config`, before the first entry. Want of memory is NoMemory (4).
     pub fn new(alloc: Global, config: &Config) -> Result<Auditor, Flaw>
@@ -63,13 +80,11 @@ impl Auditor {
     /// number, counted from 1, as a flaw. After a flaw, and where there is no memory (4), the auditor is as it was. The pass
     /// that the entry names is free, and so is the number of a new slot, if it is no slot then.
     pub fn push(&mut self, entry: &Entry) -> Result<(), Flaw>
-        requires { IsJudging self.old }
         ensures given { OnOk result ((h : List Told) → Judged self.old h → steps.Gives (settings self.old) (states.state (settings self.old) h) entry.now.ask entry.now.did) }
         ensures told { OnOk result ((h : List Told) → Judged self.old h → Judged self.new (entry.now ∷ h)) }
         ensures flaw { (n : ℕ) → result ≡ Err (Flaw.At n) → (h : List Told) → Judged self.old h
             → (n ≡ suc (length h)) × (steps.Gives (settings self.old) (states.state (settings self.old) h) entry.now.ask entry.now.did → ⊥) }
         ensures same { OnErr result ((h : List Told) → Judged self.old h → Judged self.new h) }
-        ensures judging { IsJudging self.new }
         ensures settings { settings self.new ≡ settings self.old }
     {
         match self.is_given(entry.ask, entry.did) {
@@ -77,15 +92,14 @@ impl Auditor {
             Ok(false) => return Err(Flaw::At(self.tables.steps as usize + 1)),
             Err(_) => return Err(Flaw::NoMemory),
         }
-        match self.tables.note(entry.did) {
-            Ok(()) => Ok(()),
-            Err(_) => Err(Flaw::NoMemory),
-        }
+        let Ok(()) = self.tables.note(entry.did) else {
+            return Err(Flaw::NoMemory);
+        };
+        Ok(())
     }
 
     /// What the entries told so far say at their end. Want of memory is NoMemory (4).
     pub fn finish(&self) -> Result<Summary, Flaw>
-        requires { IsJudging self.now }
         ensures summary { IfOk result (λ s. (h : List Told) → Judged self.now h → IsSummary (settings self.now) h s) }
         ensures refused { IsOkUnless result Flaw.NoMemory }
     {
@@ -107,7 +121,6 @@ impl Auditor {
     /// What the step gives for an ask after the entries told so far, where a slot that it makes gets the number `made`; else
     /// its refusal, which is BookFull (5) too where `made` is a slot. Want of memory is NoMemory (4).
     pub fn answer(&self, ask: Ask, made: SlotId) -> Result<Did, PoolError>
-        requires { IsJudging self.now }
         ensures given { IfOk result (λ did. (h : List Told) → Judged self.now h
             → steps.Gives (settings self.now) (states.state (settings self.now) h) ask did) }
     {
@@ -125,7 +138,6 @@ impl Auditor {
 
     /// Whether the step gives this entry after those told before.
     fn is_given(&self, ask: Ask, did: Did) -> Result<bool, PoolError>
-        requires { IsJudging self.now }
         ensures given { IfOk result (λ b. (h : List Told) → Judged self.now h
             → IsTrue b ↔ steps.Gives (settings self.now) (states.state (settings self.now) h) ask did) }
         ensures refused { IsOkUnless result PoolError.NoMemory }
@@ -139,7 +151,6 @@ impl Auditor {
 
     /// Whether the ask is answered so, without a look at the room.
     fn fits(&self, ask: Ask, did: Did) -> Result<bool, PoolError>
-        requires { IsJudging self.now }
         ensures fits { IfOk result (λ b. (h : List Told) → Judged self.now h
             → IsTrue b ↔ (steps.fitting (settings self.now) (states.state (settings self.now) h) (unwrap_or (reserves did) 0) ask ≡ Ok did)) }
         ensures refused { IsOkUnless result PoolError.NoMemory }

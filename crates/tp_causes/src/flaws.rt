@@ -4,7 +4,7 @@ ghost use Rattle.std.specs.Prelude.{List, IfOk};
 ghost use Rattle.tp_record.specs.declared.entries.Entry.{Entry as Told};
 ghost use Rattle.tp_record.specs.State as states;
 ghost use Rattle.tp_record.specs.Step as steps;
-ghost use Rattle.tp_auditor.specs.Audited.{settings, Judged, IsJudging};
+ghost use Rattle.tp_auditor.specs.Audited.{settings, Judged};
 
 use crate::asks::ShownAsk;
 use crate::causes::{Cause, asked_slot, asked_task};
@@ -38,7 +38,6 @@ fn free_number(tables: &Tables, did: Did) -> SlotId {
 
 /// What the step gives for the ask of an entry, after the entries that the auditor was told; else its refusal.
 pub fn given_instead(auditor: &Auditor, entry: &Entry) -> Result<Did, PoolError>
-    requires { IsJudging auditor.now }
     ensures given { IfOk result (λ did. (h : List Told) → Judged auditor.now h
         → steps.Gives (settings auditor.now) (states.state (settings auditor.now) h) entry.now.ask did) }
 {
@@ -104,9 +103,7 @@ pub fn flaw_text(
     config: &Config,
     number: usize,
     entry: &Entry,
-) -> Result<String, AllocError>
-    requires { IsJudging auditor.now }
-{
+) -> Result<String, AllocError> {
     let line = number.saturating_add(2);
     let ask = ShownAsk(entry.ask);
     let tables = auditor.tables();

@@ -1,6 +1,7 @@
 //! The command `audit`: a record is judged.
 
 ghost use Rattle.std.specs.Prelude.{◌≡◌, ◌≤◌, Ok, false, true};
+ghost use Rattle.tp_text.specs.Watching.{sink};
 ghost use Rattle.tp_audit_text.specs.AuditText.{IsAudit};
 
 use crate::statuses::finish;
@@ -8,7 +9,6 @@ use crate::telling::{
     finding_in, tell_finding, tell_flaw, tell_flaw_in, tell_refusal, tell_unread,
 };
 use crate::texts::whole_text;
-use crate::watched::Watched;
 use std::alloc::Global;
 use std::io::{Read, Write};
 use tp_audit_text::audits::audit_text;
@@ -16,6 +16,7 @@ use tp_long::audits::{Refused, audit_lines};
 use tp_long::judging::Judgment;
 use tp_reasons::messages::Style;
 use tp_reasons::mistakes::Kind;
+use tp_text::watched::{WatchedReader, WatchedWriter};
 use tp_types::refusals::PoolError;
 
 /// Judges the record of a text as a whole.
@@ -23,20 +24,19 @@ fn audit_whole<R: Read + Drop, W: Write, E: Write>(
     alloc: Global,
     name: &str,
     reader: R,
-    out: &mut W,
+    out: &mut WatchedWriter<W>,
     errors: &mut E,
     style: Style,
 ) -> u8
     ensures few { result ≤ 1 }
-    ensures good { result ≡ 0 → IsAudit (R.remaining reader) (W.contents out.old) (W.contents out.new) (Ok true) }
+    ensures good { result ≡ 0 → IsAudit (R.remaining reader) (W.contents (sink out.old)) (W.contents (sink out.new)) (Ok true) }
 {
     let text = match whole_text(alloc, Kind::Record, name, reader, errors) {
         Ok(text) => text,
         Err(refusal) => return finish(out, &Err(refusal)),
     };
     let text = text.as_slice();
-    let mut rest = text;
-    let outcome = audit_text(alloc, &mut rest, out);
+    let outcome = audit_text(alloc, &mut WatchedReader::new(text), out);
     let status = finish(out, &outcome);
     match outcome {
         Ok(true) => {}
@@ -50,7 +50,7 @@ fn audit_whole<R: Read + Drop, W: Write, E: Write>(
 fn judge_lines<R: Read, W: Write>(
     alloc: Global,
     reader: &mut R,
-    out: &mut W,
+    out: &mut WatchedWriter<W>,
 ) -> Result<Judgment, Refused> {
     let judgment = audit_lines(alloc, reader)?;
     let written = match &judgment {
@@ -68,13 +68,13 @@ fn audit_by_lines<R: Read + Drop, W: Write, E: Write>(
     alloc: Global,
     name: &str,
     reader: R,
-    out: &mut W,
+    out: &mut WatchedWriter<W>,
     errors: &mut E,
     style: Style,
 ) -> u8
     ensures few { result ≤ 1 }
 {
-    let mut reader = Watched::new(reader);
+    let mut reader = WatchedReader::new(reader);
     match judge_lines(alloc, &mut reader, out) {
         Ok(Judgment::Legal(_)) => 0,
         Ok(Judgment::Flawed(_, why)) => {
@@ -99,12 +99,12 @@ pub fn run_audit<R: Read + Drop, W: Write, E: Write>(
     has_any_length: bool,
     name: &str,
     reader: R,
-    out: &mut W,
+    out: &mut WatchedWriter<W>,
     errors: &mut E,
     style: Style,
 ) -> u8
     ensures few { result ≤ 1 }
-    ensures good { has_any_length ≡ false → result ≡ 0 → IsAudit (R.remaining reader) (W.contents out.old) (W.contents out.new) (Ok true) }
+    ensures good { has_any_length ≡ false → result ≡ 0 → IsAudit (R.remaining reader) (W.contents (sink out.old)) (W.contents (sink out.new)) (Ok true) }
 {
     if has_any_length {
         audit_by_lines(alloc, name, reader, out, errors, style)

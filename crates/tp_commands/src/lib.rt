@@ -6,4 +6,3 @@ pub mod statuses;
 pub mod steps;
 pub mod telling;
 pub mod texts;
-pub mod watched;

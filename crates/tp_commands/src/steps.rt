@@ -1,6 +1,7 @@
 //! The command `steps`: a scenario is played.
 
 ghost use Rattle.std.specs.Prelude.{◌≡◌, ◌≤◌, false, length, true, Ok, IfOk, OnOk, Some};
+ghost use Rattle.tp_text.specs.Watching.{sink};
 ghost use Rattle.tp_replay.specs.Plays.{IsPlayIn, refusals_in};
 ghost use Rattle.tp_scenario.specs.Played.{IsRun};
 ghost use Rattle.tp_commands.specs.Steps.{HasNoRefusal, OfText, PrintsRecord};
@@ -14,6 +15,8 @@ use tp_choices::choices::Playing;
 use tp_reasons::messages::Style;
 use tp_reasons::mistakes::Kind;
 use tp_replay::plays::{Play, play_text};
+use tp_scenario::run::run;
+use tp_text::watched::{WatchedReader, WatchedWriter};
 use tp_types::refusals::PoolError;
 
 /// Whether a play lets the program end well.
@@ -50,11 +53,11 @@ fn play_for_record<W: Write, E: Write>(
     alloc: Global,
     playing: Playing,
     text: &[u8],
-    out: &mut W,
+    out: &mut WatchedWriter<W>,
     errors: &mut E,
 ) -> Result<bool, PoolError>
     requires { length text.now ≤ 1048576 }
-    ensures record { OnOk result (PrintsRecord text.now (W.contents out.old) (W.contents out.new)) }
+    ensures record { OnOk result (PrintsRecord text.now (W.contents (sink out.old)) (W.contents (sink out.new))) }
     ensures strict { playing.is_strict ≡ true → result ≡ Ok true → HasNoRefusal text.now }
 {
     let play = match play_told(alloc, playing, text, errors) {
@@ -95,19 +98,18 @@ pub fn play<W: Write, E: Write>(
     alloc: Global,
     playing: Playing,
     text: &[u8],
-    out: &mut W,
+    out: &mut WatchedWriter<W>,
     errors: &mut E,
 ) -> Result<bool, PoolError>
     requires { length text.now ≤ 1048576 }
-    ensures run { playing.prints_record ≡ false → OnOk result (IsRun (Some text.now) (W.contents out.old) (W.contents out.new) (Ok tt)) }
-    ensures record { playing.prints_record ≡ true → OnOk result (PrintsRecord text.now (W.contents out.old) (W.contents out.new)) }
+    ensures run { playing.prints_record ≡ false → OnOk result (IsRun (Some text.now) (W.contents (sink out.old)) (W.contents (sink out.new)) (Ok tt)) }
+    ensures record { playing.prints_record ≡ true → OnOk result (PrintsRecord text.now (W.contents (sink out.old)) (W.contents (sink out.new))) }
     ensures strict { playing.is_strict ≡ true → result ≡ Ok true → HasNoRefusal text.now }
 {
     if playing.prints_record {
         return play_for_record(alloc, playing, text, out, errors);
     }
-    let mut reader = text;
-    let outcome = tp_scenario::run::run(alloc, &mut reader, out);
+    let outcome = run(alloc, &mut WatchedReader::new(text), out);
     let again = play_again(alloc, playing, text, errors);
     match outcome {
         Ok(()) => again,
@@ -122,14 +124,14 @@ pub fn run_steps<R: Read + Drop, W: Write, E: Write>(
     playing: Playing,
     name: &str,
     reader: R,
-    out: &mut W,
+    out: &mut WatchedWriter<W>,
     errors: &mut E,
     style: Style,
 ) -> u8
     ensures few { result ≤ 1 }
-    ensures run { playing.prints_record ≡ false → result ≡ 0 → IsRun (R.remaining reader) (W.contents out.old) (W.contents out.new) (Ok tt) }
+    ensures run { playing.prints_record ≡ false → result ≡ 0 → IsRun (R.remaining reader) (W.contents (sink out.old)) (W.contents (sink out.new)) (Ok tt) }
     ensures record { playing.prints_record ≡ true → result ≡ 0
-        → OfText (R.remaining reader) (λ text. PrintsRecord text (W.contents out.old) (W.contents out.new)) }
+        → OfText (R.remaining reader) (λ text. PrintsRecord text (W.contents (sink out.old)) (W.contents (sink out.new))) }
     ensures strict { playing.is_strict ≡ true → result ≡ 0 → OfText (R.remaining reader) HasNoRefusal }
 {
     let text = match whole_text(alloc, Kind::Scenario, name, reader, errors) {

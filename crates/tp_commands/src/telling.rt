@@ -1,6 +1,5 @@
 //! What is told on the standard error.
 
-use crate::watched::Watched;
 use std::alloc::Global;
 use std::io::{self, Write};
 use tp_long::audits::{Refused, audit_lines};
@@ -9,6 +8,7 @@ use tp_reasons::lines::Line;
 use tp_reasons::messages::{Style, write_message};
 use tp_reasons::mistakes::{Finding, Kind};
 use tp_reasons::reasons::{reason, reason_of_line};
+use tp_text::watched::WatchedReader;
 use tp_types::refusals::PoolError;
 
 /// What is told of a text that is too long to be read.
@@ -20,7 +20,7 @@ pub fn tell<E: Write>(errors: &mut E, name: &str, reason: &io::Error) {
 }
 
 /// Tells why the reader of a text failed, or that it gave too much.
-pub fn tell_unread<R, E: Write>(errors: &mut E, kind: Kind, name: &str, reader: &Watched<R>) {
+pub fn tell_unread<R, E: Write>(errors: &mut E, kind: Kind, name: &str, reader: &WatchedReader<R>) {
     let _ = match (reader.failure(), kind) {
         (Some(reason), _) => writeln!(errors, "poolrun: {name}: {reason}"),
         (None, Kind::Record) => writeln!(

@@ -1,9 +1,6 @@
 //! A record judged line by line.
 
-ghost use Rattle.tp_auditor.specs.Audited.{IsJudging};
-
 use std::alloc::{AllocError, Global};
-use std::marker::Model;
 use tp_audit::summary::{Flaw, Summary};
 use tp_auditor::auditor::Auditor;
 use tp_causes::flaws::flaw_text;
@@ -32,17 +29,6 @@ pub struct Body {
     is_over: bool,
 }
 
-impl Model for Body {
-    ghost use Rattle.std.specs.Prelude.{ℕ};
-    ghost use Rattle.tp_auditor.specs.Audited.{IsJudging};
-
-    ghost Value = { ℕ };
-
-    ghost view = { λ b. b.entries };
-
-    ghost invariant = { λ b. IsJudging b.auditor };
-}
-
 /// How far a record's text is read.
 #[derive(Drop)]
 pub enum Judging {
@@ -63,9 +49,7 @@ fn lines_of(alloc: Global, entries: u32, summary: &Summary) -> Result<String, Al
 }
 
 /// The judgment of a legal record of so many entries, which the auditor was told.
-fn legal(alloc: Global, entries: u32, auditor: &Auditor) -> Result<Judgment, PoolError>
-    requires { IsJudging auditor.now }
-{
+fn legal(alloc: Global, entries: u32, auditor: &Auditor) -> Result<Judgment, PoolError> {
     let summary = match auditor.finish() {
         Ok(summary) => summary,
         Err(_) => return Err(PoolError::NoMemory),

@@ -11,3 +11,4 @@ pub mod FirstWrong
 pub mod WrittenText
 mod TellDid
 mod OneText
+mod Forms

@@ -159,6 +159,10 @@ asked (did.Prestart o) = ask.Prestart
 abbrev pub FitsPass : ℕ → Type 0
 FitsPass by = Fits32 by × (by ≢ 0)
 
+-- the numbers of an entry are in the range of their types
+abbrev pub IsInRange : Entry → Type 0
+IsInRange e = Fits32 e.by × FitsDid e.did
+
 -- an entry in the range of its types, whose answer is of the form of its ask
 abbrev pub IsStep : Entry → Type 0
 IsStep e = Fits32 e.by × FitsDid e.did × (e.ask ≡ asked e.did)

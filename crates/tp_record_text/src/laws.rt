@@ -1,10 +1,13 @@
 //! Laws of entries' lines and of record texts.
-ghost use Rattle.std.specs.Prelude.{◌≡◌, ℕ, List};
+ghost use Rattle.std.specs.Prelude.{◌≡◌, ℕ, List, reverse};
+ghost use Rattle.std.specs.List.{AllByRecursion};
+ghost use Rattle.tp_types.specs.Config.{IsConfig};
 ghost use Rattle.tp_types.specs.declared.configs.Config.{Config};
 ghost use Rattle.tp_record.specs.declared.entries.Entry.{Entry};
+ghost use Rattle.tp_record.specs.Step.{Legal};
 ghost use Rattle.tp_text.specs.EntryLine.{entry_line};
-ghost use Rattle.tp_text.specs.Fits.{Fits32};
-ghost use Rattle.tp_record_text.specs.EntryFits.{IsStep};
+ghost use Rattle.tp_text.specs.Fits.{Fits32, Fits64};
+ghost use Rattle.tp_record_text.specs.EntryFits.{IsInRange, IsStep};
 ghost use Rattle.tp_record_text.specs.RecordText.{HasText, record_text};
 
 /// The law that no two entries share a line, and no two records a text: entries of one line, in the
@@ -15,4 +18,12 @@ pub fn texts_are_distinct()
         → entry_line n e ≡ entry_line m f → (n ≡ m) × (e ≡ f) }
     ensures records { (c d : Config) (es fs : List Entry) → HasText c es → HasText d fs
         → record_text c es ≡ record_text d fs → (c ≡ d) × (es ≡ fs) }
+{}
+
+/// The law that a legal record has a text: each of its entries has its line, so what is written of it is
+/// read as that record and as no other (`texts_are_distinct`). Its premise is that the numbers are in the
+/// range of their types, since the rules do not bound them all.
+pub fn legal_has_text()
+    ensures { (c : Config) (es : List Entry) → IsConfig c → Fits64 c.keep → Legal c (reverse es)
+        → AllByRecursion IsInRange es → HasText c es }
 {}

@@ -1,39 +1,37 @@
 //! Record texts, written.
-ghost use Rattle.std.specs.Prelude.{◌≡◌, IsOkUnless, OnOk};
-ghost use Rattle.std.specs.Io.KnownBytes.{Appends};
-ghost use Rattle.tp_record_text.specs.RecordText.{record_text};
+ghost use Rattle.std.specs.Prelude.{◌≡◌, ◌++◌, IfOk, IsOkUnless, OnOk, string_bytes};
+ghost use Rattle.tp_record_text.specs.RecordText.{record_text as text_of};
 
 use crate::heads::Head;
-use std::io::Write;
+use std::alloc::{AllocError, Global};
 use tp_record::entries::Entry;
-use tp_text::entries::EntryLine;
+use tp_text::entries::write_entry;
 use tp_types::configs::Config;
 use tp_types::refusals::PoolError;
 
-/// Writes the text of a record, version 1, behind what is written: the configuration's pool line,
-/// with a limit only where it is not 4,096, a line for each entry, oldest first, and the line that
-/// says how many they are. It writes piece by piece, a word or a number at a time, and does not
-/// flush. 26 `WriteFailed` may come after some of the text was written.
-pub fn write_record<W: Write>(
-    writer: &mut W,
-    config: &Config,
-    entries: &[Entry],
-) -> Result<(), PoolError>
-    ensures text { OnOk result (Appends (W.contents writer.old) (W.contents writer.new) (record_text config.now entries.now)) }
-    ensures only_writing { IsOkUnless result PoolError.WriteFailed }
+/// Writes the text of a record behind what is written. Where room is missing, some of it may be
+/// written.
+fn write_record(text: &mut String, config: &Config, entries: &[Entry]) -> Result<(), AllocError>
+    ensures { OnOk result (string_bytes text.new ≡ string_bytes text.old ++ text_of config.now entries.now) }
 {
-    if write!(writer, "{}", Head(config)).is_err() {
-        return Err(PoolError::WriteFailed);
-    }
+    write!(text, "{}", Head(config))?;
     for (i, entry) in entries.iter().enumerate() {
-        let number = i + 1;
-        if write!(writer, "{}", EntryLine { number, entry }).is_err() {
-            return Err(PoolError::WriteFailed);
-        }
+        write_entry(text, i + 1, entry)?;
     }
     let count = entries.len();
-    if writeln!(writer, "end {count}").is_err() {
-        return Err(PoolError::WriteFailed);
+    write!(text, "end {count}\n")
+}
+
+/// The text of a record, version 1: the configuration's pool line, with a limit only where it is not
+/// 4,096, a line for each entry, oldest first, and the line that says how many they are. Want of memory
+/// is 4 `NoMemory`.
+pub fn record_text(alloc: Global, config: &Config, entries: &[Entry]) -> Result<Vec<u8>, PoolError>
+    ensures text { IfOk result (λ text. text.items ≡ text_of config.now entries.now) }
+    ensures only_memory { IsOkUnless result PoolError.NoMemory }
+{
+    let mut text = String::new(alloc);
+    match write_record(&mut text, config, entries) {
+        Ok(()) => Ok(text.into_bytes()),
+        Err(_) => Err(PoolError::NoMemory),
     }
-    Ok(())
 }

@@ -4,6 +4,7 @@ ghost use Rattle.std.specs.Prelude.{◌≡◌, ◌⊎◌, ◌++◌, Err, IfErr, 
 ghost use Rattle.std.specs.Option.{option_to_list};
 ghost use Rattle.std.specs.Result.{result_ok};
 ghost use Rattle.std.specs.Io.KnownBytes.{Appends};
+ghost use Rattle.tp_text.specs.Watching.{TellsWriter, sink};
 ghost use Rattle.tp_record_text.specs.RecordText.{record_text};
 ghost use Rattle.tp_replay.specs.Plays.{entries_in};
 
@@ -11,6 +12,9 @@ use crate::plays::{Answered, Play};
 use std::alloc::{AllocError, Global};
 use std::io::Write;
 use tp_record::entries::Entry;
+use tp_record_text::writing::record_text;
+use tp_text::watched::WatchedWriter;
+use tp_text::writing::write_text;
 use tp_types::refusals::PoolError;
 
 /// Puts the entry behind the others, where the answer is one.
@@ -46,27 +50,25 @@ impl Play {
         let Ok(entries) = entries_of(alloc, self.answers.as_slice()) else {
             return Err(PoolError::NoMemory);
         };
-        let mut text = Vec::new(alloc);
-        match tp_record_text::writing::write_record(&mut text, &self.config, entries.as_slice()) {
-            Ok(()) => Ok(text),
-            Err(_) => Err(PoolError::NoMemory),
-        }
+        record_text(alloc, &self.config, entries.as_slice())
     }
 
-    /// Writes the text of its record at once. Want of memory is NoMemory (4), and nothing is written then; a writer that fails is
-    /// WriteFailed (26).
-    pub fn write_record<W: Write>(&self, alloc: Global, out: &mut W) -> Result<(), PoolError>
-        ensures written { OnOk result (Appends (W.contents out.old) (W.contents out.new) (record_text self.now.config (entries_in self.now.answers.items))) }
+    /// Writes the text of its record at once. Want of memory is NoMemory (4), and nothing is written then. WriteFailed (26) comes
+    /// just where the writer fails now, which keeps why.
+    pub fn write_record<W: Write>(
+        &self,
+        alloc: Global,
+        out: &mut WatchedWriter<W>,
+    ) -> Result<(), PoolError>
+        ensures written { OnOk result (Appends (W.contents (sink out.old)) (W.contents (sink out.new)) (record_text self.now.config (entries_in self.now.answers.items))) }
         ensures unwritten { result ≡ Err PoolError.NoMemory → out.new ≡ out.old }
         ensures refused { IfErr result (λ e. (e ≡ PoolError.NoMemory) ⊎ (e ≡ PoolError.WriteFailed)) }
+        ensures tells { TellsWriter out.old result out.new }
     {
         let text = match self.record_text(alloc) {
             Ok(text) => text,
             Err(refusal) => return Err(refusal),
         };
-        if out.write_all(text.as_slice()).is_err() || out.flush().is_err() {
-            return Err(PoolError::WriteFailed);
-        }
-        Ok(())
+        write_text(out, text.as_slice())
     }
 }

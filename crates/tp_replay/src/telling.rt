@@ -1,7 +1,5 @@
 //! Why the steps of a play were refused, told by an auditor of its record.
 
-ghost use Rattle.tp_auditor.specs.Audited.{IsJudging};
-
 use crate::plays::Play;
 use std::alloc::Global;
 use std::io::Write;
@@ -45,10 +43,7 @@ fn tell<W: Write>(alloc: Global, out: &mut W, number: u32, line: &[u8], cause: C
 }
 
 /// Tells the auditor an entry; NoMemory (4).
-fn note(auditor: &mut Auditor, entry: &Entry) -> Result<(), PoolError>
-    requires { IsJudging auditor.old }
-    ensures { IsJudging auditor.new }
-{
+fn note(auditor: &mut Auditor, entry: &Entry) -> Result<(), PoolError> {
     match auditor.push(entry) {
         Err(Flaw::NoMemory) => Err(PoolError::NoMemory),
         _ => Ok(()),

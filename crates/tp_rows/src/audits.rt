@@ -8,7 +8,8 @@ use std::process::Abort;
 use std::test::Fail;
 use tp_audit_text::audits::audit_text;
 use tp_record_text::records::read_record;
-use tp_record_text::writing::write_record;
+use tp_record_text::writing::record_text;
+use tp_text::watched::{WatchedReader, WatchedWriter};
 use tp_types::limits::MAX_TEXT_BYTES;
 use tp_types::refusals::PoolError;
 
@@ -89,7 +90,9 @@ counts submitted=0 run=0 caller=0 rejected=0 discarded=0 handedback=0 removed=0 
 /// What is written of what a reader gives, and whether it is legal.
 fn outcome_from<R: Read>(alloc: Global, reader: &mut R) -> (Vec<u8>, Result<bool, PoolError>) {
     let mut written = Vec::new(alloc);
-    let answer = audit_text(alloc, reader, &mut written);
+    let mut reader = WatchedReader::new(reader);
+    let mut writer = WatchedWriter::new(&mut written);
+    let answer = audit_text(alloc, &mut reader, &mut writer);
     (written, answer)
 }
 
@@ -242,9 +245,8 @@ fn written_again(alloc: Global, text: &[u8]) -> Result<Option<Vec<u8>>, PoolErro
     }
     match read_record(alloc, text) {
         Ok(record) => {
-            let mut written = Vec::new(alloc);
-            write_record(&mut written, &record.config, record.entries.as_slice())?;
-            Ok(Some(written))
+            let entries = record.entries.as_slice();
+            Ok(Some(record_text(alloc, &record.config, entries)?))
         }
         Err(PoolError::NoMemory) => Err(PoolError::NoMemory),
         Err(_) => Ok(None),
@@ -364,10 +366,11 @@ fn outcome_into(
     room: usize,
     flushes: bool,
 ) -> (Result<bool, PoolError>, usize) {
-    let mut reader = text;
-    let mut writer = Full { room, flushes };
+    let mut full = Full { room, flushes };
+    let mut reader = WatchedReader::new(text);
+    let mut writer = WatchedWriter::new(&mut full);
     let answer = audit_text(alloc, &mut reader, &mut writer);
-    (answer, writer.room)
+    (answer, full.room)
 }
 
 #[test]

@@ -1,7 +1,6 @@
 //! Records with one entry wrong: both auditors answer the same of each.
 
 ghost use Rattle.tp_types.specs.Config.{IsConfig};
-ghost use Rattle.tp_auditor.specs.Audited.{IsJudging};
 
 use crate::compare::same;
 use crate::judged::{LONE, judged};
@@ -320,10 +319,7 @@ fn is_told(judgment: Result<Summary, Flaw>) -> bool {
 }
 
 /// Tells the auditor an entry, and once more where there was no memory.
-fn tell(auditor: &mut Auditor, entry: &Entry) -> Result<(), Flaw>
-    requires { IsJudging auditor.old }
-    ensures { IsJudging auditor.new }
-{
+fn tell(auditor: &mut Auditor, entry: &Entry) -> Result<(), Flaw> {
     match auditor.push(entry) {
         Err(Flaw::NoMemory) => auditor.push(entry),
         answer => answer,
@@ -331,10 +327,7 @@ fn tell(auditor: &mut Auditor, entry: &Entry) -> Result<(), Flaw>
 }
 
 /// Whether each of them is told well.
-fn tell_all(auditor: &mut Auditor) -> bool
-    requires { IsJudging auditor.old }
-    ensures { IsJudging auditor.new }
-{
+fn tell_all(auditor: &mut Auditor) -> bool {
     for (ask, did) in TOLD {
         if tell(auditor, &Entry { by: 0, ask, did }).is_err() {
             return false;

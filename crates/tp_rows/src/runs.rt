@@ -11,11 +11,12 @@ mod refusing;
 mod working;
 
 use crate::compare::same;
-use crate::streams::{FailsOnce, Full, Long};
+use crate::streams::{FailsOnce, Full, Long, kind_of};
 use std::alloc::Global;
 use std::io::{self, Read, Write};
 use std::process::Abort;
 use tp_scenario::run::run;
+use tp_text::watched::{WatchedReader, WatchedWriter};
 use tp_types::limits::MAX_TEXT_BYTES;
 use tp_types::refusals::PoolError;
 
@@ -68,7 +69,9 @@ const ROW_22E: &[u8] = b"";
 /// What is written of what a reader gives, and how the run ends.
 fn outcome_from<R: Read>(alloc: Global, reader: &mut R) -> (Vec<u8>, Result<(), PoolError>) {
     let mut written = Vec::new(alloc);
-    let answer = run(alloc, reader, &mut written);
+    let mut reader = WatchedReader::new(reader);
+    let mut writer = WatchedWriter::new(&mut written);
+    let answer = run(alloc, &mut reader, &mut writer);
     (written, answer)
 }
 
@@ -146,17 +149,30 @@ fn plays_worked_rows(rt: HostRuntime) {
 const EMPTY_OUTPUT: &[u8] = b"state running\n\
 counts submitted=0 run=0 caller=0 rejected=0 discarded=0 handedback=0 removed=0 cancelled=0 completed=0 queued=0 live=0 largest=0\n";
 
+/// The refusal of the first row by a reader that has an error once, and why the reader failed.
+fn refusal_of(
+    alloc: Global,
+    before: usize,
+    error: io::ErrorKind,
+) -> (usize, Option<PoolError>, Option<io::ErrorKind>) {
+    let mut written = Vec::new(alloc);
+    let mut reader = WatchedReader::new(FailsOnce {
+        rest: ROW_01,
+        before,
+        error,
+    });
+    let mut writer = WatchedWriter::new(&mut written);
+    let ending = run(alloc, &mut reader, &mut writer);
+    (written.len(), ending.err(), kind_of(reader.failure()))
+}
+
 #[test]
 fn refuses_a_reader_that_fails(rt: HostRuntime) {
     for error in [io::ErrorKind::Other, io::ErrorKind::Interrupted] {
         for before in 0..ROW_01.len() + 1 {
-            let mut reader = FailsOnce {
-                rest: ROW_01,
-                before,
-                error,
-            };
-            let failed = PoolError::ReadFailed;
-            refuses(&rt, before, rt.alloc(), &mut reader, failed);
+            let seen = refusal_of(rt.alloc(), before, error);
+            let wanted = (0, Some(PoolError::ReadFailed), Some(error));
+            same(&rt, before, &seen, &wanted);
         }
     }
 }
@@ -185,10 +201,16 @@ fn reads_a_long_text_and_no_longer_one(rt: HostRuntime) {
     }
 }
 
-/// How a run ends whose writer has so much room, or fails when it is flushed.
-fn ending_into(alloc: Global, room: usize, flushes: bool) -> Result<(), PoolError> {
-    let mut reader = ROW_01;
-    run(alloc, &mut reader, &mut Full { room, flushes })
+/// How a run ends whose writer has so much room, or fails when it is flushed, and why the writer failed.
+fn ending_into(
+    alloc: Global,
+    room: usize,
+    flushes: bool,
+) -> (Result<(), PoolError>, Option<io::ErrorKind>) {
+    let mut reader = WatchedReader::new(ROW_01);
+    let mut writer = WatchedWriter::new(Full { room, flushes });
+    let ending = run(alloc, &mut reader, &mut writer);
+    (ending, kind_of(writer.failure()))
 }
 
 #[test]
@@ -196,9 +218,9 @@ fn refuses_a_writer_that_fails(rt: HostRuntime) {
     for room in 0..ROW_01_OUTPUT.len() + 1 {
         for flushes in [true, false] {
             let answer = if flushes && room == ROW_01_OUTPUT.len() {
-                Ok(())
+                (Ok(()), None)
             } else {
-                Err(PoolError::WriteFailed)
+                (Err(PoolError::WriteFailed), Some(io::ErrorKind::Other))
             };
             let given = ending_into(rt.alloc(), room, flushes);
             same(&rt, room, &given, &answer);
@@ -330,12 +352,13 @@ fn is_right_or_broken_off(written: &[u8], ending: Result<(), PoolError>) -> bool
 
 #[test]
 fn want_of_memory_breaks_off(rt: HostRuntime) {
-    let mut reader = GROWING;
     let mut page = Page {
         bytes: [0; 2_048],
         len: 0,
     };
-    let ending = run(rt.alloc(), &mut reader, &mut page);
+    let mut reader = WatchedReader::new(GROWING);
+    let mut writer = WatchedWriter::new(&mut page);
+    let ending = run(rt.alloc(), &mut reader, &mut writer);
     let written = page.bytes.get(..page.len).unwrap_or(&[]);
     let is_right = is_right_or_broken_off(written, ending);
     same(&rt, 0, &is_right, &true);

@@ -82,6 +82,11 @@ impl Write for Full {
     }
 }
 
+/// The kind of a failure, where there was one.
+pub fn kind_of(failure: Option<&io::Error>) -> Option<io::ErrorKind> {
+    Some(failure?.kind())
+}
+
 /// The number of the line that a text ends in, counted from 1.
 pub fn last_line(text: &[u8]) -> u32 {
     let mut line = 1u32;

@@ -6,6 +6,7 @@ use std::test::Fail;
 use tp_audit_text::audits::audit_text;
 use tp_long::audits::audit_lines;
 use tp_long::judging::Judgment;
+use tp_text::watched::{WatchedReader, WatchedWriter};
 
 const HEAD: &str = "tprecord 1
 pool 1 2 bounded 1 keep 0 abort
@@ -103,12 +104,10 @@ const RECORD: &[u8] =
 /// What both audits say of a text: by lines, and whole.
 fn are_same(alloc: Global, text: &[u8]) -> bool {
     let mut by_lines = text;
-    let mut whole = text;
+    let mut whole = WatchedReader::new(text);
     let mut out = Vec::new(alloc);
-    match (
-        audit_lines(alloc, &mut by_lines),
-        audit_text(alloc, &mut whole, &mut out),
-    ) {
+    let judged = audit_text(alloc, &mut whole, &mut WatchedWriter::new(&mut out));
+    match (audit_lines(alloc, &mut by_lines), judged) {
         (Ok(Judgment::Legal(lines)), Ok(true)) => lines.as_bytes() == out.as_slice(),
         (Ok(Judgment::Flawed(_, _)), Ok(false)) => true,
         (Err(refused), Err(other)) => refused.refusal == other,

@@ -9,6 +9,7 @@ use tp_reasons::mistakes::Kind;
 use tp_reasons::reasons::reason;
 use tp_scenario::jobs::read_jobs;
 use tp_scenario::run::run;
+use tp_text::watched::{WatchedReader, WatchedWriter};
 use tp_types::refusals::PoolError;
 
 /// A text, the place that is told (`2:8`), the sentence, and what is said under the line or in a note.
@@ -16,8 +17,8 @@ type Row = (&'static [u8], &'static str, &'static str, &'static str);
 
 /// How a text of a kind is refused, if it is.
 pub fn refusal_of(alloc: Global, kind: Kind, text: &[u8]) -> Option<PoolError> {
-    let mut reader = text;
-    let mut out = Vec::new(alloc);
+    let mut reader = WatchedReader::new(text);
+    let mut out = WatchedWriter::new(Vec::new(alloc));
     match kind {
         Kind::Scenario => run(alloc, &mut reader, &mut out).err(),
         Kind::Jobs => read_jobs(alloc, &mut reader).err(),

@@ -2,6 +2,7 @@
 
 use std::test::Fail;
 use tp_replay::plays::play_text;
+use tp_text::watched::WatchedWriter;
 
 const REFUSED: &[u8] = b"pool 1 1 unbounded keep 5 abort limit 64
 # one task
@@ -69,7 +70,8 @@ fn tells_why_steps_are_refused(rt: HostRuntime) -> Result<(), Fail> {
         str::from_utf8(TOLD).unwrap_or("?")
     );
     let mut record = Vec::new(rt.alloc());
-    assert!(rt; play.write_record(rt.alloc(), &mut record).is_ok());
+    let mut out = WatchedWriter::new(&mut record);
+    assert!(rt; play.write_record(rt.alloc(), &mut out).is_ok());
     assert_eq!(rt;
         str::from_utf8(record.as_slice()).unwrap_or(""),
         str::from_utf8(RECORD).unwrap_or("?")

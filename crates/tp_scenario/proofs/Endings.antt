@@ -1,17 +1,19 @@
 -- How a run of a scenario ends, case by case.
-use Rattle.std.proofs.Common.{◌≡◌, ◌⊎◌, inl, inr, ℕ, List, [], ◌++◌, length, take, Bool, true, false, not, Option, Some, None, Ok, Err, IfSome, unwrap_or, refl, sym, ◌∙◌, ap, subst, append_assoc, if◌then◌else◌}
+use Rattle.std.proofs.Common.{◌≡◌, ◌⊎◌, inl, inr, ℕ, List, [], ◌++◌, length, take, false, Option, Some, None, Ok, Err, IfSome, unwrap_or, refl, sym, ◌∙◌, ap, subst, append_assoc}
 use Rattle.std.specs.Io.KnownBytes.{Appends}
 use Rattle.std.proofs.KnownBytes.{Keeps-refl}
 use Rattle.std.proofs.Math.Seq.{take-length}
 use Rattle.tp_types.specs.declared.configs.Config.{Config}
 use Rattle.tp_types.specs.declared.refusals.PoolError.{PoolError}
-use Rattle.tp_types.specs.declared.refusals.PoolError.TheVariants.{NoMemory, BadLine, ReadFailed, WriteFailed, BadSizes, BadCapacity, BadLimit, KeepZero}
-use Rattle.tp_types.specs.Config.{IsConfig, checked, are_good_sizes, is_good_capacity, is_good_limit, is_good_keep}
+use Rattle.tp_types.specs.declared.refusals.PoolError.TheVariants.{NoMemory, BadLine, ReadFailed, WriteFailed}
+use Rattle.tp_types.specs.Config.{IsConfig, checked}
 use Rattle.tp_record.specs.State.{State, state}
 use Rattle.tp_text.specs.RunText.{Answer, after_all, run_lines, end_lines, IsFront}
 use Rattle.tp_text.specs.declared.pools.PoolLine.{PoolLine}
 use Rattle.tp_text.specs.Pools.{config_of}
 use Rattle.tp_text.proofs.Outputs.{known_or, no_more}
+use Rattle.tp_text.proofs.Refusals.{checked_inner, outer_err, same_outer}
+use Rattle.tp_text.proofs.Watchings.{not_read}
 use Rattle.tp_scenario.specs.Scenario.{Asked, Said}
 use Rattle.tp_scenario.specs.Played.{Ending, IsPlay, IsPlayed, IsRun, ComesOf, ComesOfPool, BreaksOff, ending_of, written}
 use Rattle.tp_scenario.specs.Answered.{Breaks, PlaysFrom, Playing, Stands}
@@ -75,37 +77,29 @@ breaks_end p asked mid out front c answers r one good none stands grows more =
       ),
     )
 
--- a check answers no failed read
-not_read : (a b c d : Bool) → ◌≡◌ {A = Ending} (if not a then Err BadSizes else (if not b then Err BadCapacity else (if not c then Err BadLimit else (if not d then Err KeepZero else Ok tt)))) (Err ReadFailed) → ⊥
-not_read false b c d is = cc
-not_read true false c d is = cc
-not_read true true false d is = cc
-not_read true true true false is = cc
-not_read true true true true is = cc
+bad_inner : (o : Option ℕ) → outer_err (ending_of o) ≡ false
+bad_inner None = refl
+bad_inner (Some k) = refl
 
-bad_not_read : (o : Option ℕ) → ending_of o ≡ Err ReadFailed → ⊥
-bad_not_read None is = cc
-bad_not_read (Some k) is = cc
+pool_inner : (r : Ending) (c : Config) (asked : Asked) (out : List ℕ) (ending : Ending) → outer_err r ≡ false → ComesOfPool r c asked out ending → outer_err ending ≡ false
+pool_inner (Err e) c asked out ending inner comes = same_outer ending (Err e) comes.1 ∙ inner
+pool_inner (Ok u) c asked out ending inner comes = same_outer ending (ending_of asked.1) comes.3 ∙ bad_inner asked.1
 
-checked_not_read : (r : Ending) (c : Config) (asked : Asked) (out : List ℕ) (ending : Ending) → (r ≡ Err ReadFailed → ⊥) → ComesOfPool r c asked out ending → ending ≡ Err ReadFailed → ⊥
-checked_not_read (Err e) c asked out ending never comes is = never (sym comes.1 ∙ is)
-checked_not_read (Ok u) c asked out ending never comes is = bad_not_read asked.1 (sym comes.3 ∙ is)
-
-said_not_read : (s : Said) (out : List ℕ) (ending : Ending) → ComesOf s out ending → ending ≡ Err ReadFailed → ⊥
-said_not_read (Err k) out ending comes is = let e : ◌≡◌ {A = Ending} (Err (BadLine k)) (Err ReadFailed) = sym comes.1 ∙ is in cc
-said_not_read (Ok q) out ending comes is =
+said_inner : (s : Said) (out : List ℕ) (ending : Ending) → ComesOf s out ending → outer_err ending ≡ false
+said_inner (Err k) out ending comes = same_outer ending (Err (BadLine k)) comes.1
+said_inner (Ok q) out ending comes =
     let c : Config = config_of q.0 in
-    checked_not_read (checked c) c q.1 out ending (not_read (are_good_sizes c.core c.maximum) (is_good_capacity c.queue) (is_good_limit c.record_limit) (is_good_keep c.keep c.core_timeout)) comes is
+    pool_inner (checked c) c q.1 out ending (checked_inner c) comes
 
--- what is played never fails to be read
-pub never_read : (text out : List ℕ) (ending : Ending) → IsPlayed text out ending → ending ≡ Err ReadFailed → ⊥
-never_read text out ending (inl comes) is = said_not_read comes.0 out ending comes.2 is
-never_read text out ending (inr memory) is = let e : ◌≡◌ {A = Ending} (Err NoMemory) (Err ReadFailed) = sym memory.0 ∙ is in cc
+-- what is played is refused otherwise than a reader or a writer is
+pub played_inner : (text out : List ℕ) (ending : Ending) → IsPlayed text out ending → outer_err ending ≡ false
+played_inner text out ending (inl comes) = said_inner comes.0 out ending comes.2
+played_inner text out ending (inr memory) = same_outer ending (Err NoMemory) memory.0
 
 -- a run that was read, played and written
 pub ran : (input old new : Option (List ℕ)) (text out : List ℕ) (ending : Ending) → IfSome input (λ xs. text ≡ xs) → IsPlayed text out ending → Appends old new out → IsRun input old new ending
 ran input old new text out (Ok u) known played appends = (text, out, known, played, appends)
-ran input old new text out (Err ReadFailed) known played appends = absurd (never_read text out (Err ReadFailed) played refl)
+ran input old new text out (Err ReadFailed) known played appends = absurd (not_read {A = Unit {0}} (Err ReadFailed) (played_inner text out (Err ReadFailed) played) refl)
 ran input old new text out (Err WriteFailed) known played appends = tt
 ran input old new text out (Err e) known played appends = (text, out, known, played, appends)
 
@@ -113,3 +107,7 @@ ran input old new text out (Err e) known played appends = (text, out, known, pla
 pub unread : (input old : Option (List ℕ)) (e : PoolError) → (e ≡ ReadFailed) ⊎ (e ≡ NoMemory) → IsRun input old old (Err e)
 unread input old e (inl is) = subst (λ x. IsRun input old old (Err x)) (sym is) (Keeps-refl old)
 unread input old e (inr is) = subst (λ x. IsRun input old old (Err x)) (sym is) (unwrap_or input [], [], known_or input, inr (refl, inl refl), no_more old)
+
+-- a run that was not written
+pub unwritten : (input old new : Option (List ℕ)) (e : PoolError) → e ≡ WriteFailed → IsRun input old new (Err e)
+unwritten input old new e is = subst (λ x. IsRun input old new (Err x)) (sym is) tt

@@ -1,15 +1,20 @@
 -- Which texts are those of jobs, and that a text says one job.
-use Rattle.std.proofs.Common.{◌≡◌, ◌≢◌, ◌⊎◌, inl, inr, ℕ, ◌<◌, List, [], Option, Some, Err, Bool, true, false, get_or, unwrap_or, refl, sym, ◌∙◌, ap, subst, arith, codes}
+use Rattle.std.proofs.Common.{◌≡◌, ◌≢◌, ◌⊎◌, inl, inr, ℕ, ◌<◌, List, [], Option, Some, None, Result, Ok, Err, Bool, true, false, get_or, unwrap_or, refl, sym, ◌∙◌, ap, subst, arith, codes}
 use Rattle.std.proofs.lemmas.Option.{same_Some}
 use Rattle.tp_types.specs.declared.refusals.PoolError.{PoolError}
 use Rattle.tp_types.specs.declared.refusals.PoolError.TheVariants.{NoMemory, ReadFailed}
+use Rattle.tp_types.specs.declared.configs.Config.{Config}
+use Rattle.tp_types.specs.Config.{checked}
+use Rattle.tp_text.specs.Pools.{config_of}
 use Rattle.tp_text.specs.Reads.{FirstWord, IsWord}
 use Rattle.tp_text.proofs.Outputs.{known_or}
+use Rattle.tp_text.proofs.Refusals.{checked_inner, outer_err, same_outer}
 use Rattle.tp_text.proofs.WordSplits.{differ, same_words, word_from_test}
 use Rattle.tp_scenario.specs.declared.jobs.JobLine.{JobLine}
+use Rattle.tp_scenario.specs.declared.jobs.Jobs.{Jobs}
 use Rattle.tp_scenario.specs.Lines.{outcome_text}
-use Rattle.tp_scenario.specs.Jobs.{FitsJob, IsJobsText, IsRead, JobsSaid, job_text, job_word}
-use Rattle.tp_scenario.specs.PoolText.{IsSkipped}
+use Rattle.tp_scenario.specs.Jobs.{FitsJob, IsJobsText, IsRead, JobsSaid, ReadsJobs, answer_behind, answer_of, answer_to, job_text, job_word}
+use Rattle.tp_scenario.specs.PoolText.{IsSkipped, LinesSaid}
 use Rattle.tp_scenario.proofs.OneReading.{outcome_text-injective}
 use Rattle.tp_scenario.proofs.OneText.{followed_first, letter_not_skipped, one_said}
 
@@ -31,6 +36,24 @@ no_job_word w execute submit true e = submit e
 pub unread : (input : Option (List ℕ)) (e : PoolError) → (e ≡ ReadFailed) ⊎ (e ≡ NoMemory) → IsRead input (Err e)
 unread input e (inl is) = inl (ap Err is)
 unread input e (inr is) = inr (unwrap_or input [], known_or input, inl (ap Err is))
+
+behind_inner : (r : Result (Unit {0}) PoolError) (c : Config) (said : LinesSaid JobLine) → outer_err r ≡ false → outer_err (answer_behind r c said) ≡ false
+behind_inner (Err e) c said inner = inner
+behind_inner (Ok u) c (jobs, Some k) inner = refl
+behind_inner (Ok u) c (jobs, None) inner = refl
+
+answer_inner : (s : JobsSaid) → outer_err (answer_to s) ≡ false
+answer_inner (Err k) = refl
+answer_inner (Ok q) = let c : Config = config_of q.0 in behind_inner (checked c) c q.1 (checked_inner c)
+
+jobs_by : (r : Result Jobs PoolError) (s : JobsSaid) → answer_of r ≡ answer_to s → outer_err r ≡ false
+jobs_by (Ok jobs) s is = refl
+jobs_by (Err e) s is = same_outer (answer_of (Err e)) (answer_to s) is ∙ answer_inner s
+
+-- a text of jobs is refused otherwise than a reader or a writer is
+pub jobs_inner : (text : List ℕ) (r : Result Jobs PoolError) → ReadsJobs text r → outer_err r ≡ false
+jobs_inner text r (inl memory) = same_outer r (Err NoMemory) memory
+jobs_inner text r (inr reads) = jobs_by r reads.0 reads.2
 
 same_word : (a b : Bool) → job_word a ≡ job_word b → a ≡ b
 same_word false false e = refl

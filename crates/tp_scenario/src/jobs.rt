@@ -2,6 +2,7 @@
 
 ghost use Rattle.std.specs.Prelude.{◌≡◌, ◌⊎◌, ◌≤◌, ◌<◌, ℕ, List, length, Err, IfSome};
 ghost use Rattle.tp_text.specs.Reads.{ReadsAs};
+ghost use Rattle.tp_text.specs.Watching.{TellsReader, source};
 ghost use Rattle.tp_scenario.specs.declared.jobs.JobLine.{JobLine};
 ghost use Rattle.tp_scenario.specs.Jobs.{FitsJob, IsJobsText, IsRead, JobsSaid, ReadsJobs, job_text};
 
@@ -11,6 +12,7 @@ use crate::texts::{PoolText, read_pool_text};
 use std::alloc::Global;
 use std::io::Read;
 use tp_text::inputs::read_text;
+use tp_text::watched::WatchedReader;
 use tp_text::words::first_word;
 use tp_types::configs::Config;
 use tp_types::refusals::PoolError;
@@ -91,14 +93,15 @@ fn jobs_of(alloc: Global, text: &[u8]) -> Result<Jobs, PoolError>
 /// Reads a file of jobs whole: a pool line, and behind it a line `execute V` or `submit V` for each
 /// job, in their order. Empty lines and comments are skipped, and counted.
 ///
-/// The first of these that holds is the answer: a reader that fails or gives more than 1,048,576 bytes
-/// is 25 `ReadFailed`; a bad line up to the pool line is 23 `BadLine`, and where there is no pool line
+/// The first of these that holds is the answer: a reader that fails now, which keeps why, or gives more
+/// than 1,048,576 bytes is 25 `ReadFailed`, which comes of nothing else; a bad line up to the pool line is 23 `BadLine`, and where there is no pool line
 /// it is the line after the last; settings that no pool can have are 1, 2, 3 or 11; a bad line behind
 /// the pool line is 23, the first of them. 4 `NoMemory` where the text or the jobs find no room.
-pub fn read_jobs<R: Read>(alloc: Global, reader: &mut R) -> Result<Jobs, PoolError>
-    ensures reads { IsRead (R.remaining reader.old) result }
-    ensures long { IfSome (R.remaining reader.old) (λ text. 1048576 < length text
+pub fn read_jobs<R: Read>(alloc: Global, reader: &mut WatchedReader<R>) -> Result<Jobs, PoolError>
+    ensures reads { IsRead (R.remaining (source reader.old)) result }
+    ensures long { IfSome (R.remaining (source reader.old)) (λ text. 1048576 < length text
         → (result ≡ Err PoolError.ReadFailed) ⊎ (result ≡ Err PoolError.NoMemory)) }
+    ensures tells { TellsReader reader.old result reader.new }
 {
     let text = match read_text(alloc, reader) {
         Ok(text) => text,

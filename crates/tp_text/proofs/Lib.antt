@@ -9,3 +9,5 @@ pub mod LineLaws
 pub mod RunLaws
 pub mod WorkedOutputs
 pub mod Outputs
+pub mod Refusals
+pub mod Watchings

@@ -6,3 +6,4 @@ pub mod Lines
 pub mod Pools
 pub mod Reads
 pub mod RunText
+pub mod Watching

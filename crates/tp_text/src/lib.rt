@@ -12,4 +12,6 @@ pub mod numbers;
 pub mod pools;
 pub mod printing;
 pub mod runs;
+pub mod watched;
 pub mod words;
+pub mod writing;

@@ -1,6 +1,6 @@
 //! From the text of a file of jobs to the text of its pool's record.
-ghost use Rattle.std.specs.Prelude.{◌≡◌, ◌⊎◌, ◌<◌, length, Err, IfOk, IfErr, IfSome, OnOk};
-ghost use Rattle.tp_record_text.specs.RecordText.{record_text as text_of};
+ghost use Rattle.std.specs.Prelude.{◌≡◌, ◌⊎◌, ◌<◌, length, Err, IfErr, IfSome, OnOk};
+ghost use Rattle.tp_text.specs.Watching.{TellsReader, TellsWriter, sink, source};
 ghost use Rattle.tp_threads.specs.Runs.{RefusesText, WritesRun};
 
 use crate::runs::run_jobs;
@@ -10,22 +10,12 @@ use std::sync::Wait;
 use std::thread::Threads;
 use tp_pool::closing::Report;
 use tp_record::entries::{Did, Entry};
-use tp_record_text::writing::write_record;
+use tp_record_text::writing::record_text;
 use tp_scenario::read_jobs;
+use tp_text::watched::{WatchedReader, WatchedWriter};
+use tp_text::writing::write_text;
 use tp_types::configs::Config;
 use tp_types::refusals::PoolError;
-
-// The text of a record.
-fn record_text(alloc: Global, config: &Config, entries: &[Entry]) -> Result<Vec<u8>, PoolError>
-    ensures text { IfOk result (λ text. text.items ≡ text_of config.now entries.now) }
-    ensures refused { IfErr result (λ e. e ≡ PoolError.NoMemory) }
-{
-    let mut text = Vec::new(alloc);
-    match write_record(&mut text, config, entries) {
-        Ok(()) => Ok(text),
-        Err(_) => Err(PoolError::NoMemory),
-    }
-}
 
 /// What a run leaves that ended with the refusal of a submission.
 #[derive(Debug, PartialEq, Eq, Drop)]
@@ -55,19 +45,22 @@ fn left_of(alloc: Global, config: &Config, report: Option<Report>) -> Option<Unf
 
 /// Reads a file of jobs whole, as `read_jobs`, before a thread starts; runs its jobs by threads, as `run_jobs`;
 /// and writes the text of the pool's record, and nothing in place of one. Refused as these are, with nothing
-/// written, or by NoMemory (4) where there is no memory for the text; WriteFailed (26) may come after some of it
-/// was written. Where a submission is refused, what the run leaves is kept.
+/// written, or by NoMemory (4) where there is no memory for the text. ReadFailed (25) and WriteFailed (26) come just
+/// where the reader or the writer fails now, which keep why, or the reader gives too much; 26 may come after some
+/// of the text was written. Where a submission is refused, what the run leaves is kept.
 pub fn run_text<R: Threads + Wait + Copy + Send + 'static, I: Read, W: Write>(
     rt: R,
     alloc: Global,
-    reader: &mut I,
-    writer: &mut W,
+    reader: &mut WatchedReader<I>,
+    writer: &mut WatchedWriter<W>,
     kept: &mut Option<Unfinished>,
 ) -> Result<(), PoolError>
-    ensures written { OnOk result (WritesRun (I.remaining reader.old) (W.contents writer.old) (W.contents writer.new)) }
-    ensures refused { IfErr result (λ e. (e ≡ PoolError.WriteFailed) ⊎ (RefusesText (I.remaining reader.old) e × (writer.new ≡ writer.old))) }
-    ensures long { IfSome (I.remaining reader.old) (λ text. 1048576 < length text
+    ensures written { OnOk result (WritesRun (I.remaining (source reader.old)) (W.contents (sink writer.old)) (W.contents (sink writer.new))) }
+    ensures refused { IfErr result (λ e. (e ≡ PoolError.WriteFailed) ⊎ (RefusesText (I.remaining (source reader.old)) e × (writer.new ≡ writer.old))) }
+    ensures long { IfSome (I.remaining (source reader.old)) (λ text. 1048576 < length text
         → (result ≡ Err PoolError.ReadFailed) ⊎ (result ≡ Err PoolError.NoMemory)) }
+    ensures tells_reader { TellsReader reader.old result reader.new }
+    ensures tells_writer { TellsWriter writer.old result writer.new }
 {
     let jobs = match read_jobs(alloc, reader) {
         Ok(jobs) => jobs,
@@ -85,8 +78,5 @@ pub fn run_text<R: Threads + Wait + Copy + Send + 'static, I: Read, W: Write>(
         Ok(text) => text,
         Err(error) => return Err(error),
     };
-    if writer.write_all(text.as_slice()).is_err() || writer.flush().is_err() {
-        return Err(PoolError::WriteFailed);
-    }
-    Ok(())
+    write_text(writer, text.as_slice())
 }

@@ -8,6 +8,7 @@ use tp_commands::audits::run_audit;
 use tp_commands::steps::run_steps;
 use tp_commands::telling::name_of;
 use tp_reasons::messages::Style;
+use tp_text::watched::WatchedWriter;
 
 /// What a call gave.
 #[derive(Debug, Drop)]
@@ -57,11 +58,12 @@ fn status_of<R: Read + Drop>(
 ) -> u8 {
     let name = name_of(choice.path());
     let plain = Style::Plain;
+    let mut out = WatchedWriter::new(out);
     match choice {
         Choice::Steps(_path, playing) => {
-            run_steps(alloc, *playing, name, reader, out, errors, plain)
+            run_steps(alloc, *playing, name, reader, &mut out, errors, plain)
         }
-        Choice::Audit(_path, any) => run_audit(alloc, *any, name, reader, out, errors, plain),
+        Choice::Audit(_path, any) => run_audit(alloc, *any, name, reader, &mut out, errors, plain),
         Choice::Threads(_path, _record) => 99,
     }
 }

@@ -8,6 +8,7 @@ use std::io::{self, Read};
 use std::test::Fail;
 use tp_scenario::jobs::{JobLine, Jobs};
 use tp_scenario::read_jobs;
+use tp_text::watched::WatchedReader;
 use tp_types::configs::{Config, Policy, QueueKind};
 use tp_types::limits::MAX_TEXT_BYTES;
 use tp_types::refusals::PoolError;
@@ -53,7 +54,7 @@ const fn submitted(outcome: Outcome) -> JobLine {
 
 /// What is read of what a reader gives.
 fn read_from<R: Read>(alloc: Global, reader: &mut R) -> Result<Jobs, PoolError> {
-    read_jobs(alloc, reader)
+    read_jobs(alloc, &mut WatchedReader::new(reader))
 }
 
 /// What a text is read as.

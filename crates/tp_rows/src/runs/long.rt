@@ -73,7 +73,7 @@ fn plays_many_tasks(rt: HostRuntime) -> Result<(), Fail> {
 }
 
 /// A task that is retried 64 times, and then discarded.
-fn retried(alloc: Global) -> Result<String, AllocError> {
+pub(super) fn retried(alloc: Global) -> Result<String, AllocError> {
     let mut text = String::from_str(
         alloc,
         "pool 0 1 handoff keep 0 discardoldest\nsubmit plain 1\noffer 0\ngrow 0\nsubmit plain 2\n",
@@ -96,7 +96,7 @@ fn write_round(text: &mut String, round: u32, did: &str) -> Result<(), AllocErro
 }
 
 /// What is written of it.
-fn retried_lines(alloc: Global) -> Result<String, AllocError> {
+pub(super) fn retried_lines(alloc: Global) -> Result<String, AllocError> {
     let mut text = String::from_str(
         alloc,
         "1 submit t0 plain queue\n2 offer t0 full\n3 grow t0 reserve w0\n4 submit t1 plain queue\n",

@@ -1,15 +1,10 @@
-use Rattle.std.proofs.Common.{◌≡◌, List, length, reverse, sym, subst}
+use Rattle.std.proofs.Common.{◌≡◌, List, length, sym, subst}
 use Rattle.std.specs.Prelude.{IfOk}
 use Rattle.tp_record.specs.declared.entries.Entry.{Entry}
 use Rattle.tp_auditor.specs.Audited.{settings}
 use Rattle.tp_audit_text.specs.AuditText.{IsJudged}
 use Rattle.tp_audit_text.specs.Judging.{IsToldBy}
 use Rattle.tp_audit_text.proofs.judgments.judge.Goals as goal
-
-pub legal_judgment-requires : goal.legal_judgment-requires
-legal_judgment-requires c =
-    let j = c.args.judging.now in
-    (reverse c.requires.0, subst (λ o. IsToldBy j.auditor o c.requires.0) c.in-None.is c.requires.1)
 
 pub returns-in-None-clause-judged : goal.returns-in-None-clause-judged
 returns-in-None-clause-judged c =

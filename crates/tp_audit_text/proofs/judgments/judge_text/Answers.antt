@@ -6,8 +6,7 @@ use Rattle.tp_types.specs.declared.refusals.PoolError.TheVariants.{NoMemory}
 use Rattle.tp_types.specs.Config.{checked}
 use Rattle.tp_record.specs.declared.entries.Entry.{Entry}
 use Rattle.tp_record_text.specs.ReadRecord.{IsBody, head}
-use Rattle.tp_auditor.specs.declared.auditor.Auditor.{Auditor}
-use Rattle.tp_auditor.specs.Audited.{settings}
+use Rattle.tp_auditor.specs.Audited.{Judge, settings}
 use Rattle.tp_audit_text.specs.declared.judgments.Judgment.{Judgment}
 use Rattle.tp_audit_text.specs.AuditText.{IsJudged, JudgesText}
 use Rattle.tp_audit_text.specs.Judging.{IsToldBy}
@@ -15,7 +14,7 @@ use Rattle.tp_record_text.proofs.FirstWrong.{no_record}
 use Rattle.tp_audit_text.proofs.judgments.judge_text.Goals as goal
 
 -- what is judged of a text's entries is judged of the text
-judged_text : (text : List ℕ) (c : Config) (body : List ℕ) (es : List Entry) (a : Auditor) (o : Option ℕ) (n : ℕ) (r : Result Judgment PoolError) → text ≡ head c ++ body → checked c ≡ Ok tt → IsBody c body es → n ≡ length es → settings a ≡ c → IsToldBy a o es →
+judged_text : (text : List ℕ) (c : Config) (body : List ℕ) (es : List Entry) (a : Judge) (o : Option ℕ) (n : ℕ) (r : Result Judgment PoolError) → text ≡ head c ++ body → checked c ≡ Ok tt → IsBody c body es → n ≡ length es → settings a ≡ c → IsToldBy a o es →
     IfOk r (λ j. (xs : List Entry) → IsToldBy a o xs → n ≡ length xs → IsJudged (settings a) xs j.legal j.lines.items) → IsOkUnless r NoMemory → JudgesText text r
 judged_text text c body es a o n (Ok j) parts ok is counted same told judged memory = record {
   config = c;

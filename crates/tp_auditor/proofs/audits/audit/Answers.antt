@@ -4,13 +4,15 @@ use Rattle.std.proofs.lemmas.List.{take_all}
 use Rattle.tp_types.specs.declared.configs.Config.{Config}
 use Rattle.tp_record.specs.declared.entries.Entry.{Entry}
 use Rattle.tp_record.specs.Step.{Legal}
+use Rattle.tp_laws.specs.Lawful.{IsLawful}
+use Rattle.tp_laws.proofs.AllLaws.{legal_is_lawful}
 use Rattle.tp_plain.proofs.Histories.{history_more}
 use Rattle.tp_audit.specs.declared.summary.Flaw.{Flaw}
 use Rattle.tp_audit.specs.declared.summary.Flaw.TheVariants.{At, NoMemory}
 use Rattle.tp_audit.specs.declared.summary.Summary.{Summary}
 use Rattle.tp_audit.specs.Audit.{IsSummary, IsFlawOf, IsFirstFlaw}
-use Rattle.tp_auditor.specs.declared.auditor.Auditor.{Auditor}
-use Rattle.tp_auditor.specs.Audited.{Judged}
+use Rattle.tp_auditor.specs.Audited.{Judge, Judged}
+use Rattle.tp_audit.proofs.Judged.{if_ok}
 use Rattle.tp_auditor.proofs.Judging.{flaw_at}
 use Rattle.tp_auditor.proofs.audits.audit.Goals as goal
 
@@ -31,12 +33,8 @@ legal_in c d h k same whole legal = subst (λ x. Legal x k) same (subst (λ (x :
 summary_in : (c d : Config) (h k : List Entry) (r : Result Summary Flaw) → d ≡ c → h ≡ k → IfOk r (λ s. IsSummary d h s) → IfOk r (λ s. IsSummary c k s)
 summary_in c d h k r same whole is = subst (λ x. IfOk r (λ s. IsSummary x k s)) same (subst (λ (x : List Entry). IfOk r (λ s. IsSummary d x s)) whole is)
 
-if_ok : (r : Result Summary Flaw) (P : Type 0) → P → IfOk r (λ s. P)
-if_ok (Ok s) P holds = holds
-if_ok (Err f) P holds = tt
-
 -- what is said of each history that was told is said of this one
-at_history : (r : Result Summary Flaw) (a : Auditor) (h : List Entry) → Judged a h → IfOk r (λ s. (k : List Entry) → Judged a k → IsSummary a.config k s) → IfOk r (λ s. IsSummary a.config h s)
+at_history : (r : Result Summary Flaw) (a : Judge) (h : List Entry) → Judged a h → IfOk r (λ s. (k : List Entry) → Judged a k → IsSummary a.config k s) → IfOk r (λ s. IsSummary a.config h s)
 at_history (Ok s) a h judged is = is h judged
 at_history (Err f) a h judged is = tt
 
@@ -68,6 +66,15 @@ returns-clause-legal c =
     let whole : reverse (take i es) ≡ reverse es = ap reverse (take_all i es (omega (arith, c.loop-entry-test.false))) in
     if_ok c.finish.result (Legal c.args.config.now (reverse es))
     (legal_in c.args.config.now c.loop-entry.auditor.config (reverse (take i es)) (reverse es) c.loop-entry.invariant.settings whole c.loop-entry.invariant.judged.legal)
+
+pub returns-clause-lawful : goal.returns-clause-lawful
+returns-clause-lawful c =
+    let config = c.args.config.now in
+    let es = c.args.entries.now in
+    let i = c.loop-entry.entry-index in
+    let whole : reverse (take i es) ≡ reverse es = ap reverse (take_all i es (omega (arith, c.loop-entry-test.false))) in
+    let legal = legal_in config c.loop-entry.auditor.config (reverse (take i es)) (reverse es) c.loop-entry.invariant.settings whole c.loop-entry.invariant.judged.legal in
+    if_ok c.finish.result (IsLawful config (reverse es)) (legal_is_lawful config (reverse es) c.requires legal)
 
 pub returns-clause-summary : goal.returns-clause-summary
 returns-clause-summary c =

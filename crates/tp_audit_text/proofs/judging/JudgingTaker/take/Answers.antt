@@ -4,14 +4,13 @@ use Rattle.std.proofs.lemmas.Bool.{false≢true, true≢false}
 use Rattle.tp_record.specs.declared.entries.Entry.{Entry}
 use Rattle.tp_audit.specs.declared.summary.Flaw.{Flaw}
 use Rattle.tp_audit.specs.Audit.{IsFirstFlaw}
-use Rattle.tp_auditor.specs.declared.auditor.Auditor.{Auditor}
-use Rattle.tp_auditor.specs.Audited.{settings}
+use Rattle.tp_auditor.specs.Audited.{Judge, settings}
 use Rattle.tp_audit_text.specs.Judging.{IsToldBy}
 use Rattle.tp_audit_text.proofs.Flawed.{flaw_here, later_flaw}
 use Rattle.tp_audit_text.proofs.judging.JudgingTaker.take.Goals as goal
 
 -- entries behind a flaw change nothing
-told_on : (a : Auditor) (o : Option ℕ) (es : List Entry) (e : Entry) → is_some o ≡ true → IsToldBy a o es → IsToldBy a o (es ++ e ∷ [])
+told_on : (a : Judge) (o : Option ℕ) (es : List Entry) (e : Entry) → is_some o ≡ true → IsToldBy a o es → IsToldBy a o (es ++ e ∷ [])
 told_on a None es e some told = absurd (false≢true some)
 told_on a (Some n) es e some told = later_flaw (settings a) es n e told
 
