@@ -7,5 +7,6 @@ mod lock;
 mod memory;
 mod receipts;
 mod settings;
+mod sharing;
 mod threads;
 mod waits;

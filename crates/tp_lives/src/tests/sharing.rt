@@ -1,0 +1,105 @@
+// A job that shares its flag, and keeps it after its end.
+ghost use Rattle.std.specs.Prelude.{◌≡◌};
+
+use std::alloc::Global;
+use std::marker::Brand;
+use std::sync::{Arc, Mutex};
+use std::test::Fail;
+use tp_pool::prelude::*;
+use tp_stage::boards::{Board, Signal};
+
+type Kept = Arc<Mutex<Option<CancelFlag>>>;
+
+#[derive(Drop)]
+enum Flagged<R> {
+    // Shares its flag with the test.
+    Shares(R, Kept),
+    // Says that it has begun, waits until it is told to go on, and answers 1 where its flag is set.
+    Waits(Arc<Board>),
+}
+
+impl<R: Runtime> Body for Flagged<R> {
+    fn run(&mut self, cancel: &CancelFlag) -> Outcome {
+        match self {
+            Flagged::Shares(rt, kept) => {
+                *kept.lock(rt) = Some(cancel.share().or(Err(4u32))?);
+                Ok(0)
+            }
+            Flagged::Waits(board) => {
+                board.raise(Signal::Begun);
+                board.reaches(Signal::Told, 1);
+                Ok(i64::from(cancel.is_set()))
+            }
+        }
+    }
+}
+
+type Lender<G, R> = PoolOf<G, Any<Flagged<R>>, Defaults>;
+
+// Runs a job that shares its flag, and then cancels one that runs on the same worker.
+fn share<G: PoolName, R: Runtime>(
+    rt: &R,
+    pool: &Lender<G, R>,
+    kept: Kept,
+    board: Arc<Board>,
+    pass: &mut Pass<G>,
+) -> Result<bool, PoolError> {
+    let (first, second) = (TaskId(0), TaskId(1));
+    pool.execute_as(rt, Kind::Future, Any(Flagged::Shares(*rt, kept)), pass)?;
+    pool.await_result_with(rt, first, None, pass)?;
+    let waits = Flagged::Waits(Arc::try_clone(&board)?);
+    pool.execute_as(rt, Kind::Future, Any(waits), pass)?;
+    board.reaches(Signal::Begun, 1);
+    let cancelled = pool.cancel(rt, second, true, pass)?;
+    board.raise(Signal::Told);
+    Ok(cancelled)
+}
+
+fn shut<G: PoolName, R: Runtime>(
+    rt: &R,
+    pool: &Lender<G, R>,
+    pass: &mut Pass<G>,
+) -> Result<(), PoolError> {
+    pool.shutdown(rt, pass)
+}
+
+fn life<G: PoolName, R: Runtime>(
+    rt: &R,
+    alloc: Global,
+    unopened: Unopened,
+    settings: Config,
+    kept: Kept,
+) -> Result<(bool, Report), PoolError>
+    requires named { unopened ≡ record { ledger = G.name; parts = G.parts; table = G.table } }
+    requires settings { settings ≡ G.config }
+{
+    let (pool, mut pass) = Lender::<G, R>::over(alloc, unopened, settings, Defaults)?;
+    let cancelled = share(rt, &pool, kept, Board::new(alloc)?, &mut pass)?;
+    shut(rt, &pool, &mut pass)?;
+    pool.await_end(rt, None, &mut pass)?;
+    Ok((cancelled, pool.close_one(rt, pass)?))
+}
+
+// The second job hears of its cancel, and who has the first one's flag does not.
+#[test]
+fn shared_flag_hears_no_other_cancel(rt: HostRuntime) -> Result<(), Fail> {
+    let alloc = rt.alloc();
+    let kept = Arc::new(alloc, Mutex::new(None))?;
+    let shared = Arc::try_clone(&kept)?;
+    let unopened = Unopened::new(alloc)?;
+    let (cancelled, report) = life::<Brand, HostRuntime>(
+        &rt,
+        alloc,
+        unopened,
+        Config::fixed(1),
+        shared,
+    )?;
+    assert!(rt; cancelled);
+    assert_eq!(rt; outcome_of(&report, TaskId(1)), Some(Ok(1)));
+    let is_set = match &*kept.lock(&rt) {
+        Some(flag) => flag.is_set(),
+        None => true,
+    };
+    assert!(rt; !is_set);
+    Ok(())
+}
