@@ -9,3 +9,4 @@ mod receipts;
 mod settings;
 mod threads;
 mod waits;
+mod whole;
