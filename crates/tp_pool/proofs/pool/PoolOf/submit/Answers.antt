@@ -60,7 +60,7 @@ returns-in-End-next-clause-refused g c =
 pub returns-in_default-advance : goal.returns-in_default-advance
 returns-in_default-advance g c =
     let t = c.in-Ok.submitted.0 in
-    let job = c.args.task.job in record {
+    let job = c.args.job in record {
       admitted = tt;
       refused = torn_off g.G.PoolNaming.config c.args.kind job (g.J.Job.promised job) t.0 c.args.pass.now c.loop.pass c.advance.new.pass c.loop.next c.loop.counter
           c.loop.invariant c.in_default.not-End c.in_default-advance.ensures.unchanged c.torn.result c.torn.ensures;
@@ -69,7 +69,7 @@ returns-in_default-advance g c =
 pub returns-in_default-next : goal.returns-in_default-next
 returns-in_default-next g c =
     let t = c.in-Ok.submitted.0 in
-    let job = c.args.task.job in record {
+    let job = c.args.job in record {
       admitted = tt;
       refused = torn_off g.G.PoolNaming.config c.args.kind job (g.J.Job.promised job) t.0 c.args.pass.now c.loop.pass c.loop.pass c.loop.next c.loop.counter
           c.loop.invariant c.in_default-next.not-End (inl refl) c.torn-in_default-next.result c.torn-in_default-next.ensures;
