@@ -10,3 +10,4 @@ mod settings;
 mod sharing;
 mod threads;
 mod waits;
+mod whole;

@@ -1,14 +1,19 @@
 -- The wait for a pool's end, with no deadline.
-use Rattle.std.proofs.Common.{◌≡◌, [], ◌∷◌}
-use Rattle.std.specs.Prelude.{Result, Ok, Err, IfErr, OnErr}
+use Rattle.std.proofs.Common.{◌≡◌, ◌⊎◌, ◌≤◌, [], ◌∷◌, ⊎_elim, inl, inr, arith}
+use Rattle.std.specs.Prelude.{Result, Ok, Err, IfOk, IfErr, OnOk, OnErr}
 use Rattle.tp_types.specs.declared.configs.Config.{Config}
 use Rattle.tp_types.specs.declared.refusals.PoolError.{PoolError}
 use Rattle.tp_types.specs.declared.refusals.PoolError.TheVariants.{TornRecord}
 use Rattle.tp_record.specs.declared.entries.Ask.TheVariants as ask
+use Rattle.tp_record.specs.declared.entries.Did.TheVariants as did
+use Rattle.tp_record.specs.Fields.{rank}
+use Rattle.tp_record.specs.Step.{Legal}
 use Rattle.tp_book.specs.PassView.{PassView}
-use Rattle.tp_locked.specs.Passes.{Adds, LooksOnly, tidied}
+use Rattle.tp_locked.specs.Passes.{Adds, AddsStep, LooksOnly, IsRefusal, tidied, ended}
 use Rattle.tp_locked.proofs.Receipts.{adds_looks}
 use Rattle.tp_pool.specs.Endings.{IsBarred}
+use Rattle.tp_pool.specs.Lives.{IsShut}
+use Rattle.tp_pool.proofs.Ends.{reached}
 
 -- the wait is torn: the step `tidy` was made, and `ended` not
 abbrev pub IsTorn : Config → PassView → PassView → PoolError → Type 0
@@ -19,3 +24,17 @@ module _ (c : Config) (old new : PassView) where
       OnErr r (LooksOnly c mid new) → IfErr r (IsTorn c old new)
   torn mid first (Ok x) refused looks = tt
   torn mid first (Err e) refused looks = (refused.0, refused.1, adds_looks c old mid new (tidied old.number ∷ []) first looks)
+
+  -- however the wait ends, the pool has no slot then
+  pub over : (r : Result (Unit {0}) PoolError) → OnOk r (rank new.front ≡ 4) → IfErr r (IsTorn c old new) → 3 ≤ rank new.front
+  over (Ok x) seen refused = omega (arith, seen)
+  over (Err e) seen refused = reached c old new (tidied old.number) [] refused.2
+
+  pub over_legal : (r : Result (Unit {0}) PoolError) → OnOk r (Adds c old [] new ⊎ Adds c old (tidied old.number ∷ ended old.number ∷ []) new) → IfErr r (IsTorn c old new) → Legal c new.front
+  over_legal (Ok x) steps refused = ⊎_elim (λ (a : Adds c old [] new). a.legal) (λ (a : Adds c old (tidied old.number ∷ ended old.number ∷ []) new). a.legal) steps
+  over_legal (Err e) steps refused = refused.2.legal
+
+  -- a shutdown that was asked for has shut the pool down, or is refused
+  pub shut_by : (r : Result (Unit {0}) PoolError) → IfOk r (λ _. AddsStep c old ask.Shutdown did.Shutdown new) → IfErr r (λ e. IsRefusal c new.front ask.Shutdown e) → IsShut c new.front
+  shut_by (Ok x) step refused = inl (reached c old new _ [] step)
+  shut_by (Err e) step refused = inr (e, refused)

@@ -2,6 +2,7 @@ pub mod Admissions
 pub mod Closing
 pub mod Deeds
 pub mod Endings
+pub mod Lives
 pub mod Outcomes
 pub mod Prestarts
 pub mod Rescues

@@ -65,7 +65,7 @@ impl<G: PoolNaming, J: Job, E: Edge> PoolOf<G, J, E> {
 }
 
 // The value, once no other thread has it: a worker's thread lets go of it after its pass is handed in.
-fn sole<T, R: Wait>(rt: &R, shared: Arc<T>) -> T {
+pub(crate) fn sole<T, R: Wait>(rt: &R, shared: Arc<T>) -> T {
     let mut shared = shared;
     for _ in rt.forever() {
         match Arc::try_unwrap(shared) {

@@ -1,7 +1,7 @@
 //! A pool of threads after `ThreadPoolExecutor`: its calls, the objects that its users write, and its
 //! answers.
 //!
-//! A user hands in jobs, and with the making of a pool a thread factory, a rejection handler, hooks and a gate, or
+//! `run_all` has a pool for the time of one call, and ends it on every path. A user hands in jobs, and with the making of a pool a thread factory, a rejection handler, hooks and a gate, or
 //! `Defaults` for all of them. The pool calls all of them outside its lock, so each of them may ask the pool for its state, its
 //! counters and its steps. The pages of the traits say which calls from within would wait for ever. All that a
 //! caller names can be imported from here.
@@ -17,6 +17,7 @@ pub mod edges;
 pub mod endings;
 pub mod futures;
 pub mod handles;
+pub mod lives;
 pub mod lock;
 pub mod pool;
 mod prestarts;
@@ -36,6 +37,7 @@ pub use callers::{PoolName, Runtime, in_two};
 pub use closing::{CloseFault, Report};
 pub use defaults::Defaults;
 pub use edges::Edge;
+pub use lives::{Answer, run_all};
 pub use pool::PoolOf;
 pub use reports::{faulted, outcome_of};
 pub use snapshots::{Busy, Snapshot};
@@ -66,6 +68,7 @@ pub mod prelude {
     pub use crate::closing::Report;
     pub use crate::defaults::Defaults;
     pub use crate::edges::Edge;
+    pub use crate::lives::{Answer, run_all};
     pub use crate::pool::PoolOf;
     pub use crate::reports::outcome_of;
     pub use tp_book::opening::Unopened;

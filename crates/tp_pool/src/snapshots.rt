@@ -15,6 +15,7 @@ use std::fmt;
 use std::sync::Wait;
 use tp_book::sights::Sight;
 use tp_callbacks::jobs::Job;
+use tp_glance::glance::Glance;
 pub use tp_locked::locked::Busy;
 use tp_locked::locked::Core;
 use tp_locked::names::PoolNaming;
@@ -81,6 +82,35 @@ fn snapshot_of<G: PoolNaming, J: Job>(
     }
 }
 
+// The same, as it is after the record that the sight knows then.
+fn snapshot_shown<G: PoolNaming, J: Job>(
+    core: &mut Core<G, J>,
+    glance: &Glance<G>,
+    sight: &mut Sight<G>,
+    alloc: Global,
+) -> Result<Snapshot, PoolError>
+    ensures reads { IfOk result (λ v. AtFront G.config sight.new (λ s. IsSnapshot s v)) }
+    ensures refused { IfErr result (λ e. e ≡ PoolError.NoMemory) }
+    ensures goes_on { IsFrontOf sight.old sight.new }
+{
+    core.is_book();
+    core.show_sight(glance, sight);
+    snapshot_of(core, alloc)
+}
+
+// The entries from the n-th on, of the value under the lock.
+fn entries_since<G: PoolNaming, J: Job>(
+    core: &Core<G, J>,
+    alloc: Global,
+    n: u64,
+) -> Result<Vec<Entry>, PoolError>
+    ensures entries { IfOk result (λ v. BookAtSome (Task J) G.config (λ b. v.items ≡ drop n (reverse b.history))) }
+    ensures refused { IfErr result (λ e. e ≡ PoolError.NoMemory) }
+{
+    core.is_book();
+    core.record_since(alloc, n)
+}
+
 impl<G: PoolNaming, J: Job, E: Edge> PoolOf<G, J, E> {
     /// What the pool does now; Java has `toString` and single getters. NoMemory (4) for the list of slots.
     pub fn snapshot<R: Wait>(&self, rt: &R, alloc: Global) -> Result<Snapshot, PoolError>
@@ -106,9 +136,7 @@ impl<G: PoolNaming, J: Job, E: Edge> PoolOf<G, J, E> {
     {
         let shared = self.shared();
         let mut held = shared.hold(rt);
-        held.is_book();
-        held.show_sight(&shared.glance, sight);
-        snapshot_of(&held, alloc)
+        snapshot_shown(&mut held, &shared.glance, sight, alloc)
     }
 
     /// The entries of the record from the n-th on, counted from 0, the oldest first: a thread that asks with the
@@ -124,8 +152,7 @@ impl<G: PoolNaming, J: Job, E: Edge> PoolOf<G, J, E> {
         ensures refused { IfErr result (λ e. e ≡ PoolError.NoMemory) }
     {
         let core = self.shared().hold(rt);
-        core.is_book();
-        core.record_since(alloc, n)
+        entries_since(&core, alloc, n)
     }
 
     /// As `record_since`, of the record that the sight knows then. That record goes on from the one that it knew,

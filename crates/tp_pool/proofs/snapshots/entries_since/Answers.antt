@@ -1,6 +1,6 @@
 use Rattle.std.proofs.Common.{◌≡◌, drop, reverse}
 use Rattle.tp_pool.proofs.Watched.{read_some}
-use Rattle.tp_pool.proofs.pool.PoolOf.record_since.Goals as goal
+use Rattle.tp_pool.proofs.snapshots.entries_since.Goals as goal
 
 pub returns-clause-entries : goal.returns-clause-entries
 returns-clause-entries g c =

@@ -3,7 +3,7 @@ use Rattle.std.specs.Prelude.{IfOk}
 use Rattle.tp_book.specs.BookView.{state_of}
 use Rattle.tp_pool.specs.Snapshots.{IsSnapshot}
 use Rattle.tp_pool.proofs.Watched.{read_at}
-use Rattle.tp_pool.proofs.pool.PoolOf.snapshot_by.Goals as goal
+use Rattle.tp_pool.proofs.snapshots.snapshot_shown.Goals as goal
 
 pub returns-clause-reads : goal.returns-clause-reads
 returns-clause-reads g c =

@@ -1,0 +1,246 @@
+//! Jobs on a pool of their own, in one call: the pool is opened, runs them, is shut down, waited for and closed.
+ghost use Rattle.std.specs.Prelude.{◌≡◌, ◌≤◌, IfOk, IfErr};
+ghost use Rattle.tp_record.specs.Fields.{rank};
+ghost use Rattle.tp_record.specs.Step.{Legal};
+ghost use Rattle.tp_pool.specs.Lives.{IsReport, IsOver, IsShut};
+
+use crate::callers::{PoolName, Runtime};
+use crate::closing::{CloseFault, Report, sole};
+use crate::edges::Edge;
+use crate::pool::{Hold, PoolOf};
+use std::alloc::Global;
+use std::marker::Brand;
+use std::sync::Wait;
+use tp_book::opening::Unopened;
+use tp_book::passes::Pass;
+use tp_book::sights::Sight;
+use tp_callbacks::jobs::Job;
+use tp_locked::answers::Admitted;
+use tp_locked::names::PoolNaming;
+use tp_machine::typed::controllers::Shutdown;
+use tp_turns::rescues::Remains;
+use tp_types::configs::Config;
+use tp_types::ids::TaskId;
+use tp_types::refusals::PoolError;
+use tp_types::states::RunState;
+use tp_types::tasks::Kind;
+
+/// What became of a job: its value, or why it has none, as `Future.get` tells it.
+pub type Answer = Result<i64, PoolError>;
+
+/// Runs these jobs on a pool of their own, and answers what became of each, in their order, with the report of the
+/// closed pool. The pool is opened with these settings and objects; each job is submitted with a future, and then each
+/// future is waited for. Whatever comes of that, the pool is shut down, waited for and closed, as Java's
+/// `try (var pool = ..)` does since Java 19: no pool is left with threads that run.
+///
+/// A job's answer is its value; Faulted (14) with the fault's code; Lost (15) with its fate, where a policy dropped it;
+/// or the refusal of its submission: Rejected (12), BookFull (5) or NoMemory (4).
+///
+/// BadSizes (1), BadCapacity (2), BadLimit (3) or KeepZero (11) where no pool has these settings, and NoMemory (4)
+/// where there is none for a pool: then the jobs are dropped. Else NoMemory (4) where there is none for the answers,
+/// or TornRecord (22), which does not come as long as the pool's book is sound.
+pub fn run_all<J: Job + 'static, E: Edge + Send + Sync + 'static, R: Runtime>(
+    rt: &R,
+    alloc: Global,
+    settings: Config,
+    edge: E,
+    jobs: Vec<J>,
+) -> Result<(Vec<Answer>, Report), PoolError>
+    ensures report { IfOk result (λ r. IsReport settings r.1) }
+    ensures over { IfErr result (IsOver settings) }
+{
+    let unopened = match Unopened::new(alloc) {
+        Ok(unopened) => unopened,
+        Err(error) => return Err(error),
+    };
+    opened::<Brand, J, E, R>(rt, alloc, unopened, settings, edge, jobs)
+}
+
+// The same under a name of the pool's own. The pass with which the pool is ended is made before the jobs are
+// submitted, with room for all receipts of the end, so that no memory is wanted once the pool has threads.
+fn opened<
+    G: PoolNaming + Send + Sync + 'static,
+    J: Job + 'static,
+    E: Edge + Send + Sync + 'static,
+    R: Runtime,
+>(
+    rt: &R,
+    alloc: Global,
+    unopened: Unopened,
+    settings: Config,
+    edge: E,
+    jobs: Vec<J>,
+) -> Result<(Vec<Answer>, Report), PoolError>
+    requires named { unopened ≡ record { ledger = G.name; parts = G.parts; table = G.table } }
+    requires settings { settings ≡ G.config }
+    ensures report { IfOk result (λ r. IsReport settings r.1) }
+    ensures over { IfErr result (IsOver settings) }
+{
+    let (pool, mut pass) = match PoolOf::<G, J, E>::over(alloc, unopened, settings, edge) {
+        Ok(opened) => opened,
+        Err(error) => return Err(error),
+    };
+    let mut last = match pool.split_pass(rt, &mut pass) {
+        Ok(last) => last,
+        Err(error) => return Err(error),
+    };
+    if let Err(error) = last.reserve(3) {
+        return Err(error);
+    }
+    let mut seen = pool.sight(&mut last);
+    let (answers, report) = lived(rt, alloc, pool, jobs, pass, last, &mut seen);
+    match (answers, report) {
+        (Ok(answers), Ok(report)) => Ok((answers, report)),
+        (Err(error), _) => Err(error),
+        (_, Err(error)) => Err(error),
+    }
+}
+
+// The jobs' runs, and the end after them: the sight has then seen that the pool has no worker any more.
+fn lived<G: PoolName, J: Job + 'static, E: Edge + Send + Sync + 'static, R: Runtime>(
+    rt: &R,
+    alloc: Global,
+    pool: PoolOf<G, J, E>,
+    jobs: Vec<J>,
+    pass: Pass<G>,
+    last: Pass<G>,
+    seen: &mut Sight<G>,
+) -> (Result<Vec<Answer>, PoolError>, Result<Report, PoolError>)
+    requires room { 3 ≤ last.room }
+    ensures report { IfOk result.1 (IsReport G.config) }
+    ensures seen { 3 ≤ rank seen.new }
+    ensures legal { Legal G.config seen.new }
+{
+    let mut pass = pass;
+    let answers = answers_of(rt, alloc, &pool, jobs, &mut pass);
+    let report = end(rt, pool, pass, Vec::new(alloc), last, seen);
+    (answers, report)
+}
+
+// Submits these jobs, and waits for what becomes of each.
+fn answers_of<G: PoolName, J: Job + 'static, E: Edge + Send + Sync + 'static, R: Runtime>(
+    rt: &R,
+    alloc: Global,
+    pool: &PoolOf<G, J, E>,
+    jobs: Vec<J>,
+    pass: &mut Pass<G>,
+) -> Result<Vec<Answer>, PoolError> {
+    let mut tasks = Vec::new(alloc);
+    for job in jobs {
+        tasks.push(submitted(rt, pool, job, pass))?;
+    }
+    let mut answers = Vec::new(alloc);
+    for task in &tasks {
+        let answer = match task {
+            Ok(t) => pool.await_result(rt, *t, None),
+            Err(error) => Err(*error),
+        };
+        answers.push(answer)?;
+    }
+    Ok(answers)
+}
+
+// Submits a job with a future: its task, also where its submitter ran it or the policy discarded it.
+fn submitted<G: PoolName, J: Job + 'static, E: Edge + Send + Sync + 'static, R: Runtime>(
+    rt: &R,
+    pool: &PoolOf<G, J, E>,
+    job: J,
+    pass: &mut Pass<G>,
+) -> Result<TaskId, PoolError> {
+    match pool.execute_as(rt, Kind::Future, job, pass) {
+        Ok(Admitted::Accepted(t) | Admitted::RanHere(t, _) | Admitted::Discarded(t)) => Ok(t),
+        Err(refused) => Err(refused.error),
+    }
+}
+
+// Shuts the pool down, waits for its end and closes it. Whatever comes of that, its threads are gone then.
+fn end<G: PoolName, J: Job + 'static, E: Edge + Send + Sync + 'static, R: Runtime>(
+    rt: &R,
+    pool: PoolOf<G, J, E>,
+    pass: Pass<G>,
+    others: Vec<Pass<G>>,
+    last: Pass<G>,
+    seen: &mut Sight<G>,
+) -> Result<Report, PoolError>
+    requires room { 3 ≤ last.room }
+    ensures report { IfOk result (IsReport G.config) }
+    ensures seen { 3 ≤ rank seen.new }
+    ensures legal { Legal G.config seen.new }
+{
+    let mut last = last;
+    let ended = pool.finish(rt, &mut last);
+    *seen = pool.sight(&mut last);
+    let mut passes = others;
+    let listed = passes.push(pass).is_ok() && passes.push(last).is_ok();
+    if let Err(error) = ended {
+        pool.leave(rt);
+        return Err(error);
+    }
+    if !listed {
+        pool.leave(rt);
+        return Err(PoolError::NoMemory);
+    }
+    match pool.close(rt, passes) {
+        Ok(report) => Ok(report),
+        Err(fault) => {
+            let CloseFault {
+                error,
+                pool,
+                passes: _,
+            } = fault;
+            pool.leave(rt);
+            Err(error)
+        }
+    }
+}
+
+impl<
+    G: PoolNaming + Send + Sync + 'static,
+    J: Job + 'static,
+    E: Edge + Send + Sync + 'static,
+> PoolOf<G, J, E> {
+    // Shuts the pool down, where nobody did, and waits for its end, with a pass that has room for all its receipts.
+    fn finish<R: Runtime>(&self, rt: &R, pass: &mut Pass<G>) -> Result<(), PoolError>
+        requires room { 3 ≤ pass.old.room }
+        ensures seen { 3 ≤ rank pass.new.front }
+        ensures legal { Legal G.config pass.new.front }
+    {
+        self.shut(rt, pass);
+        self.await_shut(rt, pass)
+    }
+
+    // Shuts the pool down, where it runs still, and has a worker made where one is wanted for that.
+    fn shut<R: Runtime>(&self, rt: &R, pass: &mut Pass<G>)
+        requires room { 3 ≤ pass.old.room }
+        ensures room { 2 ≤ pass.new.room }
+        ensures shut { IsShut G.config pass.new.front }
+    {
+        if self.glance(pass) != RunState::Running {
+            return;
+        }
+        let (_, remains) = self.shared().ask_left(rt, Shutdown, pass);
+        if remains != Remains::End {
+            self.rescue(*rt, remains);
+        }
+    }
+
+    // Waits for the end of a pool that is shut down.
+    fn await_shut<R: Runtime>(&self, rt: &R, pass: &mut Pass<G>) -> Result<(), PoolError>
+        requires room { 2 ≤ pass.old.room }
+        requires shut { IsShut G.config pass.old.front }
+        ensures seen { 3 ≤ rank pass.new.front }
+        ensures legal { Legal G.config pass.new.front }
+    {
+        self.shared().await_end_on(rt, pass)
+    }
+
+    // Lets the pool go, once no thread has it any more.
+    fn leave<R: Wait>(self, rt: &R) {
+        self.shared().await_workers(rt);
+        let PoolOf { hold } = self;
+        match hold {
+            Hold::Many(shared) => drop(sole(rt, shared)),
+            Hold::One(shared) => drop(shared),
+        }
+    }
+}
