@@ -8,6 +8,7 @@ use std::alloc::Global;
 use std::marker::Brand;
 use std::sync::{Arc, Mutex, Wait};
 use std::thread::Parker;
+use tp_pool::names::PoolNaming;
 use tp_pool::prelude::*;
 
 /// A body that goes through the door, and answers 1.
@@ -88,7 +89,7 @@ fn shut<G: PoolName, R: Runtime + Drop>(
 }
 
 /// The service's whole life under a name of its own.
-fn life<G: PoolName, R: Print + Runtime + Drop>(
+fn life<G: PoolNaming + Send + Sync + 'static, R: Print + Runtime + Drop>(
     rt: &R,
     alloc: Global,
     unopened: Unopened,

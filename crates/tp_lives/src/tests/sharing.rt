@@ -5,6 +5,7 @@ use std::alloc::Global;
 use std::marker::Brand;
 use std::sync::{Arc, Mutex};
 use std::test::Fail;
+use tp_pool::names::PoolNaming;
 use tp_pool::prelude::*;
 use tp_stage::boards::{Board, Signal};
 
@@ -63,7 +64,7 @@ fn shut<G: PoolName, R: Runtime>(
     pool.shutdown(rt, pass)
 }
 
-fn life<G: PoolName, R: Runtime>(
+fn life<G: PoolNaming + Send + Sync + 'static, R: Runtime>(
     rt: &R,
     alloc: Global,
     unopened: Unopened,
