@@ -8,6 +8,4 @@ mod memory;
 mod receipts;
 mod settings;
 mod sharing;
-mod threads;
 mod waits;
-mod whole;

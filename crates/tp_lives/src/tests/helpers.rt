@@ -5,7 +5,6 @@ use super::calls::{Call, Line, play};
 use super::closing::{three_callers, two_callers};
 use super::memory::each_call;
 use super::settings::settings_change;
-use super::threads::two_threads;
 use super::waits::waits_for;
 use std::alloc::Global;
 use std::marker::Brand;
@@ -53,7 +52,6 @@ pub type Row = (u32, Ask, Did);
 pub enum Life {
     TwoCallers,
     ThreeCallers,
-    TwoThreads,
     Settings,
     EachCall,
     Waiting(Call, Call, Result<(), PoolError>),
@@ -66,7 +64,6 @@ fn live<
     match life {
         Life::TwoCallers => two_callers(rt, alloc, pool, first),
         Life::ThreeCallers => three_callers(rt, alloc, pool, first),
-        Life::TwoThreads => two_threads(rt, alloc, pool, first),
         Life::Settings => settings_change(rt, alloc, pool, first),
         Life::EachCall => each_call(rt, pool, first),
         Life::Waiting(waiting, waker, answer) => {
