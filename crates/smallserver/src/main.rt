@@ -2,86 +2,102 @@
 //! a queue of two places, and the second one shuts it down. It prints what became of each request.
 #![tactic(auto)]
 
-mod opening;
+ghost use Rattle.std.specs.Prelude.{◌≡◌};
 
-use opening::{Server, served};
-use std::sync::Wait;
-use std::thread::{Parker, Threads};
-use tp_book::passes::Pass;
-use tp_callbacks::flags::CancelFlag;
-use tp_pool::jobs::Job;
+use std::alloc::Global;
+use std::marker::Brand;
+use std::sync::{Arc, Mutex, Wait};
+use std::thread::Parker;
 use tp_pool::names::PoolNaming;
-use tp_record::entries::{Did, Ruled};
-use tp_types::refusals::PoolError;
-use tp_types::tasks::{Kind, Outcome, Promise};
+use tp_pool::prelude::*;
 
 /// A request for the double of a number.
 #[derive(Drop)]
-pub struct Request(u16);
+struct Request(u16);
 
-impl Job for Request {
-    ghost use Rattle.std.specs.Prelude.{false, pos};
-    ghost use Rattle.tp_types.specs.declared.tasks.Promise.{Promise};
-
-    ghost promised = { λ j. record { low = pos 0; high = pos 131070; may_fault = false } };
-
-    fn promise(&self) -> Promise {
-        Promise {
-            low: 0,
-            high: 131_070,
-            may_fault: false,
-        }
-    }
-
-    fn call(&mut self, _cancel: &CancelFlag) -> Outcome {
+impl Body for Request {
+    fn run(&mut self, _cancel: &CancelFlag) -> Outcome {
         Ok(2 * i64::from(self.0))
     }
 }
 
+/// What the server asks of its users: each worker is allowed, and begins no request while the door is locked.
+#[derive(Drop)]
+struct Desk(Arc<Mutex<()>>);
+
+impl Edge for Desk {
+    fn before<R: Wait>(&self, rt: &R, _w: SlotId, _t: TaskId) {
+        drop(self.0.lock(rt));
+    }
+}
+
+/// A server, which is a pool of requests.
+type Server<G> = PoolOf<G, Any<Request>, Desk>;
+
 // Hands in requests for these numbers. That one is turned away is in the server's record.
-fn hand_in<G: PoolNaming + Send + Sync + 'static, R: Threads + Wait + Copy + Send + 'static>(
-    rt: R,
+fn hand_in<G: PoolName, R: Runtime>(
+    rt: &R,
     server: &Server<G>,
     numbers: &[u16],
     pass: &mut Pass<G>,
 ) -> Result<(), PoolError> {
     for number in numbers {
-        match server.execute_as(&rt, Kind::Plain, Request(*number), pass) {
-            Err(refused) if !matches!(refused.error, PoolError::Rejected(_)) => return Err(
-                refused.error,
-            ),
+        match server.execute_as(rt, Kind::Plain, Any(Request(*number)), pass) {
+            Err(refused) if !matches!(refused.error, PoolError::Rejected(_)) => Err(refused.error)?,
             _ => {}
         }
     }
     Ok(())
 }
 
-/// The first client's calls; then the second one may come.
-pub fn first<G: PoolNaming + Send + Sync + 'static, R: Threads + Wait + Copy + Send + 'static>(
-    rt: R,
+// Both clients' calls, in two threads. The second client waits for its turn, shuts the server down, and is too late.
+fn serve<G: PoolName, R: Runtime>(
+    rt: &R,
     server: &Server<G>,
-    turn: &Parker,
-    pass: &mut Pass<G>,
+    one: &mut Pass<G>,
+    two: &mut Pass<G>,
 ) -> Result<(), PoolError> {
-    let well = hand_in(rt, server, &[10, 20, 30, 40], pass);
-    turn.unpark();
-    well
+    let turn = &Parker::new();
+    let first = move |server: &Server<G>, pass: &mut Pass<G>| {
+        let served = hand_in(rt, server, &[10, 20, 30, 40], pass);
+        turn.unpark();
+        served
+    };
+    let second = move |server: &Server<G>, pass: &mut Pass<G>| {
+        turn.park(rt);
+        server.shutdown(rt, pass)?;
+        hand_in(rt, server, &[50, 60], pass)
+    };
+    let (served, late) = in_two(rt, server, one, two, &first, &second);
+    served.and(late)
 }
 
-/// The second client's calls, once it may come: it shuts the server down, and is too late itself.
-pub fn second<G: PoolNaming + Send + Sync + 'static, R: Threads + Wait + Copy + Send + 'static>(
-    rt: R,
-    server: &Server<G>,
-    turn: &Parker,
-    pass: &mut Pass<G>,
-) -> Result<(), PoolError> {
-    turn.park(&rt);
-    server.shutdown(&rt, pass)?;
-    hand_in(rt, server, &[50, 60], pass)
+// The server's whole life under a name of its own. It begins no request until its clients are through.
+fn life<G: PoolNaming + Send + Sync + 'static, R: Runtime>(
+    rt: &R,
+    alloc: Global,
+    unopened: Unopened,
+    settings: Config,
+) -> Result<Report, PoolError>
+    requires named { unopened ≡ record { ledger = G.name; parts = G.parts; table = G.table } }
+    requires settings { settings ≡ G.config }
+{
+    let door = Arc::new(alloc, Mutex::new(()))?;
+    let desk = Desk(Arc::try_clone(&door)?);
+    let (server, mut one) = Server::<G>::over(alloc, unopened, settings, desk)?;
+    let mut two = server.split_pass(rt, &mut one)?;
+    let locked = door.lock(rt);
+    let served = serve(rt, &server, &mut one, &mut two);
+    drop(locked);
+    served?;
+    server.await_end(rt, None, &mut one)?;
+    Ok(server.close(rt, Vec::from_array(alloc, [one, two])?)?)
 }
 
 fn main(rt: HostRuntime) -> anyhow::Result<()> {
-    let report = served(rt, rt.alloc())?;
+    let unopened = Unopened::new(rt.alloc())?;
+    let settings = Config::fixed(1).queue(QueueKind::Bounded(2));
+    let report = life::<Brand, HostRuntime>(&rt, rt.alloc(), unopened, settings)?;
     for entry in &report.entries {
         match entry.did {
             Did::Shutdown => println!(&rt; "the server closes")?,

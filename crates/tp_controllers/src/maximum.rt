@@ -1,6 +1,6 @@
 //! The maximum size is set, as `setMaximumPoolSize` does.
 
-ghost use Rattle.std.specs.Prelude.{◌≡◌, ◌≤◌, ℕ, ◌↔◌, max, OnOk, OnErr, IfErr, IsOkUnless};
+ghost use Rattle.std.specs.Prelude.{◌≡◌, ◌≤◌, ℕ, ◌↔◌, max, OnOk, OnErr, IfErr, IsOk, IsOkUnless};
 ghost use Rattle.tp_types.specs.declared.configs.Config.{Config};
 ghost use Rattle.tp_record.specs.State.{State};
 ghost use Rattle.tp_parts.specs.Payloads.{Keeps};
@@ -28,14 +28,15 @@ pub fn answer<P>(parts: &Parts<P>, maximum: u32) -> Result<(), PoolError>
     Ok(())
 }
 
-/// Makes the places for a maximum that was accepted. NoMemory (4), where nothing has changed. Either way the same states
-/// are shown.
+/// Makes the places for a maximum that was accepted. NoMemory (4), which comes only where there are fewer places, and then nothing
+/// has changed. Either way the same states are shown.
 pub fn prepare<P>(parts: &mut Parts<P>, maximum: u32) -> Result<(), PoolError>
     ensures ok { OnOk result (parts.new ≡ record parts.old { slots = record parts.old.slots { places = max parts.old.slots.places maximum } }) }
     ensures err { OnErr result (parts.new ≡ parts.old) }
     ensures same { (s : State) → Shows parts.old s ↔ Shows parts.new s }
     ensures tied { (c : Config) (n : ℕ) → IsTied c n parts.old → IsTied c n parts.new }
     ensures refused { IsOkUnless result PoolError.NoMemory }
+    ensures none_needed { maximum ≤ parts.old.slots.places → IsOk result }
 {
     match parts.make_places(maximum) {
         Ok(()) => Ok(()),

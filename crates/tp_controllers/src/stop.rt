@@ -1,6 +1,6 @@
 //! The pool is stopped, as `shutdownNow` does: the queued tasks are handed back, and workers leave once their tasks have ended.
 
-ghost use Rattle.std.specs.Prelude.{◌≡◌, ◌+◌, ◌*◌, ◌-◌, ◌^◌, ◌<◌, ◌≤◌, ◌==◌, ◌++◌, [], length, count_by, vec_len, vec_capacity, IfOk, IfErr, IsOkUnless, if◌then◌else◌};
+ghost use Rattle.std.specs.Prelude.{◌≡◌, ◌+◌, ◌*◌, ◌-◌, ◌^◌, ◌<◌, ◌≤◌, ◌==◌, ◌++◌, [], length, count_by, vec_len, vec_capacity, IfOk, IfErr, IsOk, IsOkUnless, if◌then◌else◌};
 ghost use Rattle.tp_types.specs.RunState.{state_rank};
 ghost use Rattle.tp_queue.specs.Queues.{waiting_of};
 ghost use Rattle.tp_slots.specs.Table.{is_at_take};
@@ -38,11 +38,13 @@ fn fall<P>(parts: &Parts<P>, count: u32) -> u64
     6 * u64::from(count) + parts.owed_until(RunState::Stop)
 }
 
-/// A list with memory for all tasks that a stop hands back, before it is made. NoMemory (4).
+/// A list with memory for all tasks that a stop hands back, before it is made. NoMemory (4), which comes only where a task is
+/// queued.
 pub fn prepare<P>(alloc: Global, parts: &Parts<P>) -> Result<Vec<(TaskId, Option<P>)>, PoolError>
     ensures empty { IfOk result (λ v. v.items ≡ []) }
     ensures room { IfOk result (λ v. length (waiting_of parts.now.queue).items ≤ vec_capacity v) }
     ensures refused { IsOkUnless result PoolError.NoMemory }
+    ensures none_needed { length (waiting_of parts.now.queue).items ≡ 0 → IsOk result }
 {
     match Vec::with_capacity(alloc, parts.queue.len()) {
         Ok(drained) => Ok(drained),

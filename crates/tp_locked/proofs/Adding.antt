@@ -8,9 +8,10 @@ use Rattle.tp_types.specs.declared.refusals.PoolError.TheVariants.{TornRecord}
 use Rattle.tp_record.specs.declared.entries.Entry.{Entry}
 use Rattle.tp_record.specs.declared.entries.Ask.{Ask}
 use Rattle.tp_record.specs.declared.entries.Did.{Did}
-use Rattle.tp_record.specs.Step.{Legal, IsRefused}
+use Rattle.tp_record.specs.Step.{Legal}
 use Rattle.tp_tasks.specs.declared.tasks.Tasks.{Tasks}
 use Rattle.tp_machine.specs.Stepped.{FitsOutcome}
+use Rattle.tp_machine.specs.Steps.{IsRefusedAt}
 use Rattle.tp_waking.specs.declared.waking.Waking.{Waking}
 use Rattle.tp_book.specs.BookView.{BookView, config, state_of, IsDenied, IsUnmoved}
 use Rattle.tp_book.specs.PassView.{PassView}
@@ -45,10 +46,10 @@ module _ {J : Type 0} (c : Config) where
   -- a refusal of an ask with which no outcome comes is Step's
   pub refusal : (before : List Entry) (a : Ask) (e : PoolError) (after : List Entry) → Refused J c before a e after → HasNoOutcome a → IsRefusal c after a e
   refusal before a e after refused none =
-      known_at refused.book c refused.is after (λ s. IsRefused c s a e) refused.shown
+      known_at refused.book c refused.is after (λ s. IsRefusedAt c s a e) refused.shown
       (⊎_elim (λ (torn : (e ≡ TornRecord) × ¬ FitsOutcome refused.book.machine a). absurd (torn.1 (fits refused.book.machine a none)))
-      (λ (denied : FitsOutcome refused.book.machine a × IsRefused (config refused.book) (state_of refused.book) a e).
-      subst (λ k. IsRefused k (state_of refused.book) a e) refused.is.settings denied.1)
+      (λ (denied : FitsOutcome refused.book.machine a × IsRefusedAt (config refused.book) (state_of refused.book) a e).
+      subst (λ k. IsRefusedAt k (state_of refused.book) a e) refused.is.settings denied.1)
       refused.denied)
 
   module _ (old new : PassView) (a : Ask) where

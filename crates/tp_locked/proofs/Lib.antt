@@ -1,5 +1,6 @@
 pub mod Adding
 pub mod Moments
+pub mod Plain
 pub mod Receipts
 pub mod Refusals
 pub mod Stops

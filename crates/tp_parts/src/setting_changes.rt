@@ -1,6 +1,6 @@
 //! Changes of the settings, of the moment and of the run state, by which idle workers wake.
 
-ghost use Rattle.std.specs.Prelude.{ℕ, ◌≡◌, ◌≤◌, [], max, OnOk, OnErr, ◌↔◌};
+ghost use Rattle.std.specs.Prelude.{ℕ, ◌≡◌, ◌≤◌, [], max, IsOk, OnOk, OnErr, ◌↔◌};
 ghost use Rattle.tp_types.specs.declared.configs.Config.{Config};
 ghost use Rattle.tp_types.specs.RunState.{state_rank};
 ghost use Rattle.tp_record.specs.State.{State};
@@ -24,11 +24,12 @@ impl<P> Parts<P> {
         self.core = core;
     }
 
-    /// Makes room for so many slots, before the maximum is raised. An error is want of memory, refusal 4, and changes nothing.
-    /// Either way the same states are shown.
+    /// Makes room for so many slots, before the maximum is raised. An error is want of memory, refusal 4, which comes only where
+    /// there is room for fewer, and changes nothing. Either way the same states are shown.
     pub fn make_places(&mut self, maximum: u32) -> Result<(), AllocError>
         ensures ok { OnOk result (self.new ≡ record self.old { slots = record self.old.slots { places = max self.old.slots.places maximum } }) }
         ensures err { OnErr result (self.new ≡ self.old) }
+        ensures room_enough { maximum ≤ self.old.slots.places → IsOk result }
         ensures same { (s : State) → Shows self.old s ↔ Shows self.new s }
         ensures tied { (c : Config) (n : ℕ) → IsTied c n self.old → IsTied c n self.new }
     {

@@ -47,6 +47,7 @@ pub enum Ending {
 }
 
 /// What follows on the path of task `t` after this answer, which is one of its own.
+#[inline(always)]
 pub fn follows(t: TaskId, did: &Did) -> Next
     ensures { follow_of t.0 result ≡ what_follows t.0 did.now }
 {
@@ -67,6 +68,7 @@ pub fn follows(t: TaskId, did: &Did) -> Next
     }
 }
 
+#[inline(always)]
 fn after_look(looked: Looked) -> Next
     ensures { (t : ℕ) → follow_of t result ≡ what_follows_look t looked }
 {
@@ -112,6 +114,7 @@ fn after_verdict(ruled: Ruled) -> Next
 
 impl Next {
     /// Whether this answer, of a submitter of task `t`, is one that the deed awaits.
+    #[inline(always)]
     pub fn awaits(&self, t: TaskId, did: &Did) -> bool
         ensures { result ≡ is_awaited (follow_of t.0 self.now) did.now }
     {
@@ -128,6 +131,7 @@ impl Next {
     }
 
     /// What the submitter of task `t` does after this answer to the deed.
+    #[inline(always)]
     pub fn after(&self, t: TaskId, did: &Did) -> Next
         ensures { follow_of t.0 result ≡ goes t.0 (follow_of t.0 self.now) did.now }
     {

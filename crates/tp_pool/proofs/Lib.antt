@@ -1,9 +1,14 @@
 pub mod Asked
+pub mod Cuts
 pub mod Endless
 pub mod Ends
 pub mod Got
 pub mod Left
+pub mod Returned
 pub mod Starts
 pub mod Submissions
+pub mod Turned
+pub mod Undone
 pub mod Walks
+pub mod Wants
 pub mod Watched

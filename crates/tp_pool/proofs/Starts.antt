@@ -34,6 +34,17 @@ module _ (c : Config) where
       (x.0, x.3 ∙ ap (λ e. prestarted by (Some x.0) ∷ e ∷ []) (live_opening by x.0 x.1 x.2 (sym x.4)))))
       is
 
+  -- it makes a step at least
+  asks : (by : ℕ) (steps history : List Entry) (live : Bool) → IsPrestart c by steps live history → 0 < length steps
+  asks by steps history live is =
+      ⊎_elim (λ (x : (steps ≡ prestarted by None ∷ []) × (live ≡ false)). omega (arith, ap length x.0))
+      (⊎_elim (λ (x : (w : SlotId) × (staffed : Bool) × (steps ≡ prestarted by (Some w) ∷ []) × (live ≡ false) × IsBarred c history (opening w staffed)). omega (arith, ap length x.2))
+      (λ (x : (w : SlotId) × (staffed : Bool) × (d : Did) × (steps ≡ prestarted by (Some w) ∷ entry_of by (opening w staffed) d ∷ []) × (live ≡ is_live w staffed d)). omega (arith, ap length x.3)))
+      is
+
+  pub prestart_asks : (old new : PassView) (live : Bool) → AddsPrestart c old live new → old.amount < new.amount
+  prestart_asks old new live adds = let some = asks old.number adds.0 new.front live adds.1 in omega (arith, adds.2.amount, some)
+
   -- a prestart behind room for its receipts
   prestart_behind : (old mid new : PassView) (live : Bool) → AddsNone old mid → AddsPrestart c mid live new → AddsPrestart c old live new
   prestart_behind old mid new live none adds =
@@ -48,6 +59,7 @@ module _ (c : Config) where
     pub slots : List SlotId
     pub count : length slots ≡ live
     pub number : new.number ≡ old.number
+    pub amount : old.amount + live ≤ new.amount
     pub behind : (ys : List Entry) (last : PassView) → Adds c new ys last → Adds c old (flat_map (live_start old.number) slots ++ ys) last
     pub legal : 0 < live → Legal c new.front
 
@@ -56,6 +68,7 @@ module _ (c : Config) where
     slots = [];
     count = refl;
     number = ap (λ p. p.number) none.0;
+    amount = omega (arith, ap (λ p. p.amount) none.0);
     behind = λ ys last adds. adds_behind c old new last ys none adds;
     legal = λ some. absurd (omega (arith, some));
   }
@@ -65,6 +78,7 @@ module _ (c : Config) where
     slots = started.slots;
     count = started.count;
     number = ap (λ p. p.number) looks.0 ∙ started.number;
+    amount = omega (arith, ap (λ p. p.amount) looks.0, started.amount);
     behind = λ ys last adds. started.behind ys last (adds_behind c mid new last ys (looks_none c mid new looks) adds);
     legal = λ some. looks.2;
   }
@@ -80,6 +94,7 @@ module _ (c : Config) where
         slots = before.slots ++ w ∷ [];
         count = length-append before.slots (w ∷ []) ∙ ap (λ n. n + 1) before.count;
         number = first.number ∙ before.number;
+        amount = omega (arith, first.amount, before.amount);
         behind = λ ys last adds. subst (λ steps. Adds c old steps last)
             (sym (ap (λ steps. steps ++ ys) same ∙ append_assoc starts (live_start old.number w) ys))
             (before.behind (live_start old.number w ++ ys) last (adds_both c mid new last (live_start old.number w) ys first adds));

@@ -1,51 +1,51 @@
 -- What a submission adds behind room for its receipts.
-use Rattle.std.proofs.Common.{◌≡◌, ℕ, [], ◌∷◌, ◌++◌, List, inl, inr, ap, subst, ⊎_elim}
-use Rattle.std.specs.Prelude.{Result, Ok, Err, Some, IfOk, IfErr}
+use Rattle.std.proofs.Common.{◌≡◌, ◌≢◌, ◌⊎◌, ◌≤◌, ℕ, [], ◌∷◌, ◌++◌, List, length, inl, inr, refl, ap, sym, subst, ◌∙◌, ⊎_elim}
+use Rattle.std.specs.Prelude.{not, Result, Ok, Err, Some, IsSome, IfOk, IfErr}
 use Rattle.tp_types.specs.declared.configs.Config.{Config}
 use Rattle.tp_types.specs.declared.ids.TaskId.{TaskId}
 use Rattle.tp_types.specs.declared.refusals.PoolError.TheVariants as error
 use Rattle.tp_types.specs.declared.tasks.Kind.{Kind}
+use Rattle.tp_types.specs.declared.tasks.Kind.TheVariants as kinds
 use Rattle.tp_types.specs.declared.tasks.Promise.{Promise}
 use Rattle.tp_record.specs.declared.entries.Ask.TheVariants as ask
+use Rattle.tp_record.specs.declared.entries.Did.TheVariants as did
 use Rattle.tp_record.specs.declared.entries.Entry.{Entry}
-use Rattle.tp_record.specs.Paths.{Admission, Rejected, Then, Astray}
-use Rattle.tp_paths.specs.Fronts.{goes}
+use Rattle.tp_record.specs.Fields.{is_cancelled}
+use Rattle.tp_record.specs.Paths.{Admission, Rejected, Astray}
+use Rattle.tp_paths.specs.Fronts.{follow_of, goes}
 use Rattle.tp_glance.specs.Word.{IsFrontOf}
 use Rattle.tp_glance.proofs.Fronts.{IsFrontOf_trans}
 use Rattle.tp_book.specs.PassView.{PassView}
-use Rattle.tp_locked.specs.Passes.{Adds, AddsNone, LooksOnly, Refuses}
+use Rattle.tp_locked.specs.Passes.{Adds, AddsNone, Refuses}
 use Rattle.tp_locked.specs.declared.answers.Admitted.{Admitted}
+use Rattle.tp_locked.specs.declared.answers.Admitted.TheVariants as admitted
 use Rattle.tp_locked.specs.declared.answers.Refused.{Refused}
-use Rattle.tp_pool.specs.Admissions.{AddsPath, AddsFront, GotJob, IsAdmitted, IsTurnedAway, task_of, end_of}
-use Rattle.tp_locked.proofs.Receipts.{adds_behind, adds_looks, none_behind}
+use Rattle.tp_pool.specs.Admissions.{AddsPath, AddsFront, ComesBack, IsUndone, GotJob, IsAdmitted, IsTurnedAway, task_of, end_of}
+use Rattle.tp_pool.specs.Submissions.{AddsSubmission}
+use Rattle.tp_locked.proofs.Plain.{submitted_plain}
+use Rattle.tp_locked.proofs.Receipts.{adds_behind, none_behind}
+
+-- one that was admitted
+pub admits : (c : Config) (k : Kind) (a : Admitted) (old new : PassView) → AddsPath c k (task_of a) (end_of a) old new → AddsSubmission c k (task_of a) old new
+admits c k (admitted.Accepted t) old new path = inl path
+admits c k (admitted.RanHere t o) old new path = inr (inl (o, path))
+admits c k (admitted.Discarded t) old new path = inr (inr path)
 
 module _ (c : Config) where
-  -- a front, and then a look
-  pub front_looks : (old mid new : PassView) → AddsFront c old mid → LooksOnly c mid new → AddsFront c old new
-  front_looks old mid new is looks =
-      let front = is.1 in (
-        is.0,
-        front,
-        is.2,
-        is.3,
-        ⊎_elim (λ (x : Adds c old front mid). inl (adds_looks c old mid new front x looks))
-            (λ (x : (e : Entry) × (goes is.0 (Then is.2) e.did ≡ Astray) × Adds c old (front ++ e ∷ []) mid). inr (x.0, x.1, adds_looks c old mid new (front ++ x.0 ∷ []) x.2 looks)) is.4,
-      )
-
   -- behind room for more
   path_behind : (kind : Kind) (t : TaskId) (end : Admission) (old mid new : PassView) → AddsNone old mid → AddsPath c kind t end mid new → AddsPath c kind t end old new
   path_behind kind t end old mid new none path = (path.0, path.1, path.2, adds_behind c old mid new path.0 none path.3)
 
-  pub front_behind : (old mid new : PassView) → AddsNone old mid → AddsFront c mid new → AddsFront c old new
-  front_behind old mid new none is =
-      let front = is.1 in (
-        is.0,
-        front,
-        is.2,
-        is.3,
-        ⊎_elim (λ (x : Adds c mid front new). inl (adds_behind c old mid new front none x))
-            (λ (x : (e : Entry) × (goes is.0 (Then is.2) e.did ≡ Astray) × Adds c mid (front ++ e ∷ []) new). inr (x.0, x.1, adds_behind c old mid new (front ++ x.0 ∷ []) none x.2)) is.4,
-      )
+  pub front_behind : (kind : Kind) (t : TaskId) (old mid new : PassView) → AddsNone old mid → AddsFront c kind t mid new → AddsFront c kind t old new
+  front_behind kind t old mid new none is = record {
+    front = is.front;
+    deed = is.deed;
+    is_front = is.is_front;
+    awaits = is.awaits;
+    asks = is.asks;
+    adds = ⊎_elim (λ (x : Adds c mid is.front new × (IsUndone c t is.deed new.front ⊎ (512 ≤ length is.front))). inl (adds_behind c old mid new is.front none x.0, x.1))
+        (λ (x : (e : Entry) × (goes t.0 (follow_of t.0 is.deed) e.did ≡ Astray) × Adds c mid (is.front ++ e ∷ []) new). inr (x.0, x.1, adds_behind c old mid new (is.front ++ x.0 ∷ []) none x.2)) is.adds;
+  }
 
   module _ {J : Type 0} (kind : Kind) (job : J) (promise : Promise) where
     got_from : (by t : ℕ) (f g h : List Entry) → IsFrontOf f g → GotJob c kind job promise by t g h → GotJob c kind job promise by t f h
@@ -84,9 +84,10 @@ module _ (c : Config) where
 
     turns_behind : (old mid new : PassView) (x : Refused J) → AddsNone old mid → IsTurnedAway c kind job promise mid new x → IsTurnedAway c kind job promise old new x
     turns_behind old mid new x none is =
-        ⊎_elim (λ (y : (t : TaskId) × (x.error ≡ error.Rejected t) × AddsPath c kind t Rejected mid new × GotJob c kind job promise mid.number t.0 mid.front new.front).
-        inl (y.0, y.1, path_behind kind y.0 Rejected old mid new none y.2, got_behind y.0.0 old mid new none y.3))
-        (⊎_elim (λ (y : (x.error ≡ error.TornRecord) × AddsFront c mid new). inr (inl (y.0, front_behind old mid new none y.1)))
+        ⊎_elim (λ (y : (t : TaskId) × (x.error ≡ error.Rejected t) × AddsPath c kind t Rejected mid new × GotJob c kind job promise mid.number t.0 mid.front new.front × ComesBack t.0 x.job new.front).
+        inl (y.0, y.1, path_behind kind y.0 Rejected old mid new none y.2, got_behind y.0.0 old mid new none y.3, y.4))
+        (⊎_elim (λ (y : (t : TaskId) × (x.error ≡ error.TornRecord) × AddsFront c kind t mid new × GotJob c kind job promise mid.number t.0 mid.front new.front).
+        inr (inl (y.0, y.1, front_behind kind y.0 old mid new none y.2, got_behind y.0.0 old mid new none y.3)))
         (λ (y : Refuses c new.front (ask.Submit kind) x.error × (x.job ≡ Some job) × AddsNone mid new). inr (inr (y.0, y.1, none_behind old mid new none y.2))))
         is
 
@@ -94,3 +95,16 @@ module _ (c : Config) where
         IfErr r (IsTurnedAway c kind job promise mid new) → IfErr r (IsTurnedAway c kind job promise old new)
     refuses_behind old mid new (Ok a) none is = tt
     refuses_behind old mid new (Err x) none is = turns_behind old mid new x none is
+
+-- a refused plain task's job comes back, unless the submission was torn off
+pub plain_returned : {J : Type 0} (c : Config) (job : J) (promise : Promise) (old new : PassView) (x : Refused J) → IsTurnedAway c kinds.Plain job promise old new x → x.error ≢ error.TornRecord → IsSome x.job
+plain_returned c job promise old new x is whole =
+    ⊎_elim (λ (y : (t : TaskId) × (x.error ≡ error.Rejected t) × AddsPath c kinds.Plain t Rejected old new × GotJob c kinds.Plain job promise old.number t.0 old.front new.front × ComesBack t.0 x.job new.front).
+    let got = y.3 in
+    let e : Entry = record { by = old.number; ask = ask.Submit kinds.Plain; did = did.Submit got.number kinds.Plain got.look } in
+    let on : IsFrontOf (e ∷ got.makes.old.history) new.front = subst (λ h. IsFrontOf h new.front) (got.makes.shown ∙ got.makes.step.notes) got.goes_on in
+    let spared = submitted_plain c e got.makes.old.history new.front on y.2.3.legal got.number got.look refl in
+    y.4 ∙ ap (λ t. not (is_cancelled new.front t)) (sym got.is_task) ∙ ap not spared)
+    (⊎_elim (λ (y : (t : TaskId) × (x.error ≡ error.TornRecord) × AddsFront c kinds.Plain t old new × GotJob c kinds.Plain job promise old.number t.0 old.front new.front). absurd (whole y.1))
+    (λ (y : Refuses c new.front (ask.Submit kinds.Plain) x.error × (x.job ≡ Some job) × AddsNone old new). subst (λ o. IsSome o) (sym y.1) refl))
+    is

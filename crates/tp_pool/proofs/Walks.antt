@@ -1,6 +1,6 @@
 -- How far a submission has come, with its receipts.
-use Rattle.std.proofs.Common.{◌≡◌, ◌⊎◌, ℕ, ◌+◌, ◌≤◌, List, [], ◌∷◌, ◌++◌, refl, inl, inr, ap, sym, subst, ◌∙◌, ⊎_elim, arith}
-use Rattle.std.specs.Prelude.{Bool, true, false, Result, Ok, Err, IfOk, IfErr, IsTrue, if◌then◌else◌}
+use Rattle.std.proofs.Common.{◌≡◌, ◌⊎◌, ℕ, ◌+◌, ◌≤◌, List, [], ◌∷◌, ◌++◌, length, length-append, refl, inl, inr, ap, sym, subst, ◌∙◌, ⊎_elim, arith}
+use Rattle.std.specs.Prelude.{Option, option_map, Result, Ok, Err, IfOk, IfErr, IsTrue}
 use Rattle.tp_types.specs.declared.configs.Config.{Config}
 use Rattle.tp_types.specs.declared.ids.TaskId.{TaskId}
 use Rattle.tp_types.specs.declared.tasks.Kind.{Kind}
@@ -11,13 +11,15 @@ use Rattle.tp_record.specs.declared.entries.Did.{Did}
 use Rattle.tp_record.specs.declared.entries.Did.TheVariants as did
 use Rattle.tp_record.specs.declared.entries.Entry.{Entry}
 use Rattle.tp_record.specs.declared.entries.Looked.{Looked}
-use Rattle.tp_record.specs.Paths.{Admission, Rejected, Follow, Then, Ends, Astray, IsPath, follows}
+use Rattle.tp_record.specs.declared.entries.Looked.TheVariants as looked
+use Rattle.tp_record.specs.Paths.{Admission, Rejected, Follow, Ends, Astray, IsPath, after_look, follows}
 use Rattle.tp_parts.specs.Payloads.{PutsIn}
 use Rattle.tp_paths.specs.Fronts.{is_submit_of, admission_of, follow_of, goes, IsFront}
 use Rattle.tp_paths.specs.declared.paths.Next.{Next}
 use Rattle.tp_paths.specs.declared.paths.Next.TheVariants as next
 use Rattle.tp_paths.specs.declared.paths.Ending.{Ending}
 use Rattle.tp_paths.specs.declared.paths.Ending.TheVariants as ending
+use Rattle.tp_glance.specs.Word.{IsFrontOf}
 use Rattle.tp_glance.proofs.Fronts.{IsFrontOf_refl}
 use Rattle.tp_book.specs.PassView.{PassView}
 use Rattle.tp_locked.specs.Passes.{Adds, AddsStep, LooksOnly, entry_of}
@@ -26,9 +28,10 @@ use Rattle.tp_types.specs.declared.refusals.PoolError.TheVariants as error
 use Rattle.tp_locked.specs.declared.answers.Admitted.{Admitted}
 use Rattle.tp_locked.specs.declared.answers.Refused.{Refused}
 use Rattle.tp_locked.specs.declared.tasks.Task.{Task}
-use Rattle.tp_pool.specs.Admissions.{task_of, end_of, AddsFront, AsksFor, Awaits, GotJob, IsAdmitted, IsTurnedAway}
-use Rattle.tp_locked.proofs.Receipts.{adds_then, leads_front}
-use Rattle.tp_pool.proofs.Submissions.{front_looks, got_on}
+use Rattle.tp_pool.specs.Admissions.{task_of, end_of, AddsFront, AsksFor, Awaits, ComesBack, GotJob, IsUndone, IsAdmitted, IsTurnedAway}
+use Rattle.tp_locked.proofs.Receipts.{adds_looks, adds_then, leads_front}
+use Rattle.tp_pool.proofs.Returned.{comes_back_as}
+use Rattle.tp_pool.proofs.Submissions.{got_on}
 use Rattle.std.proofs.lemmas.Bool.{eq-eqb}
 
 -- the laws of fronts, as `fronts_are_paths` tells them
@@ -41,28 +44,48 @@ GoesOn = (t : ℕ) (es : List Entry) (f : Follow) (e : Entry) → IsFront t es f
 abbrev pub Closes : Type 0
 Closes = (t : ℕ) (es : List Entry) (a : Admission) → IsFront t es (Ends a) → IsPath t es a
 
-gone_if : (b : Bool) (f : Follow) → f ≡ Astray → (if b then f else Astray) ≡ Astray
-gone_if true f is = is
-gone_if false f is = refl
+-- what follows a submission's first step is no stranger's
+looks_on : (t : ℕ) (look : Looked) → ¬ (after_look t look ≡ Astray)
+looks_on t (looked.Reserve w) is = absurd (cc)
+looks_on t looked.Queue is = absurd (cc)
+looks_on t looked.Refuse is = absurd (cc)
 
-gone : (t : ℕ) (fits : Did → Bool) (d : Did) → follows t d ≡ Astray → goes t (Then fits) d ≡ Astray
-gone t fits d is = gone_if (fits d) (follows t d) is
-
--- where no end has come, none is awaited
-unended : (t : ℕ) (n : Next) → ((end : Ending) → ¬ (n ≡ next.End end)) → (a : Admission) → ¬ (follow_of t n ≡ Ends a)
-unended t next.Look goes_on a is = absurd (cc)
-unended t next.Offer goes_on a is = absurd (cc)
-unended t next.Second goes_on a is = absurd (cc)
-unended t next.Grow goes_on a is = absurd (cc)
-unended t next.Judge goes_on a is = absurd (cc)
-unended t next.RunHere goes_on a is = absurd (cc)
-unended t (next.Staff w) goes_on a is = absurd (cc)
-unended t (next.End end) goes_on a is = goes_on end refl
-unended t next.Astray goes_on a is = absurd (cc)
+-- a deed is awaited, or the submission has ended, or it has left its path
+deeds : (t : ℕ) (n : Next) → Awaits (follow_of t n) ⊎ (((end : Ending) × (n ≡ next.End end)) ⊎ (n ≡ next.Astray))
+deeds t next.Look = inl tt
+deeds t next.Offer = inl tt
+deeds t next.Second = inl tt
+deeds t next.Grow = inl tt
+deeds t next.Judge = inl tt
+deeds t next.RunHere = inl tt
+deeds t (next.Staff w) = inl tt
+deeds t (next.End end) = inr (inl (end, refl))
+deeds t next.Astray = inr (inr refl)
 
 asks_on : (kind : Kind) (es fs : List Entry) → AsksFor kind es → AsksFor kind (es ++ fs)
 asks_on kind [] fs asks = absurd asks
 asks_on kind (e ∷ es) fs asks = asks
+
+-- a pass that stays as it is, or looks
+module _ (c : Config) where
+  moved_on : (mid new : PassView) → (new ≡ mid) ⊎ LooksOnly c mid new → IsFrontOf mid.front new.front
+  moved_on mid new moved =
+      ⊎_elim (λ (same : new ≡ mid). subst (λ p. IsFrontOf mid.front p.front) (sym same) (IsFrontOf_refl mid.front)) (λ (looks : LooksOnly c mid new). looks.1) moved
+
+  adds_moved : (old mid new : PassView) (steps : List Entry) → Adds c old steps mid → (new ≡ mid) ⊎ LooksOnly c mid new → Adds c old steps new
+  adds_moved old mid new steps adds moved =
+      ⊎_elim (λ (same : new ≡ mid). subst (λ p. Adds c old steps p) (sym same) adds) (λ (looks : LooksOnly c mid new). adds_looks c old mid new steps adds looks) moved
+
+-- the pass has the receipts of a front of the path of t, which is of this kind, behind which this deed was to follow, and of one step more that was not to follow there
+pub record Strays (c : Config) (kind : Kind) (t : ℕ) (old new : PassView) : Type 0 where
+  pub front : List Entry
+  pub deed : Next
+  pub is_front : IsFront t front (follow_of t deed)
+  pub awaits : Awaits (follow_of t deed)
+  pub asks : AsksFor kind front
+  pub last : Entry
+  pub astray : goes t (follow_of t deed) last.did ≡ Astray
+  pub adds : Adds c old (front ++ last ∷ []) new
 
 module _ {J : Type 0} (c : Config) (kind : Kind) (job : J) (promise : Promise) where
   -- after so many steps the pass has the receipts of a front of the path of t, which is of this kind, behind which this follows; the pool got the job; and
@@ -73,8 +96,9 @@ module _ {J : Type 0} (c : Config) (kind : Kind) (job : J) (promise : Promise) w
     pub asks : AsksFor kind front
     pub adds : Adds c old front new
     pub got : GotJob c kind job promise old.number t old.front new.front
+    pub count : length front ≡ steps
     -- where it has left the path, its last entry was not to follow
-    pub torn : f ≡ Astray → AddsFront c old new
+    pub torn : f ≡ Astray → Strays c kind t old new
     pub room : 512 ≤ new.room + steps
 
   pub begun : Begins → (t : TaskId) (look : Looked) (old new : PassView) (task : Task J) → task.job ≡ job →
@@ -89,25 +113,26 @@ module _ {J : Type 0} (c : Config) (kind : Kind) (job : J) (promise : Promise) w
         asks = refl;
         adds = step;
         got = record { task = task; look = look; then_history = new.front; has_job = has; number = t; is_task = refl; makes = makes; goes_on = IsFrontOf_refl new.front };
-        torn = λ (astray : follows t.0 d ≡ Astray). (t.0, [], is_submit_of t.0, refl, inr (e, gone t.0 (is_submit_of t.0) d astray, step));
+        count = refl;
+        torn = λ (astray : follows t.0 d ≡ Astray). absurd (looks_on t.0 look astray);
         room = omega arith;
       }
 
-  pub walked : GoesOn → (t : ℕ) (old mid new : PassView) (f : Follow) (steps : ℕ) (a : Ask) (d : Did) → Walk t old f steps mid → Awaits f → AddsStep c mid a d new → mid.room ≤ new.room + 1 →
-      Walk t old (goes t f d) (steps + 1) new
-  walked law t old mid new (Then fits) steps a d walk on step left =
+  pub walked : GoesOn → (t : ℕ) (old mid new : PassView) (n : Next) (steps : ℕ) (a : Ask) (d : Did) → Walk t old (follow_of t n) steps mid → Awaits (follow_of t n) → AddsStep c mid a d new →
+      mid.room ≤ new.room + 1 → Walk t old (goes t (follow_of t n) d) (steps + 1) new
+  walked law t old mid new n steps a d walk on step left =
       let e = entry_of old.number a d in
       let adds = adds_then c old mid new walk.front a d walk.adds step in record {
         front = walk.front ++ e ∷ [];
-        is_front = law t walk.front (Then fits) e walk.is_front;
+        is_front = law t walk.front (follow_of t n) e walk.is_front;
         asks = asks_on kind walk.front (e ∷ []) walk.asks;
         adds = adds;
         got = got_on c kind job promise old.number t old.front mid.front new.front walk.got (leads_front mid.front new.front (entry_of mid.number a d ∷ []) step.leads);
-        torn = λ (astray : goes t (Then fits) d ≡ Astray). (t, walk.front, fits, walk.is_front, inr (e, astray, adds));
+        count = length-append walk.front (e ∷ []) ∙ ap (λ k. k + 1) walk.count;
+        torn = λ (astray : goes t (follow_of t n) d ≡ Astray).
+            record { front = walk.front; deed = n; is_front = walk.is_front; awaits = on; asks = walk.asks; last = e; astray = astray; adds = adds };
         room = omega (arith, walk.room);
       }
-  walked law t old mid new (Ends end) steps a d walk on step left = absurd on
-  walked law t old mid new Astray steps a d walk on step left = absurd on
 
   -- its end, as the answer says it
   pub admits_at : Closes → (t : TaskId) (old new : PassView) (f : Follow) (steps : ℕ) (end : Admission) → f ≡ Ends end → Walk t.0 old f steps new →
@@ -120,20 +145,39 @@ module _ {J : Type 0} (c : Config) (kind : Kind) (job : J) (promise : Promise) w
   admits_at law t old new f steps end is walk (Err x) same = tt
 
   pub rejects_at : Closes → (t : TaskId) (old new : PassView) (f : Follow) (steps : ℕ) (end : Ending) → f ≡ Ends (admission_of end) → Walk t.0 old f steps new →
-      (r : Result Admitted (Refused J)) → IfErr r (λ x. (x.error ≡ error.Rejected t) × (end ≡ ending.Rejected)) → IfErr r (IsTurnedAway c kind job promise old new)
-  rejects_at law t old new f steps end is walk (Ok a) same = tt
-  rejects_at law t old new f steps end is walk (Err x) same =
+      (held : Option (Task J)) → (f ≡ Ends Rejected → ComesBack t.0 held new.front) → (r : Result Admitted (Refused J)) → IfErr r (λ x. (x.error ≡ error.Rejected t) × (end ≡ ending.Rejected)) →
+      IfErr r (λ x. x.job ≡ option_map (λ k. k.job) held) → IfErr r (IsTurnedAway c kind job promise old new)
+  rejects_at law t old new f steps end is walk held returned (Ok a) same hands = tt
+  rejects_at law t old new f steps end is walk held returned (Err x) same hands =
       let rejected : f ≡ Ends Rejected = is ∙ ap (λ e. Ends (admission_of e)) same.1 in
-      inl (t, same.0, (walk.front, law t.0 walk.front Rejected (subst (λ f. IsFront t.0 walk.front f) rejected walk.is_front), walk.asks, walk.adds), walk.got)
+      inl (
+        t,
+        same.0,
+        (walk.front, law t.0 walk.front Rejected (subst (λ f. IsFront t.0 walk.front f) rejected walk.is_front), walk.asks, walk.adds),
+        walk.got,
+        comes_back_as t.0 new.front held x.job hands (returned rejected),
+      )
 
   -- torn off where the next step is not taken
-  torn_at : (t : ℕ) (old new : PassView) (f : Follow) (steps : ℕ) → Walk t old f steps new → ((a : Admission) → ¬ (f ≡ Ends a)) → AddsFront c old new
-  torn_at t old new (Then fits) steps walk unended = (t, walk.front, fits, walk.is_front, inl walk.adds)
-  torn_at t old new (Ends a) steps walk unended = absurd (unended a refl)
-  torn_at t old new Astray steps walk unended = walk.torn refl
-
-  pub torn_off : (t : ℕ) (old mid new : PassView) (n : Next) (steps : ℕ) → Walk t old (follow_of t n) steps mid → ((end : Ending) → ¬ (n ≡ next.End end)) →
-      (new ≡ mid) ⊎ LooksOnly c mid new → (x : Refused J) → x.error ≡ error.TornRecord → IsTurnedAway c kind job promise old new x
-  torn_off t old mid new n steps walk goes_on moved x torn =
-      let front = torn_at t old mid (follow_of t n) steps walk (unended t n goes_on) in
-      inr (inl (torn, ⊎_elim (λ (same : new ≡ mid). subst (λ p. AddsFront c old p) (sym same) front) (λ (looks : LooksOnly c mid new). front_looks c old mid new front looks) moved))
+  pub torn_off : (t : TaskId) (old mid new : PassView) (n : Next) (steps : ℕ) → Walk t.0 old (follow_of t.0 n) steps mid → ((end : Ending) → ¬ (n ≡ next.End end)) →
+      (new ≡ mid) ⊎ LooksOnly c mid new → (Awaits (follow_of t.0 n) → IsUndone c t n new.front ⊎ (512 ≤ steps)) → (x : Refused J) → x.error ≡ error.TornRecord → IsTurnedAway c kind job promise old new x
+  torn_off t old mid new n steps walk goes_on moved undone x torn =
+      let got = got_on c kind job promise old.number t.0 old.front mid.front new.front walk.got (moved_on c mid new moved) in
+      let awaited : Awaits (follow_of t.0 n) → AddsFront c kind t old new = λ on. record {
+        front = walk.front;
+        deed = n;
+        is_front = walk.is_front;
+        awaits = on;
+        asks = walk.asks;
+        adds = inl (adds_moved c old mid new walk.front walk.adds moved, subst (λ k. IsUndone c t n new.front ⊎ (512 ≤ k)) (sym walk.count) (undone on));
+      } in
+      let strayed : n ≡ next.Astray → AddsFront c kind t old new = λ is.
+      let strays = walk.torn (ap (λ n. follow_of t.0 n) is) in record {
+        front = strays.front;
+        deed = strays.deed;
+        is_front = strays.is_front;
+        awaits = strays.awaits;
+        asks = strays.asks;
+        adds = inr (strays.last, strays.astray, adds_moved c old mid new (strays.front ++ strays.last ∷ []) strays.adds moved);
+      } in
+      inr (inl (t, torn, ⊎_elim awaited (⊎_elim (λ (x : (end : Ending) × (n ≡ next.End end)). absurd (goes_on x.0 x.1)) strayed) (deeds t.0 n), got))

@@ -1,26 +1,32 @@
 -- What submissions come to, and what they add to their caller's pass.
-use Rattle.std.specs.Prelude.{ℕ, Bool, ◌≡◌, ◌⊎◌, List, [], ◌∷◌, ◌++◌, Some, Result, IfOk, ⊤}
+use Rattle.std.specs.Prelude.{ℕ, Bool, not, ◌≡◌, ◌⊎◌, ◌≤◌, List, [], ◌∷◌, ◌++◌, length, Option, Some, is_some, Result, IfOk, ⊤}
 use Rattle.tp_types.specs.declared.configs.Config.{Config}
+use Rattle.tp_types.specs.declared.configs.Verdict.{Verdict}
 use Rattle.tp_types.specs.declared.ids.TaskId.{TaskId}
 use Rattle.tp_types.specs.declared.refusals.PoolError.TheVariants as error
 use Rattle.tp_types.specs.declared.tasks.Kind.{Kind}
 use Rattle.tp_types.specs.declared.tasks.Promise.{Promise}
+use Rattle.tp_record.specs.declared.entries.Ask.{Ask}
 use Rattle.tp_record.specs.declared.entries.Ask.TheVariants as ask
 use Rattle.tp_record.specs.declared.entries.Did.{Did}
 use Rattle.tp_record.specs.declared.entries.Did.TheVariants as did
 use Rattle.tp_record.specs.declared.entries.Entry.{Entry}
 use Rattle.tp_record.specs.declared.entries.Looked.{Looked}
+use Rattle.tp_record.specs.Fields.{is_cancelled}
 use Rattle.tp_record.specs.Paths.{Admission, Accepted, RanHere, Discarded, Rejected, Follow, Then, Astray, IsPath}
 use Rattle.tp_parts.specs.Payloads.{PutsIn}
-use Rattle.tp_paths.specs.Fronts.{IsFront, goes}
+use Rattle.tp_paths.specs.Fronts.{IsFront, follow_of, goes}
+use Rattle.tp_paths.specs.declared.paths.Next.{Next}
+use Rattle.tp_paths.specs.declared.paths.Next.TheVariants as next
 use Rattle.tp_glance.specs.Word.{IsFrontOf}
 use Rattle.tp_book.specs.PassView.{PassView}
-use Rattle.tp_locked.specs.Passes.{Adds, AddsNone, Refuses}
+use Rattle.tp_locked.specs.Passes.{Adds, AddsNone, Refuses, opening}
 use Rattle.tp_locked.specs.Steps.{Makes}
 use Rattle.tp_locked.specs.declared.answers.Admitted.{Admitted}
 use Rattle.tp_locked.specs.declared.answers.Admitted.TheVariants as admitted
 use Rattle.tp_locked.specs.declared.answers.Refused.{Refused}
 use Rattle.tp_locked.specs.declared.tasks.Task.{Task}
+use Rattle.tp_pool.specs.Endings.{IsBarred}
 
 -- whose submission was admitted, and how it ended
 abbrev pub task_of : Admitted → TaskId
@@ -54,14 +60,38 @@ abbrev pub Awaits : Follow → Type 0
 Awaits (Then fits) = ⊤
 Awaits _ = ⊥
 
+-- the job of task t is there just where t was not cancelled at this history
+abbrev pub ComesBack : {A : Type 0} → ℕ → Option A → List Entry → Type 0
+ComesBack t job h = is_some job ≡ not (is_cancelled h t)
+
 -- the pass has the receipts of the whole path of this task, which is of this kind, and the path ends so
 abbrev pub AddsPath : Config → Kind → TaskId → Admission → PassView → PassView → Type 0
 AddsPath c kind t a old new = (steps : List Entry) × IsPath t.0 steps a × AsksFor kind steps × Adds c old steps new
 
--- it has the receipts of a front of some task's path behind which a further step was to follow, and at most one that was not to follow there
-abbrev pub AddsFront : Config → PassView → PassView → Type 0
-AddsFront c old new = (t : ℕ) × (front : List Entry) × (fits : Did → Bool) × IsFront t front (Then fits)
-    × (Adds c old front new ⊎ ((e : Entry) × (goes t (Then fits) e.did ≡ Astray) × Adds c old (front ++ e ∷ []) new))
+-- what the submitter of task t asks by this deed
+abbrev pub IsAskOf : TaskId → Next → Ask → Type 0
+IsAskOf t next.Look a = a ≡ ask.Look t
+IsAskOf t next.Offer a = a ≡ ask.Offer t
+IsAskOf t next.Second a = a ≡ ask.Second t
+IsAskOf t next.Grow a = a ≡ ask.Grow t
+IsAskOf t next.Judge a = (v : Verdict) × (a ≡ ask.Verdict t v)
+IsAskOf t (next.Staff w) a = (staffed : Bool) × (a ≡ opening w staffed)
+IsAskOf t _ a = ⊥
+
+-- the deed is left undone: at this history the pool refuses what it asks, or it was to tell how the submitter's own run ended
+abbrev pub IsUndone : Config → TaskId → Next → List Entry → Type 0
+IsUndone c t n history = ((a : Ask) × IsAskOf t n a × IsBarred c history a) ⊎ (n ≡ next.RunHere)
+
+-- the pass has the receipts of a front of the path of this task, which is of this kind, behind which this deed was to follow
+pub record AddsFront (c : Config) (kind : Kind) (t : TaskId) (old new : PassView) : Type 0 where
+  pub front : List Entry
+  pub deed : Next
+  pub is_front : IsFront t.0 front (follow_of t.0 deed)
+  pub awaits : Awaits (follow_of t.0 deed)
+  pub asks : AsksFor kind front
+  -- it has no more: the deed is left undone, or no submission makes as many steps; or it has one more, which was not to follow there
+  pub adds : (Adds c old front new × (IsUndone c t deed new.front ⊎ (512 ≤ length front)))
+      ⊎ ((e : Entry) × (goes t.0 (follow_of t.0 deed) e.did ≡ Astray) × Adds c old (front ++ e ∷ []) new)
 
 module _ {J : Type 0} (c : Config) (kind : Kind) (job : J) (promise : Promise) (old new : PassView) where
   -- a submission of this kind with this job, which promises this, is admitted
@@ -72,9 +102,9 @@ module _ {J : Type 0} (c : Config) (kind : Kind) (job : J) (promise : Promise) (
   abbrev pub Admits : Result Admitted (Refused J) → Type 0
   Admits r = IfOk r IsAdmitted
 
-  -- it is refused: after its whole path, or torn off on it, or before its first step, and then with the job
+  -- it is refused: after its whole path, with the job unless its task was cancelled; or torn off on it; or before its first step, and then with the job
   abbrev pub IsTurnedAway : Refused J → Type 0
   IsTurnedAway refused =
-      ((t : TaskId) × (refused.error ≡ error.Rejected t) × AddsPath c kind t Rejected old new × GotJob c kind job promise old.number t.0 old.front new.front)
-      ⊎ ((refused.error ≡ error.TornRecord) × AddsFront c old new)
+      ((t : TaskId) × (refused.error ≡ error.Rejected t) × AddsPath c kind t Rejected old new × GotJob c kind job promise old.number t.0 old.front new.front × ComesBack t.0 refused.job new.front)
+      ⊎ ((t : TaskId) × (refused.error ≡ error.TornRecord) × AddsFront c kind t old new × GotJob c kind job promise old.number t.0 old.front new.front)
       ⊎ (Refuses c new.front (ask.Submit kind) refused.error × (refused.job ≡ Some job) × AddsNone old new)

@@ -7,3 +7,5 @@ pub mod Outcomes
 pub mod Prestarts
 pub mod Rescues
 pub mod Snapshots
+pub mod Submissions
+pub mod Turns

@@ -1,8 +1,9 @@
 //! The controlling calls: settings, the moment, and single tasks. Each makes one step, with one receipt. A
 //! refused call makes no step, and its pass gets no receipt. Accepted or refused, the call brings its pass up to
 //! the pool's record, and is answered as the pool stands there.
-ghost use Rattle.std.specs.Prelude.{◌≡◌, IfOk, IfErr, OnOk, OnErr};
+ghost use Rattle.std.specs.Prelude.{◌≡◌, ◌⊎◌, ◌<◌, IfOk, IfErr, OnOk, OnErr};
 ghost use Rattle.tp_locked.specs.Answers.{is_removed};
+ghost use Rattle.tp_locked.specs.Moments.{AtFront};
 ghost use Rattle.tp_locked.specs.Passes.{AddsStep, AddsNone, Refuses};
 ghost use Rattle.tp_locked.specs.Steps.{Removes, removal_of};
 
@@ -33,7 +34,7 @@ fn removal_from<J>(handed: Option<(TaskId, Option<Task<J>>)>) -> Removal<J>
 impl<G: PoolNaming, J: Job, E: Edge> PoolOf<G, J, E> {
     /// Sets the maximum size, in workers, as `setMaximumPoolSize`. NoMemory (4) for its receipt, else
     /// BadSizes (1) for 0, above 1,024 or below the core size, else BookFull (5), or NoMemory (4) for the
-    /// places of more slots.
+    /// places of more slots, where this is above the pool's maximum size.
     pub fn set_maximum<R: Wait>(
         &self,
         rt: &R,
@@ -42,6 +43,7 @@ impl<G: PoolNaming, J: Job, E: Edge> PoolOf<G, J, E> {
     ) -> Result<(), PoolError>
         ensures step { OnOk result (AddsStep G.config pass.old (Ask.Maximum maximum) (Did.Maximum maximum) pass.new) }
         ensures refused { IfErr result (Refuses G.config pass.new.front (Ask.Maximum maximum)) }
+        ensures memory { IfErr result (λ e. e ≡ PoolError.NoMemory → (pass.old.room ≡ 0) ⊎ AtFront G.config pass.new.front (λ s. s.maximum < maximum)) }
         ensures unchanged { OnErr result (AddsNone pass.old pass.new) }
     {
         self.shared().control(rt, Maximum(maximum), pass)

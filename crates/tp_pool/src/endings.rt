@@ -1,6 +1,6 @@
 //! The calls that end a pool, and the wait for its end. A thread that finds that the pool can end makes the
 //! step `tidy`, calls the terminated hook with no lock held, and makes the step `ended`.
-ghost use Rattle.std.specs.Prelude.{◌≡◌, ◌⊎◌, ◌≤◌, [], ◌∷◌, List, length, IfOk, IfErr, OnOk, OnErr};
+ghost use Rattle.std.specs.Prelude.{◌≡◌, ◌⊎◌, ◌<◌, ◌≤◌, [], ◌∷◌, List, length, IfOk, IfErr, OnOk, OnErr};
 ghost use Rattle.tp_record.specs.declared.entries.Entry.{Entry};
 ghost use Rattle.tp_record.specs.Fields.{rank};
 ghost use Rattle.tp_glance.specs.Word.{IsFrontOf};
@@ -72,8 +72,8 @@ impl<G: PoolNaming, J: Job, E: Edge> PoolOf<G, J, E> {
     /// at once, this call ends it. The pass has then seen the stop.
     ///
     /// NoMemory (4) for its receipts, else BookFull (5), which does not come before the pool is stopped, or
-    /// NoMemory (4) for its answer. A refused call makes no step. The answer's memory is taken before the
-    /// step, so a job is handed back or still queued, and never lost.
+    /// NoMemory (4) for its answer, where a task is queued. A refused call makes no step. The answer's memory
+    /// is taken before the step, so a job is handed back or still queued, and never lost.
     pub fn shutdown_now<R: Wait>(
         &self,
         rt: &R,
@@ -83,6 +83,7 @@ impl<G: PoolNaming, J: Job, E: Edge> PoolOf<G, J, E> {
         ensures steps { IfOk result (λ drained. AddsAndEnds G.config pass.old Ask.Stop (Did.Stop (length drained.items)) pass.new) }
         ensures seen { OnOk result (2 ≤ rank pass.new.front) }
         ensures refused { IfErr result (Refuses G.config pass.new.front Ask.Stop) }
+        ensures memory { IfErr result (λ e. e ≡ PoolError.NoMemory → (pass.old.room < 3) ⊎ AtFront G.config pass.new.front (λ s. 0 < length s.queue)) }
         ensures unchanged { OnErr result (AddsNone pass.old pass.new) }
     {
         if let Err(error) = pass.reserve(3) {

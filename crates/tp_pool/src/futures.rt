@@ -5,6 +5,7 @@ ghost use Rattle.tp_locked.specs.Passes.{AddsStep, AddsNone, LooksOnly, Refuses}
 ghost use Rattle.tp_locked.specs.Moments.{AtFront, BookAt, BookAtSome};
 ghost use Rattle.tp_locked.specs.Readings.{got, IsFound, IsUndoneAt};
 ghost use Rattle.tp_locked.specs.declared.tasks.Task.{Task};
+ghost use Rattle.tp_pool.specs.Admissions.{task_of as task_of_admitted};
 
 use crate::edges::Edge;
 use crate::pool::PoolOf;
@@ -12,11 +13,21 @@ use crate::shared::Shared;
 use std::sync::Wait;
 use tp_book::passes::Pass;
 use tp_callbacks::jobs::Job;
+use tp_locked::answers::Admitted;
 use tp_locked::names::PoolNaming;
 use tp_machine::typed::controllers::TakeDone;
 use tp_record::entries::{Ask, Did};
 use tp_types::ids::TaskId;
 use tp_types::refusals::PoolError;
+
+/// The task of a submission that was admitted, also of a discarded one.
+pub fn task_of(admitted: Admitted) -> TaskId
+    ensures { result ≡ task_of_admitted admitted }
+{
+    match admitted {
+        Admitted::Accepted(t) | Admitted::RanHere(t, _) | Admitted::Discarded(t) => t,
+    }
+}
 
 impl<G: PoolNaming, J: Job, E: Edge> PoolOf<G, J, E> {
     /// Waits until the task's future is not open any more, and answers its value, as `Future.get`. An outcome

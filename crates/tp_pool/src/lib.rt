@@ -37,6 +37,7 @@ pub use callers::{PoolName, Runtime, in_two};
 pub use closing::{CloseFault, Report};
 pub use defaults::Defaults;
 pub use edges::Edge;
+pub use futures::task_of;
 pub use lives::{Answer, run_all};
 pub use pool::PoolOf;
 pub use reports::{faulted, outcome_of};

@@ -1,12 +1,16 @@
 //! Jobs on a pool of their own, in one call: the pool is opened, runs them, is shut down, waited for and closed.
-ghost use Rattle.std.specs.Prelude.{◌≡◌, ◌≤◌, IfOk, IfErr};
+ghost use Rattle.std.specs.Prelude.{◌≡◌, ◌≤◌, [], ◌∷◌, IfOk, IfErr, OnOk};
 ghost use Rattle.tp_record.specs.Fields.{rank};
 ghost use Rattle.tp_record.specs.Step.{Legal};
-ghost use Rattle.tp_pool.specs.Lives.{IsReport, IsOver, IsShut};
+ghost use Rattle.tp_book.specs.PassView.{PassView};
+ghost use Rattle.tp_pool.specs.Closing.{Reports};
+ghost use Rattle.tp_pool.specs.Lives.{AreAnswered, AreSubmitted, AreTold, IsCut, IsOver, IsRun, IsShut, IsTold};
+ghost use Rattle.tp_pool.specs.Submissions.{Submits};
 
 use crate::callers::{PoolName, Runtime};
 use crate::closing::{CloseFault, Report, sole};
 use crate::edges::Edge;
+use crate::futures::task_of;
 use crate::pool::{Hold, PoolOf};
 use std::alloc::Global;
 use std::marker::Brand;
@@ -15,7 +19,6 @@ use tp_book::opening::Unopened;
 use tp_book::passes::Pass;
 use tp_book::sights::Sight;
 use tp_callbacks::jobs::Job;
-use tp_locked::answers::Admitted;
 use tp_locked::names::PoolNaming;
 use tp_machine::typed::controllers::Shutdown;
 use tp_turns::rescues::Remains;
@@ -38,7 +41,7 @@ pub type Answer = Result<i64, PoolError>;
 ///
 /// BadSizes (1), BadCapacity (2), BadLimit (3) or KeepZero (11) where no pool has these settings, and NoMemory (4)
 /// where there is none for a pool: then the jobs are dropped. Else NoMemory (4) where there is none for the answers,
-/// or TornRecord (22), which does not come as long as the pool's book is sound.
+/// or MissingPass (21) or TornRecord (22), which do not come as long as the pool's book is sound.
 pub fn run_all<J: Job + 'static, E: Edge + Send + Sync + 'static, R: Runtime>(
     rt: &R,
     alloc: Global,
@@ -46,7 +49,7 @@ pub fn run_all<J: Job + 'static, E: Edge + Send + Sync + 'static, R: Runtime>(
     edge: E,
     jobs: Vec<J>,
 ) -> Result<(Vec<Answer>, Report), PoolError>
-    ensures report { IfOk result (λ r. IsReport settings r.1) }
+    ensures run { IfOk result (λ r. IsRun settings J.promised jobs.items r.0.items r.1) }
     ensures over { IfErr result (IsOver settings) }
 {
     let unopened = match Unopened::new(alloc) {
@@ -73,7 +76,7 @@ fn opened<
 ) -> Result<(Vec<Answer>, Report), PoolError>
     requires named { unopened ≡ record { ledger = G.name; parts = G.parts; table = G.table } }
     requires settings { settings ≡ G.config }
-    ensures report { IfOk result (λ r. IsReport settings r.1) }
+    ensures run { IfOk result (λ r. IsRun settings J.promised jobs.items r.0.items r.1) }
     ensures over { IfErr result (IsOver settings) }
 {
     let (pool, mut pass) = match PoolOf::<G, J, E>::over(alloc, unopened, settings, edge) {
@@ -88,12 +91,7 @@ fn opened<
         return Err(error);
     }
     let mut seen = pool.sight(&mut last);
-    let (answers, report) = lived(rt, alloc, pool, jobs, pass, last, &mut seen);
-    match (answers, report) {
-        (Ok(answers), Ok(report)) => Ok((answers, report)),
-        (Err(error), _) => Err(error),
-        (_, Err(error)) => Err(error),
-    }
+    lived(rt, alloc, pool, jobs, pass, last, &mut seen)
 }
 
 // The jobs' runs, and the end after them: the sight has then seen that the pool has no worker any more.
@@ -105,39 +103,57 @@ fn lived<G: PoolName, J: Job + 'static, E: Edge + Send + Sync + 'static, R: Runt
     pass: Pass<G>,
     last: Pass<G>,
     seen: &mut Sight<G>,
-) -> (Result<Vec<Answer>, PoolError>, Result<Report, PoolError>)
+) -> Result<(Vec<Answer>, Report), PoolError>
     requires room { 3 ≤ last.room }
-    ensures report { IfOk result.1 (IsReport G.config) }
+    ensures run { IfOk result (λ r. (new other : PassView) × AreAnswered G.config J.promised jobs.items r.0.items pass new × Reports G.config (new ∷ other ∷ []) r.1) }
+    ensures cut { IfErr result IsCut }
     ensures seen { 3 ≤ rank seen.new }
     ensures legal { Legal G.config seen.new }
 {
     let mut pass = pass;
     let answers = answers_of(rt, alloc, &pool, jobs, &mut pass);
-    let report = end(rt, pool, pass, Vec::new(alloc), last, seen);
-    (answers, report)
+    let report = end(rt, alloc, pool, pass, last, seen);
+    match (answers, report) {
+        (Ok(answers), Ok(report)) => Ok((answers, report)),
+        (Err(error), _) => Err(error),
+        (_, Err(error)) => Err(error),
+    }
 }
 
-// Submits these jobs, and waits for what becomes of each.
+// Submits these jobs, and waits for what becomes of each. NoMemory (4) for the answers.
 fn answers_of<G: PoolName, J: Job + 'static, E: Edge + Send + Sync + 'static, R: Runtime>(
     rt: &R,
     alloc: Global,
     pool: &PoolOf<G, J, E>,
     jobs: Vec<J>,
     pass: &mut Pass<G>,
-) -> Result<Vec<Answer>, PoolError> {
+) -> Result<Vec<Answer>, PoolError>
+    ensures answered { IfOk result (λ answers. AreAnswered G.config J.promised jobs.items answers.items pass.old pass.new) }
+    ensures refused { IfErr result (λ e. e ≡ PoolError.NoMemory) }
+{
+    let tasks = match submit_each(rt, alloc, pool, jobs, pass) {
+        Ok(tasks) => tasks,
+        Err(error) => return Err(error),
+    };
+    tell_each(rt, alloc, pool, tasks.as_slice(), pass)
+}
+
+// Submits these jobs in their order: the task of each, or why it was refused.
+fn submit_each<G: PoolName, J: Job + 'static, E: Edge + Send + Sync + 'static, R: Runtime>(
+    rt: &R,
+    alloc: Global,
+    pool: &PoolOf<G, J, E>,
+    jobs: Vec<J>,
+    pass: &mut Pass<G>,
+) -> Result<Vec<Result<TaskId, PoolError>>, PoolError>
+    ensures submitted { IfOk result (λ tasks. AreSubmitted G.config J.promised jobs.items tasks.items pass.old pass.new) }
+    ensures refused { IfErr result (λ e. e ≡ PoolError.NoMemory) }
+{
     let mut tasks = Vec::new(alloc);
     for job in jobs {
         tasks.push(submitted(rt, pool, job, pass))?;
     }
-    let mut answers = Vec::new(alloc);
-    for task in &tasks {
-        let answer = match task {
-            Ok(t) => pool.await_result(rt, *t, None),
-            Err(error) => Err(*error),
-        };
-        answers.push(answer)?;
-    }
-    Ok(answers)
+    Ok(tasks)
 }
 
 // Submits a job with a future: its task, also where its submitter ran it or the policy discarded it.
@@ -146,40 +162,77 @@ fn submitted<G: PoolName, J: Job + 'static, E: Edge + Send + Sync + 'static, R: 
     pool: &PoolOf<G, J, E>,
     job: J,
     pass: &mut Pass<G>,
-) -> Result<TaskId, PoolError> {
+) -> Result<TaskId, PoolError>
+    ensures { Submits G.config job (J.promised job) result pass.old pass.new }
+{
     match pool.execute_as(rt, Kind::Future, job, pass) {
-        Ok(Admitted::Accepted(t) | Admitted::RanHere(t, _) | Admitted::Discarded(t)) => Ok(t),
+        Ok(admitted) => Ok(task_of(admitted)),
         Err(refused) => Err(refused.error),
+    }
+}
+
+// Waits for what becomes of each of these tasks, in their order.
+fn tell_each<G: PoolName, J: Job, E: Edge, R: Runtime>(
+    rt: &R,
+    alloc: Global,
+    pool: &PoolOf<G, J, E>,
+    tasks: &[Result<TaskId, PoolError>],
+    pass: &mut Pass<G>,
+) -> Result<Vec<Answer>, PoolError>
+    ensures told { IfOk result (λ answers. AreTold J G.config tasks.now answers.items pass.old pass.new) }
+    ensures refused { IfErr result (λ e. e ≡ PoolError.NoMemory) }
+{
+    let mut answers = Vec::new(alloc);
+    for task in tasks {
+        answers.push(told(rt, pool, *task, pass))?;
+    }
+    Ok(answers)
+}
+
+// Waits for what becomes of a task.
+fn told<G: PoolName, J: Job, E: Edge, R: Runtime>(
+    rt: &R,
+    pool: &PoolOf<G, J, E>,
+    task: Result<TaskId, PoolError>,
+    pass: &mut Pass<G>,
+) -> Answer
+    ensures { IsTold J G.config task result pass.old pass.new }
+{
+    match task {
+        Ok(t) => pool.await_result_with(rt, t, None, pass),
+        Err(error) => Err(error),
     }
 }
 
 // Shuts the pool down, waits for its end and closes it. Whatever comes of that, its threads are gone then.
 fn end<G: PoolName, J: Job + 'static, E: Edge + Send + Sync + 'static, R: Runtime>(
     rt: &R,
+    alloc: Global,
     pool: PoolOf<G, J, E>,
     pass: Pass<G>,
-    others: Vec<Pass<G>>,
     last: Pass<G>,
     seen: &mut Sight<G>,
 ) -> Result<Report, PoolError>
     requires room { 3 ≤ last.room }
-    ensures report { IfOk result (IsReport G.config) }
+    ensures report { IfOk result (λ r. (other : PassView) × Reports G.config (pass ∷ other ∷ []) r) }
+    ensures cut { IfErr result IsCut }
     ensures seen { 3 ≤ rank seen.new }
     ensures legal { Legal G.config seen.new }
 {
     let mut last = last;
     let ended = pool.finish(rt, &mut last);
     *seen = pool.sight(&mut last);
-    let mut passes = others;
-    let listed = passes.push(pass).is_ok() && passes.push(last).is_ok();
     if let Err(error) = ended {
         pool.leave(rt);
         return Err(error);
     }
-    if !listed {
-        pool.leave(rt);
-        return Err(PoolError::NoMemory);
-    }
+    let passes = match both(alloc, pass, last) {
+        Ok(passes) => passes,
+        Err(error) => {
+            pool.leave(rt);
+            return Err(error);
+        }
+    };
     match pool.close(rt, passes) {
         Ok(report) => Ok(report),
         Err(fault) => {
@@ -194,6 +247,17 @@ fn end<G: PoolName, J: Job + 'static, E: Edge + Send + Sync + 'static, R: Runtim
     }
 }
 
+// The two passes with which a pool is closed. NoMemory (4).
+fn both<G: PoolName>(alloc: Global, pass: Pass<G>, last: Pass<G>) -> Result<Vec<Pass<G>>, PoolError>
+    ensures both { IfOk result (λ passes. passes.items ≡ pass ∷ last ∷ []) }
+    ensures refused { IfErr result (λ e. e ≡ PoolError.NoMemory) }
+{
+    let mut passes = Vec::new(alloc);
+    passes.push(pass)?;
+    passes.push(last)?;
+    Ok(passes)
+}
+
 impl<
     G: PoolNaming + Send + Sync + 'static,
     J: Job + 'static,
@@ -204,6 +268,8 @@ impl<
         requires room { 3 ≤ pass.old.room }
         ensures seen { 3 ≤ rank pass.new.front }
         ensures legal { Legal G.config pass.new.front }
+        ensures ended { OnOk result (rank pass.new.front ≡ 4) }
+        ensures torn { IfErr result (λ e. e ≡ PoolError.TornRecord) }
     {
         self.shut(rt, pass);
         self.await_shut(rt, pass)
@@ -230,6 +296,8 @@ impl<
         requires shut { IsShut G.config pass.old.front }
         ensures seen { 3 ≤ rank pass.new.front }
         ensures legal { Legal G.config pass.new.front }
+        ensures ended { OnOk result (rank pass.new.front ≡ 4) }
+        ensures torn { IfErr result (λ e. e ≡ PoolError.TornRecord) }
     {
         self.shared().await_end_on(rt, pass)
     }

@@ -3,22 +3,44 @@
 use std::hint::spin_loop;
 use std::sync::{Mutex, MutexGuard, Wait};
 
-/// The pause between two looks at the lock, in turns of `spin_loop`: some 5 microseconds where a turn takes
-/// 5 nanoseconds.
-pub const PAUSE: u32 = 1_000;
+/// How a thread waits for the lock before it sleeps: so many looks, with a pause after each. Each pause is twice
+/// as long as the one before, up to the longest. A pause is counted in turns of `spin_loop`, some 5 nanoseconds
+/// each.
+#[derive(Clone, Copy)]
+pub struct Patience {
+    /// The number of looks.
+    pub looks: u32,
+    /// The first pause, in turns.
+    pub first: u32,
+}
 
-// The number of looks before a thread sleeps.
-const LOOKS: u32 = 8;
+/// A caller looks soon again, and often: the next task comes from it, and workers that find no task sleep.
+pub const CALLER: Patience = Patience {
+    looks: 32,
+    first: 150,
+};
 
-/// Takes the lock. A thread looks a few times, with a pause of so many turns after each look, before it
-/// sleeps: a hold is much shorter than a sleep, and a lock for which no thread sleeps is let go without a
-/// system call.
-pub fn polite<'a, T, R: Wait>(rt: &R, lock: &'a Mutex<T>, pause: u32) -> MutexGuard<'a, T> {
-    for _ in 0..LOOKS {
+/// A worker looks later. Tasks wait meanwhile, and it runs them one after another then: whenever the lock goes
+/// from one thread to another, its memory goes from one processor to another too, which costs about as much as
+/// the steps of a task.
+pub const WORKER: Patience = Patience {
+    looks: 12,
+    first: 300,
+};
+
+// The longest pause, in turns. Where the lock is rarely held, no pause comes near it.
+const LONGEST: u32 = 4_000;
+
+/// Takes the lock. A thread looks a few times before it sleeps: a hold is much shorter than a sleep, and a lock
+/// for which no thread sleeps is let go without a system call.
+pub fn polite<'a, T, R: Wait>(rt: &R, lock: &'a Mutex<T>, patience: Patience) -> MutexGuard<'a, T> {
+    let mut pause = patience.first;
+    for _ in 0..patience.looks {
         if let Some(guard) = lock.try_lock() {
             return guard;
         }
         rest(pause);
+        pause = pause.saturating_mul(2).min(LONGEST);
     }
     lock.lock(rt)
 }

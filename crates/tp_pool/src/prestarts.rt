@@ -118,6 +118,7 @@ impl<
         pass: &mut Pass<G>,
     ) -> Result<u32, PoolError>
         ensures steps { IfOk result (λ live. AddsStarts G.config (IsRefusedMore G.config) 1024 [] pass.old live pass.new) }
+        ensures asked { OnOk result (pass.old.amount < pass.new.amount) }
         ensures refused { IfErr result (Refuses G.config pass.new.front Ask.Prestart) }
         ensures unchanged { OnErr result (AddsNone pass.old pass.new) }
     {

@@ -6,13 +6,13 @@ ghost use Rattle.tp_types.specs.RunState.{state_rank};
 ghost use Rattle.tp_glance.specs.Word.{IsFrontOf};
 ghost use Rattle.tp_locked.specs.Left.{IsLeft};
 ghost use Rattle.tp_locked.specs.Moments.{AtFront};
-ghost use Rattle.tp_locked.specs.Passes.{Adds, AddsNone, AddsStep, IsRefusal, LooksOnly, Refuses, tidied, ended, entry_of};
+ghost use Rattle.tp_locked.specs.Passes.{Adds, AddsNone, AddsStep, KnowsStep, IsRefusal, LooksOnly, Refuses, tidied, ended, entry_of};
 ghost use Rattle.tp_locked.specs.Steps.{Makes, Refused as IsRefusedAt, Stops};
 ghost use Rattle.tp_locked.specs.Waits.{HasNoOutcome};
 ghost use Rattle.tp_pool.specs.Endings.{AddsEnding, IsBarred};
 
 use crate::edges::Edge;
-use crate::lock::{PAUSE, polite};
+use crate::lock::{CALLER, WORKER, polite};
 use std::alloc::Global;
 use std::sync::{Condvar, Mutex, MutexGuard, Wait};
 use std::thread::Parker;
@@ -102,10 +102,16 @@ pub fn left_in<G: PoolNaming, J: Drop>(core: &Core<G, J>) -> Remains
 }
 
 impl<G: PoolNaming, J: Drop, E: Edge> Shared<G, J, E> {
-    /// Takes the lock.
+    /// Takes the lock, for a caller.
     #[inline(always)]
     pub fn hold<R: Wait>(&self, rt: &R) -> MutexGuard<'_, Core<G, J>> {
-        polite(rt, &self.core, PAUSE)
+        polite(rt, &self.core, CALLER)
+    }
+
+    /// Takes the lock, for a worker.
+    #[inline(always)]
+    pub fn hold_as_worker<R: Wait>(&self, rt: &R) -> MutexGuard<'_, Core<G, J>> {
+        polite(rt, &self.core, WORKER)
     }
 
     /// Lets go of the lock, and only then wakes the threads that the hold concerned: a thread that is woken
@@ -169,7 +175,7 @@ impl<G: PoolNaming, J: Drop, E: Edge> Shared<G, J, E> {
         ensures shown { OnErr result (A.shown pass.old pass.new) }
         ensures number { A.number pass.new ≡ A.number pass.old }
     {
-        let mut core = self.hold(rt);
+        let mut core = self.hold_as_worker(rt);
         let answer = core.step(step, &self.glance, pass);
         self.release(core);
         answer
@@ -211,6 +217,7 @@ impl<G: PoolNaming, J: Drop, E: Edge> Shared<G, J, E> {
         ensures answers { IfOk result.0 (λ x. S.answers step x) }
         ensures makes { IfOk result.0 (λ x. Makes J G.config pass.old.number pass.old.front (S.ask step) (S.did step x) (S.moves step tt x) pass.new.front) }
         ensures step { IfOk result.0 (λ x. AddsStep G.config pass.old (S.ask step) (S.did step x) pass.new) }
+        ensures known { IfOk result.0 (λ x. KnowsStep pass.old (S.ask step) (S.did step x) (S.says step x) pass.new) }
         ensures left { OnOk result.0 (pass.old.room ≤ pass.new.room + 1) }
         ensures refused { IfErr result.0 (λ e. HasNoOutcome (S.ask step) → IsRefusal G.config pass.new.front (S.ask step) e) }
         ensures unchanged { OnErr result.0 (LooksOnly G.config pass.old pass.new) }
@@ -237,6 +244,7 @@ impl<G: PoolNaming, J: Drop, E: Edge> Shared<G, J, E> {
         ensures makes { IfOk result (λ x. Makes J G.config pass.old.number pass.old.front (S.ask step) (S.did step x) (S.moves step tt x) pass.new.front) }
         ensures step { IfOk result (λ x. AddsStep G.config pass.old (S.ask step) (S.did step x) pass.new) }
         ensures refused { IfErr result (Refuses G.config pass.new.front (S.ask step)) }
+        ensures ready { 0 < pass.old.room → IfErr result (IsRefusal G.config pass.new.front (S.ask step)) }
         ensures unchanged { OnErr result (AddsNone pass.old pass.new) }
     {
         if let Err(error) = pass.reserve(1) {
@@ -265,18 +273,24 @@ impl<G: PoolNaming, J: Drop, E: Edge> Shared<G, J, E> {
             return Err(error);
         }
         let (answer, remains) = self.ask_left(rt, step, pass);
-        self.end_left(rt, remains);
+        let left = if answer.is_ok() {
+            remains
+        } else {
+            Remains::Nothing
+        };
+        self.end_left(rt, left);
         answer
     }
 
     /// Makes the step `stop` in a hold of its own, as `ask`. The answer's memory is taken in the same hold,
-    /// before the step, so that no job is lost for want of memory.
+    /// before the step, so that no job is lost for want of memory. NoMemory (4) comes only where a task is queued.
     pub fn stop<R: Wait>(&self, rt: &R, pass: &mut Pass<G>) -> Result<Vec<Drained<J>>, PoolError>
         requires room { 0 < pass.old.room }
         ensures stops { IfOk result (λ drained. Stops J G.config pass.old.number pass.old.front drained.items pass.new.front) }
         ensures step { IfOk result (λ drained. AddsStep G.config pass.old Ask.Stop (Did.Stop (length drained.items)) pass.new) }
         ensures left { OnOk result (pass.old.room ≤ pass.new.room + 1) }
         ensures refused { IfErr result (Refuses G.config pass.new.front Ask.Stop) }
+        ensures memory { IfErr result (λ e. e ≡ PoolError.NoMemory → AtFront G.config pass.new.front (λ s. 0 < length s.queue)) }
         ensures unchanged { OnErr result (AddsNone pass.old pass.new) }
     {
         let mut core = self.hold(rt);

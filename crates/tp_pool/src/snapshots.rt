@@ -35,7 +35,7 @@ pub struct Snapshot {
     pub now: u64,
     /// The record's length, in entries.
     pub steps: u64,
-    /// Each slot that has a task, with it, in the order of their numbers.
+    /// Each slot of a number below 1,024 that has a task, with it, in the order of their numbers.
     pub busy: Vec<Busy>,
 }
 

@@ -1,15 +1,17 @@
 //! Submissions: a task's path from its first step to its end, each step in a hold of its own. Between two of
 //! them other threads may make steps, so a submission asks after each answer what comes next.
-ghost use Rattle.std.specs.Prelude.{◌≡◌, ◌⊎◌, ◌+◌, ◌<◌, ◌≤◌, Some, IfSome, IfNone, IfOk, IfErr, OnSome, OnOk, OnErr};
+ghost use Rattle.std.specs.Prelude.{◌≡◌, ◌≢◌, ◌⊎◌, ◌+◌, ◌<◌, ◌≤◌, option_map, Some, IsSome, IfSome, IfNone, IfOk, IfErr, OnSome, OnOk, OnErr};
 ghost use Rattle.tp_record.specs.State.{state};
 ghost use Rattle.tp_record.specs.declared.entries.Ask.{Ask as AskOf};
+ghost use Rattle.tp_record.specs.Paths.{Ends, Rejected, follows as what_follows};
 ghost use Rattle.tp_parts.specs.Payloads.{PutsIn};
-ghost use Rattle.tp_paths.specs.Fronts.{admission_of, follow_of};
+ghost use Rattle.tp_paths.specs.Fronts.{admission_of, follow_of, goes};
 ghost use Rattle.tp_locked.specs.Left.{IsLeft};
 ghost use Rattle.tp_locked.specs.Passes.{AddsStep, AddsNone, IsRefusal, LooksOnly, Refuses, opening};
 ghost use Rattle.tp_locked.specs.Steps.{Makes};
 ghost use Rattle.tp_locked.specs.declared.tasks.Task.{Task as TaskOf};
-ghost use Rattle.tp_pool.specs.Admissions.{task_of, end_of, Admits, Awaits, IsAdmitted, IsTurnedAway};
+ghost use Rattle.tp_pool.specs.Admissions.{task_of, end_of, Admits, Awaits, ComesBack, IsAdmitted, IsTurnedAway, IsUndone};
+ghost use Rattle.tp_pool.specs.Endings.{IsBarred};
 
 use crate::boxes::Boxed;
 use crate::edges::{Boxes, Edge};
@@ -60,9 +62,11 @@ fn reserve<G: PoolNaming>(pass: &mut Pass<G>) -> Result<(), PoolError>
 }
 
 // The answer of a submission that has come to this end.
+#[inline(always)]
 fn answer<J: Drop>(t: TaskId, ending: Ending, held: Option<Task<J>>) -> Result<Admitted, Refused<J>>
     ensures admitted { IfOk result (λ a. (task_of a ≡ t) × (end_of a ≡ admission_of ending)) }
     ensures rejected { IfErr result (λ r. (r.error ≡ PoolError.Rejected t) × (ending ≡ Ending.Rejected)) }
+    ensures job { IfErr result (λ r. r.job ≡ option_map (λ k. k.job) held) }
 {
     match ending {
         Ending::Accepted => Ok(Admitted::Accepted(t)),
@@ -172,7 +176,8 @@ impl<
     }
 
     // One further step of a submission, None where the book does not take it. The verdict is asked, the body
-    // run and the worker's thread made before the hold of the step, with no lock held.
+    // run and the worker's thread made before the hold of the step, with no lock held. Where the step rejects
+    // the task, its job is held unless the task was cancelled.
     #[inline(always)]
     fn advance<R: Threads + Wait + Copy + Send + 'static>(
         &self,
@@ -186,6 +191,8 @@ impl<
         ensures step { IfSome result (λ d. (ask : AskOf) × AddsStep G.config pass.old ask d pass.new) }
         ensures left { OnSome result (pass.old.room ≤ pass.new.room + 1) }
         ensures on_path { OnSome result (Awaits (follow_of t.0 next)) }
+        ensures undone { IfNone result (Awaits (follow_of t.0 next) → IsUndone G.config t next pass.new.front) }
+        ensures returned { IfSome result (λ d. goes t.0 (follow_of t.0 next) d ≡ Ends Rejected → ComesBack t.0 held.new pass.new.front) }
         ensures unchanged { IfNone result ((pass.new ≡ pass.old) ⊎ LooksOnly G.config pass.old pass.new) }
     {
         let shared = self.shared();
@@ -212,6 +219,7 @@ impl<
         requires room { 0 < pass.old.room }
         ensures step { IfSome result (λ d. AddsStep G.config pass.old (Ask.Second t) d pass.new) }
         ensures left { OnSome result (pass.old.room ≤ pass.new.room + 1) }
+        ensures refused { IfNone result (IsBarred G.config pass.new.front (Ask.Second t)) }
         ensures unchanged { IfNone result (LooksOnly G.config pass.old pass.new) }
     {
         let (did, remains) = self.shared().second(&rt, t, pass);
@@ -219,7 +227,8 @@ impl<
         did
     }
 
-    // The step `verdict`: what it did. A task that its submitter is to run, or that is gone, is handed out.
+    // The step `verdict`: what it did. A task that its submitter is to run, or that is gone, is handed out unless
+    // it was cancelled.
     fn judge<R: Threads + Wait + Copy + Send + 'static>(
         &self,
         rt: R,
@@ -231,6 +240,8 @@ impl<
         requires room { 0 < pass.old.room }
         ensures step { IfSome result (λ d. AddsStep G.config pass.old (Ask.Verdict t verdict) d pass.new) }
         ensures left { OnSome result (pass.old.room ≤ pass.new.room + 1) }
+        ensures refused { IfNone result (IsBarred G.config pass.new.front (Ask.Verdict t verdict)) }
+        ensures returned { IfSome result (λ d. what_follows t.0 d ≡ Ends Rejected → ComesBack t.0 held.new pass.new.front) }
         ensures unchanged { IfNone result (LooksOnly G.config pass.old pass.new) }
     {
         let (did, remains) = self.shared().judge(&rt, t, verdict, held, pass);
@@ -297,6 +308,7 @@ impl<G: PoolNaming + Send + Sync + 'static> PoolOf<G, Boxed, Boxes> {
     ) -> Result<Admitted, Refused<Boxed>>
         ensures admitted { Admits G.config Kind.Plain (record { job = job }) (promised job) pass.old pass.new result }
         ensures refused { IfErr result (IsTurnedAway G.config Kind.Plain (record { job = job }) (promised job) pass.old pass.new) }
+        ensures returned { IfErr result (λ r. r.error ≢ PoolError.TornRecord → IsSome r.job) }
     {
         self.execute_as(rt, Kind::Plain, Boxed { job }, pass)
     }
@@ -358,6 +370,7 @@ impl<G: PoolNaming, J: Job, E: Edge> Shared<G, J, E> {
         requires room { 0 < pass.old.room }
         ensures step { IfSome result (λ d. AddsStep G.config pass.old (Ask.Look t) d pass.new) }
         ensures left { OnSome result (pass.old.room ≤ pass.new.room + 1) }
+        ensures refused { IfNone result (IsBarred G.config pass.new.front (Ask.Look t)) }
         ensures unchanged { IfNone result (LooksOnly G.config pass.old pass.new) }
     {
         match self.ask(rt, Look(t), pass) {
@@ -372,6 +385,7 @@ impl<G: PoolNaming, J: Job, E: Edge> Shared<G, J, E> {
         requires room { 0 < pass.old.room }
         ensures step { IfSome result (λ d. AddsStep G.config pass.old (Ask.Offer t) d pass.new) }
         ensures left { OnSome result (pass.old.room ≤ pass.new.room + 1) }
+        ensures refused { IfNone result (IsBarred G.config pass.new.front (Ask.Offer t)) }
         ensures unchanged { IfNone result (LooksOnly G.config pass.old pass.new) }
     {
         match self.ask(rt, Offer(t), pass) {
@@ -386,6 +400,7 @@ impl<G: PoolNaming, J: Job, E: Edge> Shared<G, J, E> {
         requires room { 0 < pass.old.room }
         ensures step { IfSome result.0 (λ d. AddsStep G.config pass.old (Ask.Second t) d pass.new) }
         ensures left { OnSome result.0 (pass.old.room ≤ pass.new.room + 1) }
+        ensures refused { IfNone result.0 (IsBarred G.config pass.new.front (Ask.Second t)) }
         ensures unchanged { IfNone result.0 (LooksOnly G.config pass.old pass.new) }
         ensures remains { result.0 ≡ Some (Did.Second t Seconded.Back) → IsLeft (state G.config pass.new.front) result.1 }
     {
@@ -405,6 +420,7 @@ impl<G: PoolNaming, J: Job, E: Edge> Shared<G, J, E> {
         requires room { 0 < pass.old.room }
         ensures step { IfSome result (λ d. AddsStep G.config pass.old (Ask.Grow t) d pass.new) }
         ensures left { OnSome result (pass.old.room ≤ pass.new.room + 1) }
+        ensures refused { IfNone result (IsBarred G.config pass.new.front (Ask.Grow t)) }
         ensures unchanged { IfNone result (LooksOnly G.config pass.old pass.new) }
     {
         match self.ask(rt, Grow(t), pass) {
@@ -414,7 +430,7 @@ impl<G: PoolNaming, J: Job, E: Edge> Shared<G, J, E> {
     }
 
     // The step `verdict`: what it did, and what is left to do. A task that its submitter is to run, or that is
-    // gone, is handed out.
+    // gone, is handed out unless it was cancelled.
     fn judge<R: Wait>(
         &self,
         rt: &R,
@@ -426,6 +442,8 @@ impl<G: PoolNaming, J: Job, E: Edge> Shared<G, J, E> {
         requires room { 0 < pass.old.room }
         ensures step { IfSome result.0 (λ d. AddsStep G.config pass.old (Ask.Verdict t verdict) d pass.new) }
         ensures left { OnSome result.0 (pass.old.room ≤ pass.new.room + 1) }
+        ensures refused { IfNone result.0 (IsBarred G.config pass.new.front (Ask.Verdict t verdict)) }
+        ensures returned { IfSome result.0 (λ d. what_follows t.0 d ≡ Ends Rejected → ComesBack t.0 held.new pass.new.front) }
         ensures unchanged { IfNone result.0 (LooksOnly G.config pass.old pass.new) }
         ensures remains { IsLeft (state G.config pass.new.front) result.1 }
     {

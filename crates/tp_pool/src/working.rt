@@ -6,7 +6,7 @@ ghost use Rattle.tp_locked.specs.Steps.{taking_of, begun_of, departed_of, IsEndO
 ghost use Rattle.tp_pool.specs.Deeds.{Takes, BeginsAt, Ends, Leaves, EndsPool};
 
 use crate::edges::Edge;
-use crate::lock::{PAUSE, rest};
+use crate::lock::rest;
 use crate::shared::Shared;
 use std::sync::{Arc, Wait};
 use std::thread::Threads;
@@ -26,8 +26,11 @@ use tp_turns::turns::{Begun, Workplace, one_turn};
 use tp_types::ids::{SlotId, TaskId};
 use tp_types::tasks::Outcome;
 
-// How often a worker that is listed looks whether it was called, with a pause before each look, before it parks.
+// A worker that is listed looks whether it was called before it parks: so often, with a pause before each look.
 const DOZES: u32 = 8;
+
+// That pause, in turns of `spin_loop`.
+const DOZE: u32 = 1_000;
 
 /// A worker at its slot.
 #[derive(Drop)]
@@ -161,7 +164,7 @@ impl<G: PoolNaming, J: Drop, E: Edge> Shared<G, J, E> {
         ensures asks { Takes J G.config pass.old.number pass.old.front w pass.new.front (λ r. result ≡ taking_of r) }
         ensures number { pass.new.number ≡ pass.old.number }
     {
-        let mut core = self.hold(rt);
+        let mut core = self.hold_as_worker(rt);
         let taking = core.take(w, &self.glance, pass);
         self.release(core);
         taking
@@ -194,7 +197,7 @@ impl<G: PoolNaming, J: Drop, E: Edge> Shared<G, J, E> {
         ensures asks { Ends J G.config pass.old.number pass.old.front w outcome pass.new.front (IsEndOf (state G.config pass.new.front) w.0 result) }
         ensures number { pass.new.number ≡ pass.old.number }
     {
-        let mut core = self.hold(rt);
+        let mut core = self.hold_as_worker(rt);
         let told = core.step(End(w, outcome), &self.glance, pass);
         let dying = core.is_dying(w);
         let spent = match flag {
@@ -227,14 +230,14 @@ impl<G: PoolNaming, J: Drop, E: Edge> Shared<G, J, E> {
     // lock, since one may be left over from an earlier sleep.
     fn sleep<R: Wait>(&self, rt: &R, w: SlotId) {
         for _ in 0..DOZES {
-            rest(PAUSE);
-            if !self.hold(rt).is_asleep(w) {
+            rest(DOZE);
+            if !self.hold_as_worker(rt).is_asleep(w) {
                 return;
             }
         }
         for _ in rt.forever() {
             self.park(rt, w);
-            if !self.hold(rt).is_asleep(w) {
+            if !self.hold_as_worker(rt).is_asleep(w) {
                 return;
             }
         }
@@ -255,7 +258,7 @@ impl<G: PoolNaming, J: Drop, E: Edge> Shared<G, J, E> {
     // Waits until the thread of this slot and pass is told whether its slot is live. It is told by its pass,
     // since a slot that was given up may be reserved anew before this thread has looked.
     fn await_start<R: Wait>(&self, rt: &R, w: SlotId, pass: &WorkerPass<G>) -> bool {
-        let mut core = self.hold(rt);
+        let mut core = self.hold_as_worker(rt);
         for _ in rt.forever() {
             match core.told(w, pass) {
                 Start::Live => return true,
@@ -268,7 +271,7 @@ impl<G: PoolNaming, J: Drop, E: Edge> Shared<G, J, E> {
 
     /// Takes back the pass of a thread that needs it no more.
     pub fn hand_in<R: Wait>(&self, rt: &R, pass: WorkerPass<G>) {
-        self.hold(rt).hand_in(pass);
+        self.hold_as_worker(rt).hand_in(pass);
         self.conditions.gone.notify_all();
     }
 }

@@ -23,6 +23,7 @@ use Rattle.tp_parts.specs.Payloads.{PutsIn}
 use Rattle.tp_machine.specs.Seen.{Seen, At, config_of, promise}
 use Rattle.tp_machine.specs.Steps.{IsStep, Stays, IsRefusedBy}
 use Rattle.tp_machine.specs.Stepped.{FitsOutcome}
+use Rattle.tp_machine.proofs.Refusals.{refused_as}
 use Rattle.tp_runs.specs.Runs.{AllPromise, IfOutcome}
 
 -- what a recorder that keeps every entry tells
@@ -97,7 +98,7 @@ module _ {P : Type 0} (c : Config) (asks : List (ℕ × Ask)) (answers : List An
   after_refusal : (e : PoolError) → IsRefusedBy told_by old a e → Stays told_by old new → HasRun c (asks ++ (by, a) ∷ []) (answers ++ Err e ∷ []) new
   after_refusal e refused stays =
       let at = stays.stands h so_far.stands in
-      let given : IsRefused c (state c h) a e = subst (λ k. IsRefused k (state k h) a e) so_far.config (refused h so_far.stands) in
+      let given : IsRefused c (state c h) a e = subst (λ k. IsRefused k (state k h) a e) so_far.config (refused_as (config_of old) (state (config_of old) h) a e (refused h so_far.stands)) in
       record {
         stands = subst (λ x. At told_by new x) (sym at.told) at;
         config = stays.config ∙ so_far.config;

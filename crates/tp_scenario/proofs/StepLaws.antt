@@ -24,6 +24,7 @@ use Rattle.tp_machine.specs.Steps.{IsStep, IsRefusedBy}
 use Rattle.tp_machine.specs.Readings.{EachState}
 use Rattle.tp_machine.specs.Stepped.{IsAnswer, IsInOrder, IsPaid, Moves, did_of}
 use Rattle.tp_machine.proofs.Moved.{promises_stay}
+use Rattle.tp_machine.proofs.Refusals.{refused_as}
 use Rattle.tp_text.specs.RunText.{drained}
 use Rattle.tp_scenario.specs.declared.lines.ScenarioLine.{ScenarioLine}
 use Rattle.tp_scenario.specs.Played.{Outcomes, ask_of}
@@ -151,7 +152,7 @@ module _ (tells : Full → List Entry → Type 0) (whole : (f : Full) (h : List 
 
   pub refused : (l : ScenarioLine) (a : Ask) (e : PoolError) → EachState tells m (λ s. a ≡ ask_of s os l) → IsRefusedBy tells m a e → IsRefused p.config (state p.config p.history) (ask_of (state p.config p.history) p.outcomes l) e
   refused l a e asks says =
-      subst (λ b. IsRefused p.config (state p.config p.history) b e) (asked l a asks) (subst (λ (q : Playing). IsRefused q.config (state q.config q.history) a e) is (says (reverse m.noted.entries) at))
+      subst (λ b. IsRefused p.config (state p.config p.history) b e) (asked l a asks) (subst (λ (q : Playing). IsRefused q.config (state q.config q.history) a e) is (refused_as (config_of m) (state (config_of m) (reverse m.noted.entries)) a e (says (reverse m.noted.entries) at)))
 
   pub back : (a : Ask) (x : Stepped (Unit {0})) (n : Seen (Unit {0}) Full) → IsAnswer a x → IsStep tells m n 0 a (did_of a x) → IsInOrder tells m x → handed_back x ≡ drained p.history (did_of a x)
   back a x n answer step order =

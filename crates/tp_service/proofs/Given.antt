@@ -12,8 +12,8 @@ use Rattle.tp_locked.specs.Readings.{got, IsResult}
 use Rattle.tp_locked.specs.Moments.{BookAt}
 use Rattle.tp_pool.proofs.Got.{got_is}
 use Rattle.tp_service.specs.Futures.{HasValue, Fails, later_fault}
-use Rattle.tp_service.specs.Turns.{Through}
-use Rattle.tp_service.proofs.Turned.{through_next}
+use Rattle.tp_pool.specs.Turns.{Through}
+use Rattle.tp_pool.proofs.Turned.{through_next}
 
 module _ {P : Type 0} (c : Config) (t : TaskId) (found : Result (Option ℤ) PoolError) (old new : PassView) (looks : LooksOnly c old new) (read : BookAt P c new.front (λ b. IsResult b t.0 found)) where
   given : (r : Result ℤ PoolError) → result_transpose found ≡ Some r → BookAt P c new.front (λ b. IsResult b t.0 (got r))

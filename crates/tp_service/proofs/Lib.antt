@@ -1,4 +1,3 @@
 pub mod Closed
 pub mod Gathered
 pub mod Given
-pub mod Turned

@@ -11,7 +11,7 @@ use Rattle.tp_book.specs.PassView.{PassView}
 use Rattle.tp_locked.specs.Passes.{LooksOnly}
 use Rattle.tp_locked.specs.Readings.{IsFound, IsResult}
 use Rattle.tp_locked.specs.Moments.{BookAt}
-use Rattle.tp_service.specs.Turns.{Through}
+use Rattle.tp_pool.specs.Turns.{Through}
 
 -- the last fault, where this one came before this refusal
 abbrev pub later_fault : Option ℕ → PoolError → Option ℕ

@@ -1,3 +1,2 @@
 pub mod Futures
 pub mod Submitted
-pub mod Turns

@@ -5,9 +5,8 @@ ghost use Rattle.tp_locked.specs.Passes.{AddsNone, AddsStep, IsRefusal, Refuses}
 ghost use Rattle.tp_locked.specs.Moments.{AtFront};
 ghost use Rattle.tp_locked.specs.Readings.{IsUndoneAt};
 ghost use Rattle.tp_pool.specs.Admissions.{IsTurnedAway};
-ghost use Rattle.tp_service.specs.Submitted.{AddsJob};
+ghost use Rattle.tp_pool.specs.Submissions.{AddsJob};
 
-use crate::futures::task_of;
 use std::sync::Wait;
 use std::thread::Threads;
 use tp_book::passes::Pass;
@@ -16,6 +15,7 @@ use tp_pool::edges::Edge;
 use tp_pool::jobs::Job;
 use tp_pool::names::PoolNaming;
 use tp_pool::pool::PoolOf;
+use tp_pool::task_of;
 use tp_record::entries::{Ask, Did};
 use tp_types::ids::TaskId;
 use tp_types::refusals::PoolError;

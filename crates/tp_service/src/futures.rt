@@ -5,29 +5,21 @@ ghost use Rattle.tp_locked.specs.Readings.{got, IsFound, IsResult};
 ghost use Rattle.tp_locked.specs.Moments.{BookAt, BookAtSome};
 ghost use Rattle.tp_locked.specs.Passes.{LooksOnly};
 ghost use Rattle.tp_locked.specs.declared.tasks.Task.{Task};
-ghost use Rattle.tp_pool.specs.Admissions.{task_of as task_of_admitted, IsTurnedAway};
-ghost use Rattle.tp_service.specs.Submitted.{AddsJob};
+ghost use Rattle.tp_pool.specs.Admissions.{IsTurnedAway};
+ghost use Rattle.tp_pool.specs.Submissions.{AddsJob};
 
 use std::sync::Wait;
 use std::thread::Threads;
 use tp_book::passes::Pass;
-use tp_pool::answers::{Admitted, Refused};
+use tp_pool::answers::Refused;
 use tp_pool::edges::Edge;
 use tp_pool::jobs::Job;
 use tp_pool::names::PoolNaming;
 use tp_pool::pool::PoolOf;
+use tp_pool::task_of;
 use tp_types::ids::TaskId;
 use tp_types::refusals::PoolError;
 use tp_types::tasks::Kind;
-
-/// The task of a submission that was admitted, also of a discarded one.
-pub(crate) fn task_of(admitted: Admitted) -> TaskId
-    ensures { result ≡ task_of_admitted admitted }
-{
-    match admitted {
-        Admitted::Accepted(t) | Admitted::RanHere(t, _) | Admitted::Discarded(t) => t,
-    }
-}
 
 /// Submits a job with a future, as `ExecutorService.submit`, and answers its task's number, also where its
 /// submitter ran it or the policy discarded it. NoMemory (4) or BookFull (5), with the job and with nothing

@@ -1,7 +1,7 @@
 -- Submissions one after another, with their receipts.
-use Rattle.std.proofs.Common.{◌≡◌, ◌≢◌, ◌⊎◌, ◌+◌, ◌<◌, ℕ, List, [], ◌∷◌, ◌++◌, length, get_or, take, refl, sym, ap, subst, ◌∙◌, inl, inr, ⊎_elim, append_assoc, arith}
+use Rattle.std.proofs.Common.{suc, ◌≡◌, ◌≢◌, ◌⊎◌, ◌+◌, ◌<◌, ℕ, List, [], ◌∷◌, ◌++◌, length, get_or, take, drop, drop-cons, refl, sym, ap, subst, ◌∙◌, inl, inr, ⊎_elim, append_assoc, arith}
 use Rattle.std.specs.Prelude.{map, Some}
-use Rattle.std.proofs.lemmas.List.{append-nil, length-map, take_all, take_more, get_or-map}
+use Rattle.std.proofs.lemmas.List.{append-nil, length-map, take_all, take_more, take-append-drop, get_or-map}
 use Rattle.tp_types.specs.declared.configs.Config.{Config}
 use Rattle.tp_types.specs.declared.ids.TaskId.{TaskId}
 use Rattle.tp_types.specs.declared.refusals.PoolError.{PoolError}
@@ -16,7 +16,7 @@ use Rattle.tp_locked.specs.declared.answers.Refused.{Refused}
 use Rattle.tp_scenario.specs.declared.jobs.JobLine.{JobLine}
 use Rattle.tp_types.specs.declared.tasks.Promise.{Promise}
 use Rattle.tp_record.specs.Step.{Legal}
-use Rattle.tp_pool.specs.Admissions.{AddsPath, AddsFront, GotJob, IsTurnedAway}
+use Rattle.tp_pool.specs.Admissions.{AddsPath, AddsFront, ComesBack, GotJob, IsTurnedAway}
 use Rattle.tp_locked.proofs.Receipts.{adds_both, adds_behind, looks_adds, none_behind, stands_looking}
 use Rattle.tp_pool.proofs.Submissions.{front_behind}
 use Rattle.tp_threads.specs.Runs.{AreSubmissions, AddsSubmissions, IsTorn, BreaksOff, IsShort, kind_of, kinds}
@@ -55,27 +55,33 @@ module _ {J : Type 0} (c : Config) (kind : Kind) (job : J) (promise : Promise) w
   pub turned_whole : (old mid new : PassView) (x : Refused J) (t : TaskId) → x.error ≡ error.Rejected t → AddsNone old mid →
       IsTurnedAway c kind job promise mid new x → AddsSubmissions c (kind ∷ []) old new
   turned_whole old mid new x t rejected none is =
-      ⊎_elim (λ (y : (t : TaskId) × (x.error ≡ error.Rejected t) × AddsPath c kind t Rejected mid new × GotJob c kind job promise mid.number t.0 mid.front new.front). one_submission c kind y.0 Rejected old mid new none y.2)
-      (⊎_elim (λ (y : (x.error ≡ error.TornRecord) × AddsFront c mid new). let torn = y.0 in absurd (grind arith))
+      ⊎_elim (λ (y : (t : TaskId) × (x.error ≡ error.Rejected t) × AddsPath c kind t Rejected mid new × GotJob c kind job promise mid.number t.0 mid.front new.front × ComesBack t.0 x.job new.front). one_submission c kind y.0 Rejected old mid new none y.2)
+      (⊎_elim (λ (y : (t : TaskId) × (x.error ≡ error.TornRecord) × AddsFront c kind t mid new × GotJob c kind job promise mid.number t.0 mid.front new.front). let torn = y.1 in absurd (grind arith))
       (λ (y : Refuses c new.front (ask.Submit kind) x.error × (x.job ≡ Some job) × AddsNone mid new).
       ⊎_elim (λ (e : x.error ≡ error.NoMemory). absurd (grind arith)) (λ (e : x.error ≡ error.BookFull). absurd (grind arith)) (before_first c new.front kind x.error y.0)))
       is
 
   -- one that was turned away otherwise
   pub turned_torn : (old mid new : PassView) (x : Refused J) → ((t : TaskId) → x.error ≢ error.Rejected t) → AddsNone old mid →
-      IsTurnedAway c kind job promise mid new x → IsTorn c x.error old new
+      IsTurnedAway c kind job promise mid new x → IsTorn c kind x.error old new
   turned_torn old mid new x other none is =
-      ⊎_elim (λ (y : (t : TaskId) × (x.error ≡ error.Rejected t) × AddsPath c kind t Rejected mid new × GotJob c kind job promise mid.number t.0 mid.front new.front). absurd (other y.0 y.1))
-      (⊎_elim (λ (y : (x.error ≡ error.TornRecord) × AddsFront c mid new). inr (y.0, front_behind c old mid new none y.1))
+      ⊎_elim (λ (y : (t : TaskId) × (x.error ≡ error.Rejected t) × AddsPath c kind t Rejected mid new × GotJob c kind job promise mid.number t.0 mid.front new.front × ComesBack t.0 x.job new.front). absurd (other y.0 y.1))
+      (⊎_elim (λ (y : (t : TaskId) × (x.error ≡ error.TornRecord) × AddsFront c kind t mid new × GotJob c kind job promise mid.number t.0 mid.front new.front). inr (y.1, (y.0, front_behind c kind y.0 old mid new none y.2)))
       (λ (y : Refuses c new.front (ask.Submit kind) x.error × (x.job ≡ Some job) × AddsNone mid new). inl (before_first c new.front kind x.error y.0, none_behind old mid new none y.2)))
       is
 
-pub breaks_off : (c : Config) (old mid new : PassView) (jobs : List JobLine) (n : ℕ) (e : PoolError) → n < length jobs → AddsSubmissions c (take n (kinds jobs)) old mid → IsTorn c e mid new →
-    BreaksOff c (kinds jobs) e old new
-breaks_off c old mid new jobs n e within before torn = (n, mid, omega (arith, length-map jobs kind_of), before, torn)
+pub breaks_off : (c : Config) (old mid new : PassView) (jobs : List JobLine) (n : ℕ) (d : JobLine) (e : PoolError) → n < length jobs → AddsSubmissions c (take n (kinds jobs)) old mid →
+    IsTorn c (kind_of (get_or jobs n d)) e mid new → BreaksOff c (kinds jobs) e old new
+breaks_off c old mid new jobs n d e within before torn =
+    let ks = kinds jobs in
+    let k = kind_of (get_or jobs n d) in
+    let next : drop n ks ≡ k ∷ drop (suc n) ks =
+    drop-cons ks n (kind_of d) (omega (arith, length-map jobs kind_of)) ∙ ap (λ k. k ∷ drop (suc n) ks) (get_or-map kind_of jobs n d (kind_of d) within) in
+    (take n ks, k, drop (suc n) ks, mid, sym (take-append-drop n ks) ∙ ap (λ rest. take n ks ++ rest) next, before, torn)
 
 -- what ends the submissions is one of three
 pub is_short : (c : Config) (ks : List Kind) (e : PoolError) (old new : PassView) → BreaksOff c ks e old new → IsShort e
 is_short c ks e old new off =
-    ⊎_elim (λ (x : ((e ≡ error.NoMemory) ⊎ (e ≡ error.BookFull)) × AddsNone off.1 new). ⊎_elim (λ (y : e ≡ error.NoMemory). inl y) (λ (y : e ≡ error.BookFull). inr (inl y)) x.0)
-    (λ (x : (e ≡ error.TornRecord) × AddsFront c off.1 new). inr (inr x.0)) off.4
+    let mid = off.3 in
+    ⊎_elim (λ (x : ((e ≡ error.NoMemory) ⊎ (e ≡ error.BookFull)) × AddsNone mid new). ⊎_elim (λ (y : e ≡ error.NoMemory). inl y) (λ (y : e ≡ error.BookFull). inr (inl y)) x.0)
+    (λ (x : (e ≡ error.TornRecord) × ((t : TaskId) × AddsFront c off.1 t mid new)). inr (inr x.0)) off.6

@@ -10,7 +10,7 @@ use Rattle.tp_record.specs.declared.entries.Ask.TheVariants as ask
 use Rattle.tp_record.specs.declared.entries.Did.{Did}
 use Rattle.tp_record.specs.declared.entries.Entry.{Entry}
 use Rattle.tp_record.specs.State.{State, state}
-use Rattle.tp_record.specs.Step.{Answer, IsRefused, leaves_room, within_room}
+use Rattle.tp_record.specs.Step.{Answer, leaves_room, within_room}
 use Rattle.tp_locked.specs.Passes.{Refuses}
 
 -- a refusal by a test is that of the test
@@ -23,10 +23,11 @@ by_room : (c : Config) (s : State) (b : Bool) (d : Did) (e : PoolError) → ◌�
 by_room c s true d e is = by_test (leaves_room c s d) d BookFull e is
 by_room c s false d e is = grind arith
 
-submit_refused : (c : Config) (s : State) (k : Kind) (e : PoolError) → IsRefused c s (ask.Submit k) e → (e ≡ NoMemory) ⊎ (e ≡ BookFull)
-submit_refused c s k e (inl refuses) = inr (by_room c s _ _ e (refuses (length s.slots) (inl (get_or_past s.slots (length s.slots) None (omega arith)))))
-submit_refused c s k e (inr want) = inl want.0
-
 pub before_first : (c : Config) (history : List Entry) (k : Kind) (e : PoolError) → Refuses c history (ask.Submit k) e → (e ≡ NoMemory) ⊎ (e ≡ BookFull)
 before_first c history k e (inl none) = inl none
-before_first c history k e (inr at) = submit_refused c (state c history) k e at.holds
+before_first c history k e (inr at) =
+    let s = state c history in
+    elim at.holds [
+      | inl refuses ↦ inr (by_room c s _ _ e (refuses (length s.slots) (inl (get_or_past s.slots (length s.slots) None (omega arith)))))
+      | inr want ↦ inl want.0
+    ]

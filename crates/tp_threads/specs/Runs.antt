@@ -1,8 +1,9 @@
 -- What a run of a file of jobs leaves: in its caller's pass, in the record of its pool, and where it is written.
-use Rattle.std.specs.Prelude.{ℕ, ◌≡◌, ◌⊎◌, ◌<◌, List, [], ◌∷◌, ◌++◌, All, length, map, reverse, take, Option, Ok, Err, if◌then◌else◌}
+use Rattle.std.specs.Prelude.{ℕ, ◌≡◌, ◌⊎◌, List, [], ◌∷◌, ◌++◌, All, map, reverse, Option, Ok, Err, if◌then◌else◌}
 use Rattle.std.specs.Io.KnownBytes.{Appends}
 use Rattle.tp_types.specs.Config.{IsConfig, checked}
 use Rattle.tp_types.specs.declared.configs.Config.{Config}
+use Rattle.tp_types.specs.declared.ids.TaskId.{TaskId}
 use Rattle.tp_types.specs.declared.refusals.PoolError.{PoolError}
 use Rattle.tp_types.specs.declared.refusals.PoolError.TheVariants.{NoMemory, BookFull, TornRecord}
 use Rattle.tp_types.specs.declared.tasks.Kind.{Kind}
@@ -43,13 +44,13 @@ AreSubmissions (k ∷ ks) steps = (path rest : List Entry) × (steps ≡ path ++
 abbrev pub AddsSubmissions : Config → List Kind → PassView → PassView → Type 0
 AddsSubmissions c ks old new = (steps : List Entry) × AreSubmissions ks steps × Adds c old steps new
 
--- a submission is refused: torn off on its path, or before its first step
-abbrev pub IsTorn : Config → PoolError → PassView → PassView → Type 0
-IsTorn c e old new = (((e ≡ NoMemory) ⊎ (e ≡ BookFull)) × AddsNone old new) ⊎ ((e ≡ TornRecord) × AddsFront c old new)
+-- a submission of a task of this kind is refused: torn off on its path, or before its first step
+abbrev pub IsTorn : Config → Kind → PoolError → PassView → PassView → Type 0
+IsTorn c k e old new = (((e ≡ NoMemory) ⊎ (e ≡ BookFull)) × AddsNone old new) ⊎ ((e ≡ TornRecord) × ((t : TaskId) × AddsFront c k t old new))
 
 -- the first of the submissions of these kinds are followed to their end, and the one behind them is refused: it is the last
 abbrev pub BreaksOff : Config → List Kind → PoolError → PassView → PassView → Type 0
-BreaksOff c ks e old new = (n : ℕ) × (mid : PassView) × (n < length ks) × AddsSubmissions c (take n ks) old mid × IsTorn c e mid new
+BreaksOff c ks e old new = (before : List Kind) × (k : Kind) × (behind : List Kind) × (mid : PassView) × (ks ≡ before ++ k ∷ behind) × AddsSubmissions c before old mid × IsTorn c k e mid new
 
 -- a shutdown, and steps of the pool's end
 abbrev pub IsEnd : ℕ → List Entry → Type 0

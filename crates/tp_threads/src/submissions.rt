@@ -41,7 +41,7 @@ fn submit<G: PoolNaming + Send + Sync + 'static, R: Threads + Wait + Copy + Send
     pass: &mut Pass<G>,
 ) -> Result<(), PoolError>
     ensures whole { OnOk result (AddsSubmissions G.config (kind_of job.now ∷ []) pass.old pass.new) }
-    ensures refused { IfErr result (λ e. IsTorn G.config e pass.old pass.new) }
+    ensures refused { IfErr result (λ e. IsTorn G.config (kind_of job.now) e pass.old pass.new) }
 {
     if let Err(error) = pass.reserve(RECEIPTS) {
         return Err(error);

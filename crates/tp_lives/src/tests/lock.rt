@@ -3,12 +3,12 @@
 use std::sync::{Mutex, Wait};
 use std::test::Fail;
 use std::thread;
-use tp_pool::lock::{PAUSE, polite};
+use tp_pool::lock::{WORKER, polite};
 
 // Adds 1, so many times, each in a hold of its own.
 fn add<R: Wait>(rt: &R, lock: &Mutex<u64>, times: u32) {
     for _ in 0..times {
-        let mut sum = polite(rt, lock, PAUSE);
+        let mut sum = polite(rt, lock, WORKER);
         *sum = sum.saturating_add(1);
     }
 }

@@ -1,10 +1,11 @@
 //! Submitters' steps.
 
-ghost use Rattle.std.specs.Prelude.{◌≡◌, IfOk, IfErr, OnOk, OnErr, Some};
+ghost use Rattle.std.specs.Prelude.{◌≡◌, List, IfOk, IfErr, OnOk, OnErr, Some};
+ghost use Rattle.tp_record.specs.declared.entries.Entry.{Entry};
 ghost use Rattle.tp_record.specs.Effects.{submits};
 ghost use Rattle.tp_parts.specs.Payloads.{Keeps, PutsIn};
-ghost use Rattle.tp_machine.specs.Answers.{IsJudged};
-ghost use Rattle.tp_machine.specs.Seen.{FitsAtCaller};
+ghost use Rattle.tp_machine.specs.Answers.{IsJudged, IsReturnedAt};
+ghost use Rattle.tp_machine.specs.Seen.{At, FitsAtCaller};
 ghost use Rattle.tp_machine.specs.Steps.{IsStep, Stays, IsRefusedBy};
 
 use super::{Machine, note, note_owed};
@@ -199,10 +200,12 @@ impl<P, R: Recorder> Machine<P, R> {
     }
 
     /// What becomes of a refused task, as `RejectedExecutionHandler.rejectedExecution`. It hands out the task's own payload where
-    /// the task is gone or begins at its caller, and that of a head that a retry dropped. UnknownTask (6) or NotThere (8).
+    /// the task is gone or begins at its caller, and that of a head that a retry dropped, each just where the task was not cancelled.
+    /// UnknownTask (6) or NotThere (8).
     pub fn verdict(&mut self, by: u32, t: TaskId, verdict: Verdict) -> Result<Judged<P>, PoolError>
         ensures step { IfOk result (λ j. IsStep R.tells self.old self.new by (Ask.Verdict t verdict) j.did) }
         ensures payloads { IfOk result (λ j. IsJudged self.old.parts.tasks self.new.parts.tasks t j) }
+        ensures returned { IfOk result (λ j. (h : List Entry) → At R.tells self.old h → IsReturnedAt t j h) }
         ensures refused { IfErr result (λ e. IsRefusedBy R.tells self.old (Ask.Verdict t verdict) e) }
         ensures unchanged { OnErr result (self.new ≡ self.old) }
     {

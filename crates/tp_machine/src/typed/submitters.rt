@@ -3,7 +3,7 @@
 ghost use Rattle.tp_record.specs.declared.entries.Ask.TheVariants as ask;
 ghost use Rattle.tp_record.specs.declared.entries.Did.TheVariants as did;
 ghost use Rattle.tp_parts.specs.Payloads.{Keeps, PutsIn};
-ghost use Rattle.tp_machine.specs.Answers.{IsJudged};
+ghost use Rattle.tp_machine.specs.Answers.{IsJudged, IsReturnedAt};
 
 use super::Step;
 use crate::answers::Judged;
@@ -185,6 +185,8 @@ impl<P> Step<P> for Judge {
     ghost did = { λ s x. x.did };
 
     ghost moves = { λ s l x old new. IsJudged old new s.0 x };
+
+    ghost says = { λ s x h. IsReturnedAt s.0 x h };
 
     #[inline(always)]
     fn ask(self) -> Ask {

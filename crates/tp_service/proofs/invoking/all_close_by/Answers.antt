@@ -5,7 +5,7 @@ use Rattle.tp_locked.specs.declared.tasks.Task.{Task}
 use Rattle.tp_locked.proofs.Receipts.{looks_none, none_behind}
 use Rattle.tp_service.specs.Futures.{Closes}
 use Rattle.tp_service.proofs.Closed.{close_none}
-use Rattle.tp_service.proofs.Turned.{through_next}
+use Rattle.tp_pool.proofs.Turned.{through_next}
 use Rattle.tp_service.proofs.invoking.all_close_by.Goals as goal
 
 pub loop-t-preserved : goal.loop-t-preserved

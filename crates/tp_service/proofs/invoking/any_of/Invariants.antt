@@ -3,7 +3,7 @@ use Rattle.std.specs.Prelude.{None}
 use Rattle.tp_locked.specs.Passes.{AddsNone}
 use Rattle.tp_locked.specs.declared.tasks.Task.{Task}
 use Rattle.tp_service.specs.Futures.{Fails}
-use Rattle.tp_service.specs.Turns.{Through}
+use Rattle.tp_pool.specs.Turns.{Through}
 use Rattle.tp_service.proofs.invoking.any_of.Given as goal
 
 abbrev pub invariant-loop-t : goal.invariant-loop-t

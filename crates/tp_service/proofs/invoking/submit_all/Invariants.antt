@@ -1,4 +1,4 @@
-use Rattle.std.proofs.Common.{◌≡◌, ◌+◌, length, vec_capacity}
+use Rattle.std.proofs.Common.{◌≡◌, ◌++◌, length, vec_capacity}
 use Rattle.tp_service.specs.Submitted.{AddsSubmissions}
 use Rattle.tp_service.proofs.invoking.submit_all.Given as goal
 
@@ -6,5 +6,5 @@ abbrev pub invariant-loop-job : goal.invariant-loop-job
 invariant-loop-job g l =
     (goal.iterator-loop-job g).can_next l.job-iterator × (goal.iterator-loop-job g).is_finite l.job-iterator
     × (length l.tasks.items ≡ length l.yielded) × (vec_capacity l.tasks ≡ vec_capacity l.initial.tasks)
-    × (length l.tasks.items + length l.job-iterator.rest.items ≡ length l.initial.job-iterator.rest.items)
-    × AddsSubmissions g.G.PoolNaming.config l.tasks.items l.fn.pass l.pass
+    × (l.yielded ++ l.job-iterator.rest.items ≡ l.initial.job-iterator.rest.items)
+    × AddsSubmissions g.G.PoolNaming.config g.J.Job.promised l.yielded l.tasks.items l.fn.pass l.pass

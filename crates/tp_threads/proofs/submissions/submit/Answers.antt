@@ -1,7 +1,7 @@
 use Rattle.std.proofs.Common.{[], ◌∷◌, subst}
 use Rattle.tp_locked.proofs.Receipts.{reserved}
 use Rattle.tp_pool.specs.Admissions.{task_of, end_of}
-use Rattle.tp_threads.specs.Runs.{AddsSubmissions}
+use Rattle.tp_threads.specs.Runs.{AddsSubmissions, IsTorn}
 use Rattle.tp_threads.proofs.Followed.{one_submission, turned_torn, turned_whole}
 use Rattle.tp_threads.proofs.submissions.submit.Goals as goal
 
@@ -23,6 +23,7 @@ returns-in-Rejected-clause-whole g c =
 pub returns-in_default-error : goal.returns-in_default-error
 returns-in_default-error g c = record {
   whole = tt;
-  refused = turned_torn g.G.PoolNaming.config c.kind_of.result _ _ c.args.pass.now c.reserve.new.self c.execute_as.new.pass c.in-Err-execute_as.refused c.in_default-error.not-Rejected
-      (reserved c.args.pass.now c.reserve.new.self c.reserve.ensures.same) c.in-Err-execute_as.ensures.refused;
+  refused = subst (λ k. IsTorn g.G.PoolNaming.config k c.in-Err-execute_as.refused.error c.args.pass.now c.execute_as.new.pass) c.kind_of.ensures
+      (turned_torn g.G.PoolNaming.config c.kind_of.result _ _ c.args.pass.now c.reserve.new.self c.execute_as.new.pass c.in-Err-execute_as.refused c.in_default-error.not-Rejected
+      (reserved c.args.pass.now c.reserve.new.self c.reserve.ensures.same) c.in-Err-execute_as.ensures.refused);
 }

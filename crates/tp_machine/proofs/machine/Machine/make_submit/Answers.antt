@@ -17,7 +17,7 @@ invariant_of-self g c =
 pub returns-in-Err-prepare-clause-refused : goal.returns-in-Err-prepare-clause-refused
 returns-in-Err-prepare-clause-refused g c =
     refused_memory g.R.Recorder.tells c.self.inside.parts c.self.inside.noted c.args.self.now (ask.Submit c.args.kind) (did.Submit (record { 0 = submissions c.self.inside.parts.tasks }) c.args.kind c.in-Ok.looked) c.in-Err-prepare.error
-    c.self.view_is c.in-Ok.ensures.accepts refl c.in-Err-prepare.ensures.refused
+    c.self.view_is c.in-Ok.ensures.accepts (λ s shows. tt) c.in-Err-prepare.ensures.refused
 
 pub returns-in-Err-prepare-clause-unchanged : goal.returns-in-Err-prepare-clause-unchanged
 returns-in-Err-prepare-clause-unchanged g c =

@@ -1,8 +1,13 @@
-use Rattle.std.proofs.Common.{◌≡◌, ◌+◌, arith, subst}
-use Rattle.tp_locked.proofs.Receipts.{looks_none, none_behind}
+use Rattle.std.proofs.Common.{◌≡◌, ◌+◌, ap, arith, subst}
+use Rattle.tp_locked.proofs.Receipts.{looks_none, none_behind, reserved}
 use Rattle.tp_pool.specs.Prestarts.{AddsPrestart, IsRefusedMore}
-use Rattle.tp_pool.proofs.Starts.{Started, one_more, starts_all, starts_fail, starts_stop}
+use Rattle.tp_pool.proofs.Starts.{Started, none_started, one_more, prestart_asks, starts_all, starts_fail, starts_stop}
 use Rattle.tp_pool.proofs.pool.PoolOf.prestart_all.Goals as goal
+
+pub loop-live-init : goal.loop-live-init
+loop-live-init g c =
+    let none = reserved c.args.pass.now c.reserve.new.self c.reserve.ensures.same in
+    (none_started g.G.PoolNaming.config c.args.pass.now c.reserve.new.self none, grind arith, λ _. none)
 
 pub loop-live-preserved : goal.loop-live-preserved
 loop-live-preserved g c =
@@ -24,6 +29,17 @@ returns-in-Ok-false-clause-steps g c =
     let config = g.G.PoolNaming.config in
     starts_fail config (IsRefusedMore config) c.args.pass.now c.loop-live.pass c.prestart.new.pass c.loop-live.live 1024 c.loop-live.invariant.0 (omega arith)
     (subst (λ live. AddsPrestart config c.loop-live.pass live c.prestart.new.pass) c.in-Ok-false.field-0-test c.in-Ok-false.ensures.steps)
+
+pub returns-in-Ok-false-clause-asked : goal.returns-in-Ok-false-clause-asked
+returns-in-Ok-false-clause-asked g c =
+    let asks = prestart_asks g.G.PoolNaming.config c.loop-live.pass c.prestart.new.pass _ c.in-Ok-false.ensures.steps in
+    omega (arith, asks, c.loop-live.invariant.0.amount)
+
+pub returns-in-Err-2-clause-asked : goal.returns-in-Err-2-clause-asked
+returns-in-Err-2-clause-asked g c = omega (arith, ap (λ p. p.amount) c.in-Err-2.ensures.unchanged.0, c.loop-live.invariant.0.amount)
+
+pub returns-clause-asked : goal.returns-clause-asked
+returns-clause-asked g c = omega (arith, c.loop-live.invariant.0.amount)
 
 pub returns-in-Err-2-clause-steps : goal.returns-in-Err-2-clause-steps
 returns-in-Err-2-clause-steps g c =

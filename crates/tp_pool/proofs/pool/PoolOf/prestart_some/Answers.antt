@@ -1,9 +1,15 @@
-use Rattle.std.proofs.Common.{◌≡◌, ◌<◌, inl, inr, ap, sym, subst, ◌∙◌, arith}
+use Rattle.std.proofs.Common.{◌≡◌, ◌<◌, inl, inr, refl, ap, sym, subst, ◌∙◌, arith}
 use Rattle.std.specs.Prelude.{length}
 use Rattle.tp_record.specs.Step.{Legal}
+use Rattle.tp_locked.proofs.Receipts.{none_added}
 use Rattle.tp_pool.specs.Prestarts.{AddsPrestart, IsServed}
-use Rattle.tp_pool.proofs.Starts.{Started, looked, one_more, starts_all, starts_fail, starts_stop}
+use Rattle.tp_pool.proofs.Starts.{Started, looked, none_started, one_more, starts_all, starts_fail, starts_stop}
 use Rattle.tp_pool.proofs.pool.PoolOf.prestart_some.Goals as goal
+
+pub loop-init : goal.loop-init
+loop-init g c =
+    let pass = c.args.pass.now in
+    (none_started g.G.PoolNaming.config pass pass (none_added pass pass refl), omega arith, c.requires.legal)
 
 pub loop-preserved : goal.loop-preserved
 loop-preserved g c =

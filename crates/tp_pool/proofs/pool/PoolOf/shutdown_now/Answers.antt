@@ -1,4 +1,4 @@
-use Rattle.std.proofs.Common.{length, subst}
+use Rattle.std.proofs.Common.{◌≤◌, length, arith, inl, inr, sym, subst, true≢false}
 use Rattle.tp_record.specs.declared.entries.Ask.TheVariants as ask
 use Rattle.tp_record.specs.declared.entries.Did.TheVariants as did
 use Rattle.tp_locked.specs.Steps.{Stops}
@@ -24,3 +24,11 @@ returns-in-Ok-clause-seen g c =
     let ends = step_and_end g.G.PoolNaming.config c.args.pass.now c.reserve.new.self c.stop.new.pass c.try_end.new.pass ask.Stop (did.Stop (length c.in-Ok.drained.items))
     (reserved c.args.pass.now c.reserve.new.self c.reserve.ensures.same) c.in-Ok.ensures.step c.try_end.ensures in
     reached g.G.PoolNaming.config c.args.pass.now c.try_end.new.pass _ ends.0 ends.2
+
+pub returns-in-Err-clause-memory : goal.returns-in-Err-clause-memory
+returns-in-Err-clause-memory g c = λ _.
+    let short : ¬ (3 ≤ c.args.pass.now.room) = λ enough. true≢false (sym (c.in-Err.ensures.none_needed enough)) in
+    inl (omega (arith, short))
+
+pub returns-in-Err-stop-clause-memory : goal.returns-in-Err-stop-clause-memory
+returns-in-Err-stop-clause-memory g c = λ wants. inr (c.in-Err-stop.ensures.memory wants)

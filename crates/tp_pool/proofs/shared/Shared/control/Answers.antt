@@ -12,3 +12,6 @@ returns-clause-step g c =
 
 pub returns-clause-refused : goal.returns-clause-refused
 returns-clause-refused g c = IfErr-weaker c.ask.result _ _ (λ e is. inr (is c.requires.no_outcome)) c.ask.ensures.refused
+
+pub returns-clause-ready : goal.returns-clause-ready
+returns-clause-ready g c = λ room. IfErr-weaker c.ask.result _ _ (λ e is. is c.requires.no_outcome) c.ask.ensures.refused

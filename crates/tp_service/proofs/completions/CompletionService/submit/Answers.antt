@@ -1,7 +1,7 @@
 use Rattle.std.proofs.Common.{sym, subst}
 use Rattle.tp_types.specs.declared.tasks.Kind.TheVariants as kind
-use Rattle.tp_service.specs.Submitted.{AddsJob}
-use Rattle.tp_service.proofs.Gathered.{admits}
+use Rattle.tp_pool.specs.Submissions.{AddsJob}
+use Rattle.tp_pool.proofs.Submissions.{admits}
 use Rattle.tp_service.proofs.completions.CompletionService.submit.Goals as goal
 
 pub returns-in-Ok-clause-submitted : goal.returns-in-Ok-clause-submitted

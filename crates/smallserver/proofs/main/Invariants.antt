@@ -1,4 +1,4 @@
-use Rattle.smallserver.proofs.opening.served.Given as goal
+use Rattle.smallserver.proofs.main.Given as goal
 
 abbrev pub ghosts-life-G-Ledger : goal.ghosts-life-G-Ledger
 ghosts-life-G-Ledger g a = record { name = a.unopened.ledger; parts = a.unopened.parts }

@@ -1,0 +1,18 @@
+use Rattle.std.proofs.Common.{ap, ◌∙◌, subst}
+use Rattle.tp_record.specs.Fields.{rank}
+use Rattle.tp_locked.specs.Closing.{KeepsOpen}
+use Rattle.tp_locked.specs.declared.tasks.Task.{Task}
+use Rattle.tp_pool.specs.Closing.{Reports}
+use Rattle.tp_pool.proofs.Cuts.{cut}
+use Rattle.tp_pool.proofs.lives.end.Goals as goal
+
+pub returns-in-Ok-close-clause-report : goal.returns-in-Ok-close-clause-report
+returns-in-Ok-close-clause-report g c =
+    (c.sight.new.pass, subst (λ ps. Reports g.G.PoolNaming.config ps c.in-Ok-close.report) c.in-Ok.ensures.both c.in-Ok-close.ensures.report)
+
+pub returns-in-Err-close-clause-cut : goal.returns-in-Err-close-clause-cut
+returns-in-Err-close-clause-cut g c =
+    let config = g.G.PoolNaming.config in
+    let e = c.in-Err-close.fault.error in
+    cut {P = Task g.row.J.Denot} config c.args.pass c.sight.new.pass e (ap (λ p. rank p.front) c.sight.ensures.same ∙ c.in_default.ensures.ended)
+    (subst (λ ps. KeepsOpen (Task g.row.J.Denot) config ps e) c.in-Ok.ensures.both c.in-Err-close.ensures.refused)

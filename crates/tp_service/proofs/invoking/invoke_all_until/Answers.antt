@@ -1,0 +1,18 @@
+use Rattle.std.proofs.Common.{inr, subst, rules}
+use Rattle.tp_locked.specs.declared.tasks.Task.{Task}
+use Rattle.tp_service.specs.Submitted.{AddsCancels, IsOneLate}
+use Rattle.tp_service.proofs.invoking.invoke_all_until.Goals as goal
+
+pub returns-clause-all : goal.returns-clause-all
+returns-clause-all g c =
+    let config = g.G.PoolNaming.config in
+    let mid = c.submit_all.new.pass in
+    let told = c.all_close_by.new.pass in
+    let late = c.if-all_close_by.ensures.late (search rules) in
+    inr (
+      mid,
+      told,
+      c.in_ok-tasks.ensures.submitted,
+      subst (λ ts. IsOneLate (Task g.row.J.Denot) config c.args.deadline ts mid told) c.as_slice.ensures.value late,
+      subst (λ ts. AddsCancels (Task g.row.J.Denot) config ts told c.cancel_all.new.pass) c.as_slice-2.ensures.value c.cancel_all.ensures,
+    )
