@@ -2,13 +2,15 @@
 """Runs built tests with each of their allocations refused in turn.
 
     tools/fail_memory.py                    the tests of want of memory of tp_lives and tp_running
-    tools/fail_memory.py PROGRAM TEST ..    these tests of a built program of tests, as out/tp_running_tests
+    tools/fail_memory.py PROGRAM TEST ..    these tests of a built program of tests, as out/tp_running_tests; none: all
 
 The gate gives each test ample memory, and no allocator of a test's own reaches a running pool, whose calls take the
-process's memory. So this is done by hand: `rt test` in the crate's folder builds its tests, and a small library in
-front of the C library's `malloc` and its kin refuses the n-th request of the process, for n from 1 on, until a run
-asks for fewer. A test that takes a refusal well ends as it does with ample memory: it answers 4 where the call may,
-has changed nothing, and succeeds when it is called again. The status is 1 where a run ends otherwise.
+process's memory. So this is done by hand: `rt test` in the crate's folder builds its tests (`unproved.py --test` does so
+without a proof), and a small library in front of the C library's `malloc` and its kin refuses the n-th request of the
+process, for n from 1 on, until a run asks for fewer. A run ends well where it ends as with ample memory, or where the
+test says that it is refused with 4. The status is 1 where a run ends otherwise, or has not ended in a minute.
+
+What a test does about a refusal is its own: `docs/CONTRIBUTING.md`, "Want of memory".
 """
 import pathlib
 import subprocess
@@ -17,10 +19,13 @@ import tempfile
 
 ROOT = pathlib.Path(__file__).resolve().parent.parent
 USUAL = {
-    "tp_lives": ["ample_memory_succeeds"],
-    "tp_running": ["ample_memory_succeeds", "want_of_memory_makes_no_worker"],
+    "tp_lives": ["memory::ample_memory_succeeds"],
+    "tp_running": ["memory::ample_memory_succeeds", "want_of_memory_makes_no_worker"],
 }
 SECONDS = 60
+# How the result of a test is told that ends with 4, its own or the library's.
+REFUSALS = ("error: NoMemory", "error: AllocFailed")
+REFUSAL = "says want of memory"
 SHIM = r"""
 #define _GNU_SOURCE
 #include <errno.h>
@@ -63,28 +68,33 @@ def listed(program):
 
 
 def run(program, test, shim, number):
-    """How the test ends where this request is refused, and how many there were."""
+    """How the test ends where this request is refused, and how many there were: its status, or that it says want of memory."""
     counted = pathlib.Path(shim).with_suffix(".count")
     counted.write_bytes(bytes(8))
     env = {"PATH": "/usr/bin:/bin", "LD_PRELOAD": shim, "REFUSED_REQUEST": str(number), "REQUESTS": str(counted)}
     try:
-        ran = subprocess.run([program, test], env=env, capture_output=True, timeout=SECONDS, check=False).returncode
+        ran = subprocess.run([program, test], env=env, capture_output=True, text=True, timeout=SECONDS, check=False)
+        ending = REFUSAL if ran.returncode == 101 and any(word in ran.stdout + ran.stderr for word in REFUSALS) else ran.returncode
     except subprocess.TimeoutExpired:
-        ran = "has not ended"
-    return ran, int.from_bytes(counted.read_bytes(), sys.byteorder)
+        ending = "has not ended"
+    return ending, int.from_bytes(counted.read_bytes(), sys.byteorder)
 
 
 def tried(program, test, shim):
-    """Whether each run of the test ends as it does with ample memory."""
+    """Whether each run of the test ends as it does with ample memory, or says want of memory."""
     wanted, many = run(program, test, shim, 0)
     print(f"{test}: {many} requests with ample memory, status {wanted}", flush=True)
-    bad, number = [], 1
-    while number <= many:
-        status, asked = run(program, test, shim, number)
-        if status != wanted:
-            bad.append(f"request {number}: {status}")
-        many, number = max(many, min(asked, many + 1)), number + 1
-    print(f"{test}: {number - 1} runs, {len(bad)} ended otherwise", *bad, sep="\n  ", flush=True)
+    ended, bad, number = {wanted: 0, REFUSAL: 0}, [], 1
+    while True:
+        ending, asked = run(program, test, shim, number)
+        if asked < number:
+            break
+        if ending in ended:
+            ended[ending] += 1
+        else:
+            bad.append(f"request {number}: {ending}")
+        number += 1
+    print(f"{test}: {number - 1} refused; {ended[wanted]} runs ended so, {ended[REFUSAL]} with 4, {len(bad)} otherwise", *bad, sep="\n  ", flush=True)
     return not bad and wanted == 0
 
 
@@ -99,7 +109,7 @@ def main():
             wanted = {str(ROOT / f"crates/{crate}/out/{crate}_tests"): tests for crate, tests in USUAL.items()}
         well = True
         for program, words in wanted.items():
-            for test in [name for name in listed(program) if any(name.endswith(word) for word in words)]:
+            for test in [name for name in listed(program) if not words or any(name.endswith(word) for word in words)]:
                 well = tried(program, test, shim) and well
     return 0 if well else 1
 

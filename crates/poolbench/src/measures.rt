@@ -89,7 +89,7 @@ fn full_queue(alloc: Global, entries: u32) -> Result<Queue, AllocError>
 {
     let mut queue = Queue::new(alloc, QueueKind::Bounded(entries))?;
     for number in 0..entries {
-        let _ = queue.offer(TaskId(number));
+        let _ = queue.offer(TaskId(number), 0);
     }
     Ok(queue)
 }
@@ -108,7 +108,7 @@ fn turns_of_take<R: Clock>(rt: &R, queue: &mut Queue, turns: u32) -> io::Result<
     let start = Instant::now(rt)?;
     for turn in 0..turns {
         queue.take_head();
-        let _ = queue.offer(TaskId(turn));
+        let _ = queue.offer(TaskId(turn), 0);
     }
     start.elapsed(rt)
 }
@@ -128,8 +128,8 @@ fn turns_of_remove<R: Clock>(rt: &R, queue: &mut Queue, size: Size) -> io::Resul
     let middle = u64::from(size.entries) / 2;
     let start = Instant::now(rt)?;
     for turn in 0..size.turns {
-        queue.remove(middle + u64::from(turn));
-        let _ = queue.offer(TaskId(turn));
+        queue.remove(0, middle + u64::from(turn));
+        let _ = queue.offer(TaskId(turn), 0);
     }
     start.elapsed(rt)
 }
@@ -206,9 +206,9 @@ fn put_completed(tasks: &mut Tasks<u32>, turn: u32) -> Result<(), AllocError> {
         return Err(AllocError);
     };
     if tasks.submitted() < u32::MAX {
-        let t = tasks.put(kind, place, ANY, turn);
+        let t = tasks.put(kind, 0, place, ANY, turn);
         let _ = tasks.take_payload(t);
-        tasks.complete(t, TaskRow::new(kind, place), Fate::Run, Ok(0));
+        tasks.complete(t, TaskRow::new(kind, 0, place), Fate::Run, Ok(0));
     }
     Ok(())
 }

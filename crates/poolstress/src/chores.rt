@@ -37,14 +37,26 @@ pub enum Work {
 pub struct Chore {
     /// The number.
     pub number: u32,
+    /// Its priority.
+    pub priority: u32,
     work: Work,
     ran: Count,
 }
 
 impl Chore {
-    /// The job of this number and work, whose runs this counts.
+    /// The job of this number and work, whose runs this counts. Its priority is 0.
     pub fn new(number: u32, work: Work, ran: Count) -> Chore {
-        Chore { number, work, ran }
+        Chore {
+            number,
+            priority: 0,
+            work,
+            ran,
+        }
+    }
+
+    /// The same with this priority.
+    pub fn with_priority(self, priority: u32) -> Chore {
+        Chore { priority, ..self }
     }
 }
 
@@ -101,8 +113,14 @@ impl Job for Chore {
 
     ghost promised = { λ _. WIDEST };
 
+    ghost urgency = { λ c. c.priority };
+
     fn promise(&self) -> Promise {
         WIDEST
+    }
+
+    fn priority(&self) -> u32 {
+        self.priority
     }
 
     fn call(&mut self, cancel: &CancelFlag) -> Outcome {

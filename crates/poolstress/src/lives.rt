@@ -8,7 +8,7 @@ use crate::chores::{Chore, Count, count};
 use crate::endings::closed;
 use crate::luck::Luck;
 use crate::mishaps::Mishap;
-use crate::plans::{Plan, SUBMITTERS, work_of};
+use crate::plans::{Plan, SUBMITTERS, priority_of, work_of};
 use crate::totals::{Account, Totals};
 use crate::whims::Whims;
 use std::alloc::{AllocError, Global};
@@ -194,7 +194,8 @@ fn chores_of(alloc: Global, plan: &Plan, k: u32, ran: &[Count]) -> Result<Vec<Ch
         if number % SUBMITTERS == k {
             let work = work_of(plan.seed, number);
             let ran = Arc::try_clone(ran)?;
-            chores.push(Chore::new(number, work, ran))?;
+            let chore = Chore::new(number, work, ran);
+            chores.push(chore.with_priority(priority_of(plan.seed, number)))?;
         }
     }
     Ok(chores)

@@ -27,9 +27,10 @@ pub struct Plan {
 }
 
 fn queue_by(luck: &mut Luck) -> QueueKind {
-    match luck.below(4) {
+    match luck.below(5) {
         0 => QueueKind::Handoff,
         1 => QueueKind::Unbounded,
+        2 => QueueKind::Priority,
         _ => QueueKind::Bounded(1 + luck.below(6)),
     }
 }
@@ -82,6 +83,11 @@ pub fn work_of(seed: u64, number: u32) -> Work {
         2 => Work::Faults,
         _ => Work::Nothing,
     }
+}
+
+/// The priority of the job of this number.
+pub fn priority_of(seed: u64, number: u32) -> u32 {
+    Luck::new(seed, 4_000_000 + u64::from(number)).below(4)
 }
 
 /// The kind of the job of this number.

@@ -126,12 +126,14 @@ started_same (started.Skip x) (started.Skip y) is = ap started.Skip (task_same x
 started_same _ _ is = absurd (true≢false (sym is))
 
 did_same : (a b : Did) → did_test.it a b ≡ true → a ≡ b
-did_same (did.Submit x k m) (did.Submit y l n) is =
+did_same (did.Submit x k p m) (did.Submit y l q n) is =
     let parts = and_parts _ _ is in
     let more = and_parts _ _ parts.1 in
+    let last = and_parts _ _ more.1 in
     let first : x ≡ y = task_same x y parts.0 in
     let second : k ≡ l = kind_same k l more.0 in
-    let third : m ≡ n = looked_same m n more.1 in
+    let third : p ≡ q = eqb-true p q last.0 in
+    let fourth : m ≡ n = looked_same m n last.1 in
     cc
 did_same (did.Look x k) (did.Look y l) is =
     let parts = and_parts _ _ is in

@@ -13,6 +13,7 @@ use Rattle.tp_record.specs.Step.{Legal}
 use Rattle.tp_audit.specs.Audit.{IsFirstFlaw}
 use Rattle.tp_text.specs.EntryLine.{line}
 use Rattle.tp_text.specs.EndLines.{counts_line, state_at, state_line}
+use Rattle.tp_record_text.specs.declared.versions.Version.{Version}
 use Rattle.tp_record_text.specs.ReadRecord.{HasRefusedPool, IsWrongAt}
 use Rattle.tp_record_text.specs.RecordText.{HasText, record_text}
 use Rattle.tp_audit_text.specs.declared.judgments.Judgment.{Judgment}
@@ -32,13 +33,14 @@ abbrev pub IsJudged : Config → List Entry → Bool → List ℕ → Type 0
 IsJudged c es true out = Legal c (reverse es) × (out ≡ legal_lines c es)
 IsJudged c es false out = (n : ℕ) × IsFirstFlaw c es n × (out ≡ flaw_line n)
 
--- a text is that of a record with an accepted configuration, which is judged so
+-- a text is that of a record with an accepted configuration, in one of the forms, which is judged so
 pub record IsJudgedText (text : List ℕ) (legal : Bool) (out : List ℕ) : Type 0 where
+  pub version : Version
   pub config : Config
   pub entries : List Entry
-  pub has_text : HasText config entries
+  pub has_text : HasText version config entries
   pub accepted : checked config ≡ Ok tt
-  pub is_text : text ≡ record_text config entries
+  pub is_text : text ≡ record_text version config entries
   pub judged : IsJudged config entries legal out
 
 -- a text is refused so: there was no memory, or the configuration is refused, or a line is the first wrong one

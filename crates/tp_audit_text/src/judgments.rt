@@ -95,12 +95,12 @@ pub fn judge_text(alloc: Global, text: &[u8]) -> Result<Judgment, PoolError>
     requires { length text.now ≤ 1048576 }
     ensures { JudgesText text.now result }
 {
-    let (config, body) = read_head(text)?;
+    let (version, config, body) = read_head(text)?;
     if let Err(refusal) = config.check() {
         return Err(refusal);
     }
     let mut judging = Judging::new(alloc, &config)?;
-    let entries = match read_entries(body, &mut judging) {
+    let entries = match read_entries(version, body, &mut judging) {
         Ok(entries) => entries,
         Err(refusal) => return Err(refusal),
     };

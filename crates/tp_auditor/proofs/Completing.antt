@@ -44,7 +44,7 @@ module _ (c : Config) (h : List Entry) (legal : Legal c h) where
 
   -- the completed tasks of each group, by the tables' change
   pub done_given : (d : Did) → Given c h d → (g : ℕ) → handed_out d g (with_completion (completion d (state c h)) g (done_of (state c h) g)) ≡ done_of (next (state c h) d) g
-  done_given (did.Submit t k l) given g = sym (done_submit c h t k l legal given g)
+  done_given (did.Submit t k p l) given g = sym (done_submit c h t k p l legal given g)
   done_given (did.TakeDone n t) given g = sym (done_taken c h n t legal given g)
   done_given (did.CallerEnd t o) given g =
       ended (did.CallerEnd t o) t.0 (not (task_at (state c h) t.0).cancelled) (chosen (is_group (task_at (state c h) t.0).kind && not (task_at (state c h) t.0).cancelled) t.0) g

@@ -1,6 +1,6 @@
 -- What an entry that changes what it names alone makes of the tables.
-use Rattle.std.proofs.Common.{◌≡◌, ℕ, suc, ◌+◌, ◌-◌, ◌<◌, ◌≤◌, Bool, true, false, cond, List, [], ◌∷◌, ◌++◌, length, get_or, set, replicate, Option, Some, None, refl, arith, sym, ap, ◌∙◌, inl, inr}
-use Rattle.std.specs.Prelude.{◌==◌, filter, max, count_by, is_some, unwrap_or, option_to_list}
+use Rattle.std.proofs.Common.{◌≡◌, ℕ, suc, ◌+◌, ◌-◌, ◌<◌, ◌≤◌, Bool, true, false, cond, List, [], ◌∷◌, ◌++◌, length, get_or, set, replicate, Option, Some, None, refl, arith, sym, ap, ap₂, ◌∙◌, inl, inr}
+use Rattle.std.specs.Prelude.{◌==◌, nat_le, nat_lt, filter, max, count_by, is_some, unwrap_or, option_to_list}
 use Rattle.std.proofs.lemmas.Bool.{cases_lt, cases_eq, eq-eqb, ne_eqb, or_cases, false≢true}
 use Rattle.std.proofs.lemmas.Bool.Decides.{nat_tests}
 use Rattle.std.proofs.lemmas.List.{append-nil, get_or_past, get_or-set_same, get_or-set_other, set_past, length-append, length-replicate}
@@ -10,11 +10,12 @@ use Rattle.tp_types.specs.declared.tasks.Place.TheVariants as at
 use Rattle.tp_record.specs.declared.entries.Did.{Did}
 use Rattle.tp_record.specs.declared.rows.TaskRow.{TaskRow}
 use Rattle.tp_record.specs.declared.rows.SlotRow.{SlotRow}
-use Rattle.tp_record.specs.Lists.{said_of, is_it, without, change_each, long_enough}
+use Rattle.tp_record.specs.Lists.{said_of, is_it, without, join_line, change_each, long_enough}
 use Rattle.tp_record.specs.Effects.{queues, idles, cancels, tries, reserves, frees, one_said}
 use Rattle.tp_record.specs.Fields.{is_queued_place, is_idle_row, is_live, swept, counted}
 use Rattle.tp_record.specs.State.{State, next, row_at, slot_at, no_row, no_seat, row_after, seat_after, seat_by, slot_after, slots_after, stays_queued, stays_idle}
 use Rattle.tp_model.proofs.Queues.{is_among, among-append, Contains-from_among}
+use Rattle.tp_model.proofs.Arranged.{filter-swap}
 use Rattle.tp_model.proofs.NextState.{idle_left}
 use Rattle.tp_shapes.proofs.Names.{is_wide, names, drops, seats, replaces, other_row, other_slot, place_unsaid, not_swept}
 use Rattle.tp_auditor.specs.Changed.{change_at, leave_out}
@@ -151,11 +152,20 @@ filter-more : (p : ℕ → Bool) (o : Option ℕ) (xs : List ℕ) → ((x : ℕ)
 filter-more p None xs all = filter-append p xs []
 filter-more p (Some x) xs all = filter-append p xs (x ∷ []) ∙ ap (λ b. filter p xs ++ cond b (x ∷ []) []) (all x refl)
 
+-- what is put in a line passes the filter
+filter-join : (p : ℕ → Bool) (b : Bool) (f : ℕ → ℕ) (o : Option ℕ) (xs : List ℕ) → ((x : ℕ) → o ≡ Some x → p x ≡ true) → filter p (join_line b f o xs) ≡ join_line b f o (filter p xs)
+filter-join p b f None xs all = refl
+filter-join p false f (Some x) xs all = filter-more p (Some x) xs all
+filter-join p true f (Some x) xs all =
+    filter-append p (filter (λ y. nat_le (f y) (f x)) xs) (x ∷ filter (λ y. nat_lt (f x) (f y)) xs)
+    ∙ rw (all x refl)
+    (ap₂ (λ us vs. us ++ x ∷ vs) (filter-swap p (λ y. nat_le (f y) (f x)) xs) (filter-swap p (λ y. nat_lt (f x) (f y)) xs))
+
 -- the tables' changes, one after the other, lead to the next state
 pub named_next : (s : State) (d : Did) → is_wide d ≡ false → Suits s d → settled d (wakes d s) (grown d s) ≡ undone (next s d)
 named_next s d narrow suits =
     let slots = sym (slots_two d s narrow) in
-    let queue = filter-more (stays_queued d s.tasks) (queues d) s.queue (λ t is. queued_stays d s.tasks t is) in
+    let queue = filter-join (stays_queued d s.tasks) s.ranked (λ t. (row_at s.tasks t).priority) (queues d) s.queue (λ t is. queued_stays d s.tasks t is) in
     let idling = sym (idling_two d s (s.idling ++ option_to_list (idles d)) narrow idle) ∙ filter-more (stays_idle d s) (idles d) s.idling idled in
     λ i. record (undone (next s d)) {
       queue = queue i;

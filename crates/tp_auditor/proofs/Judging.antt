@@ -15,7 +15,7 @@ use Rattle.tp_record.specs.declared.entries.Did.{Did}
 use Rattle.tp_record.specs.Effects.{reserves, completes}
 use Rattle.tp_record.specs.Fields.{is_live, rank, task_rows, slot_rows, live, largest}
 use Rattle.tp_record.specs.State.{State, state, next, due, task_at, counts, fate_of}
-use Rattle.tp_record.specs.Step.{Answer, Legal, Gives, fitting, within_room, leaves_room, is_free_for, done_of}
+use Rattle.tp_record.specs.Step.{Answer, Legal, Gives, fitting, step, within_room, leaves_room, is_free_for, done_of}
 use Rattle.tp_model.proofs.Weak.{within}
 use Rattle.tp_model.proofs.NextState.{next_is_state}
 use Rattle.tp_model.proofs.Told.{sound_legal, given_answer, given_legal}
@@ -28,7 +28,7 @@ use Rattle.tp_auditor.specs.declared.tables.Tables.{Tables}
 use Rattle.tp_auditor.specs.Audited.{Judge, Judged}
 use Rattle.tp_auditor.specs.Done.{done_in}
 use Rattle.tp_auditor.specs.Owed.{room_by, due_by}
-use Rattle.tp_auditor.specs.Tables.{shown, undone, grouped, completion, with_completion, handed_out, StandsAt, Suits, SuitsAll}
+use Rattle.tp_auditor.specs.Tables.{shown, undone, grouped, completion, with_completion, handed_out, HasRanks, StandsAt, Suits, SuitsAll}
 use Rattle.tp_auditor.proofs.Completing.{done_given}
 use Rattle.tp_auditor.proofs.Kept.{few}
 use Rattle.tp_auditor.proofs.Owing.{due_given, due_undone}
@@ -98,8 +98,8 @@ module _ (c : Config) (h : List Entry) (t : Tables) (at : StandsAt c h t) where
 
   -- the tables after an entry that is given stand at the history with it
   pub stands_next : (e : Entry) (new : Tables) → Gives c (state c h) e.ask e.did → shown new ≡ undone (next (shown t) e.did) →
-      ((g : ℕ) → done_in new.done g ≡ handed_out e.did g (with_completion (completion e.did (shown t)) g (done_in t.done g))) → new.due ≡ due_by e.did (shown t) t.due → StandsAt c (e ∷ h) new
-  stands_next e new gives kept done owed =
+      ((g : ℕ) → done_in new.done g ≡ handed_out e.did g (with_completion (completion e.did (shown t)) g (done_in t.done g))) → new.due ≡ due_by e.did (shown t) t.due → HasRanks new → StandsAt c (e ∷ h) new
+  stands_next e new gives kept done owed ranks =
       let s = state c h in
       let d = e.did in
       let given = given_legal c h e.ask d at.legal gives in
@@ -119,15 +119,16 @@ module _ (c : Config) (h : List Entry) (t : Tables) (at : StandsAt c h t) where
               ∙ done_given c h at.legal d given g
               ∙ ap (λ (x : State). done_of x g) (sym after);
           due = owed ∙ same ∙ due_undone d s (due s) ∙ due_given c h d at.legal given ∙ ap due (sym after);
+          ranks = ranks;
         };
       }
 
   -- tables that show the same stand where they stood
-  pub stands_still : (new : Tables) → shown new ≡ shown t → ((g : ℕ) → done_in new.done g ≡ done_in t.done g) → new.due ≡ t.due → StandsAt c h new
-  stands_still new kept done owed = record {
+  pub stands_still : (new : Tables) → shown new ≡ shown t → ((g : ℕ) → done_in new.done g ≡ done_in t.done g) → new.due ≡ t.due → HasRanks new → StandsAt c h new
+  stands_still new kept done owed ranks = record {
     config = at.config;
     legal = at.legal;
-    shows = record { kept = kept ∙ at.shows.kept; done = λ g. done g ∙ at.shows.done g; due = owed ∙ at.shows.due };
+    shows = record { kept = kept ∙ at.shows.kept; done = λ g. done g ∙ at.shows.done g; due = owed ∙ at.shows.due; ranks = ranks };
   }
 
 -- the greatest number of live slots is few
@@ -174,6 +175,16 @@ module _ (c : Config) (h : List Entry) (t : Tables) (at : StandsAt c h t) (a : A
         rw (number.1 parts.1.0, is ∙ parts.1.1) refl,
   )
 
+-- What is answered to an ask, where a slot that is made gets the number w
+
+module _ (c : Config) (s : State) (w : ℕ) (a : Ask) where
+  -- what fits there is answered, where it is given
+  pub answered_given : (d : Did) → fitting c s w a ≡ Ok d → Gives c s a d → step c s w a ≡ Ok d
+  answered_given d fits gives =
+      let own = within c s (fitting c s (unwrap_or (reserves d) 0) a) d gives.0 in
+      let leaves = is_leaving d (leaves_room c s d) (sym (ap (within_room c s) own) ∙ gives.0) in
+      ap (within_room c s) fits ∙ ap (λ b. cond b (Ok d) (Err BookFull)) leaves
+
 -- What the auditor answers at the end
 
 module _ (c : Config) (h : List Entry) (t : Tables) (at : StandsAt c h t) where
@@ -212,11 +223,11 @@ module _ (c : Config) (h : List Entry) (t : Tables) (at : StandsAt c h t) where
   }
 
 -- before the first entry
-pub stands_first : (c : Config) (t : Tables) → IsConfig c → shown t ≡ state c [] → ((g : ℕ) → done_in t.done g ≡ []) → t.due ≡ 4 → StandsAt c [] t
-stands_first c t config kept done owed = record {
+pub stands_first : (c : Config) (t : Tables) → IsConfig c → shown t ≡ state c [] → ((g : ℕ) → done_in t.done g ≡ []) → t.due ≡ 4 → HasRanks t → StandsAt c [] t
+stands_first c t config kept done owed ranks = record {
   config = config;
   legal = tt;
-  shows = record { kept = kept; done = done; due = owed };
+  shows = record { kept = kept; done = done; due = owed; ranks = ranks };
 }
 
 -- an auditor's value, and the fields that it is the view of

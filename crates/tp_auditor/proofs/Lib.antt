@@ -5,6 +5,8 @@ pub mod Judging
 pub mod Kept
 pub mod Owing
 pub mod Placing
+pub mod Ranking
+pub mod Treed
 pub mod Sizes
 pub mod Standing
 pub mod Sweeping

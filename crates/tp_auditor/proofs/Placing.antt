@@ -88,20 +88,25 @@ ids-more [] x n = refl
 ids-more (y ∷ xs) x n = ap (λ ys. y.0 ∷ ys) (ids-more xs x n)
 
 module _ {S : Type 0} (items : List (ℕ × ℕ)) (old new : IndexMap ℕ ℕ S) (x n : ℕ) (are : ArePlaced items old) where
-  -- x is put at the end
-  pub placed-more : (Contains (ids items) x → ⊥) → Updates nat_eq old new x (Some n) → ArePlaced (items ++ (x, n) ∷ []) new
-  placed-more absent to = record {
-    listed = λ v m h. elim (place_cases items x n v m h) [
+  -- x is put somewhere, and the others stand where they stood
+  pub placed-in : (ys : List (ℕ × ℕ)) → HasPlace ys x n → ((v m : ℕ) → HasPlace items v m → HasPlace ys v m) → ((v m : ℕ) → HasPlace ys v m → HasPlace items v m ⊎ ((x ≡ v) × (n ≡ m))) →
+      (Contains (ids items) x → ⊥) → Updates nat_eq old new x (Some n) → ArePlaced ys new
+  placed-in ys there kept cases absent to = record {
+    listed = λ v m h. elim (cases v m h) [
       | inl before ↦ to.2 v (ne_eqb x v (λ e. absent (subst (Contains (ids items)) (sym e) (place-contains items v m before)))) ∙ are.listed v m before
       | inr last ↦ ap (get nat_eq new) (sym last.0) ∙ to.1 ∙ ap (λ k. Some k) last.1
     ];
     placed = λ v m h. elim (cases_eq x v) [
       | inl same ↦
           let e : n ≡ m = same_Some n m (sym to.1 ∙ ap (get nat_eq new) same ∙ h) in
-          subst (λ k. HasPlace (items ++ (x, n) ∷ []) v k) e (subst (λ k. HasPlace (items ++ (x, n) ∷ []) k n) same (place_more items x n))
-      | inr apart ↦ place_old items (x, n) v m (are.placed v m (sym (to.2 v (ne_eqb x v apart)) ∙ h))
+          subst (λ k. HasPlace ys v k) e (subst (λ k. HasPlace ys k n) same there)
+      | inr apart ↦ kept v m (are.placed v m (sym (to.2 v (ne_eqb x v apart)) ∙ h))
     ];
   }
+
+  -- x is put at the end
+  pub placed-more : (Contains (ids items) x → ⊥) → Updates nat_eq old new x (Some n) → ArePlaced (items ++ (x, n) ∷ []) new
+  placed-more absent to = placed-in (items ++ (x, n) ∷ []) (place_more items x n) (place_old items (x, n)) (place_cases items x n) absent to
 
   -- x, which stands at place n, is taken out
   module _ (next : ℕ) (order : Ordered 0 items next) (at : Some n ≡ get nat_eq old x) (to : Updates nat_eq old new x None) where

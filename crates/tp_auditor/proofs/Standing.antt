@@ -52,16 +52,16 @@ worker c h (did.Take u took.Idle) given w is = let same : u.0 ≡ w = grind arit
 worker c h _ given w is = absurd (grind arith)
 
 module _ (c : Config) (h : List Entry) (legal : Legal c h) where
-  queued_here : (t : ℕ) → Contains (queue h) t → is_queued h t ≡ true
-  queued_here t found = sym (among-queue h t) ∙ among_from_Contains (queue h) t found
+  queued_here : (t : ℕ) → Contains (queue c h) t → is_queued h t ≡ true
+  queued_here t found = sym (among-queue c h t) ∙ among_from_Contains (queue c h) t found
 
   idle_here : (w : ℕ) → is_among w (idling h) ≡ true → is_idle_row (slot_at (state c h).slots w) ≡ true
   idle_here w there = ap is_idle_row (slot_read h w) ∙ sym (among-idling h w) ∙ there
 
   pub suits_all : SuitsAll (undone (state c h))
   suits_all = record {
-    queued = λ t is. among-queue h t ∙ ap (λ r. is_queued_place r.place) (sym (row_sound h (sound_legal c h legal) c t)) ∙ is;
-    once = once-queue h;
+    queued = λ t is. among-queue c h t ∙ ap (λ r. is_queued_place r.place) (sym (row_sound h (sound_legal c h legal) c t)) ∙ is;
+    once = once-queue c h;
     idle = λ w is. among-idling h w ∙ ap is_idle_row (sym (slot_read h w)) ∙ is;
     idling = idle_here;
   }
@@ -96,23 +96,23 @@ module _ (c : Config) (h : List Entry) (t : Tables) (at : StandsAt c h t) where
   pub queue_shown : length (shown t).queue ≤ 1048577
   queue_shown =
       let few = few_owed c h at.config at.legal in
-      let most = length-queue h in
-      let e : length (shown t).queue ≡ length (queue h) = ap (λ s. length s.queue) at.shows.kept in
+      let most = length-queue c h in
+      let e : length (shown t).queue ≡ length (queue c h) = ap (λ s. length s.queue) at.shows.kept in
       omega (arith, few, most, e)
 
   pub once_shown : IsOnce (shown t).queue
-  once_shown = subst (λ (s : State). IsOnce s.queue) (sym at.shows.kept) (once-queue h)
+  once_shown = subst (λ (s : State). IsOnce s.queue) (sym at.shows.kept) (once-queue c h)
 
   -- a retry is given of a refused task
   pub retry_given : (x : TaskId) → x.0 < length (shown t).tasks → (task_at (shown t) x.0).place ≡ places.Refused → (shown t).rank ≡ 0 → (task_at (shown t) x.0).retries < 64 →
-      Given c h (did.Verdict x verdict.DiscardOldest (retry_of (queue h)))
+      Given c h (did.Verdict x verdict.DiscardOldest (retry_of (queue c h)))
   retry_given x known refused runs few =
       let row = ap (λ s. task_at s x.0) at.shows.kept ∙ row_sound h (sound_legal c h at.legal) c x.0 in
       let count : length (shown t).tasks ≡ submitted h = ap (λ s. length s.tasks) at.shows.kept ∙ tasks_counted h in
       let tries = ap (λ r. r.retries) row in
-      ((omega (arith, known, count), sym (ap (λ r. r.place) row) ∙ refused), ruling (queue h) refl (sym (ap (λ s. s.rank) at.shows.kept) ∙ runs) (omega (arith, few, tries)))
+      ((omega (arith, known, count), sym (ap (λ r. r.place) row) ∙ refused), ruling (queue c h) refl (sym (ap (λ s. s.rank) at.shows.kept) ∙ runs) (omega (arith, few, tries)))
     where
-      ruling : (q : List ℕ) → queue h ≡ q → rank h ≡ 0 → retries h x.0 < 64 → GivenRuled h x.0 (retry_of q)
+      ruling : (q : List ℕ) → queue c h ≡ q → rank h ≡ 0 → retries h x.0 < 64 → GivenRuled c h x.0 (retry_of q)
       ruling [] is runs few = (runs, few, is)
       ruling (u ∷ us) is runs few = (runs, few, (us, is), head_queued c h at.legal u us is)
 
@@ -120,6 +120,6 @@ module _ (c : Config) (h : List Entry) (t : Tables) (at : StandsAt c h t) where
   pub retry_shown : (x : TaskId) → x.0 < length (shown t).tasks → (task_at (shown t) x.0).place ≡ places.Refused → (shown t).rank ≡ 0 → (task_at (shown t) x.0).retries < 64 →
       room_by c (did.Verdict x verdict.DiscardOldest (retry_of (shown t).queue)) (shown t) t.due ≡ leaves_room c (shown t) (did.Verdict x verdict.DiscardOldest (retry_of (shown t).queue))
   retry_shown x known refused runs few =
-      let queues : queue h ≡ (shown t).queue = ap (λ s. s.queue) (sym at.shows.kept) in
+      let queues : queue c h ≡ (shown t).queue = ap (λ s. s.queue) (sym at.shows.kept) in
       room_shown (did.Verdict x verdict.DiscardOldest (retry_of (shown t).queue))
       (subst (λ q. Given c h (did.Verdict x verdict.DiscardOldest (retry_of q))) queues (retry_given x known refused runs few))

@@ -21,7 +21,7 @@ abbrev pub swept : Did → State → State
 swept d s =
     record s {
       tasks = tasks_after d s.tasks;
-      queue = queue_after d s.tasks s.queue;
+      queue = queue_after s.ranked d s.tasks s.queue;
       slots = slots_after d s;
       idling = idling_after d s;
     }
@@ -41,6 +41,13 @@ all_stay p xs all = sym (append-nil (filter p xs) ∙ filter_among p (λ x. true
 none_stays : (p : ℕ → Bool) (xs : List ℕ) → ((x : ℕ) → p x ≡ false) → [] ≡ filter p xs ++ []
 none_stays p xs none = sym (append-nil (filter p xs) ∙ filter_among p (λ x. false) xs (λ x there. none x) ∙ filter_none xs)
 
+-- the same, with nothing behind them
+all_queued : (p : ℕ → Bool) (xs : List ℕ) → ((x : ℕ) → is_among x xs ≡ true → p x ≡ true) → xs ≡ filter p xs
+all_queued p xs all = all_stay p xs all ∙ append-nil (filter p xs)
+
+none_queued : (p : ℕ → Bool) (xs : List ℕ) → ((x : ℕ) → p x ≡ false) → [] ≡ filter p xs
+none_queued p xs none = none_stays p xs none ∙ append-nil (filter p xs)
+
 module _ (s : State) where
   -- a shutdown wakes the idle slots
   pub shutdown_swept : (d : Did) (slots : List (Option SlotRow)) (idling : List ℕ) → d ≡ did.Shutdown → slots ≡ change_each (slot_after d s) 0 s.slots → idling ≡ [] →
@@ -57,7 +64,7 @@ module _ (s : State) where
       here : slots ≡ change_each (slot_after did.Shutdown s) 0 s.slots → ◌≡◌ {A = State} (record s { slots = slots; idling = idling }) (swept did.Shutdown s)
       here to =
           let tasks = same_each (row_after did.Shutdown) 0 s.tasks (λ i r. refl) in
-          let queue = all_stay (stays_queued did.Shutdown s.tasks) s.queue (λ t there. refl) in
+          let queue = all_queued (stays_queued did.Shutdown s.tasks) s.queue (λ t there. refl) in
           let idle = none ∙ none_stays (stays_idle did.Shutdown s) s.idling wakes in
           λ i. record s { tasks = tasks i; queue = queue i; slots = to i; idling = idle i }
 
@@ -78,7 +85,7 @@ module _ (s : State) where
       here : tasks ≡ change_each (row_after (did.Stop n)) 0 s.tasks → slots ≡ change_each (slot_after (did.Stop n) s) 0 s.slots →
           ◌≡◌ {A = State} (record s { tasks = tasks; queue = queue; slots = slots; idling = idling }) (swept (did.Stop n) s)
       here rows to =
-          let out = left ∙ none_stays (stays_queued (did.Stop n) s.tasks) s.queue (λ t. refl) in
+          let out = left ∙ none_queued (stays_queued (did.Stop n) s.tasks) s.queue (λ t. refl) in
           let idle = none ∙ none_stays (stays_idle (did.Stop n) s) s.idling wakes in
           λ i. record s { tasks = rows i; queue = out i; slots = to i; idling = idle i }
 
@@ -99,8 +106,7 @@ module _ (s : State) where
 
       here : tasks ≡ change_each (row_after (did.Purge n)) 0 s.tasks → ◌≡◌ {A = State} (record s { tasks = tasks; queue = queue }) (swept (did.Purge n) s)
       here rows =
-          let out = left ∙ filter_among (λ t. not (row_at s.tasks t).cancelled) (stays_queued (did.Purge n) s.tasks) s.queue (λ t there. stays (row_at s.tasks t).cancelled)
-          ∙ sym (append-nil (filter (stays_queued (did.Purge n) s.tasks) s.queue)) in
+          let out = left ∙ filter_among (λ t. not (row_at s.tasks t).cancelled) (stays_queued (did.Purge n) s.tasks) s.queue (λ t there. stays (row_at s.tasks t).cancelled) in
           let slots = same_each (slot_after (did.Purge n) s) 0 s.slots still in
           let order = all_stay (stays_idle (did.Purge n) s) s.idling (λ w there. ap is_idle_row (still w (slot_at s.slots w)) ∙ idle w there) in
           λ i. record s { tasks = rows i; queue = out i; slots = slots i; idling = order i }
@@ -109,7 +115,7 @@ module _ (s : State) where
   pub rank_swept : (d : Did) → AreIdle s → is_wide d ≡ true → (d ≡ did.Shutdown → ⊥) → ((n : ℕ) → d ≡ did.Stop n → ⊥) → ((n : ℕ) → d ≡ did.Purge n → ⊥) → s ≡ swept d s
   rank_swept did.Tidy idle wide one two three =
       let tasks = same_each (row_after did.Tidy) 0 s.tasks (λ i r. refl) in
-      let queue = all_stay (stays_queued did.Tidy s.tasks) s.queue (λ t there. refl) in
+      let queue = all_queued (stays_queued did.Tidy s.tasks) s.queue (λ t there. refl) in
       let slots = same_each (slot_after did.Tidy s) 0 s.slots still in
       let order = all_stay (stays_idle did.Tidy s) s.idling (λ w there. ap is_idle_row (still w (slot_at s.slots w)) ∙ idle w there) in
       λ i. record s { tasks = tasks i; queue = queue i; slots = slots i; idling = order i }
@@ -119,7 +125,7 @@ module _ (s : State) where
       still w (Some r) = refl
   rank_swept did.Ended idle wide one two three =
       let tasks = same_each (row_after did.Ended) 0 s.tasks (λ i r. refl) in
-      let queue = all_stay (stays_queued did.Ended s.tasks) s.queue (λ t there. refl) in
+      let queue = all_queued (stays_queued did.Ended s.tasks) s.queue (λ t there. refl) in
       let slots = same_each (slot_after did.Ended s) 0 s.slots still in
       let order = all_stay (stays_idle did.Ended s) s.idling (λ w there. ap is_idle_row (still w (slot_at s.slots w)) ∙ idle w there) in
       λ i. record s { tasks = tasks i; queue = queue i; slots = slots i; idling = order i }

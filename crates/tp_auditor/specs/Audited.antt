@@ -1,7 +1,13 @@
 -- What a contract sees of an auditor.
-use Rattle.std.specs.Prelude.{List}
+use Rattle.std.specs.Prelude.{ℕ, ◌≡◌, ◌⊎◌, List, Ok, Err}
 use Rattle.tp_types.specs.declared.configs.Config.{Config}
+use Rattle.tp_types.specs.declared.refusals.PoolError.{PoolError}
+use Rattle.tp_types.specs.declared.refusals.PoolError.TheVariants.{BookFull, NoMemory}
+use Rattle.tp_record.specs.declared.entries.Ask.{Ask}
+use Rattle.tp_record.specs.declared.entries.Did.{Did}
 use Rattle.tp_record.specs.declared.entries.Entry.{Entry}
+use Rattle.tp_record.specs.State.{State}
+use Rattle.tp_record.specs.Step.{step, Gives}
 use Rattle.tp_auditor.specs.declared.tables.Tables.{Tables}
 use Rattle.tp_auditor.specs.Tables.{StandsAt}
 
@@ -17,3 +23,9 @@ settings a = a.config
 -- the auditor was told this history, and it is legal
 abbrev pub Judged : Judge → List Entry → Type 0
 Judged a h = StandsAt a.config h a.tables
+
+-- no entry is answered, where a slot that is made gets the number w: for want of memory, or as the step refuses, or since
+-- the step would make a slot of a number that is one
+abbrev pub IsDenied : Config → State → ℕ → Ask → PoolError → Type 0
+IsDenied c s w a e =
+    (e ≡ NoMemory) ⊎ ((step c s w a ≡ Err e) ⊎ ((e ≡ BookFull) × ((d : Did) × (step c s w a ≡ Ok d) × (Gives c s a d → ⊥))))

@@ -4,6 +4,8 @@ pub mod Done
 pub mod Named
 pub mod Orders
 pub mod Owed
+pub mod Queued
+pub mod Ranked
 pub mod Readings
 pub mod Seats
 pub mod Tables

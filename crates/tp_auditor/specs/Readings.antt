@@ -15,6 +15,7 @@ read moment tasks slots =
       core_timeout = false;
       now = moment;
       tasks = tasks;
+      ranked = false;
       queue = [];
       slots = slots;
       idling = [];

@@ -8,10 +8,10 @@ use Rattle.tp_record.specs.declared.entries.Entry.{Entry}
 use Rattle.tp_record.specs.declared.entries.Did.{Did}
 use Rattle.tp_record.specs.declared.entries.Did.TheVariants as did
 use Rattle.tp_record.specs.declared.rows.SlotRow.{SlotRow}
-use Rattle.tp_record.specs.Lists.{is_it, long_enough}
+use Rattle.tp_record.specs.Lists.{is_it, join_line, long_enough}
 use Rattle.tp_record.specs.Effects.{queues, idles, completes, reserves, reaches, is_completion, sets_core, sets_maximum, sets_keep, sets_core_timeout, sets_now}
 use Rattle.tp_record.specs.Fields.{is_idle_row, is_live, is_queued_place}
-use Rattle.tp_record.specs.State.{State, state, task_at, slot_at, due, tasks_after, stays_queued, slot_after}
+use Rattle.tp_record.specs.State.{State, state, row_at, task_at, slot_at, due, tasks_after, stays_queued, slot_after}
 use Rattle.tp_record.specs.Step.{Legal, done_of}
 use Rattle.tp_model.proofs.Queues.{is_among, IsOnce}
 use Rattle.tp_shapes.proofs.Names.{names, drops}
@@ -19,6 +19,7 @@ use Rattle.tp_auditor.specs.declared.tables.Tables.{Tables}
 use Rattle.tp_auditor.specs.Changed.{change_at}
 use Rattle.tp_auditor.specs.Done.{done_in}
 use Rattle.tp_auditor.specs.Named.{turns, take_out}
+use Rattle.tp_auditor.specs.Queued.{tasks_of, is_by_rank, AreRanked}
 
 -- the state that the tables show, but for what is done, which they keep by group
 abbrev pub shown : Tables → State
@@ -32,13 +33,18 @@ shown t =
       core_timeout = t.core_timeout;
       now = t.moment;
       tasks = t.tasks.items;
-      queue = t.queue;
+      ranked = is_by_rank t.queue;
+      queue = tasks_of t.queue;
       slots = t.slots;
       idling = t.idling;
       done = [];
       completions = t.completions;
       largest = t.largest;
     }
+
+-- the queue has its tasks' priorities
+abbrev pub HasRanks : Tables → Type 0
+HasRanks t = AreRanked (λ u. (row_at t.tasks.items u).priority) t.queue
 
 -- the state without what is done
 abbrev pub undone : State → State
@@ -49,6 +55,7 @@ pub record Shows (t : Tables) (s : State) : Type 0 where
   pub kept : shown t ≡ undone s
   pub done : (g : ℕ) → done_in t.done g ≡ done_of s g
   pub due : t.due ≡ due s
+  pub ranks : HasRanks t
 
 -- the group of a task that an entry completes, and the task
 abbrev pub group_of : Kind → ℕ → Option (ℕ × ℕ)
@@ -100,6 +107,7 @@ settled d awake s =
       core_timeout = unwrap_or (sets_core_timeout d) s.core_timeout;
       now = unwrap_or (sets_now d) s.now;
       tasks = tasks_after d s.tasks;
+      ranked = s.ranked;
       queue = filter (stays_queued d s.tasks) s.queue;
       slots = change_at (slot_after d s) None (turns d) s.slots;
       idling = take_out awake (take_out (reserves d) s.idling);
@@ -108,11 +116,11 @@ settled d awake s =
       largest = max (count_by is_live (change_at (slot_after d s) None (turns d) s.slots)) s.largest;
     }
 
--- the state in which the slot is made that an entry reserves, and what it puts at the end of a list is there
+-- the state in which the slot is made that an entry reserves, and what it puts in a list is there
 abbrev pub grown : Did → State → State
 grown d s =
     record s {
-      queue = s.queue ++ option_to_list (queues d);
+      queue = join_line s.ranked (λ t. (task_at s t).priority) (queues d) s.queue;
       idling = s.idling ++ option_to_list (idles d);
       slots = change_at (slot_after d s) None (reserves d) (long_enough (reserves d) None s.slots);
     }

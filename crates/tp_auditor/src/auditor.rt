@@ -1,6 +1,6 @@
 //! The auditor that judges a record one entry at a time.
 
-ghost use Rattle.std.specs.Prelude.{ℕ, ◌≡◌, ◌↔◌, ◌≤◌, ◌∷◌, [], List, Err, suc, true, count_by, length, slice_get, unwrap_or, Ok, IsTrue, IfOk, IfSome, IsOkUnless, OnOk, OnErr};
+ghost use Rattle.std.specs.Prelude.{ℕ, ◌≡◌, ◌↔◌, ◌≤◌, ◌∷◌, [], List, Err, suc, true, count_by, length, slice_get, unwrap_or, Ok, IsTrue, IfOk, IfErr, IfSome, IsOkUnless, OnOk, OnErr};
 ghost use Rattle.tp_types.specs.Config.{IsConfig};
 ghost use Rattle.tp_record.specs.declared.entries.Entry.{Entry as Told};
 ghost use Rattle.tp_record.specs.Effects.{reserves};
@@ -9,7 +9,7 @@ ghost use Rattle.tp_record.specs.State as states;
 ghost use Rattle.tp_record.specs.Step as steps;
 ghost use Rattle.tp_audit.specs.Audit.{IsSummary};
 ghost use Rattle.tp_auditor.specs.Done.{done_in};
-ghost use Rattle.tp_auditor.specs.Tables.{shown};
+ghost use Rattle.tp_auditor.specs.Tables.{shown, HasRanks};
 
 use crate::done::Done;
 use crate::orders::Order;
@@ -32,7 +32,8 @@ use tp_types::tasks::Fate;
 
 /// Judges the record of a pool, one entry at a time. Each entry costs what it changes: the first `shutdown` and a `stop` as
 /// many slots and tasks as they wake and hand back, a `purge` as the queue is long, all others the same or by the logarithm of
-/// what is kept. The memory goes by the numbers of tasks and slots. What it was told and took is at each moment a legal record.
+/// what is kept; what is done with one task of a priority queue goes by the logarithm of how many wait. The memory goes by the
+/// numbers of tasks and slots. What it was told and took is at each moment a legal record.
 #[derive(Drop)]
 pub struct Auditor {
     alloc: Global,
@@ -57,7 +58,7 @@ impl Model for Auditor {
 }
 
 impl Auditor {
-    ghost use Rattle.tp_auditor.specs.Audited.{settings, Judged};
+    ghost use Rattle.tp_auditor.specs.Audited.{settings, Judged, IsDenied};
 
     /// An auditor of a pool that is made with `config`, before the first entry. Want of memory is NoMemory (4).
     pub fn new(alloc: Global, config: &Config) -> Result<Auditor, Flaw>
@@ -114,15 +115,22 @@ impl Auditor {
     }
 
     /// What the entries told so far say of the pool.
-    pub fn tables(&self) -> &Tables {
+    pub fn tables(&self) -> &Tables
+        ensures { result.now ≡ self.now.tables }
+    {
         &self.tables
     }
 
     /// What the step gives for an ask after the entries told so far, where a slot that it makes gets the number `made`; else
-    /// its refusal, which is BookFull (5) too where `made` is a slot. Want of memory is NoMemory (4).
+    /// its refusal, which is BookFull (5) too where the entry would make a slot of a number that is one. Want of memory is
+    /// NoMemory (4).
     pub fn answer(&self, ask: Ask, made: SlotId) -> Result<Did, PoolError>
         ensures given { IfOk result (λ did. (h : List Told) → Judged self.now h
             → steps.Gives (settings self.now) (states.state (settings self.now) h) ask did) }
+        ensures answered { IfOk result (λ did. (h : List Told) → Judged self.now h
+            → steps.step (settings self.now) (states.state (settings self.now) h) made.0 ask ≡ Ok did) }
+        ensures refused { IfErr result (λ e. (h : List Told) → Judged self.now h
+            → IsDenied (settings self.now) (states.state (settings self.now) h) made.0 ask e) }
     {
         let first = self.first_asked(ask);
         let did = match fitting(self.alloc, &self.config, &self.tables, made, ask, first) {
@@ -191,9 +199,10 @@ fn no_entries(alloc: Global, config: &Config) -> Result<Tables, PoolError>
     ensures kept { IfOk result (λ t. shown t ≡ states.state config.now []) }
     ensures done { IfOk result (λ t. (g : ℕ) → done_in t.done g ≡ []) }
     ensures due { IfOk result (λ t. t.due ≡ 4) }
+    ensures ranks { IfOk result (λ t. HasRanks t) }
     ensures refused { IsOkUnless result PoolError.NoMemory }
 {
-    let Ok(queue) = Queue::new(alloc) else {
+    let Ok(queue) = Queue::new(alloc, config.queue) else {
         return Err(PoolError::NoMemory);
     };
     let Ok(idling) = Order::new(alloc) else {

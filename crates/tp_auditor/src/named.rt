@@ -22,7 +22,9 @@ pub fn named_task(did: Did) -> Option<u32>
     ensures { result ≡ entry.names did }
 {
     match did {
-        Did::Submit(t, _, _) | Did::Look(t, _) | Did::Offer(t, _) | Did::Second(t, _) => Some(t.0),
+        Did::Submit(t, _, _, _) | Did::Look(t, _) | Did::Offer(t, _) | Did::Second(t, _) => Some(
+            t.0,
+        ),
         Did::Grow(t, _) | Did::Verdict(t, _, _) | Did::CallerEnd(t, _) => Some(t.0),
         Did::Open(_, Opened::GivenUpRefuse(t)) => Some(t.0),
         Did::Fail(_, Failed::Offer(t)) | Did::Fail(_, Failed::Refuse(t)) => Some(t.0),
@@ -48,7 +50,7 @@ pub fn named_slot(did: Did) -> Option<usize>
     ensures { result ≡ entry.seats did }
 {
     match did {
-        Did::Submit(_, _, Looked::Reserve(w)) | Did::Look(_, Looked::Reserve(w)) => Some(w.0),
+        Did::Submit(_, _, _, Looked::Reserve(w)) | Did::Look(_, Looked::Reserve(w)) => Some(w.0),
         Did::Offer(_, Offered::Hand(w)) | Did::Second(_, Seconded::StayReserve(w)) => Some(w.0),
         Did::Grow(_, Grown::Reserve(w)) | Did::Prestart(Some(w)) => Some(w.0),
         Did::Open(w, _) | Did::Fail(w, _) | Did::Take(w, _) | Did::Begin(w, _) => Some(w.0),

@@ -7,7 +7,8 @@ ghost use Rattle.tp_record.specs.Lists.{is_it};
 ghost use Rattle.tp_record.specs.State as states;
 ghost use Rattle.tp_shapes.proofs.Names as entry;
 ghost use Rattle.tp_auditor.specs.Done.{done_in};
-ghost use Rattle.tp_auditor.specs.Tables.{shown, undone, grown as grown_by, settled as settled_by, completion as completion_of, with_completion, handed_out, HasSizes, Suits};
+ghost use Rattle.tp_auditor.specs.Queued.{Keeps};
+ghost use Rattle.tp_auditor.specs.Tables.{shown, undone, grown as grown_by, settled as settled_by, completion as completion_of, with_completion, handed_out, HasRanks, HasSizes, Suits};
 
 use crate::rows::row_at;
 use crate::slots::{reserve_slot, take_out, turn_slot, turned_slot, woken_slot};
@@ -59,20 +60,23 @@ impl Tables {
         }
     }
 
-    /// What the entry puts at the end of the queue, of the order of idling or of a group's completed tasks goes there, and
+    /// What the entry puts in the queue, or at the end of the order of idling or of a group's completed tasks goes there, and
     /// the slot that it reserves is made: at most one of these. Where memory is refused nothing has changed.
     fn grow(&mut self, did: Did) -> Result<(), AllocError>
         requires suits { Suits (shown self.old) did }
         requires sizes { HasSizes (shown self.old) }
+        requires ranks { HasRanks self.old }
         ensures grown { OnOk result (shown self.new ≡ grown_by did (shown self.old)) }
         ensures done { OnOk result ((g : ℕ) → done_in self.new.done g ≡ with_completion (completion_of did (shown self.old)) g (done_in self.old.done g)) }
         ensures err { OnErr result (shown self.new ≡ shown self.old) }
         ensures err_done { OnErr result ((g : ℕ) → done_in self.new.done g ≡ done_in self.old.done g) }
         ensures due { self.new.due ≡ self.old.due }
         ensures room { vec_capacity self.new.tasks ≡ vec_capacity self.old.tasks }
+        ensures ranks { HasRanks self.new }
     {
         if let Some(t) = queued_by(did) {
-            return self.queue.push(t);
+            let rank = row_at(&self.tasks, TaskId(t)).priority;
+            return self.queue.push(t, rank);
         }
         if let Some(w) = idled_by(did) {
             return self.idling.push(w);
@@ -124,6 +128,7 @@ impl Tables {
         requires few { count_by is_some self.old.slots < 2 ^ 32 }
         requires room { effects.is_submit did ≡ true → vec_len self.old.tasks < vec_capacity self.old.tasks }
         ensures settled { shown self.new ≡ settled_by did awake (shown self.old) }
+        ensures kept { Keeps self.old.queue self.new.queue }
         ensures done { (g : ℕ) → done_in self.new.done g ≡ handed_out did g (done_in self.old.done g) }
         ensures due { self.new.due ≡ self.old.due }
     {
@@ -150,9 +155,11 @@ impl Tables {
         requires narrow { entry.is_wide did ≡ false }
         requires suits { Suits (shown self.old) did }
         requires sizes { HasSizes (shown self.old) }
+        requires ranks { HasRanks self.old }
         ensures next { OnOk result (shown self.new ≡ undone (states.next (shown self.old) did)) }
         ensures done { OnOk result ((g : ℕ) → done_in self.new.done g
             ≡ handed_out did g (with_completion (completion_of did (shown self.old)) g (done_in self.old.done g))) }
+        ensures ranks { HasRanks self.new }
         ensures err { OnErr result (shown self.new ≡ shown self.old) }
         ensures err_done { OnErr result ((g : ℕ) → done_in self.new.done g ≡ done_in self.old.done g) }
         ensures due { self.new.due ≡ self.old.due }

@@ -1,79 +1,92 @@
 //! The work queue.
 
-ghost use Rattle.std.specs.Prelude.{◌≡◌, ◌++◌, ◌∷◌, [], length, slice_get, Contains, IfOk, OnOk, OnErr};
-ghost use Rattle.tp_record.specs.Lists.{without};
+ghost use Rattle.std.specs.Prelude.{ℕ, ◌≡◌, [], Some, length, slice_get, Contains, IfOk, OnOk, OnErr};
+ghost use Rattle.tp_types.specs.Queues.{is_ranked};
+ghost use Rattle.tp_record.specs.Lists.{without, join_line};
 ghost use Rattle.tp_auditor.specs.Orders.{next_of};
+ghost use Rattle.tp_auditor.specs.Queued.{tasks_of, is_by_rank, AreRanked, Keeps};
 
-use crate::orders::Order;
+use crate::ranks::Ranks;
+use crate::turns::Turns;
 use std::alloc::{AllocError, Global};
-use std::marker::Model;
+use tp_types::configs::QueueKind;
 
-/// The tasks in the work queue, its head first. A contract sees their numbers.
+/// The tasks in the work queue, its head first.
 #[derive(Drop)]
-pub struct Queue {
-    order: Order,
-}
-
-impl Model for Queue {
-    ghost use Rattle.std.specs.Prelude.{ℕ, ◌<◌, ◌^◌, List, All};
-
-    ghost Value = { List ℕ };
-
-    ghost view = { λ q. q.order };
-
-    ghost invariant = { λ q. All (λ t. t < 2 ^ 32) q.order };
+pub enum Queue {
+    /// In the order of their offers.
+    InTurn(Turns),
+    /// The least rank first, and of equal ones the earlier offer.
+    ByRank(Ranks),
 }
 
 impl Queue {
-    /// An empty queue.
-    pub fn new(alloc: Global) -> Result<Queue, AllocError>
-        ensures { IfOk result (λ q. q ≡ []) }
+    /// An empty queue of this kind.
+    pub fn new(alloc: Global, kind: QueueKind) -> Result<Queue, AllocError>
+        ensures empty { IfOk result (λ q. tasks_of q ≡ []) }
+        ensures kind { IfOk result (λ q. is_by_rank q ≡ is_ranked kind) }
+        ensures ranks { IfOk result (λ q. (rank : ℕ → ℕ) → AreRanked rank q) }
     {
-        Ok(Queue {
-            order: Order::new(alloc)?,
-        })
+        if kind.is_ranked() {
+            Ok(Queue::ByRank(Ranks::new(alloc)))
+        } else {
+            Ok(Queue::InTurn(Turns::new(alloc)?))
+        }
     }
 
     /// How many tasks wait.
     pub fn len(&self) -> usize
-        ensures { result ≡ length self.now }
+        ensures { result ≡ length (tasks_of self.now) }
     {
-        self.order.len()
+        match self {
+            Queue::InTurn(queue) => queue.len(),
+            Queue::ByRank(queue) => queue.len(),
+        }
     }
 
     /// The head.
     pub fn first(&self) -> Option<u32>
-        ensures { result ≡ slice_get self.now 0 }
+        ensures { result ≡ slice_get (tasks_of self.now) 0 }
     {
-        match self.order.first() {
-            Some(t) => Some(t as u32),
-            None => None,
+        match self {
+            Queue::InTurn(queue) => queue.first(),
+            Queue::ByRank(queue) => queue.first(),
         }
     }
 
     /// The task behind `t`, where both are there: a walk along the queue asks for one after the other.
     pub fn next_after(&self, t: u32) -> Option<u32>
-        ensures { result ≡ next_of t self.now }
+        ensures { result ≡ next_of t (tasks_of self.now) }
     {
-        match self.order.next_after(t as usize) {
-            Some(next) => Some(next as u32),
-            None => None,
+        match self {
+            Queue::InTurn(queue) => queue.next_after(t),
+            Queue::ByRank(queue) => queue.next_after(t),
         }
     }
 
-    /// Puts a task at the end. Where memory is refused nothing has changed; so it is after 2^64 - 1 of them.
-    pub fn push(&mut self, t: u32) -> Result<(), AllocError>
-        requires { Contains self.old t → ⊥ }
-        ensures ok { OnOk result (self.new ≡ self.old ++ t ∷ []) }
+    /// Puts a task behind all whose rank is not greater, where the queue goes by ranks, and else at the end. Where memory is
+    /// refused nothing has changed; so it is after 2^64 - 1 of them.
+    pub fn push(&mut self, t: u32, rank: u32) -> Result<(), AllocError>
+        requires { Contains (tasks_of self.old) t → ⊥ }
+        ensures ok { OnOk result ((ranks : ℕ → ℕ) → ranks t ≡ rank → AreRanked ranks self.old
+            → (tasks_of self.new ≡ join_line (is_by_rank self.old) ranks (Some t) (tasks_of self.old)) × AreRanked ranks self.new) }
+        ensures kind { is_by_rank self.new ≡ is_by_rank self.old }
         ensures err { OnErr result (self.new ≡ self.old) }
     {
-        self.order.push(t as usize)
+        match self {
+            Queue::InTurn(queue) => queue.push(t),
+            Queue::ByRank(queue) => queue.push(t, rank),
+        }
     }
 
     /// Takes a task out, if it is there. The others keep their order.
     pub fn remove(&mut self, t: u32)
-        ensures { self.new ≡ without t self.old }
+        ensures tasks { tasks_of self.new ≡ without t (tasks_of self.old) }
+        ensures kept { Keeps self.old self.new }
     {
-        self.order.remove(t as usize);
+        match self {
+            Queue::InTurn(queue) => queue.remove(t),
+            Queue::ByRank(queue) => queue.remove(t),
+        }
     }
 }

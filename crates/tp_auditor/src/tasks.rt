@@ -6,6 +6,7 @@ ghost use Rattle.tp_record.specs.Lists.{is_it};
 ghost use Rattle.tp_record.specs.State as states;
 ghost use Rattle.tp_shapes.proofs.Names as entry;
 ghost use Rattle.tp_auditor.specs.Changed.{change_at, leave_out};
+ghost use Rattle.tp_auditor.specs.Queued.{tasks_of, Keeps};
 
 use crate::named::{dropped_task, named_task};
 use crate::queue::Queue;
@@ -76,7 +77,8 @@ fn stays_queued(did: Did, tasks: &[TaskRow], t: u32) -> bool
 
 /// Task `t` leaves the queue, unless the entry leaves it there. The rows are those before the entry.
 fn leave_queue(queue: &mut Queue, tasks: &[TaskRow], did: Did, t: Option<u32>)
-    ensures { queue.new ≡ leave_out (states.stays_queued did tasks.now) t queue.old }
+    ensures tasks { tasks_of queue.new ≡ leave_out (states.stays_queued did tasks.now) t (tasks_of queue.old) }
+    ensures kept { Keeps queue.old queue.new }
 {
     if let Some(t) = t {
         if !stays_queued(did, tasks, t) {
@@ -89,7 +91,8 @@ fn leave_queue(queue: &mut Queue, tasks: &[TaskRow], did: Did, t: Option<u32>)
 /// before the entry.
 pub fn change_queue(queue: &mut Queue, tasks: &[TaskRow], did: Did)
     requires narrow { entry.is_wide did ≡ false }
-    ensures { queue.new ≡ filter (states.stays_queued did tasks.now) queue.old }
+    ensures tasks { tasks_of queue.new ≡ filter (states.stays_queued did tasks.now) (tasks_of queue.old) }
+    ensures kept { Keeps queue.old queue.new }
 {
     leave_queue(queue, tasks, did, named_task(did));
     leave_queue(queue, tasks, did, dropped_task(did));

@@ -3,6 +3,7 @@
 ghost use Rattle.std.specs.Prelude.{◌≡◌, ◌<◌, ◌^◌, count_by, length, if◌then◌else◌};
 ghost use Rattle.tp_record.specs.State as states;
 ghost use Rattle.tp_model.proofs.Queues.{IsOnce};
+ghost use Rattle.tp_auditor.specs.Queued.{tasks_of};
 
 use crate::queue::Queue;
 use crate::tasks::cancelled_at;
@@ -17,9 +18,9 @@ fn cancelled_in(tasks: &Vec<TaskRow>, t: u32) -> u32
 
 /// How many of the queued tasks are cancelled.
 pub fn count_cancelled(tasks: &Vec<TaskRow>, queue: &Queue) -> u32
-    requires once { IsOnce queue.now }
-    requires few { length queue.now < 2 ^ 32 }
-    ensures { result ≡ count_by (λ t. (states.row_at tasks.now.items t).cancelled) queue.now }
+    requires once { IsOnce (tasks_of queue.now) }
+    requires few { length (tasks_of queue.now) < 2 ^ 32 }
+    ensures { result ≡ count_by (λ t. (states.row_at tasks.now.items t).cancelled) (tasks_of queue.now) }
 {
     let mut count = 0;
     let mut next = queue.first();

@@ -7,8 +7,9 @@ ghost use Rattle.tp_record.specs.State as states;
 ghost use Rattle.tp_shapes.proofs.Names as entry;
 ghost use Rattle.tp_model.proofs.Queues.{is_among, IsOnce};
 ghost use Rattle.tp_auditor.specs.Changed.{leave_out};
+ghost use Rattle.tp_auditor.specs.Queued.{tasks_of, Keeps};
 ghost use Rattle.tp_auditor.specs.Readings.{read};
-ghost use Rattle.tp_auditor.specs.Tables.{shown, undone, HasSizes, SuitsAll};
+ghost use Rattle.tp_auditor.specs.Tables.{shown, undone, HasRanks, HasSizes, SuitsAll};
 
 use crate::orders::Order;
 use crate::queue::Queue;
@@ -40,9 +41,10 @@ fn drain(tasks: &mut Vec<TaskRow>, queue: &mut Queue, did: Did)
     requires few { (t : ℕ) → (states.row_at tasks.old.items t).retries < 2 ^ 32 - 1 }
     requires tries { effects.tries did ≡ [] }
     requires none { (t : ℕ) → states.row_after did t states.no_row ≡ states.no_row }
-    requires others { (t : ℕ) → is_among t queue.old ≡ false → states.row_after did t (states.row_at tasks.old.items t) ≡ states.row_at tasks.old.items t }
+    requires others { (t : ℕ) → is_among t (tasks_of queue.old) ≡ false → states.row_after did t (states.row_at tasks.old.items t) ≡ states.row_at tasks.old.items t }
     ensures tasks { tasks.new.items ≡ change_each (states.row_after did) 0 tasks.old.items }
-    ensures queue { queue.new ≡ [] }
+    ensures queue { tasks_of queue.new ≡ [] }
+    ensures kept { Keeps queue.old queue.new }
 {
     while let Some(t) = queue.first() {
         change_row(tasks, did, t);
@@ -52,7 +54,8 @@ fn drain(tasks: &mut Vec<TaskRow>, queue: &mut Queue, did: Did)
 
 /// Task `t` leaves the queue, if it is cancelled.
 fn leave_cancelled(tasks: &Vec<TaskRow>, queue: &mut Queue, t: u32)
-    ensures { queue.new ≡ leave_out (λ x. not (states.row_at tasks.now.items x).cancelled) (Some t) queue.old }
+    ensures tasks { tasks_of queue.new ≡ leave_out (λ x. not (states.row_at tasks.now.items x).cancelled) (Some t) (tasks_of queue.old) }
+    ensures kept { Keeps queue.old queue.new }
 {
     if cancelled_at(tasks, t) {
         queue.remove(t);
@@ -66,10 +69,11 @@ fn purge(tasks: &mut Vec<TaskRow>, queue: &mut Queue, did: Did)
     requires tries { effects.tries did ≡ [] }
     requires cancels { effects.cancels did ≡ [] }
     requires none { (t : ℕ) → states.row_after did t states.no_row ≡ states.no_row }
-    requires once { IsOnce queue.old }
-    requires others { (t : ℕ) → is_among t queue.old ≡ false → states.row_after did t (states.row_at tasks.old.items t) ≡ states.row_at tasks.old.items t }
+    requires once { IsOnce (tasks_of queue.old) }
+    requires others { (t : ℕ) → is_among t (tasks_of queue.old) ≡ false → states.row_after did t (states.row_at tasks.old.items t) ≡ states.row_at tasks.old.items t }
     ensures tasks { tasks.new.items ≡ change_each (states.row_after did) 0 tasks.old.items }
-    ensures queue { queue.new ≡ filter (λ t. not (states.row_at tasks.old.items t).cancelled) queue.old }
+    ensures queue { tasks_of queue.new ≡ filter (λ t. not (states.row_at tasks.old.items t).cancelled) (tasks_of queue.old) }
+    ensures kept { Keeps queue.old queue.new }
 {
     let mut next = queue.first();
     while let Some(t) = next {
@@ -87,10 +91,11 @@ impl Tables {
         requires sizes { HasSizes (shown self.old) }
         ensures swept { shown self.new ≡ record (shown self.old) {
           tasks = states.tasks_after did (shown self.old).tasks;
-          queue = states.queue_after did (shown self.old).tasks (shown self.old).queue;
+          queue = states.queue_after (shown self.old).ranked did (shown self.old).tasks (shown self.old).queue;
           slots = states.slots_after did (shown self.old);
           idling = states.idling_after did (shown self.old);
         } }
+        ensures kept { Keeps self.old.queue self.new.queue }
         ensures rest { self.new ≡ record self.old { tasks = self.new.tasks; queue = self.new.queue; slots = self.new.slots; idling = self.new.idling } }
     {
         match did {
@@ -123,6 +128,7 @@ impl Tables {
         requires suits { SuitsAll (shown self.old) }
         requires sizes { HasSizes (shown self.old) }
         ensures next { shown self.new ≡ undone (states.next (shown self.old) did) }
+        ensures ranks { HasRanks self.old → HasRanks self.new }
         ensures done { self.new.done ≡ self.old.done }
         ensures due { self.new.due ≡ self.old.due }
     {

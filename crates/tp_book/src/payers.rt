@@ -13,6 +13,7 @@ use tp_types::states::RunState;
 /// A pass that steps are made with.
 pub trait Payer<G: Naming> {
     ghost use Rattle.std.specs.Prelude.{ℕ, List};
+    ghost use Rattle.tp_record.specs.declared.entries.Ask.{Ask};
     ghost use Rattle.tp_record.specs.declared.entries.Entry.{Entry};
 
     /// The number under which its steps stand in the record.
@@ -21,8 +22,8 @@ pub trait Payer<G: Naming> {
     /// The front of the pool's history that it knows.
     ghost front: { Self → List Entry };
 
-    /// There is room for its receipt.
-    ghost ready: { Self → Type 0 };
+    /// The ask is one that the pass may make, and there is room for its receipt.
+    ghost ready: { Self → Ask → Type 0 };
 
     /// The pass after a step with this entry.
     ghost paid: { Self → Entry → Self → Type 0 };
@@ -44,7 +45,7 @@ pub trait Payer<G: Naming> {
         after: RunState,
         entry: Entry,
     )
-        requires ready { ready self.old }
+        requires ready { ready self.old entry.ask }
         requires before { state_rank before ≡ rank seat.old }
         requires after { state_rank after ≡ rank (entry ∷ seat.old) }
         ensures total { accounts.new ≡ record accounts.old { total = accounts.old.total + 1 } }
@@ -69,13 +70,13 @@ pub trait Payer<G: Naming> {
 }
 
 impl<G: Naming> Payer<G> for WorkerPass<G> {
-    ghost use Rattle.std.specs.Prelude.{⊤};
+    ghost use Rattle.tp_book.specs.Staff.{IsOfStaff};
 
     ghost number = { λ p. p.number };
 
     ghost front = { λ p. p.front };
 
-    ghost ready = { λ p. ⊤ };
+    ghost ready = { λ p a. IsOfStaff a };
 
     ghost paid = { λ old e new. new ≡ record { number = old.number; amount = old.amount + 1; front = new.front } };
 
@@ -117,7 +118,7 @@ impl<G: Naming> Payer<G> for Pass<G> {
 
     ghost front = { λ p. p.front };
 
-    ghost ready = { λ p. 0 < p.room };
+    ghost ready = { λ p a. 0 < p.room };
 
     ghost paid = { λ old e new. (new ≡ record { number = old.number; amount = old.amount + 1; front = new.front; receipts = old.receipts ++ e ∷ []; room = new.room })
         × (old.room ≤ new.room + 1) };

@@ -9,12 +9,27 @@ use tp_types::tasks::Kind;
 #[derive(Clone, Copy)]
 pub struct ShownAsk(pub Ask);
 
+/// A submission, with its priority where that is not 0.
+fn write_submit<W: fmt::Write>(
+    f: &mut fmt::Formatter<W>,
+    kind: Kind,
+    priority: u32,
+) -> fmt::Result {
+    match kind {
+        Kind::Plain => f.write_str("submit plain")?,
+        Kind::Future => f.write_str("submit future")?,
+        Kind::Group(group) => write!(f, "submit group {group}")?,
+    }
+    match priority {
+        0 => Ok(()),
+        _ => write!(f, " prio {priority}"),
+    }
+}
+
 /// An ask of a task's submitter.
 fn write_of_task<W: fmt::Write>(f: &mut fmt::Formatter<W>, ask: Ask) -> fmt::Result {
     match ask {
-        Ask::Submit(Kind::Plain) => f.write_str("submit plain"),
-        Ask::Submit(Kind::Future) => f.write_str("submit future"),
-        Ask::Submit(Kind::Group(group)) => write!(f, "submit group {group}"),
+        Ask::Submit(kind, priority) => write_submit(f, kind, priority),
         Ask::Look(TaskId(t)) => write!(f, "look t{t}"),
         Ask::Offer(TaskId(t)) => write!(f, "offer t{t}"),
         Ask::Second(TaskId(t)) => write!(f, "second t{t}"),

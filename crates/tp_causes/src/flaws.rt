@@ -1,10 +1,10 @@
 //! What the step gives in place of an entry that is a flaw, and why.
 
-ghost use Rattle.std.specs.Prelude.{List, IfOk};
+ghost use Rattle.std.specs.Prelude.{ℕ, List, IfOk, IfErr};
 ghost use Rattle.tp_record.specs.declared.entries.Entry.{Entry as Told};
 ghost use Rattle.tp_record.specs.State as states;
 ghost use Rattle.tp_record.specs.Step as steps;
-ghost use Rattle.tp_auditor.specs.Audited.{settings, Judged};
+ghost use Rattle.tp_auditor.specs.Audited.{settings, Judged, IsDenied};
 
 use crate::asks::ShownAsk;
 use crate::causes::{Cause, asked_slot, asked_task};
@@ -40,6 +40,8 @@ fn free_number(tables: &Tables, did: Did) -> SlotId {
 pub fn given_instead(auditor: &Auditor, entry: &Entry) -> Result<Did, PoolError>
     ensures given { IfOk result (λ did. (h : List Told) → Judged auditor.now h
         → steps.Gives (settings auditor.now) (states.state (settings auditor.now) h) entry.now.ask did) }
+    ensures refused { IfErr result (λ e. (h : List Told) → Judged auditor.now h
+        → (w : ℕ) × IsDenied (settings auditor.now) (states.state (settings auditor.now) h) w entry.now.ask e) }
 {
     auditor.answer(entry.ask, free_number(auditor.tables(), entry.did))
 }

@@ -1,6 +1,7 @@
 -- What the command steps does with a scenario.
 use Rattle.std.specs.Prelude.{◌≡◌, ℕ, List, Option, None, IfSome}
 use Rattle.std.specs.Io.KnownBytes.{Appends}
+use Rattle.tp_record_text.specs.declared.versions.Version.TheVariants as version
 use Rattle.tp_record_text.specs.RecordText.{record_text}
 use Rattle.tp_replay.specs.declared.plays.Play.{Play}
 use Rattle.tp_replay.specs.Plays.{IsPlayIn, entries_in, refusals_in}
@@ -8,7 +9,7 @@ use Rattle.tp_replay.specs.Plays.{IsPlayIn, entries_in, refusals_in}
 -- the text has no bad line, and the text of its play's record was written
 abbrev pub PrintsRecord : List ℕ → Option (List ℕ) → Option (List ℕ) → Type 0
 PrintsRecord text old new =
-    (p : Play) × IsPlayIn text p × (p.bad ≡ None) × Appends old new (record_text p.config (entries_in p.answers.items))
+    (p : Play) × IsPlayIn text p × (p.bad ≡ None) × Appends old new (record_text version.Two p.config (entries_in p.answers.items))
 
 -- no step of its play was refused
 abbrev pub HasNoRefusal : List ℕ → Type 0

@@ -33,12 +33,12 @@ holds_queued c h legal = record {
   known = λ t has. let k = queue_known c h legal t (queued t has) in let n = tasks_counted h in omega (arith, k, n);
   placed = λ t. (
     (λ has. read t ∙ queued_place (place h t) (queued t has)),
-    (λ placed. Contains-from_among (queue h) t (among-queue h t ∙ ap is_queued_place (sym (read t) ∙ placed))),
+    (λ placed. Contains-from_among (queue c h) t (among-queue c h t ∙ ap is_queued_place (sym (read t) ∙ placed))),
   );
 }
   where
-    queued : (t : ℕ) → Contains (queue h) t → is_queued h t ≡ true
-    queued t has = sym (among-queue h t) ∙ among_from_Contains (queue h) t has
+    queued : (t : ℕ) → Contains (queue c h) t → is_queued h t ≡ true
+    queued t has = sym (among-queue c h t) ∙ among_from_Contains (queue c h) t has
 
     read : (t : ℕ) → (task_at (state c h) t).place ≡ place h t
     read t = ap (λ r. r.place) (row_sound h (sound_legal c h legal) c t)

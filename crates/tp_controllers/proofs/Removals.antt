@@ -33,7 +33,7 @@ module _ {P : Type 0} (p : Parts P) (stands : Stands p) (t : TaskId) (fits : Fit
       let h = stands.history in
       let given = given_here p stands (ask.Remove t) (did.Remove t true) fits in
       let Q : _ → Type 0 = λ xs. Contains xs t.0 in
-      subst Q stands.shows.seen.queued (Contains-from_among (queue h) t.0 (among-queue h t.0 ∙ ap is_queued_place given.1))
+      subst Q stands.shows.seen.queued (Contains-from_among (queue p.config h) t.0 (among-queue p.config h t.0 ∙ ap is_queued_place given.1))
 
   -- and has no ending
   pub removed_row : (r : TaskRow) × (row_of p.tasks t.0 ≡ Some r) × (r.ending ≡ None)

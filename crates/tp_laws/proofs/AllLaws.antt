@@ -52,8 +52,11 @@ module _ (c : Config) (h : List Entry) (config : IsConfig c) (legal : Legal c h)
         submissions_add_up = λ later front parts. sums.submissions_add_up c front (told_at later front parts);
         queued_once = λ later front parts. queued.queued_once c front (told_at later front parts);
         first_leaves = λ later e front parts. order.first_leaves c e front (told_at later (e ∷ front) parts);
-        queue_order = λ later e front parts after between before queues_u queues_t is.
-            order.queue_order c e after between before queues_u queues_t (subst (λ x. Told c (e ∷ x)) is (told_at later (e ∷ front) parts));
+        queue_order = λ plain later e front parts after between before queues_u queues_t is.
+            order.queue_order c e after between before queues_u queues_t plain (subst (λ x. Told c (e ∷ x)) is (told_at later (e ∷ front) parts));
+        none_before = λ later e front parts. order.none_before c e front (told_at later (e ∷ front) parts);
+        first_of_equals = λ later e front parts after between before queues_u queues_t is.
+            order.first_of_equals c e after between before queues_u queues_t (subst (λ x. Told c (e ∷ x)) is (told_at later (e ∷ front) parts));
         nothing_begins_after_shutdown = λ later front parts. late.none_after_shutdown c later front (told_whole later front parts);
         stopped_never_begins = λ later e front parts. late.stopped_never c later e front (told_whole later (e ∷ front) parts);
         queued_late_never_begins = λ later e front parts. late.queued_late_never c later e front (told_whole later (e ∷ front) parts);

@@ -166,7 +166,7 @@ freed_given c h _ w given is = absurd (let e : ◌≡◌ {A = Option ℕ} None (
 
 -- the number that an entry reserves is no slot, but for the one that it frees
 pub made_given : (c : Config) (h : List Entry) (d : Did) (w : ℕ) → Given c h d → reserves d ≡ Some w → put (frees d) false (is_slot h) w ≡ false
-made_given c h (did.Submit t k (looked.Reserve v)) w given is = let same : v.0 ≡ w = cc in ap (is_slot h) (sym same) ∙ free_number h v.0 given.1.2
+made_given c h (did.Submit t k pr (looked.Reserve v)) w given is = let same : v.0 ≡ w = cc in ap (is_slot h) (sym same) ∙ free_number h v.0 given.1.2
 made_given c h (did.Look t (looked.Reserve v)) w given is = let same : v.0 ≡ w = cc in ap (is_slot h) (sym same) ∙ free_number h v.0 given.1.2
 made_given c h (did.Second t (seconded.StayReserve v)) w given is = let same : v.0 ≡ w = cc in ap (is_slot h) (sym same) ∙ free_number h v.0 given.5
 made_given c h (did.Grow t (grown.Reserve v)) w given is = let same : v.0 ≡ w = cc in ap (is_slot h) (sym same) ∙ free_number h v.0 given.3

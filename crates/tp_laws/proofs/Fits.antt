@@ -54,7 +54,7 @@ fits_at u t n there = if t == u then nat_lt t n && there else true
 
 -- the entry fits where n tasks are submitted, and t is at p
 abbrev pub fits_place : Did → ℕ → ℕ → Place → Bool
-fits_place (did.Submit u k l) t n p = u.0 == n
+fits_place (did.Submit u k pr l) t n p = u.0 == n
 fits_place (did.Look u l) t n p = fits_at u.0 t n (is_looking_place p)
 fits_place (did.Offer u o) t n p = fits_at u.0 t n (is_offer_place p)
 fits_place (did.Second u seconded.Back) t n p = fits_at u.0 t n (is_queued_place p)
@@ -91,7 +91,7 @@ both true false x y = y
 both false b x y = x
 
 pub fits_given : (c : Config) (h : List Entry) (d : Did) (t : ℕ) → Given c h d → fits_place d t (submitted h) (place h t) ≡ true
-fits_given c h (did.Submit u k l) t g = eq-eqb _ _ g.0
+fits_given c h (did.Submit u k pr l) t g = eq-eqb _ _ g.0
 fits_given c h (did.Look u l) t g = fits_is h u.0 t at.Looking is_looking_place g.0 refl
 fits_given c h (did.Offer u offered.Queued) t g = fits_is h u.0 t at.ToOffer is_offer_place g.0 refl
 fits_given c h (did.Offer u (offered.Hand w)) t g = fits_is h u.0 t at.ToOffer is_offer_place g.0 refl
@@ -124,7 +124,7 @@ fits_looked _ r = r == 0
 
 -- the entry fits the run state r
 abbrev pub fits_rank : Did → ℕ → Bool
-fits_rank (did.Submit u k l) r = fits_looked l r
+fits_rank (did.Submit u k pr l) r = fits_looked l r
 fits_rank (did.Look u l) r = fits_looked l r
 fits_rank (did.Second u seconded.Back) r = nat_lt 0 r
 fits_rank (did.Grow u (grown.Reserve w)) r = r == 0
@@ -142,9 +142,9 @@ fits_rank did.Ended r = r == 3
 fits_rank d r = true
 
 pub rank_given : (c : Config) (h : List Entry) (d : Did) → Given c h d → fits_rank d (rank h) ≡ true
-rank_given c h (did.Submit u k (looked.Reserve w)) g = eq-eqb _ _ g.1.0
-rank_given c h (did.Submit u k looked.Queue) g = eq-eqb _ _ g.1
-rank_given c h (did.Submit u k looked.Refuse) g = lt-ltb _ _ g.1
+rank_given c h (did.Submit u k pr (looked.Reserve w)) g = eq-eqb _ _ g.1.0
+rank_given c h (did.Submit u k pr looked.Queue) g = eq-eqb _ _ g.1
+rank_given c h (did.Submit u k pr looked.Refuse) g = lt-ltb _ _ g.1
 rank_given c h (did.Look u (looked.Reserve w)) g = eq-eqb _ _ g.1.0
 rank_given c h (did.Look u looked.Queue) g = eq-eqb _ _ g.1
 rank_given c h (did.Look u looked.Refuse) g = lt-ltb _ _ g.1

@@ -1,6 +1,6 @@
 -- A prestart serves tasks that are left to nobody.
 use Rattle.std.proofs.Common.{◌≡◌, ℕ, ◌≤◌, true, List, [], ◌∷◌, length, refl, inl, inr, arith, sym, ◌∙◌}
-use Rattle.std.specs.Prelude.{nat_lt, ◌==◌, ◌||◌, ◌&&◌, Bool, count_by}
+use Rattle.std.specs.Prelude.{nat_lt, ◌==◌, ◌||◌, ◌&&◌, count_by}
 use Rattle.std.proofs.lemmas.Bool.{false≢true, cases_lt}
 use Rattle.std.proofs.lemmas.Bool.Decides.{nat_tests}
 use Rattle.tp_types.specs.declared.configs.Config.{Config}
@@ -8,7 +8,7 @@ use Rattle.tp_record.specs.declared.entries.Entry.{Entry}
 use Rattle.tp_record.specs.Lists.{count_from}
 use Rattle.tp_record.specs.Fields.{rank, queue, is_slot, slot_bound}
 use Rattle.tp_record.specs.State.{state}
-use Rattle.tp_record.specs.Step.{slot_count, wants_worker}
+use Rattle.tp_record.specs.Step.{slot_count}
 use Rattle.tp_model.proofs.Given.{Told}
 use Rattle.tp_words.proofs.WordsTasks.{queued_agrees}
 use Rattle.tp_words.proofs.WordsSlots.{slot_agrees}
@@ -21,9 +21,9 @@ use Rattle.tp_laws.proofs.Serves.{some_passes}
 wants : (slots core rank queued : ℕ) → slots ≡ 0 → 1 ≤ core → rank ≡ 1 → 1 ≤ queued → (nat_lt slots core && (rank == 0 || (rank == 1 && nat_lt 0 queued))) ≡ true
 wants slots core rank queued none some shut waits = grind (arith, nat_tests)
 
-some_queued : (h : List Entry) (t : ℕ) (ts : List ℕ) → queue h ≡ ts → (queue h ≡ [] → ⊥) → 1 ≤ length ts
-some_queued h t [] is not = absurd (not is)
-some_queued h t (u ∷ us) is not = omega arith
+some_queued : (c : Config) (h : List Entry) (t : ℕ) (ts : List ℕ) → queue c h ≡ ts → (queue c h ≡ [] → ⊥) → 1 ≤ length ts
+some_queued c h t [] is not = absurd (not is)
+some_queued c h t (u ∷ us) is not = omega arith
 
 pub rescue_serves : (c : Config) (h : List Entry) → Told c h → RescueServes c h
 rescue_serves c h told shut none t waits core w =
@@ -34,5 +34,5 @@ rescue_serves c h told shut none t waits core w =
           absurd (false≢true (sym (none found.0) ∙ (slot_agrees h found.0 ∙ found.1)))
       | inr not ↦ omega arith
     ] in
-    let queued : 1 ≤ length (queue h) = some_queued h t (queue h) refl (λ is. false≢true (sym (none_queued h is t) ∙ (sym (queued_agrees c h told t) ∙ waits))) in
-    rw (wants (slot_count (state c h)) (state c h).core (rank h) (length (queue h)) empty core shut queued) refl
+    let queued : 1 ≤ length (queue c h) = some_queued c h t (queue c h) refl (λ is. false≢true (sym (none_queued c h is t) ∙ (sym (queued_agrees c h told t) ∙ waits))) in
+    rw (wants (slot_count (state c h)) (state c h).core (rank h) (length (queue c h)) empty core shut queued) refl

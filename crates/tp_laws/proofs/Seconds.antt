@@ -31,15 +31,15 @@ stays_runs : (t u r : ℕ) (f : ℕ → Place) → ((f u ≡ at.Queued) → r �
 stays_runs t u r f runs = grind (arith, nat_tests)
 
 -- no task is queued where the queue is empty
-pub none_queued : (h : List Entry) → queue h ≡ [] → (t : ℕ) → is_queued_place (place h t) ≡ false
-none_queued h none t = sym (among-queue h t) ∙ ap (is_among t) none
+pub none_queued : (c : Config) (h : List Entry) → queue c h ≡ [] → (t : ℕ) → is_queued_place (place h t) ≡ false
+none_queued c h none t = sym (among-queue c h t) ∙ ap (is_among t) none
 
 pub look_given : (c : Config) (h : List Entry) (d : Did) (t : ℕ) → Given c h d → fits_look d t (place h t) (rank h) ≡ true
 look_given c h (did.Second u seconded.Stay) t given = stays_runs t u.0 (rank h) (place h) given.2
 look_given c h (did.Second u (seconded.StayReserve w)) t given = stays_runs t u.0 (rank h) (place h) given.2
 look_given c h did.Tidy t given = elim given.1 [
   | inl two ↦ rw two refl
-  | inr one ↦ rw (one.0, none_queued h one.1 t) refl
+  | inr one ↦ rw (one.0, none_queued c h one.1 t) refl
 ]
 look_given c h _ t given = refl
 

@@ -46,7 +46,7 @@ stays_out t u f never = grind (arith, nat_tests)
 -- without a slot, a second look that leaves its task in the queue reserves one
 served_given : (c : Config) (h : List Entry) (d : Did) (t : ℕ) → Given c h d → slot_count (state c h) ≡ 0 → fits_served d t (place h t) ≡ true
 served_given c h (did.Second u seconded.Stay) t given none =
-    stays_out t u.0 (place h) (λ queued. false≢true (sym (given.3 none) ∙ running_wants (rank h) (nat_lt 0 (length (queue h))) (given.2 queued)))
+    stays_out t u.0 (place h) (λ queued. false≢true (sym (given.3 none) ∙ running_wants (rank h) (nat_lt 0 (length (queue c h))) (given.2 queued)))
 served_given c h _ t given none = refl
 
 served_said : (d : Did) (n t : ℕ) (p : Place) (c o : Bool) → fits_place d t n p ≡ true → fits_served d t p ≡ true → is_some (reserves d) ≡ false → (is_queued_place p ≡ true → o ≡ true) →
@@ -83,13 +83,13 @@ unwanted_empty r (x ∷ xs) low is = absurd (false≢true (sym is ∙ wants r (l
 
 -- the last slot is freed only where the queue is empty
 last_leaves : (c : Config) (h : List Entry) (d : Did) → Given c h d → 1 ≤ (state c h).maximum → rank h ≤ 1 → slot_count (state c h) ≤ 1 →
-    is_some (frees d) ≡ true → is_some (reserves d) ≡ false → loses_worker d ≡ false → queue h ≡ []
+    is_some (frees d) ≡ true → is_some (reserves d) ≡ false → loses_worker d ≡ false → queue c h ≡ []
 last_leaves c h (did.Take w took.Leave) given sizes low last freed none kept = elim (given.1 low) [
   | inl empty ↦ empty
   | inr over ↦ absurd (omega arith)
 ]
 last_leaves c h (did.Leave v None) given sizes low last freed none kept =
-    unwanted_empty (rank h) (queue h) low (false_from_ne_true (wants_worker (state c h)) (λ wants. let over = given.1 wants in absurd (omega arith)))
+    unwanted_empty (rank h) (queue c h) low (false_from_ne_true (wants_worker (state c h)) (λ wants. let over = given.1 wants in absurd (omega arith)))
 last_leaves c h (did.Leave v (Some w)) given sizes low last freed none kept = absurd (false≢true (sym none))
 last_leaves c h (did.Fail w f) given sizes low last freed none kept = absurd (false≢true (sym kept))
 last_leaves c h (did.Open w o) given sizes low last freed none kept = absurd (opens o freed kept)
@@ -132,8 +132,8 @@ owed_without_slot c (e ∷ h) config told kept low none t is = by_freed (is_some
         owes_look (e ∷ h) t ≡ true
     by_freed true freed rest =
         let count : slot_count (state c h) ≤ 1 = (let a : more.0 + one (is_some (frees e.did)) ≡ slot_count (state c h) = more.2 in let b : more.0 ≡ 0 = left.0 in let d : one (is_some (frees e.did)) ≡ 1 = ap one freed in omega arith) in
-        let empty : queue h ≡ [] = last_leaves c h e.did told.0 (sized c h config told.1).1 runs count freed left.1 keeps.0 in
-        absurd (false≢true (sym (freed_moves_none e.did t (place h t) (is_cancelled h t) freed keeps.0 (none_queued h empty t)) ∙ is))
+        let empty : queue c h ≡ [] = last_leaves c h e.did told.0 (sized c h config told.1).1 runs count freed left.1 keeps.0 in
+        absurd (false≢true (sym (freed_moves_none e.did t (place h t) (is_cancelled h t) freed keeps.0 (none_queued c h empty t)) ∙ is))
     by_freed false freed rest =
         let count : slot_count (state c h) ≡ 0 = sym more.2 ∙ ap₂ (λ m b. m + one b) left.0 freed in
         served_said e.did (submitted h) t (place h t) (is_cancelled h t) (owes_look h t) (fits_given c h e.did t told.0) (served_given c h e.did t told.0 count) left.1 (rest keeps.1 runs count t) is

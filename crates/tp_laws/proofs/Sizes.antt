@@ -1,13 +1,14 @@
 -- The slots stay within the maximum, and a bounded queue within its capacity.
-use Rattle.std.proofs.Common.{◌≡◌, ℕ, suc, ◌+◌, ◌<◌, ◌≤◌, max, Bool, true, false, cond, List, [], ◌∷◌, length, Some, None, Option, refl, arith, sym, ap, ◌∙◌, subst}
+use Rattle.std.proofs.Common.{◌≡◌, ℕ, suc, ◌+◌, ◌<◌, ◌≤◌, max, Bool, true, false, cond, List, [], ◌∷◌, length, Some, None, Option, refl, arith, sym, ap, ◌∙◌, subst, ◌⊎◌, inl, inr}
 use mathlib.Core.Path.{ap₂}
-use Rattle.std.specs.Prelude.{unwrap_or, is_some, count_by, filter, option_to_list}
-use Rattle.std.proofs.lemmas.Bool.{false≢true}
+use Rattle.std.specs.Prelude.{nat_le, nat_lt, unwrap_or, is_some, count_by, filter, option_to_list}
+use Rattle.std.proofs.lemmas.Bool.{false≢true, cases_lt, le-leb, lt-leb}
 use Rattle.std.proofs.lemmas.List.{length-append}
 use Rattle.tp_types.specs.declared.configs.Config.{Config}
 use Rattle.tp_types.specs.declared.configs.QueueKind.{QueueKind}
-use Rattle.tp_types.specs.declared.configs.QueueKind.TheVariants.{Handoff, Unbounded, Bounded}
+use Rattle.tp_types.specs.declared.configs.QueueKind.TheVariants.{Handoff, Unbounded, Bounded, Priority}
 use Rattle.tp_types.specs.Config.{IsConfig}
+use Rattle.tp_types.specs.Queues.{is_ranked}
 use Rattle.tp_record.specs.declared.entries.Entry.{Entry}
 use Rattle.tp_record.specs.declared.entries.Did.{Did}
 use Rattle.tp_record.specs.declared.entries.Did.TheVariants as did
@@ -15,14 +16,15 @@ use Rattle.tp_record.specs.declared.entries.Looked.TheVariants as looked
 use Rattle.tp_record.specs.declared.entries.Offered.TheVariants as offered
 use Rattle.tp_record.specs.declared.entries.Seconded.TheVariants as seconded
 use Rattle.tp_record.specs.declared.entries.Grown.TheVariants as grown
-use Rattle.tp_record.specs.Lists.{count_from}
+use Rattle.tp_record.specs.Lists.{count_from, join_line}
 use Rattle.tp_record.specs.Effects.{reserves, frees, queues, sets_core, sets_maximum}
 use Rattle.tp_record.specs.declared.rows.Stage.{Stage}
-use Rattle.tp_record.specs.Fields.{queue, slot_bound, reach, is_slot}
-use Rattle.tp_record.specs.State.{State, state, queue_after, stays_queued}
+use Rattle.tp_record.specs.Fields.{queue, priority, slot_bound, reach, is_slot}
+use Rattle.tp_record.specs.State.{State, state, row_at, stays_queued}
 use Rattle.tp_record.specs.Step.{slot_count, Legal}
 use Rattle.tp_record.specs.Words.{reserved_by, slot_numbers, is_slot_now}
 use Rattle.tp_model.proofs.Given.{Given, Told, HasQueueRoom}
+use Rattle.tp_model.proofs.Arranged.{line-length}
 use Rattle.tp_model.proofs.Told.{told_legal}
 use Rattle.tp_model.proofs.NextState.{next_is_state}
 use Rattle.tp_words.proofs.WordsQueue.{queue_words}
@@ -47,7 +49,7 @@ sized c (e ∷ h) config told = sized_said c h e.did told.0 (sized c h config to
 -- an entry that reserves leaves at most as many slots as the maximum, m slots being those that it keeps
 reserved_within : (c : Config) (h : List Entry) (d : Did) (m : ℕ) → Given c h d → Sized (state c h).core (state c h).maximum →
     m + one (is_some (frees d)) ≡ slot_count (state c h) → is_some (reserves d) ≡ true → m + 1 ≤ (state c h).maximum
-reserved_within c h (did.Submit t k (looked.Reserve w)) m given sizes kept is = let room = given.1.1 in let low = sizes.0 in omega arith
+reserved_within c h (did.Submit t k pr (looked.Reserve w)) m given sizes kept is = let room = given.1.1 in let low = sizes.0 in omega arith
 reserved_within c h (did.Look t (looked.Reserve w)) m given sizes kept is = let room = given.1.1 in let low = sizes.0 in omega arith
 reserved_within c h (did.Second t (seconded.StayReserve w)) m given sizes kept is = let none = given.3 in let low = sizes.1 in omega arith
 reserved_within c h (did.Grow t (grown.Reserve w)) m given sizes kept is = let room = given.2 in omega arith
@@ -76,34 +78,55 @@ filter_short p (x ∷ xs) = by_test (p x) (filter_short p xs)
     by_test true short = omega arith
     by_test false short = omega arith
 
-queue_room : (c : Config) (h : List Entry) (d : Did) → Given c h d → is_some (queues d) ≡ true → HasQueueRoom c.queue (length (queue h))
+queue_room : (c : Config) (h : List Entry) (d : Did) → Given c h d → is_some (queues d) ≡ true → HasQueueRoom c.queue (length (queue c h))
 queue_room c h (did.Offer t offered.Queued) given is = given.1
 queue_room c h _ given is = absurd (false≢true is)
 
 within_more : (k : QueueKind) (n m : ℕ) (o : Option ℕ) → m ≤ n + length (option_to_list o) → (is_some o ≡ true → HasQueueRoom k n) → IsWithin k n → IsWithin k m
 within_more Unbounded n m o short room was = tt
+within_more Priority n m o short room was = tt
 within_more Handoff n m None short room was = let e : n ≡ 0 = was in omega arith
 within_more Handoff n m (Some u) short room was = absurd (room refl)
 within_more (Bounded b) n m None short room was = let e : n ≤ b = was in omega arith
 within_more (Bounded b) n m (Some u) short room was = let r : n < b = room refl in omega arith
 
-queue_shorter : (c : Config) (e : Entry) (h : List Entry) → Legal c (e ∷ h) → length (queue (e ∷ h)) ≤ length (queue h) + length (option_to_list (queues e.did))
-queue_shorter c e h legal =
-    let same : queue (e ∷ h) ≡ queue_after e.did (state c h).tasks (queue h) = ap (λ (s : State). s.queue) (next_is_state c h e legal.1 legal.0) in
-    let long : length (queue_after e.did (state c h).tasks (queue h)) ≡ length (filter (stays_queued e.did (state c h).tasks) (queue h)) + length (option_to_list (queues e.did)) = length-append _ _ in
-    let short : length (filter (stays_queued e.did (state c h).tasks) (queue h)) ≤ length (queue h) = filter_short (stays_queued e.did (state c h).tasks) (queue h) in
-    let total : length (queue (e ∷ h)) ≡ length (queue_after e.did (state c h).tasks (queue h)) = ap length same in
-    omega arith
+-- those that are not behind k, and those that are
+length_parts : (number : ℕ → ℕ) (k : ℕ) (xs : List ℕ) → length (filter (λ y. nat_le (number y) k) xs) + length (filter (λ y. nat_lt k (number y)) xs) ≡ length xs
+length_parts number k [] = refl
+length_parts number k (x ∷ xs) = by (cases_lt k (number x)) (length_parts number k xs)
+  where
+    by : (k < number x) ⊎ (number x ≤ k) → length (filter (λ y. nat_le (number y) k) xs) + length (filter (λ y. nat_lt k (number y)) xs) ≡ length xs →
+        length (filter (λ y. nat_le (number y) k) (x ∷ xs)) + length (filter (λ y. nat_lt k (number y)) (x ∷ xs)) ≡ suc (length xs)
+    by (inl more) rest = rw (lt-leb (number x) k more, le-leb (suc k) (number x) more) (omega (arith, rest))
+    by (inr less) rest = rw (le-leb (number x) k less, lt-leb (suc k) (number x) (omega (arith, less))) (omega (arith, rest))
 
-queue_within : (c : Config) (h : List Entry) → Legal c h → IsWithin c.queue (length (queue h))
-queue_within c [] legal = none c.queue
+-- one more in a line
+length_join : (b : Bool) (number : ℕ → ℕ) (o : Option ℕ) (xs : List ℕ) → length (join_line b number o xs) ≡ length xs + length (option_to_list o)
+length_join b number None xs = omega arith
+length_join true number (Some x) xs =
+    let parts = length_parts number (number x) xs in
+    let all = length-append (filter (λ y. nat_le (number y) (number x)) xs) (x ∷ filter (λ y. nat_lt (number x) (number y)) xs) in
+    omega (arith, parts, all)
+length_join false number (Some x) xs = length-append xs (x ∷ [])
+
+queue_shorter : (c : Config) (e : Entry) (h : List Entry) → Legal c (e ∷ h) → length (queue c (e ∷ h)) ≤ length (queue c h) + length (option_to_list (queues e.did))
+queue_shorter c e h legal =
+    let rows = (state c h).tasks in
+    let same = ap length (ap (λ (s : State). s.queue) (next_is_state c h e legal.1 legal.0)) in
+    let long = length_join (is_ranked c.queue) (λ t. (row_at rows t).priority) (queues e.did) (filter (stays_queued e.did rows) (queue c h)) in
+    let short = filter_short (stays_queued e.did rows) (queue c h) in
+    omega (arith, same, long, short)
+
+queue_within : (c : Config) (h : List Entry) → Legal c h → IsWithin c.queue (length (queue c h))
+queue_within c [] legal = subst (IsWithin c.queue) (sym (line-length (is_ranked c.queue) (priority []) [])) (none c.queue)
   where
     none : (k : QueueKind) → IsWithin k 0
     none Handoff = refl
     none Unbounded = tt
+    none Priority = tt
     none (Bounded b) = omega arith
 queue_within c (e ∷ h) legal =
-    within_more c.queue (length (queue h)) (length (queue (e ∷ h))) (queues e.did) (queue_shorter c e h legal) (queue_room c h e.did (told_legal c (e ∷ h) legal).0) (queue_within c h legal.1)
+    within_more c.queue (length (queue c h)) (length (queue c (e ∷ h))) (queues e.did) (queue_shorter c e h legal) (queue_room c h e.did (told_legal c (e ∷ h) legal).0) (queue_within c h legal.1)
 
 pub queue_within_capacity : (c : Config) (h : List Entry) → Legal c h → QueueWithinCapacity c h
 queue_within_capacity c h legal = subst (IsWithin c.queue) (ap length (sym (queue_words c h (told_legal c h legal)))) (queue_within c h legal)

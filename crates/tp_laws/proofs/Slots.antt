@@ -54,7 +54,7 @@ wants_low r b wants = grind (arith, nat_tests)
 
 -- a slot is reserved only in a pool that is running or shut down
 pub reserves_low : (c : Config) (h : List Entry) (d : Did) → Given c h d → is_some (reserves d) ≡ true → rank h ≤ 1
-reserves_low c h (did.Submit t k (looked.Reserve w)) given is = let r : rank h ≡ 0 = given.1.0 in omega arith
+reserves_low c h (did.Submit t k pr (looked.Reserve w)) given is = let r : rank h ≡ 0 = given.1.0 in omega arith
 reserves_low c h (did.Look t (looked.Reserve w)) given is = let r : rank h ≡ 0 = given.1.0 in omega arith
 reserves_low c h (did.Second t (seconded.StayReserve w)) given is = wants_low (rank h) _ given.4
 reserves_low c h (did.Grow t (grown.Reserve w)) given is = let r : rank h ≡ 0 = given.1 in omega arith

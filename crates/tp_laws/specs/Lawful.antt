@@ -1,15 +1,16 @@
 -- All that holds of a legal record, in one place: for every configuration and every interleaving of submitters', workers'
 -- and controllers' steps. A field for each law, in the order of docs/MODEL.md.
-use Rattle.std.specs.Prelude.{◌≡◌, ◌≢◌, ◌+◌, ◌≤◌, ℕ, suc, true, List, ◌∷◌, ◌++◌, length, Err}
+use Rattle.std.specs.Prelude.{◌≡◌, ◌≢◌, ◌+◌, ◌≤◌, ℕ, suc, true, false, List, ◌∷◌, ◌++◌, length, Err}
 use Rattle.tp_types.specs.declared.configs.Config.{Config}
 use Rattle.tp_types.specs.declared.refusals.PoolError.TheVariants.{BookFull}
+use Rattle.tp_types.specs.Queues.{is_ranked}
 use Rattle.tp_record.specs.declared.entries.Entry.{Entry}
 use Rattle.tp_record.specs.declared.entries.Ask.{Ask}
 use Rattle.tp_record.specs.Fields.{rank}
 use Rattle.tp_record.specs.State.{state, due}
 use Rattle.tp_record.specs.Step.{step, IsFreeTo}
 use Rattle.tp_room.specs.Room.{lowers, is_owed}
-use Rattle.tp_laws.specs.Laws.{OnePlace, BeginsOnce, FinishesOnce, OneTaskASlot, FatesAreDisjoint, FateNeverChanges, GoneHasFate, FatedIsGone, NumberedInOrder, SubmissionsAddUp, QueuedOnce, FirstLeaves, QueueOrder, NothingBeginsAfterShutdown, StoppedNeverBegins, QueuedLateNeverBegins, NoIdleAfterShutdown, NoneIdling, TidyOnce, EndedOnce, NoSlotsAfterTidy, SecondLookOwedAfterStop, OwedAfterTidy, Served, SlotsWithinMaximum, QueueWithinCapacity}
+use Rattle.tp_laws.specs.Laws.{OnePlace, BeginsOnce, FinishesOnce, OneTaskASlot, FatesAreDisjoint, FateNeverChanges, GoneHasFate, FatedIsGone, NumberedInOrder, SubmissionsAddUp, QueuedOnce, FirstLeaves, QueueOrder, NoneBefore, FirstOfEquals, NothingBeginsAfterShutdown, StoppedNeverBegins, QueuedLateNeverBegins, NoIdleAfterShutdown, NoneIdling, TidyOnce, EndedOnce, NoSlotsAfterTidy, SecondLookOwedAfterStop, OwedAfterTidy, Served, SlotsWithinMaximum, QueueWithinCapacity}
 
 -- at each front of the record, the whole record among them, with the entries that come later
 abbrev pub AtEachFront : List Entry → (List Entry → List Entry → Type 0) → Type 0
@@ -34,9 +35,12 @@ pub record IsLawful (c : Config) (h : List Entry) : Type 0 where
   pub submissions_add_up : AtEachFront h (λ later front. SubmissionsAddUp front)
   -- the queue
   pub queued_once : AtEachFront h (λ later front. QueuedOnce front)
-  pub first_leaves : AtEachEntry h (λ later e front. FirstLeaves e front)
-  pub queue_order : AtEachEntry h (λ later e front. (after between before : List Entry) (queues_u queues_t : Entry) →
+  pub first_leaves : AtEachEntry h (λ later e front. FirstLeaves c e front)
+  pub queue_order : is_ranked c.queue ≡ false → AtEachEntry h (λ later e front. (after between before : List Entry) (queues_u queues_t : Entry) →
       front ≡ after ++ queues_u ∷ (between ++ queues_t ∷ before) → QueueOrder e after queues_u between queues_t before)
+  pub none_before : AtEachEntry h (λ later e front. NoneBefore c e front)
+  pub first_of_equals : AtEachEntry h (λ later e front. (after between before : List Entry) (queues_u queues_t : Entry) →
+      front ≡ after ++ queues_u ∷ (between ++ queues_t ∷ before) → FirstOfEquals e after queues_u between queues_t before)
   -- after a shutdown or a stop
   pub nothing_begins_after_shutdown : AtEachFront h NothingBeginsAfterShutdown
   pub stopped_never_begins : AtEachEntry h StoppedNeverBegins

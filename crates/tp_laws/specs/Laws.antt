@@ -4,9 +4,10 @@ use Rattle.std.specs.Prelude.{◌≡◌, nat_lt, ◌≤◌, ◌+◌, ◌⊎◌, 
 use Rattle.std.specs.List.{list_any}
 use Rattle.tp_types.specs.declared.configs.Config.{Config}
 use Rattle.tp_types.specs.declared.configs.QueueKind.{QueueKind}
-use Rattle.tp_types.specs.declared.configs.QueueKind.TheVariants.{Handoff, Unbounded, Bounded}
+use Rattle.tp_types.specs.declared.configs.QueueKind.TheVariants.{Handoff, Unbounded, Bounded, Priority}
 use Rattle.tp_types.specs.declared.tasks.Fate.{Fate}
 use Rattle.tp_types.specs.declared.tasks.Fate.TheVariants as fate
+use Rattle.tp_types.specs.Queues.{is_ranked}
 use Rattle.tp_record.specs.declared.entries.Entry.{Entry}
 use Rattle.tp_record.specs.declared.entries.Ask.TheVariants as ask
 use Rattle.tp_record.specs.declared.entries.Did.{Did}
@@ -19,7 +20,7 @@ use Rattle.tp_record.specs.Effects.{sets_core, sets_maximum}
 use Rattle.tp_record.specs.Fields.{rank, last_set}
 use Rattle.tp_record.specs.State.{state}
 use Rattle.tp_record.specs.Step.{fitting}
-use Rattle.tp_record.specs.Words.{owes_look, was_cancelled, is_submitted, waiting_line, with_submitter, waits_in_queue, in_slot, is_in, is_at_caller, is_gone, begun, is_begun, finishings, queued_by, is_stop, wakes, idle_since, is_slot_now, has_fate, with_fate, submissions, slot_numbers, reserved_by}
+use Rattle.tp_record.specs.Words.{owes_look, was_cancelled, is_submitted, priority_of, waiting_line, with_submitter, waits_in_queue, in_slot, is_in, is_at_caller, is_gone, begun, is_begun, finishings, queued_by, is_stop, wakes, idle_since, is_slot_now, has_fate, with_fate, submissions, slot_numbers, reserved_by}
 
 -- Places
 
@@ -62,8 +63,8 @@ leaves_in_turn (did.Verdict t v (ruled.RetryDrop u)) = Some u.0
 leaves_in_turn _ = None
 
 -- who leaves by order is the first that waits
-abbrev pub FirstLeaves : Entry → List Entry → Type 0
-FirstLeaves e h = (u : ℕ) → leaves_in_turn e.did ≡ Some u → (rest : List ℕ) × (waiting_line h ≡ u ∷ rest)
+abbrev pub FirstLeaves : Config → Entry → List Entry → Type 0
+FirstLeaves c e h = (u : ℕ) → leaves_in_turn e.did ≡ Some u → (rest : List ℕ) × (waiting_line c h ≡ u ∷ rest)
 
 -- where t was put in the queue before u, and u leaves by order, t has left
 abbrev pub QueueOrder : Entry → List Entry → Entry → List Entry → Entry → List Entry → Type 0
@@ -71,15 +72,28 @@ QueueOrder e after queues_u between queues_t before =
     (t u : ℕ) → queued_by queues_t.did ≡ Some t → queued_by queues_u.did ≡ Some u → leaves_in_turn e.did ≡ Some u →
     waits_in_queue (after ++ queues_u ∷ (between ++ queues_t ∷ before)) t ≡ false
 
+-- where u leaves a priority queue by order, no task waits whose priority is smaller
+abbrev pub NoneBefore : Config → Entry → List Entry → Type 0
+NoneBefore c e h =
+    is_ranked c.queue ≡ true → (t u : ℕ) → leaves_in_turn e.did ≡ Some u → waits_in_queue h t ≡ true → priority_of h u ≤ priority_of h t
+
+-- where t was put in the queue before u, whose priority is the same, and u leaves by order, t has left: in each queue
+abbrev pub FirstOfEquals : Entry → List Entry → Entry → List Entry → Entry → List Entry → Type 0
+FirstOfEquals e after queues_u between queues_t before =
+    let h = after ++ queues_u ∷ (between ++ queues_t ∷ before) in
+    (t u : ℕ) → queued_by queues_t.did ≡ Some t → queued_by queues_u.did ≡ Some u → leaves_in_turn e.did ≡ Some u →
+    priority_of h t ≡ priority_of h u → waits_in_queue h t ≡ false
+
 -- so many tasks fit the queue: none where it has no places
 abbrev pub IsWithin : QueueKind → ℕ → Type 0
 IsWithin Handoff n = n ≡ 0
 IsWithin Unbounded n = ⊤
+IsWithin Priority n = ⊤
 IsWithin (Bounded places) n = n ≤ places
 
 -- the queue never exceeds its capacity
 abbrev pub QueueWithinCapacity : Config → List Entry → Type 0
-QueueWithinCapacity c h = IsWithin c.queue (length (waiting_line h))
+QueueWithinCapacity c h = IsWithin c.queue (length (waiting_line c h))
 
 -- Slots
 

@@ -1,10 +1,11 @@
 //! The queue.
 
-ghost use Rattle.std.specs.Prelude.{List, ◌∷◌, ◌++◌};
-ghost use Rattle.tp_laws.specs.Laws.{FirstLeaves, QueueOrder, QueueWithinCapacity, QueuedOnce};
+ghost use Rattle.std.specs.Prelude.{◌≡◌, List, ◌∷◌, ◌++◌, false};
+ghost use Rattle.tp_laws.specs.Laws.{FirstLeaves, QueueOrder, NoneBefore, FirstOfEquals, QueueWithinCapacity, QueuedOnce};
 ghost use Rattle.tp_record.specs.Step.{Legal};
 ghost use Rattle.tp_record.specs.declared.entries.Entry.{Entry};
 ghost use Rattle.tp_types.specs.declared.configs.Config.{Config};
+ghost use Rattle.tp_types.specs.Queues.{is_ranked};
 
 /// A task is put in the queue at most once: one that came back from it at a second look is not queued
 /// again, and a retry under `DiscardOldestPolicy` offers only what was never queued.
@@ -12,14 +13,20 @@ pub fn queued_once()
     ensures { (c : Config) (h : List Entry) → Legal c h → QueuedOnce h }
 {}
 
-/// Tasks leave by order, first in, first out: who is taken by a worker or dropped as the oldest is the
-/// first that waits, and each task that was put in the queue before it has left. Removing, purging,
-/// draining and taking back are other ways out, and have no order.
+/// Tasks leave by order: who is taken by a worker or dropped as the oldest is the first that waits.
+///
+/// That is first in, first out, where the queue does not go by priority: each task that was put there before it has left. In a
+/// priority queue no task waits whose priority is smaller, and each of its equals that was put there before it has left.
+/// Removing, purging, draining and taking back are other ways out, and have no order.
 pub fn queue_order()
-    ensures first { (c : Config) (e : Entry) (h : List Entry) → Legal c (e ∷ h) → FirstLeaves e h }
+    ensures first { (c : Config) (e : Entry) (h : List Entry) → Legal c (e ∷ h) → FirstLeaves c e h }
     ensures order { (c : Config) (e : Entry) (after between before : List Entry) (queues_u queues_t : Entry) →
-        Legal c (e ∷ (after ++ queues_u ∷ (between ++ queues_t ∷ before))) →
+        is_ranked c.queue ≡ false → Legal c (e ∷ (after ++ queues_u ∷ (between ++ queues_t ∷ before))) →
         QueueOrder e after queues_u between queues_t before }
+    ensures least { (c : Config) (e : Entry) (h : List Entry) → Legal c (e ∷ h) → NoneBefore c e h }
+    ensures equals { (c : Config) (e : Entry) (after between before : List Entry) (queues_u queues_t : Entry) →
+        Legal c (e ∷ (after ++ queues_u ∷ (between ++ queues_t ∷ before))) →
+        FirstOfEquals e after queues_u between queues_t before }
 {}
 
 /// A bounded queue never exceeds its capacity, and a queue of no places never has a task.

@@ -21,7 +21,7 @@ use Rattle.tp_glance.specs.Word.{IsFrontOf}
 module _ (c : Config) where
   off : (h : List Entry) (t : ℕ) (d : Did) → Given c h d → (is_cancelled h t ≡ true → is_plain (kind h t) ≡ false) →
       unwrap_or (said_of t (cancels d)) (is_cancelled h t) ≡ true → is_plain (unwrap_or (said_of t (kinds_said d)) (kind h t)) ≡ false
-  off h t (did.Submit u k l) given before is = first (t == u.0) (is_cancelled h t) before is
+  off h t (did.Submit u k p l) given before is = first (t == u.0) (is_cancelled h t) before is
     where
       first : (b o : Bool) → (o ≡ true → is_plain (kind h t) ≡ false) → unwrap_or (if b then Some false else None) o ≡ true → is_plain (unwrap_or (if b then Some k else None) (kind h t)) ≡ false
       first true o before is = absurd (true≢false (sym is))
@@ -40,7 +40,7 @@ module _ (c : Config) where
 
   -- the kind of a task that was submitted stays
   stays : (h : List Entry) (t : ℕ) (d : Did) → Given c h d → t < submitted h → unwrap_or (said_of t (kinds_said d)) (kind h t) ≡ kind h t
-  stays h t (did.Submit u k l) given known = by (t == u.0) refl
+  stays h t (did.Submit u k p l) given known = by (t == u.0) refl
     where
       by : (b : Bool) → (t == u.0) ≡ b → unwrap_or (if b then Some k else None) (kind h t) ≡ kind h t
       by true same = let is = eqb-true t u.0 same in let new = given.0 in absurd (omega (arith, is, new, known))
@@ -76,8 +76,8 @@ module _ (c : Config) where
   told_front f (e ∷ later) told = told_front f later told.1
 
   -- what the last entry of a front submits as a plain task is not cancelled later
-  pub submitted_plain : (e : Entry) (f h : List Entry) → IsFrontOf (e ∷ f) h → Legal c h → (t : TaskId) (look : Looked) → e.did ≡ did.Submit t kinds.Plain look → is_cancelled h t.0 ≡ false
-  submitted_plain e f h on legal t look is =
+  pub submitted_plain : (e : Entry) (f h : List Entry) → IsFrontOf (e ∷ f) h → Legal c h → (t : TaskId) (priority : ℕ) (look : Looked) → e.did ≡ did.Submit t kinds.Plain priority look → is_cancelled h t.0 ≡ false
+  submitted_plain e f h on legal t priority look is =
       let told : Told c (e ∷ f) = told_front (e ∷ f) on.later (subst (λ x. Told c x) on.goes_on (told_legal c h legal)) in
       let new = subst (λ d. Given c f d) is told.0 in
       let number = new.0 in

@@ -102,6 +102,7 @@ impl<G: PoolNaming, J: Drop> Core<G, J> {
     pub fn new(alloc: Global, book: Book<G, Task<J>>) -> Result<Core<G, J>, PoolError>
         requires settings { config book ≡ G.config }
         requires good { IsConfig G.config }
+        requires fresh { (book.history ≡ []) × (book.accounts ≡ record { total = 0; made = 1; callers = 1 }) }
         ensures book { IfOk result (λ c. c.book ≡ book) }
         ensures threads { IfOk result (λ c. (c.roster.running ≡ 0) × (c.roster.ended ≡ [])) }
         ensures awake { IfOk result (λ c. c.waking ≡ record { sleepers = replicate 1024 rests.Away; awaited = NO_WAITERS; calls = NOBODY }) }
@@ -134,11 +135,11 @@ impl<G: PoolNaming, J: Drop> Core<G, J> {
         pass: &mut A,
     ) -> Result<S::Answer, (PoolError, S::Load)>
         requires brings { S.brings step load }
-        requires ready { A.ready pass.old }
+        requires ready { A.ready pass.old (S.ask step) }
         ensures answers { IfOk result (λ x. S.answers step x) }
         ensures holds { IfOk result (λ x. Holds self.old self.new (A.number pass.old) (S.ask step) (S.did step x) (S.moves step load x)) }
         ensures makes { IfOk result (λ x. Makes J G.config (A.number pass.old) (A.front pass.old) (S.ask step) (S.did step x) (S.moves step load x) (A.front pass.new)) }
-        ensures says { IfOk result (λ x. S.says step x self.old.book.history) }
+        ensures says { IfOk result (λ x. S.says step x G.config self.old.book.history) }
         ensures paid { IfOk result (λ x. A.paid pass.old (entry_of (A.number pass.old) (S.ask step) (S.did step x)) pass.new) }
         ensures denies { IfErr result (λ r. Denies self.old self.new (S.ask step) r.0) }
         ensures refused { IfErr result (λ r. Refused J G.config (A.front pass.old) (S.ask step) r.0 (A.front pass.new)) }
@@ -173,11 +174,11 @@ impl<G: PoolNaming, J: Drop> Core<G, J> {
         pass: &mut A,
     ) -> Result<S::Answer, PoolError>
         requires brings { S.brings step tt }
-        requires ready { A.ready pass.old }
+        requires ready { A.ready pass.old (S.ask step) }
         ensures answers { IfOk result (λ x. S.answers step x) }
         ensures holds { IfOk result (λ x. Holds self.old self.new (A.number pass.old) (S.ask step) (S.did step x) (S.moves step tt x)) }
         ensures makes { IfOk result (λ x. Makes J G.config (A.number pass.old) (A.front pass.old) (S.ask step) (S.did step x) (S.moves step tt x) (A.front pass.new)) }
-        ensures says { IfOk result (λ x. S.says step x self.old.book.history) }
+        ensures says { IfOk result (λ x. S.says step x G.config self.old.book.history) }
         ensures paid { IfOk result (λ x. A.paid pass.old (entry_of (A.number pass.old) (S.ask step) (S.did step x)) pass.new) }
         ensures denies { IfErr result (λ e. Denies self.old self.new (S.ask step) e) }
         ensures refused { IfErr result (λ e. Refused J G.config (A.front pass.old) (S.ask step) e (A.front pass.new)) }
@@ -205,7 +206,7 @@ impl<G: PoolNaming, J: Drop> Core<G, J> {
         ensures answers { IfOk result (λ x. S.answers step x) }
         ensures holds { IfOk result (λ x. Holds self.old self.new pass.old.number (S.ask step) (S.did step x) (S.moves step tt x)) }
         ensures makes { IfOk result (λ x. Makes J G.config pass.old.number pass.old.front (S.ask step) (S.did step x) (S.moves step tt x) pass.new.front) }
-        ensures says { IfOk result (λ x. S.says step x self.old.book.history) }
+        ensures says { IfOk result (λ x. S.says step x G.config self.old.book.history) }
         ensures step { IfOk result (λ x. AddsStep G.config pass.old (S.ask step) (S.did step x) pass.new) }
         ensures left { OnOk result (pass.old.room ≤ pass.new.room + 1) }
         ensures denies { IfErr result (λ e. Denies self.old self.new (S.ask step) e) }

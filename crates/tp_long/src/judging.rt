@@ -5,7 +5,8 @@ use tp_audit::summary::{Flaw, Summary};
 use tp_auditor::auditor::Auditor;
 use tp_causes::flaws::flaw_text;
 use tp_record::entries::Entry;
-use tp_record_text::records::{BodyLine, is_header, read_body_line, read_pool_line};
+use tp_record_text::records::{BodyLine, read_body_line, read_pool_line};
+use tp_record_text::versions::{Version, version_of};
 use tp_text::ends::{write_counts, write_state};
 use tp_types::configs::Config;
 use tp_types::refusals::PoolError;
@@ -22,6 +23,7 @@ pub enum Judgment {
 /// The entries of a record, judged up to the first flaw.
 #[derive(Drop)]
 pub struct Body {
+    version: Version,
     config: Config,
     auditor: Auditor,
     entries: u32,
@@ -34,8 +36,8 @@ pub struct Body {
 pub enum Judging {
     /// To its beginning.
     Start,
-    /// To its version.
-    Versioned,
+    /// To its first line, which says this form.
+    Versioned(Version),
     /// To its pool line, and beyond.
     InBody(Body),
 }
@@ -61,13 +63,14 @@ fn legal(alloc: Global, entries: u32, auditor: &Auditor) -> Result<Judgment, Poo
 }
 
 impl Body {
-    /// The body behind a pool line with these settings: BadSizes (1), BadCapacity (2), BadLimit (3), KeepZero (11), NoMemory (4).
-    fn new(alloc: Global, config: Config) -> Result<Body, PoolError> {
+    /// The body behind a pool line with these settings in a text of this form: BadSizes (1), BadCapacity (2), BadLimit (3), KeepZero (11), NoMemory (4).
+    fn new(alloc: Global, version: Version, config: Config) -> Result<Body, PoolError> {
         if let Err(refusal) = config.check() {
             return Err(refusal);
         }
         match Auditor::new(alloc, &config) {
             Ok(auditor) => Ok(Body {
+                version,
                 config,
                 auditor,
                 entries: 0,
@@ -104,7 +107,7 @@ impl Body {
         if self.is_over || entries >= u32::MAX - 1 {
             return Err(PoolError::BadEntry(number));
         }
-        match read_body_line(line, entries) {
+        match read_body_line(self.version, line, entries) {
             Some(BodyLine::Entry(entry)) => {
                 self.judge(alloc, &entry)?;
                 self.entries = entries + 1;
@@ -121,6 +124,7 @@ impl Body {
     /// The judgment of all the entries.
     fn judgment(self, alloc: Global) -> Result<Judgment, PoolError> {
         let Body {
+            version: _,
             config: _,
             auditor,
             entries,
@@ -146,19 +150,24 @@ impl Judging {
     /// Takes the next line, which has this number: BadEntry (24) where it is wrong there.
     pub fn take(&mut self, alloc: Global, number: u32, line: &[u8]) -> Result<(), PoolError> {
         match self {
-            Judging::Start if is_header(line) => {
-                *self = Judging::Versioned;
-                Ok(())
-            }
-            Judging::Versioned => match read_pool_line(line) {
-                Some(config) => {
-                    *self = Judging::InBody(Body::new(alloc, config)?);
+            Judging::Start => match version_of(line) {
+                Some(version) => {
+                    *self = Judging::Versioned(version);
                     Ok(())
                 }
                 None => Err(PoolError::BadEntry(number)),
             },
+            Judging::Versioned(version) => {
+                let version = *version;
+                match read_pool_line(version, line) {
+                    Some(config) => {
+                        *self = Judging::InBody(Body::new(alloc, version, config)?);
+                        Ok(())
+                    }
+                    None => Err(PoolError::BadEntry(number)),
+                }
+            }
             Judging::InBody(body) => body.take(alloc, number, line),
-            _ => Err(PoolError::BadEntry(number)),
         }
     }
 

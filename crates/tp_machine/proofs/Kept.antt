@@ -1,5 +1,5 @@
 -- Where the pool keeps all that idle, none of them leaves.
-use Rattle.std.proofs.Common.{◌≡◌, ◌≤◌, ℕ, Bool, true, false, cond, ◌||◌, List, [], ◌∷◌, Option, Some, None, Ok, Err, refl, sym, ap, ap₂, subst, ◌∙◌, arith}
+use Rattle.std.proofs.Common.{◌≡◌, ℕ, Bool, true, false, cond, ◌||◌, List, [], ◌∷◌, Option, Some, None, Ok, Err, refl, sym, ap, ap₂, subst, ◌∙◌, arith}
 use Rattle.std.specs.Prelude.{◌-◌, ◌==◌, ◌&&◌, not, nat_le, nat_lt, length}
 use Rattle.std.proofs.lemmas.Bool.{false≢true}
 use Rattle.tp_types.specs.declared.ids.SlotId.{SlotId}
@@ -21,7 +21,7 @@ use Rattle.tp_slots.specs.Table.{first_slot}
 use Rattle.tp_parts.specs.declared.parts.Parts.{Parts}
 use Rattle.tp_parts.specs.Shows.{Shows}
 use Rattle.tp_parts.specs.Steps.{IsFitting}
-use Rattle.tp_machine.specs.Seen.{Seen, At, config_of}
+use Rattle.tp_machine.specs.Seen.{Seen, config_of}
 use Rattle.tp_machine.specs.Readings.{EachState}
 
 both : (a b : Bool) → (a && b) ≡ true → (a ≡ true) × (b ≡ true)

@@ -1,6 +1,7 @@
--- A task that a verdict takes out comes with its payload, unless it was cancelled.
-use Rattle.std.proofs.Common.{◌≡◌, ℕ, true, refl, sym, ap, subst, ◌∙◌}
-use Rattle.std.specs.Prelude.{◌&&◌, not, List, Option, is_some}
+-- A task that a verdict, a removal or a stop takes out comes with its payload, unless it was cancelled.
+use Rattle.std.proofs.Common.{◌≡◌, ◌++◌, ℕ, true, List, [], ◌∷◌, refl, arith, sym, ap, subst, ◌∙◌}
+use Rattle.std.specs.Prelude.{◌&&◌, not, map, All, Option, is_some}
+use Rattle.std.proofs.lemmas.List.Elements.{All-nil, All-cons}
 use Rattle.tp_types.specs.declared.configs.Verdict.{Verdict}
 use Rattle.tp_types.specs.declared.ids.TaskId.{TaskId}
 use Rattle.tp_types.specs.declared.tasks.Place.{Place}
@@ -10,21 +11,28 @@ use Rattle.tp_record.specs.declared.entries.Ask.TheVariants as ask
 use Rattle.tp_record.specs.declared.entries.Did.TheVariants as did
 use Rattle.tp_record.specs.declared.entries.Ruled.{Ruled}
 use Rattle.tp_record.specs.declared.entries.Ruled.TheVariants as ruled
-use Rattle.tp_record.specs.Fields.{is_cancelled}
+use Rattle.tp_types.specs.Queues.{is_ranked}
+use Rattle.tp_record.specs.Fields.{is_cancelled, is_queued, offered, place, priority, queued}
 use Rattle.tp_record.specs.State.{state, task_at}
 use Rattle.tp_record.specs.Step.{Legal}
+use Rattle.tp_model.proofs.Arranged.{AllPass, filter-passes, line-pass}
 use Rattle.tp_model.proofs.Given.{Given, IsAt}
+use Rattle.tp_model.proofs.Inversion.{present, queued_place}
+use Rattle.tp_model.proofs.Told.{sound_legal}
+use Rattle.tp_queue.specs.Queues.{waiting_of}
 use Rattle.tp_tasks.specs.Tasks.{payload_of}
 use Rattle.tp_tasks.specs.declared.tasks.Tasks.{Tasks}
 use Rattle.tp_parts.specs.declared.parts.Parts.{Parts}
-use Rattle.tp_parts.specs.Shows.{Shows}
+use Rattle.tp_parts.specs.Drained.{handed_back}
+use Rattle.tp_parts.specs.Shows.{Shows, numbers}
 use Rattle.tp_parts.specs.Steps.{Stands, Fits}
 use Rattle.tp_parts.specs.Tied.{IsTied, is_before, waits}
 use Rattle.tp_parts.proofs.Standing.{cancelled_here, given_fitting, task_here}
 use Rattle.tp_submitters.specs.Verdicts.{Yields}
 use Rattle.tp_machine.specs.declared.answers.Judged.{Judged}
-use Rattle.tp_machine.specs.Answers.{own_payload, dropped_payload, ReturnsAt, IsReturnedAt}
+use Rattle.tp_machine.specs.Answers.{own_payload, dropped_payload, IsPaidAt, ReturnsAt, IsReturnedAt}
 use Rattle.tp_machine.specs.Seen.{Seen, At}
+use Rattle.tp_machine.proofs.Stopping.{handed_all}
 
 module _ {P : Type 0} (p : Parts P) (tied : IsTied p.config p.steps p) (h : List Entry) (legal : Legal p.config h) (shows : Shows p (state p.config h)) where
   abbrev here : Stands p
@@ -49,6 +57,19 @@ module _ {P : Type 0} (p : Parts P) (tied : IsTied p.config p.steps p) (h : List
       by ruled.Caller yields given = ap is_some (sym yields.was) ∙ paid_at t.0 at.Refused given.0 refl
       by ruled.Skip yields given = ap is_some (sym yields.was) ∙ paid_at t.0 at.Refused given.0 refl
 
+  -- those of the queue are each queued
+  queued_at : (t : ℕ) → is_queued h t ≡ true → IsAt h t at.Queued
+  queued_at t is = let there : place h t ≡ at.Queued = queued_place (place h t) is in (present h (sound_legal p.config h legal) t (λ gone. grind arith), there)
+
+  each_paid : (items : List (TaskId × ℕ)) → AllPass (is_queued h) (numbers items) → All (IsPaidAt h) (map (λ x. (x.0, payload_of p.tasks x.0.0)) items)
+  each_paid [] are = All-nil (IsPaidAt h)
+  each_paid (x ∷ xs) are = All-cons (IsPaidAt h) (x.0, payload_of p.tasks x.0.0) (map (λ x. (x.0, payload_of p.tasks x.0.0)) xs) (paid_at x.0.0 at.Queued (queued_at x.0.0 are.0) refl) (each_paid xs are.1)
+
+  all_paid : All (IsPaidAt h) (handed_back p)
+  all_paid =
+      let line = line-pass (is_ranked p.config.queue) (is_queued h) (priority h) (queued h) (filter-passes (is_queued h) (offered h)) in
+      each_paid (waiting_of p.queue).items (subst (AllPass (is_queued h)) shows.seen.queued line)
+
 -- so a machine says, wherever it stands
 module _ {P R : Type 0} (tells : R → List Entry → Type 0) (p : Parts P) (noted : R) (m : Seen P R) (is : record { parts = p; noted = noted } ≡ m) where
   pub judged_returns : IsTied p.config p.steps p → (t : TaskId) (v : Verdict) (r : Ruled) (o : Option P) (new : Tasks P) → Yields p.tasks new t r o → Fits p (ask.Verdict t v) (did.Verdict t v r) →
@@ -56,3 +77,13 @@ module _ {P R : Type 0} (tells : R → List Entry → Type 0) (p : Parts P) (not
   judged_returns tied t v r o new yields fits j same =
       subst (λ x. (h : List Entry) → At tells x h → IsReturnedAt t j h) is
       (λ h at. subst (λ x. IsReturnedAt t x h) (sym same) (returned p tied h at.legal at.shows t v r o new yields fits))
+
+  pub removal_pays : IsTied p.config p.steps p → (t : TaskId) (o : Option P) → payload_of p.tasks t.0 ≡ o → Fits p (ask.Remove t) (did.Remove t true) → (h : List Entry) → At tells m h → IsPaidAt h (t, o)
+  removal_pays tied t o was fits =
+      subst (λ x. (h : List Entry) → At tells x h → IsPaidAt h (t, o)) is
+      (λ h stands. ap is_some (sym was) ∙ paid_at p tied h stands.legal stands.shows t.0 at.Queued (given_fitting p.config h (ask.Remove t) (did.Remove t true) stands.legal (fits h stands.legal stands.shows)) refl)
+
+  pub stop_pays : IsTied p.config p.steps p → (first handed : List (TaskId × Option P)) → first ≡ [] → handed ≡ first ++ handed_back p → (h : List Entry) → At tells m h → All (IsPaidAt h) handed
+  stop_pays tied first handed none are =
+      subst (λ x. (h : List Entry) → At tells x h → All (IsPaidAt h) handed) is
+      (λ h stands. subst (All (IsPaidAt h)) (sym (handed_all p first handed none are)) (all_paid p tied h stands.legal stands.shows))

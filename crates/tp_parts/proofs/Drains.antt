@@ -216,12 +216,12 @@ tied_end {P} p new c n same tied = let G : Parts P → Type 0 = λ q. IsTied c n
 
 -- in each legal history a queued task is queued once, was submitted, and has not ended
 module _ (c : Config) (h : List Entry) (legal : Legal c h) where
-  pub queued_once : IsOnce (queue h)
-  queued_once = once-queue h
+  pub queued_once : IsOnce (queue c h)
+  queued_once = once-queue c h
 
-  pub queued_open : (t : ℕ) → is_among t (queue h) ≡ true → (t < length (state c h).tasks) × ((task_at (state c h) t).ending ≡ None)
+  pub queued_open : (t : ℕ) → is_among t (queue c h) ≡ true → (t < length (state c h).tasks) × ((task_at (state c h) t).ending ≡ None)
   queued_open t there =
-      let is : is_queued h t ≡ true = sym (among-queue h t) ∙ there in
+      let is : is_queued h t ≡ true = sym (among-queue c h t) ∙ there in
       let known = queue_known c h legal t is in
       let n = tasks_counted h in
       (omega (arith, n, known), ap (λ r. r.ending) (row_sound h (sound_legal c h legal) c t) ∙ unended c h (told_legal c h legal) t (not_gone (place h t) is))
@@ -230,7 +230,7 @@ module _ (c : Config) (h : List Entry) (legal : Legal c h) where
       not_gone p is = grind arith
 
   -- the queued tasks are those in the queue
-  pub gone_queued : (t : ℕ) → cond (is_among t (queue h)) (gone (task_at (state c h) t)) (task_at (state c h) t) ≡ handed (task_at (state c h) t)
+  pub gone_queued : (t : ℕ) → cond (is_among t (queue c h)) (gone (task_at (state c h) t)) (task_at (state c h) t) ≡ handed (task_at (state c h) t)
   gone_queued t =
       let r = task_at (state c h) t in
-      ap (λ b. cond b (gone r) r) (among-queue h t ∙ ap (λ y. is_queued_place y.place) (sym (row_sound h (sound_legal c h legal) c t)))
+      ap (λ b. cond b (gone r) r) (among-queue c h t ∙ ap (λ y. is_queued_place y.place) (sym (row_sound h (sound_legal c h legal) c t)))

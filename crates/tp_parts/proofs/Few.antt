@@ -34,7 +34,7 @@ module _ {P : Type 0} (p : Parts P) (stands : Stands p) where
       let n = few_entries in
       let e = stands.shows.entries in
       let q = ap length stands.shows.seen.queued ∙ numbers_counted (waiting_of p.queue).items in
-      let u = queue_short stands.history in
+      let u = queue_short p.config stands.history in
       omega (arith, n, e, q, u)
 
   pub few_completions : p.completions ≤ 1048576

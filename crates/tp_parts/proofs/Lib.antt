@@ -9,7 +9,7 @@ pub mod Slots
 pub mod Offers
 pub mod Removals
 pub mod Answering
-pub mod Places
+pub mod Joins
 pub mod Purging
 pub mod Falls
 pub mod Drains

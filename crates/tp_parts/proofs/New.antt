@@ -1,10 +1,11 @@
 -- The structures of a pool without tasks show the state of the empty history, and are tied.
-use Rattle.std.proofs.Common.{◌≡◌, ℕ, [], None, refl, arith, sym, ap, subst, ◌∙◌}
+use Rattle.std.proofs.Common.{◌≡◌, ℕ, Bool, true, false, cond, List, [], refl, arith, sym, ap, subst, ◌∙◌}
 use Rattle.std.specs.Prelude.{is_some, count_by}
 use Rattle.std.specs.List.{Contains}
 use Rattle.tp_types.specs.Config.{IsConfig}
 use Rattle.tp_types.specs.declared.configs.Config.{Config}
 use Rattle.tp_types.specs.declared.states.RunState.TheVariants.{Running}
+use Rattle.tp_types.specs.Queues.{is_ranked}
 use Rattle.tp_record.specs.Fields.{is_live}
 use Rattle.tp_record.specs.State.{slot_at}
 use Rattle.tp_queue.specs.declared.queues.Queue.{Queue}
@@ -17,6 +18,11 @@ use Rattle.tp_tasks.specs.Tasks.{HasNone}
 use Rattle.tp_parts.specs.declared.parts.Parts.{Parts}
 use Rattle.tp_parts.specs.Shows.{numbers}
 use Rattle.tp_parts.specs.Tied.{IsNew, waits, KeepsPromise}
+
+-- an empty line, whether it goes by priority or not
+empty_line : (b : Bool) → ◌≡◌ {A = List ℕ} (cond b [] []) []
+empty_line true = refl
+empty_line false = refl
 
 module _ {P : Type 0} where
   abbrev pub first_parts : Config → Tasks P → Queue → Table → Parts P
@@ -56,7 +62,7 @@ module _ {P : Type 0} where
             rows = λ t known. absurd (let n : ⊥ = omega (arith, known) in n);
             unknown = λ t past. ap row_of_task (nothing.tasks t);
             fates = λ f. sym (nothing.fates f);
-            queued = sym (ap (λ w. numbers w.items) first);
+            queued = empty_line (is_ranked c.queue) ∙ sym (ap (λ w. numbers w.items) first);
             seats = λ w. ap (λ xs. slot_at xs w) (sym none);
             order = sym unordered;
             done = λ g. sym (nothing.done g);
@@ -77,7 +83,7 @@ module _ {P : Type 0} where
           queue_places = λ is. let n = nothing.submitted in omega (arith, n);
           offers = let n = ap (λ w. w.offers) first in omega (arith, n);
           idlings = omega (arith, idled);
-          numbered = λ t k has. let no = subst (λ xs. Contains xs (t, k)) (ap (λ w. w.items) first) has in let below = no.1 in absurd (let n : ⊥ = omega (arith, below) in n);
+          keyed = λ t k has. let no = subst (λ xs. Contains xs (t, k)) (ap (λ w. w.items) first) has in let below = no.1 in absurd (let n : ⊥ = omega (arith, below) in n);
           payloads = λ t. ap (λ k. is_some (payload_of_task k)) (nothing.tasks t) ∙ ap (λ k. waits (row_of_task k)) (sym (nothing.tasks t));
           promises = λ t. subst (λ k. KeepsPromise (promise_of_task k) (row_of_task k)) (sym (nothing.tasks t)) tt;
         };

@@ -1,223 +1,265 @@
--- A purge, task by task: what is left to do leads to the same end.
-use Rattle.std.proofs.Common.{◌≡◌, ℕ, zero, suc, ◌+◌, ◌<◌, Bool, true, false, not, ◌&&◌, ◌||◌, cond, List, [], ◌∷◌, length, Some, Contains, refl, arith, sym, ap, subst, ◌∙◌, inl, inr}
-use mathlib.Core.Path.{fun_ext}
-use Rattle.std.specs.Prelude.{◌==◌, filter, count_by, sum_by, slice_index_or, if◌then◌else◌}
-use Rattle.std.proofs.lemmas.Bool.{cases_eq, eq-eqb, ne_eqb, false≢true, and_parts}
-use Rattle.std.proofs.lemmas.List.Elements.{Contains-append_right}
+-- A purge: what a pass over the queue takes out of it is gone, and all else stays.
+use Rattle.std.proofs.Common.{◌≡◌, ℕ, suc, ◌+◌, Bool, true, false, not, ◌&&◌, ◌||◌, cond, List, [], ◌∷◌, length, map, Option, Some, None, Contains, refl, arith, sym, ap, subst, ◌∙◌, ◌<◌, inl, inr}
+use Rattle.std.specs.Prelude.{◌==◌, nat_eq, filter, count_by, sum_by, is_some, option_map}
+use Rattle.std.specs.List.{FoldsTo}
+use Rattle.std.proofs.lemmas.Bool.{cases_eq, eq-eqb, ne_eqb, false≢true}
 use Rattle.std.proofs.lemmas.List.Sums.{sum_by-cons}
-use Rattle.tp_line.specs.Line.{Ordered, without_place}
+use Rattle.tp_line.specs.Line.{ids}
+use Rattle.tp_types.specs.declared.configs.Config.{Config}
 use Rattle.tp_types.specs.declared.ids.TaskId.{TaskId}
 use Rattle.tp_types.specs.declared.tasks.Place.{Place}
 use Rattle.tp_types.specs.declared.tasks.Place.TheVariants as at
+use Rattle.tp_types.specs.declared.tasks.Promise.{Promise}
 use Rattle.tp_record.specs.declared.rows.TaskRow.{TaskRow}
 use Rattle.tp_record.specs.Fields.{is_queued_place}
-use Rattle.tp_record.specs.Lists.{without}
 use Rattle.tp_model.proofs.Queues.{is_among, among-filter, Contains-from_among, among_from_Contains}
+use Rattle.tp_queue.specs.declared.queues.Queue.{Queue}
 use Rattle.tp_queue.specs.Queues.{waiting_of}
-use Rattle.tp_tasks.specs.Tasks.{row_of}
-use Rattle.tp_shapes.specs.View.{View, put}
+use Rattle.tp_tasks.specs.declared.tasks.Tasks.{Tasks}
+use Rattle.tp_tasks.specs.declared.table.Task.{Task}
+use Rattle.tp_tasks.specs.Table.{row_of_task, number_of_task, payload_of_task, promise_of_task}
+use Rattle.tp_tasks.specs.Tasks.{task_of, row_of, number_of, payload_of, promise_of, submissions, KeepsDone, KeepsFates, Purges, was_cancelled}
+use Rattle.tp_shapes.specs.View.{View}
 use Rattle.tp_shapes.proofs.Controllers.Purge.{purged}
 use Rattle.tp_parts.specs.declared.parts.Parts.{Parts}
-use Rattle.tp_parts.specs.Purges.{was_cancelled, cancelled_items, HoldsQueued}
+use Rattle.tp_parts.specs.Purges.{HoldsQueued}
 use Rattle.tp_parts.specs.Shows.{Views, numbers}
-use Rattle.tp_parts.proofs.Places.{filters_swap, Ordered-filter, without_place-first}
+use Rattle.tp_parts.specs.Tied.{IsTied, is_before, priority_in, waits, KeepsPromise}
+use Rattle.tp_parts.proofs.Queued.{contains_filter}
+use Rattle.tp_parts.proofs.Ties.{keyed_by, keyed_row}
 
--- what is seen after a purge, and after one task of it
-abbrev pub swept : View → View
-swept v = record v { tasks = λ t. purged (v.tasks t); queue = filter (λ t. not (v.tasks t).cancelled) v.queue }
+abbrev pub gone : TaskRow → TaskRow
+gone r = record r { place = at.Gone }
 
-abbrev pub less : ℕ → View → View
-less t v = record v { tasks = put t (record (v.tasks t) { place = at.Gone }) v.tasks; queue = without t v.queue }
+-- these tasks are gone, and nothing else of the tasks is changed
+pub record AreGone {P : Type 0} (old new : Tasks P) (ts : List ℕ) : Type 0 where
+  pub rows : (u : ℕ) → row_of new u ≡ cond (is_among u ts) (option_map gone (row_of old u)) (row_of old u)
+  pub places : (u : ℕ) → number_of new u ≡ number_of old u
+  pub payloads : (u : ℕ) → payload_of new u ≡ payload_of old u
+  pub promises : (u : ℕ) → promise_of new u ≡ promise_of old u
+  pub done : KeepsDone old new
+  pub fates : KeepsFates old new
+  pub submitted : submissions new ≡ submissions old
 
--- the task by its row after one task of the purge
-less_flag : (v : View) (t u : ℕ) → ((less t v).tasks u).cancelled ≡ (v.tasks u).cancelled
-less_flag v t u = elim (cases_eq u t) [
-  | inl same ↦ rw (eq-eqb u t same) (ap (λ x. (v.tasks x).cancelled) (sym same))
-  | inr ne ↦ rw (ne_eqb u t ne) refl
-]
-
-purged_queued : (r : TaskRow) → r.place ≡ at.Queued → r.cancelled ≡ true → purged r ≡ record r { place = at.Gone }
-purged_queued r placed off = ap (λ p. cond (is_queued_place p && r.cancelled) (record r { place = at.Gone }) r) placed ∙ ap (λ b. cond b (record r { place = at.Gone }) r) off
-
-filter_out : (q : ℕ → Bool) (t : ℕ) (xs : List ℕ) → q t ≡ false → filter q (without t xs) ≡ filter q xs
-filter_out q t [] off = refl
-filter_out q t (x ∷ xs) off = elim (cases_eq x t) [
-  | inl same ↦ rw (eq-eqb x t same) (filter_out q t xs off ∙ sym (ap (λ b. cond b (x ∷ filter q xs) (filter q xs)) (ap q same ∙ off)))
-  | inr ne ↦ rw (ne_eqb x t ne) (ap (λ zs. cond (q x) (x ∷ zs) zs) (filter_out q t xs off))
-]
-
--- the rest of the purge leads to the same end
-pub swept_less : (v : View) (t : ℕ) → (v.tasks t).place ≡ at.Queued → (v.tasks t).cancelled ≡ true → swept (less t v) ≡ swept v
-swept_less v t placed off =
-    let tasks : ◌≡◌ {A = ℕ → TaskRow} (λ u. purged ((less t v).tasks u)) (λ u. purged (v.tasks u)) = fun_ext (λ u. elim (cases_eq u t) [
-      | inl same ↦ rw (eq-eqb u t same) (sym (purged_queued (v.tasks t) placed off) ∙ ap (λ x. purged (v.tasks x)) (sym same))
-      | inr ne ↦ rw (ne_eqb u t ne) refl
-    ]) in
-    let queue : filter (λ u. not ((less t v).tasks u).cancelled) (without t v.queue) ≡ filter (λ u. not (v.tasks u).cancelled) v.queue =
-    ap (λ f. filter f (without t v.queue)) (fun_ext (λ u. ap not (less_flag v t u))) ∙ filter_out (λ u. not (v.tasks u).cancelled) t v.queue (ap not off) in
-    λ i. record (swept v) { tasks = tasks i; queue = queue i }
-
-among_less : (v : View) (t u : ℕ) → is_among u (without t v.queue) ≡ (not (u == t) && is_among u v.queue)
-among_less v t u = among-filter u (λ x. not (x == t)) v.queue
-
--- and the queue still holds those whose place it is
-pub holds_less : (v : View) (t : ℕ) → HoldsQueued v → HoldsQueued (less t v)
-holds_less v t holds = record {
-  known = λ u has. holds.known u (Contains-from_among v.queue u ((parts u has).1));
-  placed = λ u. (
-    (λ has. rw (off u (parts u has).0) ((holds.placed u).0 (Contains-from_among v.queue u ((parts u has).1)))),
-    (λ placed. elim (cases_eq u t) [
-      | inl same ↦ absurd (gone (sym (ap (λ b. (if b then record (v.tasks t) { place = at.Gone } else v.tasks u).place) (eq-eqb u t same)) ∙ placed))
-      | inr ne ↦
-          let stays : (v.tasks u).place ≡ at.Queued = sym (ap (λ b. (if b then record (v.tasks t) { place = at.Gone } else v.tasks u).place) (ne_eqb u t ne)) ∙ placed in
-          Contains-from_among (without t v.queue) u (among_less v t u ∙ rw (ne_eqb u t ne) (among_from_Contains v.queue u ((holds.placed u).1 stays)))
-    ]),
-  );
-}
+-- one task after another
+pub are_gone : {P : Type 0} (old new : Tasks P) (ts : List TaskId) → FoldsTo (λ m t n. Purges m n t.0) old ts new → AreGone old new (map (λ t. t.0) ts)
+are_gone {P} old new [] same =
+    let Q : Tasks P → Type 0 = λ m. AreGone old m [] in
+    subst Q same (record { rows = λ u. refl; places = λ u. refl; payloads = λ u. refl; promises = λ u. refl; done = λ g. refl; fates = λ f. refl; submitted = refl })
+are_gone {P} old new (t ∷ ts) folds =
+    let mid = folds.0 in
+    let first : Purges old mid t.0 = folds.1 in
+    let rest = are_gone mid new ts folds.2 in
+    let s = first.set in
+    record {
+      rows = λ u. elim (cases_eq u t.0) [
+        | inl same ↦ rw (eq-eqb u t.0 same) (here u same (is_among u (map (λ x. x.0) ts)) (rest.rows u) first)
+        | inr apart ↦ rw (ne_eqb u t.0 apart) (rest.rows u ∙ ap (λ o. cond (is_among u (map (λ x. x.0) ts)) (option_map gone o) o) (ap row_of_task (s.others u (ne_eqb t.0 u (λ b. apart (sym b))))))
+      ];
+      places = λ u. rest.places u ∙ kept number_of_task u (s.others u) s.number;
+      payloads = λ u. rest.payloads u ∙ kept payload_of_task u (s.others u) s.payload;
+      promises = λ u. rest.promises u ∙ kept promise_of_task u (s.others u) s.promise;
+      done = λ g. rest.done g ∙ first.done g;
+      fates = λ f. rest.fates f ∙ first.fates f;
+      submitted = rest.submitted ∙ s.submitted;
+    }
   where
-    parts : (u : ℕ) → Contains (without t v.queue) u → (not (u == t) ≡ true) × (is_among u v.queue ≡ true)
-    parts u has = and_parts (not (u == t)) (is_among u v.queue) (sym (among_less v t u) ∙ among_from_Contains (without t v.queue) u has)
+    mid : Tasks P
+    mid = folds.0
 
-    off : (u : ℕ) → not (u == t) ≡ true → (u == t) ≡ false
-    off u is = by (u == t) is
+    here : (u : ℕ) → u ≡ t.0 → (b : Bool) → row_of new u ≡ cond b (option_map gone (row_of mid u)) (row_of mid u) → Purges old mid t.0 → row_of new u ≡ option_map gone (row_of old u)
+    here u same b now first =
+        let was : row_of old u ≡ Some first.row = ap (row_of old) same ∙ first.there in
+        let is : row_of mid u ≡ Some (gone first.row) = ap (row_of mid) same ∙ first.set.row in
+        now ∙ ap (λ o. cond b (option_map gone o) o) is ∙ twice b first.row ∙ sym (ap (option_map gone) was)
       where
-        by : (b : Bool) → not b ≡ true → b ≡ false
-        by true is = absurd (false≢true is)
-        by false is = refl
+        twice : (b : Bool) (r : TaskRow) → ◌≡◌ {A = Option TaskRow} (cond b (option_map gone (Some (gone r))) (Some (gone r))) (Some (gone r))
+        twice true r = refl
+        twice false r = refl
 
-    gone : at.Gone ≡ at.Queued → ⊥
-    gone e = cc
+    kept : {A : Type 0} (f : Option (Task P) → A) (u : ℕ) → (nat_eq t.0 u ≡ false → task_of mid u ≡ task_of old u) → f (task_of mid t.0) ≡ f (task_of old t.0) → f (task_of mid u) ≡ f (task_of old u)
+    kept f u other here = elim (cases_eq u t.0) [
+      | inl same ↦ ap (λ x. f (task_of mid x)) same ∙ here ∙ ap (λ x. f (task_of old x)) (sym same)
+      | inr apart ↦ ap f (other (ne_eqb t.0 u (λ b. apart (sym b))))
+    ]
 
+-- Lists of items
+
+-- the numbers of those that pass a test
+pub numbers-filter : (f : ℕ → Bool) (xs : List (TaskId × ℕ)) → numbers (filter (λ x. f x.0.0) xs) ≡ filter f (numbers xs)
+numbers-filter f [] = refl
+numbers-filter f (x ∷ xs) = by (f x.0.0) (numbers-filter f xs)
+  where
+    by : (b : Bool) → numbers (filter (λ y. f y.0.0) xs) ≡ filter f (numbers xs) → numbers (cond b (x ∷ filter (λ y. f y.0.0) xs) (filter (λ y. f y.0.0) xs)) ≡ cond b (x.0.0 ∷ filter f (numbers xs)) (filter f (numbers xs))
+    by true rest = ap (λ us. x.0.0 ∷ us) rest
+    by false rest = rest
+
+numbers-ids : (xs : List (TaskId × ℕ)) → map (λ t. t.0) (ids xs) ≡ numbers xs
+numbers-ids [] = refl
+numbers-ids (x ∷ xs) = ap (λ us. x.0.0 ∷ us) (numbers-ids xs)
+
+pub numbers_length : (xs : List (TaskId × ℕ)) → length xs ≡ length (numbers xs)
+numbers_length [] = refl
+numbers_length (x ∷ xs) = ap suc (numbers_length xs)
+
+-- tests that agree on a list
 or_true : (b : Bool) → (b || true) ≡ true
 or_true true = refl
 or_true false = refl
 
--- where no queued task is cancelled the purge is done
-purged_still : (r : TaskRow) → (r.place ≡ at.Queued → r.cancelled ≡ false) → purged r ≡ r
-purged_still r alive = by r.place refl
-  where
-    kept : (p : Place) → is_queued_place p ≡ false → cond (is_queued_place p && r.cancelled) (record r { place = at.Gone }) r ≡ r
-    kept p off = ap (λ b. cond (b && r.cancelled) (record r { place = at.Gone }) r) off
+filter_alike : (f g : ℕ → Bool) (xs : List ℕ) → ((x : ℕ) → is_among x xs ≡ true → f x ≡ g x) → filter f xs ≡ filter g xs
+filter_alike f g [] same = refl
+filter_alike f g (x ∷ xs) same =
+    let here : f x ≡ g x = same x (rw (eq-eqb x x refl) refl) in
+    rw here (ap (λ ys. cond (g x) (x ∷ ys) ys) (filter_alike f g xs (λ y is. same y (rw is (or_true (y == x))))))
 
-    by : (p : Place) → r.place ≡ p → cond (is_queued_place p && r.cancelled) (record r { place = at.Gone }) r ≡ r
-    by at.Queued is = ap (λ b. cond b (record r { place = at.Gone }) r) (alive is)
-    by _ is = refl
-
-none_counted : (f : ℕ → Bool) (xs : List ℕ) → count_by f xs ≡ 0 → (x : ℕ) → is_among x xs ≡ true → f x ≡ false
-none_counted f [] none x is = absurd (false≢true is)
-none_counted f (y ∷ ys) none x is = elim (cases_eq x y) [
-  | inl same ↦ by (f y) refl (ap f same)
-  | inr ne ↦ none_counted f ys rest x (sym (ap (λ b. b || is_among x ys) (ne_eqb x y ne)) ∙ is)
-]
-  where
-    counted : sum_by (λ z. cond (f z) 1 0) (y ∷ ys) ≡ cond (f y) 1 0 + sum_by (λ z. cond (f z) 1 0) ys
-    counted = sum_by-cons (λ z. cond (f z) 1 0) y ys
-
-    rest : count_by f ys ≡ 0
-    rest = omega (arith, counted, none)
-
-    by : (b : Bool) → f y ≡ b → f x ≡ f y → f x ≡ false
-    by true is same = let e = counted in let n : ◌≡◌ {A = ℕ} (cond (f y) 1 0) 1 = ap (λ b. cond b 1 0) is in absurd (omega (arith, e, n, none))
-    by false is same = same ∙ is
-
-filter_alive : (f : ℕ → Bool) (xs : List ℕ) → ((x : ℕ) → is_among x xs ≡ true → f x ≡ false) → filter (λ x. not (f x)) xs ≡ xs
-filter_alive f [] alive = refl
-filter_alive f (y ∷ ys) alive =
-    let here : f y ≡ false = alive y (rw (eq-eqb y y refl) refl) in
-    rw here (ap (λ zs. y ∷ zs) (filter_alive f ys (λ x is. alive x (rw is (or_true (x == y))))))
-
-pub swept_done : (v : View) → HoldsQueued v → count_by (λ t. (v.tasks t).cancelled) v.queue ≡ 0 → swept v ≡ v
-swept_done v holds none =
-    let alive = none_counted (λ t. (v.tasks t).cancelled) v.queue none in
-    let tasks : ◌≡◌ {A = ℕ → TaskRow} (λ u. purged (v.tasks u)) v.tasks = fun_ext (λ u. purged_still (v.tasks u) (λ placed. alive u (among_from_Contains v.queue u ((holds.placed u).1 placed)))) in
-    let queue : filter (λ u. not (v.tasks u).cancelled) v.queue ≡ v.queue = filter_alive (λ u. (v.tasks u).cancelled) v.queue alive in
-    λ i. record v { tasks = tasks i; queue = queue i }
-
--- The structures
-
--- who waits at a place waits
-pub waits_at : (xs : List (TaskId × ℕ)) (x : TaskId × ℕ) → Contains xs x → is_among x.0.0 (numbers xs) ≡ true
-waits_at [] x has = absurd (omega (arith, has.1))
-waits_at (y ∷ ys) x has = at_index has.0 has.1 has.2 (waits_at ys x)
-  where
-    at_index : (k : ℕ) → k < suc (length ys) → slice_index_or (y ∷ ys) k x ≡ x → (Contains ys x → is_among x.0.0 (numbers ys) ≡ true) → is_among x.0.0 (numbers (y ∷ ys)) ≡ true
-    at_index zero within found rest = rw (eq-eqb x.0.0 y.0.0 (ap (λ z. z.0.0) (sym found))) refl
-    at_index (suc k) within found rest = rw (rest (k, omega arith, found)) (or_true (x.0.0 == y.0.0))
-
--- the tests agree on those that wait
-counted_by : (c : TaskId × ℕ → Bool) (f : ℕ → Bool) (xs : List (TaskId × ℕ)) → ((x : TaskId × ℕ) → Contains xs x → c x ≡ f x.0.0) → length (filter c xs) ≡ count_by f (numbers xs)
-counted_by c f [] same = refl
-counted_by c f (x ∷ xs) same =
-    let rest = counted_by c f xs (λ y has. same y (Contains-append_right (x ∷ []) xs y has)) in
-    let e : sum_by (λ z. cond (f z) 1 0) (numbers (x ∷ xs)) ≡ cond (f x.0.0) 1 0 + sum_by (λ z. cond (f z) 1 0) (numbers xs) = sum_by-cons (λ z. cond (f z) 1 0) x.0.0 (numbers xs) in
-    let here : c x ≡ f x.0.0 = same x (0, omega arith, refl) in
-    let l = by (c x) in
-    let n : ◌≡◌ {A = ℕ} (cond (c x) 1 0) (cond (f x.0.0) 1 0) = ap (λ b. cond b 1 0) here in
-    let p : length (filter c (x ∷ xs)) ≡ count_by f (numbers (x ∷ xs)) = omega (arith, rest, e, l, n) in
+count_length : (f : ℕ → Bool) (xs : List ℕ) → length (filter f xs) ≡ count_by f xs
+count_length f [] = refl
+count_length f (x ∷ xs) =
+    let rest = count_length f xs in
+    let e : sum_by (λ z. cond (f z) 1 0) (x ∷ xs) ≡ cond (f x) 1 0 + sum_by (λ z. cond (f z) 1 0) xs = sum_by-cons (λ z. cond (f z) 1 0) x xs in
+    let l = by (f x) in
+    let p : length (filter f (x ∷ xs)) ≡ count_by f (x ∷ xs) = omega (arith, rest, e, l) in
     p
   where
-    by : (b : Bool) → length (cond b (x ∷ filter c xs) (filter c xs)) ≡ cond b 1 0 + length (filter c xs)
+    by : (b : Bool) → length (cond b (x ∷ filter f xs) (filter f xs)) ≡ cond b 1 0 + length (filter f xs)
     by true = omega arith
     by false = omega arith
 
-module _ {P : Type 0} (p : Parts P) (v : View) (views : Views p v) (holds : HoldsQueued v) where
-  -- a queued task has its row
-  pub queued_row : (x : TaskId × ℕ) → Contains (waiting_of p.queue).items x → row_of p.tasks x.0.0 ≡ Some (v.tasks x.0.0)
-  queued_row x has = views.rows x.0.0 (holds.known x.0.0 (waits x has))
-    where
-      waits : (x : TaskId × ℕ) → Contains (waiting_of p.queue).items x → Contains v.queue x.0.0
-      waits x has = let Q : List ℕ → Type 0 = λ xs. Contains xs x.0.0 in subst Q (sym views.queued) (Contains-from_among _ x.0.0 (waits_at (waiting_of p.queue).items x has))
+queued_place : (p : Place) → is_queued_place p ≡ true → p ≡ at.Queued
+queued_place p is = grind arith
 
-  -- its place is the queue
-  pub queued_placed : (x : TaskId × ℕ) → Contains (waiting_of p.queue).items x → (v.tasks x.0.0).place ≡ at.Queued
-  queued_placed x has = (holds.placed x.0.0).0 (let Q : List ℕ → Type 0 = λ xs. Contains xs x.0.0 in subst Q (sym views.queued) (Contains-from_among _ x.0.0 (waits_at (waiting_of p.queue).items x has)))
+-- What is seen
+
+-- whether a task was cancelled, by its row
+abbrev pub flag : {P : Type 0} → Tasks P → ℕ → Bool
+flag m u = was_cancelled (row_of m u)
+
+module _ {P : Type 0} (p : Parts P) (v : View) (views : Views p v) (holds : HoldsQueued v) where
+  queued_row : (u : ℕ) → is_among u v.queue ≡ true → row_of p.tasks u ≡ Some (v.tasks u)
+  queued_row u is = views.rows u (holds.known u (Contains-from_among v.queue u is))
+
+  -- of a queued task the row says what is seen
+  flag_seen : (u : ℕ) → is_among u v.queue ≡ true → flag p.tasks u ≡ (v.tasks u).cancelled
+  flag_seen u is = ap was_cancelled (queued_row u is)
+
+  -- who is in the queue
+  queued_seen : (u : ℕ) → is_among u v.queue ≡ is_queued_place (v.tasks u).place
+  queued_seen u = by (is_among u v.queue) refl (is_queued_place (v.tasks u).place) refl
+    where
+      by : (a : Bool) → is_among u v.queue ≡ a → (b : Bool) → is_queued_place (v.tasks u).place ≡ b → a ≡ b
+      by true is b placed = sym (sym placed ∙ ap is_queued_place ((holds.placed u).0 (Contains-from_among v.queue u is)))
+      by false is true placed = absurd (false≢true (sym is ∙ among_from_Contains v.queue u ((holds.placed u).1 (queued_place _ placed))))
+      by false is false placed = refl
 
   -- how many queued tasks are cancelled
-  pub cancelled_count : length (cancelled_items p) ≡ count_by (λ t. (v.tasks t).cancelled) v.queue
+  pub cancelled_count : length (filter (λ x. flag p.tasks x.0.0) (waiting_of p.queue).items) ≡ count_by (λ t. (v.tasks t).cancelled) v.queue
   cancelled_count =
-      counted_by (λ x. was_cancelled (row_of p.tasks x.0.0)) (λ t. (v.tasks t).cancelled) (waiting_of p.queue).items (λ x has. ap was_cancelled (queued_row x has))
-      ∙ ap (count_by (λ t. (v.tasks t).cancelled)) (sym views.queued)
+      numbers_length (filter (λ x. flag p.tasks x.0.0) (waiting_of p.queue).items)
+      ∙ ap (λ xs. length xs) (numbers-filter (flag p.tasks) (waiting_of p.queue).items ∙ ap (filter (flag p.tasks)) (sym views.queued) ∙ filter_alike (flag p.tasks) (λ t. (v.tasks t).cancelled) v.queue flag_seen)
+      ∙ count_length (λ t. (v.tasks t).cancelled) v.queue
 
--- the rest of the purge leads from what is seen now to the same end as from v
-pub record Ends {P : Type 0} (p : Parts P) (v : View) : Type 0 where
-  pub now : View
-  pub shown : Views p now
-  pub holds : HoldsQueued now
-  pub same_end : swept now ≡ swept v
+  -- those that stay
+  pub queue_left : filter (λ t. not (v.tasks t).cancelled) v.queue ≡ numbers (filter (λ x. not (flag p.tasks x.0.0)) (waiting_of p.queue).items)
+  queue_left =
+      filter_alike (λ t. not (v.tasks t).cancelled) (λ u. not (flag p.tasks u)) v.queue (λ u is. ap not (sym (flag_seen u is)))
+      ∙ ap (filter (λ u. not (flag p.tasks u))) views.queued
+      ∙ sym (numbers-filter (λ u. not (flag p.tasks u)) (waiting_of p.queue).items)
 
-module _ {P : Type 0} where
-  -- a task of the purge leaves those behind it
-  pub cancelled_left : (old new : Parts P) (next : ℕ) (x : TaskId × ℕ) (rest : List (TaskId × ℕ)) → Ordered 0 (waiting_of old.queue).items next → cancelled_items old ≡ x ∷ rest →
-      waiting_of new.queue ≡ record (waiting_of old.queue) { items = without_place x.1 (waiting_of old.queue).items } →
-      ((u : ℕ) → was_cancelled (row_of new.tasks u) ≡ was_cancelled (row_of old.tasks u)) → cancelled_items new ≡ rest
-  cancelled_left old new next x rest o is queue flags =
-      let c : TaskId × ℕ → Bool = λ y. was_cancelled (row_of old.tasks y.0.0) in
-      let d : TaskId × ℕ → Bool = λ y. was_cancelled (row_of new.tasks y.0.0) in
-      ap (λ w. filter d w.items) queue
-      ∙ ap (λ f. filter f (without_place x.1 (waiting_of old.queue).items)) (fun_ext (λ y. flags y.0.0))
-      ∙ filters_swap c (λ y. not (y.1 == x.1)) (waiting_of old.queue).items
-      ∙ without_place-first 0 (cancelled_items old) rest next x (Ordered-filter c 0 (waiting_of old.queue).items next o) is
+  -- the row of a task after the purge
+  pub row_left : (tasks : Tasks P) → AreGone p.tasks tasks (filter (flag p.tasks) (numbers (waiting_of p.queue).items)) → (u : ℕ) → u < v.submitted → row_of tasks u ≡ Some (purged (v.tasks u))
+  row_left tasks are u known =
+      let row = views.rows u known in
+      are.rows u
+      ∙ ap (λ b. cond b (option_map gone (row_of p.tasks u)) (row_of p.tasks u)) (
+      among-filter u (flag p.tasks) (numbers (waiting_of p.queue).items)
+      ∙ ap (λ xs. flag p.tasks u && is_among u xs) (sym views.queued)
+      ∙ ap (λ b. flag p.tasks u && b) (queued_seen u)
+      ∙ ap (λ o. was_cancelled o && is_queued_place (v.tasks u).place) row
+      )
+      ∙ ap (λ o. cond ((v.tasks u).cancelled && is_queued_place (v.tasks u).place) (option_map gone o) o) row
+      ∙ either (v.tasks u).cancelled (is_queued_place (v.tasks u).place) (v.tasks u)
+    where
+      either : (a b : Bool) (r : TaskRow) → ◌≡◌ {A = Option TaskRow} (cond (a && b) (Some (gone r)) (Some r)) (Some (cond (b && a) (gone r) r))
+      either true true r = refl
+      either true false r = refl
+      either false true r = refl
+      either false false r = refl
 
-  -- the tasks and the queue alone are changed, by this task too
-  pub rest_on : (fn old new : Parts P) → new ≡ record old { tasks = new.tasks; queue = new.queue } → old ≡ record fn { tasks = old.tasks; queue = old.queue } → new ≡ record fn { tasks = new.tasks; queue = new.queue }
-  rest_on fn old new later before = later ∙ ap {A = Parts P} {B = Parts P} (λ p. record p { tasks = new.tasks; queue = new.queue }) before
+  -- no row comes
+  pub none_left : (tasks : Tasks P) (ts : List ℕ) → AreGone p.tasks tasks ts → (u : ℕ) → row_of p.tasks u ≡ None → row_of tasks u ≡ None
+  none_left tasks ts are u none = are.rows u ∙ ap (λ o. cond (is_among u ts) (option_map gone o) o) none ∙ either (is_among u ts)
+    where
+      either : (b : Bool) → ◌≡◌ {A = Option TaskRow} (cond b None None) None
+      either true = refl
+      either false = refl
 
-  -- and leads on to the same end
-  pub ends_less : (old new : Parts P) (t : TaskId) (number : ℕ) → Contains (waiting_of old.queue).items (t, number) → was_cancelled (row_of old.tasks t.0) ≡ true →
-      ((v : View) → Views old v → Views new (less t.0 v)) → (v : View) → Ends old v → Ends new v
-  ends_less old new t number there off step v e =
-      let row = queued_row old e.now e.shown e.holds (t, number) there in
-      let placed = queued_placed old e.now e.shown e.holds (t, number) there in
+-- What ties the structures together lasts
+module _ {P : Type 0} (c : Config) (n : ℕ) (old : Parts P) (tied : IsTied c n old) where
+  row_gone : (b : Bool) (o : Option TaskRow) → priority_in (cond b (option_map gone o) o) ≡ priority_in o
+  row_gone true None = refl
+  row_gone true (Some r) = refl
+  row_gone false o = refl
+
+  -- who was cancelled waits no more than before
+  wait_gone : (b : Bool) (o : Option TaskRow) → waits (cond (was_cancelled o && b) (option_map gone o) o) ≡ waits o
+  wait_gone b None = by b
+    where
+      by : (b : Bool) → waits (cond (false && b) (option_map gone None) None) ≡ false
+      by true = refl
+      by false = refl
+  wait_gone b (Some r) = by r.cancelled refl b
+    where
+      dead : (b : Bool) → (b && false) ≡ false
+      dead true = refl
+      dead false = refl
+
+      by : (d : Bool) → r.cancelled ≡ d → (b : Bool) → waits (cond (d && b) (Some (gone r)) (Some r)) ≡ (is_before r.place && not r.cancelled)
+      by true is true = sym (ap (λ d. is_before r.place && not d) is ∙ dead (is_before r.place))
+      by true is false = refl
+      by false is b = refl
+
+  promise_gone : (b : Bool) (p : Option Promise) (o : Option TaskRow) → KeepsPromise p o → KeepsPromise p (cond b (option_map gone o) o)
+  promise_gone true None None kept = tt
+  promise_gone true None (Some r) kept = tt
+  promise_gone true (Some p) None kept = tt
+  promise_gone true (Some p) (Some r) kept = kept
+  promise_gone false p o kept = kept
+
+  pub tied_purged : (tasks : Tasks P) (queue : Queue) → AreGone old.tasks tasks (filter (flag old.tasks) (numbers (waiting_of old.queue).items)) →
+      waiting_of queue ≡ record (waiting_of old.queue) { items = filter (λ x. not (flag old.tasks x.0.0)) (waiting_of old.queue).items } → IsTied c n (record old { tasks = tasks; queue = queue })
+  tied_purged tasks queue are is =
+      let places = ap (λ w. w.capacity) is in
+      let came = ap (λ w. w.offers) is in
+      let offers = tied.offers in
+      let counted = are.submitted in
+      let ts = filter (flag old.tasks) (numbers (waiting_of old.queue).items) in
       record {
-        now = less t.0 e.now;
-        shown = step e.now e.shown;
-        holds = holds_less e.now t.0 e.holds;
-        same_end = swept_less e.now t.0 placed (ap was_cancelled (sym row) ∙ off) ∙ e.same_end;
+        made_with = tied.made_with;
+        config = tied.config;
+        least = tied.least;
+        sizes = tied.sizes;
+        places = tied.places;
+        kind = ap (λ w. w.kind) is ∙ tied.kind;
+        queue_places = λ open_kind. let k = tied.queue_places open_kind in omega (arith, places, k, counted);
+        offers = omega (arith, came, offers);
+        idlings = tied.idlings;
+        keyed = λ t k has.
+            keyed_by (waiting_of queue) (waiting_of old.queue) _ _ k (ap (λ w. w.kind) is) (omega (arith, came))
+            (keyed_row (waiting_of old.queue) (row_of tasks t.0) (row_of old.tasks t.0) (number_of tasks t.0) (number_of old.tasks t.0) k
+            (ap priority_in (are.rows t.0) ∙ row_gone (is_among t.0 ts) (row_of old.tasks t.0)) (are.places t.0)
+            (tied.keyed t k (contains_filter (λ x. not (flag old.tasks x.0.0)) (waiting_of old.queue).items (t, k) (subst (λ w. Contains w.items (t, k)) is has))));
+        payloads = λ u.
+            ap (λ o. is_some o) (are.payloads u) ∙ tied.payloads u
+            ∙ sym (ap waits (are.rows u ∙ ap (λ b. cond b (option_map gone (row_of old.tasks u)) (row_of old.tasks u)) (among-filter u (flag old.tasks) (numbers (waiting_of old.queue).items)))
+            ∙ wait_gone (is_among u (numbers (waiting_of old.queue).items)) (row_of old.tasks u));
+        promises = λ u.
+            let Q : Option Promise → Option TaskRow → Type 0 = λ p o. KeepsPromise p o in
+            subst (Q (promise_of tasks u)) (sym (are.rows u)) (subst (λ p. Q p (cond (is_among u ts) (option_map gone (row_of old.tasks u)) (row_of old.tasks u))) (sym (are.promises u)) (promise_gone (is_among u ts) (promise_of old.tasks u) (row_of old.tasks u) (tied.promises u)));
       }
 
-  -- until none is left
-  pub ends_done : (p : Parts P) (v : View) → cancelled_items p ≡ [] → Ends p v → Views p (swept v)
-  ends_done p v none e =
-      let Q : View → Type 0 = λ x. Views p x in
-      let counted : count_by (λ t. (e.now.tasks t).cancelled) e.now.queue ≡ 0 = sym (cancelled_count p e.now e.shown e.holds) ∙ ap length none in
-      subst Q (sym (swept_done e.now e.holds counted) ∙ e.same_end) e.shown
+-- the tasks after a sweep of the queue
+pub gone_swept : {P : Type 0} (old new : Tasks P) (items : List (TaskId × ℕ)) → FoldsTo (λ m t n. Purges m n t.0) old (ids (filter (λ x. flag old x.0.0) items)) new → AreGone old new (filter (flag old) (numbers items))
+gone_swept {P} old new items folds =
+    let Q : List ℕ → Type 0 = λ ts. AreGone old new ts in
+    subst Q (numbers-ids (filter (λ x. flag old x.0.0) items) ∙ numbers-filter (flag old) items) (are_gone old new (ids (filter (λ x. flag old x.0.0) items)) folds)

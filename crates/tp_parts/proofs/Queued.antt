@@ -1,19 +1,23 @@
 -- The tasks that wait, by their numbers, and their places in the queue; and what a change of the queue keeps.
-use Rattle.std.proofs.Common.{◌≡◌, ℕ, zero, suc, ◌<◌, ◌≤◌, Bool, true, false, not, cond, List, [], ◌∷◌, drop, length, Some, None, refl, arith, sym, ap, ◌∙◌, subst, ◌⊎◌, inl, inr}
+use Rattle.std.proofs.Common.{◌≡◌, ℕ, zero, suc, ◌<◌, ◌≤◌, Bool, true, false, not, cond, List, [], ◌∷◌, drop, length, Option, Some, None, refl, arith, sym, ap, ◌∙◌, subst, ◌⊎◌, inl, inr}
 use Rattle.std.specs.Prelude.{◌==◌, filter, option_map, slice_get, slice_index_or}
 use Rattle.std.specs.List.{Contains}
 use Rattle.std.proofs.lemmas.Bool.{eq-eqb, ne_eqb, cases_eq}
+use Rattle.std.proofs.lemmas.Option.{same_Some}
 use Rattle.std.proofs.lemmas.List.Elements.{All-contains, All-filter, All-contains_itself, Contains-append_right}
 use Rattle.tp_line.specs.Line.{Ordered, without_place}
 use Rattle.tp_types.specs.declared.configs.Config.{Config}
 use Rattle.tp_types.specs.declared.ids.TaskId.{TaskId}
+use Rattle.tp_record.specs.declared.rows.TaskRow.{TaskRow}
 use Rattle.tp_record.specs.Lists.{without}
 use Rattle.tp_queue.specs.declared.queues.Queue.{Queue}
 use Rattle.tp_queue.specs.Queues.{waiting_of}
+use Rattle.tp_queue.specs.Waiting.{Waiting, place_key}
 use Rattle.tp_shapes.specs.View.{View}
 use Rattle.tp_parts.specs.declared.parts.Parts.{Parts}
 use Rattle.tp_parts.specs.Shows.{Views, numbers}
-use Rattle.tp_parts.specs.Tied.{IsTied}
+use Rattle.tp_parts.specs.Tied.{IsKeyed, IsTied, priority_in}
+use Rattle.tp_parts.proofs.Ties.{keyed_by}
 
 pub queue_head : (items : List (TaskId × ℕ)) (t : TaskId) → option_map (λ x. x.0) (slice_get items 0) ≡ Some t → numbers items ≡ t.0 ∷ numbers (drop 1 items)
 queue_head [] t is = absurd (let n : ⊥ = cc in n)
@@ -24,7 +28,7 @@ queue_empty [] is = refl
 queue_empty (x ∷ xs) is = absurd (let n : ⊥ = cc in n)
 
 -- in a list: its head, or in its rest
-contains_cases : {A : Type 0} (y : A) (ys : List A) (x : A) → Contains (y ∷ ys) x → (y ≡ x) ⊎ Contains ys x
+pub contains_cases : {A : Type 0} (y : A) (ys : List A) (x : A) → Contains (y ∷ ys) x → (y ≡ x) ⊎ Contains ys x
 contains_cases y ys x has = at_index has.0 has.1 has.2
   where
     at_index : (k : ℕ) → k < suc (length ys) → slice_index_or (y ∷ ys) k x ≡ x → (y ≡ x) ⊎ Contains ys x
@@ -72,6 +76,12 @@ numbers-without_place (x ∷ xs) t k same =
     by true rest = rest
     by false rest = ap (λ ys. x.0.0 ∷ ys) rest
 
+-- a task waits under one key
+pub key_once : (w : Waiting) (row : Option TaskRow) (place : Option ℕ) (k m number : ℕ) → place ≡ Some number → k ≡ place_key w.kind (priority_in row) number → IsKeyed w row place m → m ≡ k
+key_once w row place k m number is made keyed =
+    let same : keyed.number ≡ number = same_Some keyed.number number (sym keyed.known ∙ is) in
+    keyed.made ∙ ap (place_key w.kind (priority_in row)) same ∙ sym made
+
 -- a task that waits at this place alone leaves with it
 pub numbers-unqueued : (xs : List (TaskId × ℕ)) (next : ℕ) (t : TaskId) (k : ℕ) → Ordered 0 xs next → Contains (numbers xs) t.0 → ((m : ℕ) → Contains xs (t, m) → m ≡ k) → numbers (without_place k xs) ≡ without t.0 (numbers xs)
 numbers-unqueued xs next t k o has only =
@@ -106,7 +116,7 @@ module _ {P : Type 0} (c : Config) (n : ℕ) (old : Parts P) (tied : IsTied c n 
         queue_places = λ unbounded. let k = tied.queue_places unbounded in omega (arith, places, k);
         offers = omega (arith, came, offers);
         idlings = tied.idlings;
-        numbered = λ t k has. tied.numbered t k (fewer (t, k) (subst (λ w. Contains w.items (t, k)) is has));
+        keyed = λ t k has. keyed_by (waiting_of queue) (waiting_of old.queue) _ _ k (ap (λ w. w.kind) is) (omega (arith, came)) (tied.keyed t k (fewer (t, k) (subst (λ w. Contains w.items (t, k)) is has)));
         payloads = tied.payloads;
         promises = tied.promises;
       }

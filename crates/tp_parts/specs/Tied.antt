@@ -1,16 +1,17 @@
 -- What ties a pool's structures to one another and to its settings.
-use Rattle.std.specs.Prelude.{ℕ, ◌≡◌, ◌≤◌, Bool, true, false, not, ◌&&◌, [], Option, Some, None, is_some, IfSome}
+use Rattle.std.specs.Prelude.{ℕ, ◌≡◌, ◌<◌, ◌≤◌, Bool, true, false, not, ◌&&◌, [], Option, Some, None, is_some, IfSome, IsTrue}
 use Rattle.std.specs.List.{Contains}
 use Rattle.tp_types.specs.Config.{IsConfig}
 use Rattle.tp_types.specs.Promise.{FitsPromise}
 use Rattle.tp_types.specs.declared.configs.Config.{Config}
-use Rattle.tp_types.specs.declared.configs.QueueKind.TheVariants.{Unbounded}
 use Rattle.tp_types.specs.declared.ids.TaskId.{TaskId}
 use Rattle.tp_types.specs.declared.tasks.Place.{Place}
 use Rattle.tp_types.specs.declared.tasks.Place.TheVariants as at
 use Rattle.tp_types.specs.declared.tasks.Promise.{Promise}
+use Rattle.tp_types.specs.Queues.{is_open}
 use Rattle.tp_record.specs.declared.rows.TaskRow.{TaskRow}
 use Rattle.tp_queue.specs.Queues.{waiting_of}
+use Rattle.tp_queue.specs.Waiting.{Waiting, place_key}
 use Rattle.tp_tasks.specs.Tasks.{row_of, number_of, payload_of, promise_of, submissions}
 use Rattle.tp_record.specs.State.{state}
 use Rattle.tp_parts.specs.declared.parts.Parts.{Parts}
@@ -36,6 +37,22 @@ abbrev pub KeepsPromise : Option Promise → Option TaskRow → Type 0
 KeepsPromise (Some p) (Some r) = IfSome r.outcome (FitsPromise p)
 KeepsPromise _ _ = Unit {0}
 
+-- the priority of a task with this row
+abbrev pub priority_in : Option TaskRow → ℕ
+priority_in None = 0
+priority_in (Some r) = r.priority
+
+-- a task with this row and this place number waits under this key: it is made of both, and the number is below that of the offers
+pub record IsKeyed (w : Waiting) (row : Option TaskRow) (place : Option ℕ) (key : ℕ) : Type 0 where
+  pub number : ℕ
+  pub accepted : number < w.offers
+  pub known : place ≡ Some number
+  pub made : key ≡ place_key w.kind (priority_in row) number
+
+-- each queued task waits under the key of its priority and of the place number that it knows
+abbrev pub AreKeyed : {P : Type 0} → Parts P → Type 0
+AreKeyed p = (t : TaskId) (key : ℕ) → Contains (waiting_of p.queue).items (t, key) → IsKeyed (waiting_of p.queue) (row_of p.tasks t.0) (number_of p.tasks t.0) key
+
 -- after n entries of a pool that was made with c
 pub record IsTied {P : Type 0} (c : Config) (n : ℕ) (p : Parts P) : Type 0 where
   pub made_with : p.config ≡ c
@@ -44,14 +61,13 @@ pub record IsTied {P : Type 0} (c : Config) (n : ℕ) (p : Parts P) : Type 0 whe
   pub least : 1 ≤ p.maximum
   pub sizes : p.core ≤ p.maximum
   pub places : p.maximum ≤ p.slots.places
-  -- the queue is of the kind that was asked for, and an unbounded one has a place for each task
+  -- the queue is of the kind that was asked for, and one that always has room has a place for each task
   pub kind : (waiting_of p.queue).kind ≡ c.queue
-  pub queue_places : c.queue ≡ Unbounded → submissions p.tasks ≤ (waiting_of p.queue).capacity
+  pub queue_places : IsTrue (is_open c.queue) → submissions p.tasks ≤ (waiting_of p.queue).capacity
   -- there were no more offers, and no more idle workers, than entries
   pub offers : (waiting_of p.queue).offers ≤ n
   pub idlings : p.slots.idlings ≤ n
-  -- each queued task knows its place number
-  pub numbered : (t : TaskId) (k : ℕ) → Contains (waiting_of p.queue).items (t, k) → number_of p.tasks t.0 ≡ Some k
+  pub keyed : AreKeyed p
   -- there is a payload just for each task that waits
   pub payloads : (t : ℕ) → is_some (payload_of p.tasks t) ≡ waits (row_of p.tasks t)
   -- each task ended as it promised

@@ -20,7 +20,7 @@ use tp_types::refusals::PoolError;
 use tp_types::tasks::{Kind, Place, Promise};
 
 impl<P> Parts<P> {
-    /// Makes memory for one more task of this kind, and for its place in an unbounded queue, so that nothing that becomes of
+    /// Makes memory for one more task of this kind, and for its place in a queue that always has room, so that nothing that becomes of
     /// the task takes any. Want of memory is NoMemory (4). Either way the same states are shown.
     #[inline(always)]
     pub fn make_room(&mut self, kind: Kind) -> Result<(), PoolError>
@@ -38,21 +38,28 @@ impl<P> Parts<P> {
         self.tasks.reserve(kind)
     }
 
-    /// A new task of this kind comes, in a place before its beginning, with what its job promises and its payload.
+    /// A new task of this kind and priority comes, in a place before its beginning, with what its job promises and its payload.
     #[inline(always)]
-    pub fn put_task(&mut self, kind: Kind, place: Place, promise: Promise, payload: P) -> TaskId
+    pub fn put_task(
+        &mut self,
+        kind: Kind,
+        priority: u32,
+        place: Place,
+        promise: Promise,
+        payload: P,
+    ) -> TaskId
     where
         P: Drop,
         requires memory { HasMemory self.old kind }
         requires few { submissions self.old.tasks < 2 ^ 32 - 1 }
         requires before { is_before place ≡ true }
         ensures number { result.0 ≡ submissions self.old.tasks }
-        ensures views { (v : View) → Views self.old v → Views self.new (record v { submitted = suc v.submitted; tasks = put result.0 (record no_row { kind = kind; place = place }) v.tasks }) }
+        ensures views { (v : View) → Views self.old v → Views self.new (record v { submitted = suc v.submitted; tasks = put result.0 (record no_row { kind = kind; priority = priority; place = place }) v.tasks }) }
         ensures tied { (c : Config) (n : ℕ) → IsTied c n self.old → IsTied c n self.new }
         ensures rest { self.new ≡ record self.old { tasks = self.new.tasks } }
         ensures payloads { PutsIn self.old.tasks self.new.tasks result.0 promise payload }
     {
-        self.tasks.put(kind, place, promise, payload)
+        self.tasks.put(kind, priority, place, promise, payload)
     }
 
     /// A task that waits is to look again, for one time more.

@@ -51,7 +51,7 @@ came-from t (Then fits) (e ∷ es) a is = ap (λ b. after t (if b then follows t
 
 -- an entry that submits t, and then a path's rest
 path-of : (t : ℕ) (by : ℕ) (a : Ask) (d : Did) (es : List Entry) (end : Admission) → is_submit_of t d ≡ true → GoesOn t (follows t d) es end → IsPath t (record { by = by; ask = a; did = d } ∷ es) end
-path-of t by a (did.Submit u k l) es end is rest = (sym (eqb-true t u.0 is), rest)
+path-of t by a (did.Submit u k p l) es end is rest = (sym (eqb-true t u.0 is), rest)
 path-of t by a _ es end is rest = absurd (cc)
 
 path-if : (t : ℕ) (e : Entry) (es : List Entry) (end : Admission) (b : Bool) → is_submit_of t e.did ≡ b → after t (if b then follows t e.did else Astray) es ≡ Ends end → IsPath t (e ∷ es) end
@@ -63,7 +63,7 @@ front-ends t [] end is = absurd (cc)
 front-ends t (e ∷ es) end is = path-if t e es end (is_submit_of t e.did) refl is
 
 front-of : (t : ℕ) (by : ℕ) (a : Ask) (d : Did) (es : List Entry) (end : Admission) → IsPath t (record { by = by; ask = a; did = d } ∷ es) end → (is_submit_of t d ≡ true) × GoesOn t (follows t d) es end
-front-of t by a (did.Submit u k l) es end is = (eq-eqb t u.0 (sym is.0), is.1)
+front-of t by a (did.Submit u k p l) es end is = (eq-eqb t u.0 (sym is.0), is.1)
 front-of t by a _ es end is = absurd is.0
 
 pub path-is-front : (t : ℕ) (es : List Entry) (end : Admission) → IsPath t es end → IsFront t es (Ends end)

@@ -10,7 +10,7 @@ use Rattle.tp_paths.specs.declared.paths.Ending.{Ending}
 use Rattle.tp_paths.specs.declared.paths.Ending.TheVariants as ending
 
 abbrev pub is_submit_of : ℕ → Did → Bool
-is_submit_of t (did.Submit u k l) = t == u.0
+is_submit_of t (did.Submit u k p l) = t == u.0
 is_submit_of t _ = false
 
 -- what follows after an answer, where this was to follow

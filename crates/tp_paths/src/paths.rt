@@ -52,7 +52,7 @@ pub fn follows(t: TaskId, did: &Did) -> Next
     ensures { follow_of t.0 result ≡ what_follows t.0 did.now }
 {
     match *did {
-        Did::Submit(_, _, looked) | Did::Look(_, looked) => after_look(looked),
+        Did::Submit(_, _, _, looked) | Did::Look(_, looked) => after_look(looked),
         Did::Offer(_, Offered::Queued | Offered::Hand(_)) => Next::Second,
         Did::Offer(_, Offered::Full) => Next::Grow,
         Did::Second(_, Seconded::Stay) => Next::End(Ending::Accepted),

@@ -5,7 +5,7 @@ use Rattle.std.specs.Option.{ok_or}
 use Rattle.tp_types.specs.declared.refusals.PoolError.TheVariants.{UnknownSlot, UnknownTask}
 use Rattle.tp_types.specs.declared.configs.Config.{Config}
 use Rattle.tp_types.specs.declared.configs.QueueKind.{QueueKind}
-use Rattle.tp_types.specs.declared.configs.QueueKind.TheVariants.{Handoff, Unbounded, Bounded}
+use Rattle.tp_types.specs.declared.configs.QueueKind.TheVariants.{Handoff, Unbounded, Bounded, Priority}
 use Rattle.tp_types.specs.declared.ids.TaskId.{TaskId}
 use Rattle.tp_types.specs.declared.tasks.Place.{Place}
 use Rattle.tp_types.specs.declared.tasks.Place.TheVariants as at
@@ -32,6 +32,7 @@ of_row-found (Some q) r f e = cc
 offer_to_same : (q : QueueKind) (s : State) (done : List ℕ) (t : TaskId) → offer_to q (record s { done = done }) t ≡ offer_to q s t
 offer_to_same Handoff s done t = refl
 offer_to_same Unbounded s done t = refl
+offer_to_same Priority s done t = refl
 offer_to_same (Bounded n) s done t = refl
 
 offer_same : (c : Config) (s : State) (done : List ℕ) (t : TaskId) (p : Place) → offer_answer c (record s { done = done }) t p ≡ offer_answer c s t p
@@ -40,7 +41,7 @@ offer_same c s done t _ = refl
 
 -- an ask for something else than a completed task is answered without a look at what is done
 pub other_fitting : (c : Config) (s : State) (done : List ℕ) (w : ℕ) (a : Ask) → ((g : ℕ) → a ≡ ask.TakeDone g → ⊥) → fitting c (record s { done = done }) w a ≡ fitting c s w a
-other_fitting c s done w (ask.Submit k) other = refl
+other_fitting c s done w (ask.Submit k p) other = refl
 other_fitting c s done w (ask.Look t) other = refl
 other_fitting c s done w (ask.Offer t) other =
     ap (λ x. if nat_lt t.0 (length s.tasks) then x else Err UnknownTask) (offer_same c s done t (task_at s t.0).place)

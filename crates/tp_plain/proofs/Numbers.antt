@@ -7,7 +7,7 @@ use Rattle.tp_types.specs.declared.tasks.Place.{Place}
 use Rattle.tp_types.specs.declared.tasks.Place.TheVariants as at
 use Rattle.tp_types.specs.declared.configs.Config.{Config}
 use Rattle.tp_types.specs.declared.configs.QueueKind.{QueueKind}
-use Rattle.tp_types.specs.declared.configs.QueueKind.TheVariants.{Handoff, Unbounded, Bounded}
+use Rattle.tp_types.specs.declared.configs.QueueKind.TheVariants.{Handoff, Unbounded, Bounded, Priority}
 use Rattle.tp_types.specs.declared.configs.Verdict.{Verdict}
 use Rattle.tp_types.specs.declared.refusals.PoolError.{PoolError}
 use Rattle.tp_types.specs.declared.refusals.PoolError.TheVariants.{BookFull}
@@ -70,6 +70,7 @@ module _ (c : Config) (s : State) (w : ℕ) where
   offer_to_makes : (q : QueueKind) (t : TaskId) → Makes w (steps.offer_to q s t) (steps.offer_to q s t)
   offer_to_makes Handoff t = hand_makes t s.idling
   offer_to_makes Unbounded t = none w _ refl
+  offer_to_makes Priority t = none w _ refl
   offer_to_makes (Bounded n) t = either w (nat_lt (length s.queue) n) _ _ _ _ (none w _ refl) (none w _ refl)
 
   offer_makes : (t : TaskId) (p : Place) → Makes w (steps.offer_answer c s t p) (steps.offer_answer c s t p)
@@ -155,9 +156,9 @@ module _ (c : Config) (s : State) (w : ℕ) where
   of_slot_makes (Some r) f g h = h r
 
   fitting_makes : (a : Ask) → Makes w (steps.fitting c s w a) (steps.fitting c s 0 a)
-  fitting_makes (ask.Submit k) =
+  fitting_makes (ask.Submit k p) =
       either w (nat_lt (length s.tasks) (2 ^ 32 - 1)) _ _ _ _
-      (looks (did.Submit (record { 0 = length s.tasks }) k) (λ l. refl)) (refused w _ _)
+      (looks (did.Submit (record { 0 = length s.tasks }) k p) (λ l. refl)) (refused w _ _)
   fitting_makes (ask.Look t) = of_task_makes t _ _ (λ r. look_makes t r.place)
   fitting_makes (ask.Offer t) = of_task_makes t _ _ (λ r. offer_makes t r.place)
   fitting_makes (ask.Second t) = of_task_makes t _ _ (second_makes t)

@@ -1,14 +1,17 @@
 -- The counts of a state are at most the number of entries.
-use Rattle.std.proofs.Common.{ℕ, zero, suc, ◌≤◌, Bool, true, false, not, cond, List, [], ◌∷◌, ◌++◌, map, length, Option, Some, None, arith}
-use Rattle.std.specs.Prelude.{filter, ◌==◌, option_to_list}
+use Rattle.std.proofs.Common.{◌≡◌, ℕ, zero, suc, ◌+◌, ◌≤◌, Bool, true, false, not, cond, List, [], ◌∷◌, ◌++◌, map, length, Option, Some, None, refl, ap, ◌∙◌, arith}
+use Rattle.std.specs.Prelude.{filter, ◌==◌, nat_le, nat_lt}
+use Rattle.std.proofs.lemmas.Bool.Decides.{nat_tests}
 use Rattle.std.proofs.lemmas.List.{length-append}
 use Rattle.std.proofs.lemmas.List.Sums.{length-filter, count_by-le-length}
+use Rattle.tp_types.specs.declared.configs.Config.{Config}
+use Rattle.tp_types.specs.Queues.{is_ranked}
 use Rattle.tp_record.specs.declared.entries.Entry.{Entry}
 use Rattle.tp_record.specs.declared.entries.Did.{Did}
 use Rattle.tp_record.specs.declared.rows.TaskRow.{TaskRow}
-use Rattle.tp_record.specs.Lists.{at_end, change_each, without, count_from, said_of}
+use Rattle.tp_record.specs.Lists.{at_end, change_each, without, count_from, said_of, arrange, in_line, join_line}
 use Rattle.tp_record.specs.Effects.{is_submit, queues, tries}
-use Rattle.tp_record.specs.Fields.{submitted, offered, queue, is_queued, retries, counted, task_row, task_rows}
+use Rattle.tp_record.specs.Fields.{submitted, offered, queued, queue, priority, is_queued, retries, counted, task_row, task_rows}
 use Rattle.tp_record.specs.State.{row_at, no_row, row_after, tasks_after, queue_after, stays_queued}
 use Rattle.tp_plain.proofs.Tables.{length-map_count_from, length-change_each}
 
@@ -32,9 +35,32 @@ length-offered : (h : List Entry) → length (offered h) ≤ length h
 length-offered [] = omega arith
 length-offered (e ∷ h) = omega (arith, length-offered h, length-at_end (queues e.did) (offered h))
 
+-- what passes one of two tests that exclude each other
+length-parts : (p q : ℕ → Bool) → ((x : ℕ) → q x ≡ not (p x)) → (xs : List ℕ) → length (filter p xs) + length (filter q xs) ≡ length xs
+length-parts p q apart [] = refl
+length-parts p q apart (x ∷ xs) = rw (apart x) (by_test (p x) (length-parts p q apart xs))
+  where
+    by_test : (b : Bool) → length (filter p xs) + length (filter q xs) ≡ length xs →
+        length (cond b (x ∷ filter p xs) (filter p xs)) + length (cond (not b) (x ∷ filter q xs) (filter q xs)) ≡ suc (length xs)
+    by_test true rest = omega (arith, rest)
+    by_test false rest = omega (arith, rest)
+
+length-between : (p q : ℕ → Bool) → ((x : ℕ) → q x ≡ not (p x)) → (x : ℕ) (xs : List ℕ) → length (filter p xs ++ x ∷ filter q xs) ≡ suc (length xs)
+length-between p q apart x xs = omega (arith, length-append (filter p xs) (x ∷ filter q xs), length-parts p q apart xs)
+
+length-arrange : (f : ℕ → ℕ) (xs : List ℕ) → length (arrange f xs) ≡ length xs
+length-arrange f [] = refl
+length-arrange f (x ∷ xs) =
+    length-between (λ y. nat_lt (f y) (f x)) (λ y. nat_le (f x) (f y)) (λ y. grind (arith, nat_tests)) x (arrange f xs) ∙ ap suc (length-arrange f xs)
+
+length-in_line : (b : Bool) (f : ℕ → ℕ) (xs : List ℕ) → length (in_line b f xs) ≡ length xs
+length-in_line true f xs = length-arrange f xs
+length-in_line false f xs = refl
+
 -- no more queued tasks than entries
-pub length-queue : (h : List Entry) → length (queue h) ≤ length h
-length-queue h = omega (arith, length-offered h, length-filter-le (is_queued h) (offered h))
+pub length-queue : (c : Config) (h : List Entry) → length (queue c h) ≤ length h
+length-queue c h =
+    omega (arith, length-in_line (is_ranked c.queue) (priority h) (queued h), length-offered h, length-filter-le (is_queued h) (offered h))
 
 counted-le : (o : Option Bool) (n : ℕ) → counted o n ≤ suc n
 counted-le None n = omega arith
@@ -96,9 +122,12 @@ tasks_after_retries d m rows t all = by_test (is_submit d)
     by_test false = changed_retries d m 0 t rows all
 
 -- at most one task more in the queue
-pub length-queue_after : (d : Did) (rows : List TaskRow) (ts : List ℕ) → length (queue_after d rows ts) ≤ suc (length ts)
-length-queue_after d rows ts = by_option (queues d)
-  where
-    by_option : (o : Option ℕ) → length (filter (stays_queued d rows) ts ++ option_to_list o) ≤ suc (length ts)
-    by_option None = omega (arith, length-append (filter (stays_queued d rows) ts) [], length-filter-le (stays_queued d rows) ts)
-    by_option (Some t) = omega (arith, length-append (filter (stays_queued d rows) ts) (t ∷ []), length-filter-le (stays_queued d rows) ts)
+length-join_line : (b : Bool) (f : ℕ → ℕ) (o : Option ℕ) (xs : List ℕ) → length (join_line b f o xs) ≤ suc (length xs)
+length-join_line b f None xs = omega arith
+length-join_line true f (Some x) xs =
+    omega (arith, length-between (λ y. nat_le (f y) (f x)) (λ y. nat_lt (f x) (f y)) (λ y. grind (arith, nat_tests)) x xs)
+length-join_line false f (Some x) xs = omega (arith, length-append xs (x ∷ []))
+
+pub length-queue_after : (b : Bool) (d : Did) (rows : List TaskRow) (ts : List ℕ) → length (queue_after b d rows ts) ≤ suc (length ts)
+length-queue_after b d rows ts =
+    omega (arith, length-join_line b (λ t. (row_at rows t).priority) (queues d) (filter (stays_queued d rows) ts), length-filter-le (stays_queued d rows) ts)

@@ -23,6 +23,7 @@ shown s =
       core_timeout = s.core_timeout;
       now = s.moment;
       tasks = s.tasks.items;
+      ranked = s.ranked;
       queue = s.queue.items;
       slots = s.slots.items;
       idling = s.idling.items;

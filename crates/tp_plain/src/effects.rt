@@ -68,7 +68,7 @@ pub fn moved_to(did: Did, t: TaskId) -> Option<Place>
     ensures { result ≡ said_of t.0 (effects.moved did) }
 {
     match did {
-        Did::Submit(u, _, looked) => (t == u).then_some(place_looked(looked)),
+        Did::Submit(u, _, _, looked) => (t == u).then_some(place_looked(looked)),
         Did::Look(u, looked) => (t == u).then_some(place_looked(looked)),
         Did::Offer(u, offered) => (t == u).then_some(place_offered(offered)),
         Did::Second(u, Seconded::Back) => (t == u).then_some(Place::Refused),
@@ -115,7 +115,17 @@ pub fn kind_said(did: Did, t: TaskId) -> Option<Kind>
     ensures { result ≡ said_of t.0 (effects.kinds_said did) }
 {
     match did {
-        Did::Submit(u, kind, _) => (t == u).then_some(kind),
+        Did::Submit(u, kind, _, _) => (t == u).then_some(kind),
+        _ => None,
+    }
+}
+
+/// The priority that an entry says of task `t`.
+pub fn priority_said(did: Did, t: TaskId) -> Option<u32>
+    ensures { result ≡ said_of t.0 (effects.priorities_said did) }
+{
+    match did {
+        Did::Submit(u, _, priority, _) => (t == u).then_some(priority),
         _ => None,
     }
 }
@@ -125,7 +135,7 @@ pub fn second_said(did: Did, t: TaskId) -> Option<bool>
     ensures { result ≡ said_of t.0 (effects.seconds did) }
 {
     match did {
-        Did::Submit(u, _, _) => (t == u).then_some(false),
+        Did::Submit(u, _, _, _) => (t == u).then_some(false),
         Did::Offer(u, Offered::Queued) => (t == u).then_some(true),
         Did::Offer(u, Offered::Hand(_)) => (t == u).then_some(true),
         Did::Second(u, _) => (t == u).then_some(false),
@@ -138,7 +148,7 @@ pub fn cancel_said(did: Did, t: TaskId) -> Option<bool>
     ensures { result ≡ said_of t.0 (effects.cancels did) }
 {
     match did {
-        Did::Submit(u, _, _) => (t == u).then_some(false),
+        Did::Submit(u, _, _, _) => (t == u).then_some(false),
         Did::Cancel(u, _, true) => (t == u).then_some(true),
         _ => None,
     }
@@ -149,7 +159,7 @@ pub fn ending_said(did: Did, t: TaskId) -> Option<Option<Fate>>
     ensures { result ≡ said_of t.0 (effects.endings did) }
 {
     match did {
-        Did::Submit(u, _, _) => (t == u).then_some(None),
+        Did::Submit(u, _, _, _) => (t == u).then_some(None),
         Did::Verdict(u, _, Ruled::Rejected) => (t == u).then_some(Some(Fate::Rejected)),
         Did::Verdict(u, _, Ruled::Discarded) => (t == u).then_some(Some(Fate::Discarded)),
         Did::Verdict(_, _, Ruled::RetryDrop(x)) => (t == x).then_some(Some(Fate::Discarded)),
@@ -175,7 +185,7 @@ pub fn outcome_said(did: Did, t: TaskId) -> Option<Option<Outcome>>
     ensures { result ≡ said_of t.0 (effects.outcomes did) }
 {
     match did {
-        Did::Submit(u, _, _) => (t == u).then_some(None),
+        Did::Submit(u, _, _, _) => (t == u).then_some(None),
         Did::CallerEnd(u, outcome) => (t == u).then_some(Some(outcome)),
         Did::End(_, u, outcome) => (t == u).then_some(Some(outcome)),
         _ => None,
@@ -187,7 +197,7 @@ pub fn retry_said(did: Did, t: TaskId) -> Option<bool>
     ensures { result ≡ said_of t.0 (effects.tries did) }
 {
     match did {
-        Did::Submit(u, _, _) => (t == u).then_some(false),
+        Did::Submit(u, _, _, _) => (t == u).then_some(false),
         Did::Verdict(u, _, Ruled::Retry) => (t == u).then_some(true),
         Did::Verdict(u, _, Ruled::RetryDrop(_)) => (t == u).then_some(true),
         _ => None,
@@ -291,7 +301,7 @@ pub fn reserved_by(did: Did) -> Option<usize>
     ensures { result ≡ effects.reserves did }
 {
     match did {
-        Did::Submit(_, _, looked) | Did::Look(_, looked) => reserved_looked(looked),
+        Did::Submit(_, _, _, looked) | Did::Look(_, looked) => reserved_looked(looked),
         Did::Second(_, Seconded::StayReserve(w)) => Some(w.0),
         Did::Grow(_, Grown::Reserve(w)) => Some(w.0),
         Did::Leave(_, Some(w)) => Some(w.0),
@@ -328,7 +338,7 @@ pub fn turned_to(now: u64, dies: bool, did: Did, w: SlotId) -> Option<Stage>
     ensures { result ≡ said_of w.0 (effects.turned now dies did) }
 {
     match did {
-        Did::Submit(_, _, Looked::Reserve(v)) => (w == v).then_some(Stage::ReservedCore),
+        Did::Submit(_, _, _, Looked::Reserve(v)) => (w == v).then_some(Stage::ReservedCore),
         Did::Look(_, Looked::Reserve(v)) => (w == v).then_some(Stage::ReservedCore),
         Did::Offer(_, Offered::Hand(v)) => (w == v).then_some(Stage::Working),
         Did::Second(_, Seconded::StayReserve(v)) => (w == v).then_some(Stage::ReservedBare),
@@ -361,7 +371,7 @@ pub fn seat_said(did: Did, w: SlotId) -> Option<Option<TaskId>>
     ensures { result ≡ said_of w.0 (effects.seated did) }
 {
     match did {
-        Did::Submit(t, _, Looked::Reserve(v)) => (w == v).then_some(Some(t)),
+        Did::Submit(t, _, _, Looked::Reserve(v)) => (w == v).then_some(Some(t)),
         Did::Look(t, Looked::Reserve(v)) => (w == v).then_some(Some(t)),
         Did::Offer(t, Offered::Hand(v)) => (w == v).then_some(Some(t)),
         Did::Second(_, Seconded::StayReserve(v)) => (w == v).then_some(None),
@@ -397,7 +407,7 @@ pub fn hand_out_said(did: Did, t: TaskId) -> Option<bool>
     ensures { result ≡ said_of t.0 (effects.hands_out did) }
 {
     match did {
-        Did::Submit(u, _, _) => (t == u).then_some(false),
+        Did::Submit(u, _, _, _) => (t == u).then_some(false),
         Did::TakeDone(_, u) => (t == u).then_some(false),
         _ => None,
     }

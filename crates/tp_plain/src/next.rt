@@ -9,8 +9,8 @@ ghost use Rattle.tp_plain.specs.Snapshot.{shown, IsSmall};
 use crate::effects::{
     cancel_said, closed_by, completed_by, core_said, core_timeout_said, ending_said, hand_out_said,
     handed_back, hold_said, idled_by, is_completion, is_plain_fault, is_submit, keep_said,
-    kind_said, maximum_said, moved_to, now_said, outcome_said, queued_by, reaches, reserved_by,
-    retry_said, seat_said, second_said, swept, turned_to, woken,
+    kind_said, maximum_said, moved_to, now_said, outcome_said, priority_said, queued_by, reaches,
+    reserved_by, retry_said, seat_said, second_said, swept, turned_to, woken,
 };
 use crate::lists::{copy_of, push, put_task_at_end, with_room};
 use crate::slots::live_of;
@@ -26,6 +26,7 @@ use tp_types::tasks::{Kind, Place};
 /// What is read of a task that was never submitted.
 pub const NO_ROW: TaskRow = TaskRow {
     kind: Kind::Plain,
+    priority: 0,
     place: Place::Gone,
     second: false,
     cancelled: false,
@@ -61,6 +62,7 @@ pub fn row_after(did: Did, t: TaskId, row: TaskRow) -> TaskRow
 {
     TaskRow {
         kind: kind_said(did, t).unwrap_or(row.kind),
+        priority: priority_said(did, t).unwrap_or(row.priority),
         place: moved_to(did, t).unwrap_or(swept(did, row.cancelled, row.place)),
         second: second_said(did, t).unwrap_or(row.second),
         cancelled: cancel_said(did, t).unwrap_or(row.cancelled),
@@ -109,14 +111,40 @@ fn keep_staying(did: Did, state: &Snapshot, queue: &mut Vec<u32>)
     queue.retain(|t| stays_queued(did, state, *t));
 }
 
+/// Task `t` behind all of a line whose priority is not greater.
+fn put_behind(alloc: Global, state: &Snapshot, t: u32, line: &[u32]) -> Result<Vec<u32>, PoolError>
+    ensures tasks { IfOk result (λ v. v.items
+        ≡ lists.put_behind (λ u. (states.row_at state.now.tasks.items u).priority) t line.now) }
+    ensures refused { IsOkUnless result PoolError.NoMemory }
+{
+    let number = task_at(state, TaskId(t)).priority;
+    let mut after = with_room(alloc, line.len())?;
+    for u in line {
+        if task_at(state, TaskId(*u)).priority <= number {
+            push(&mut after, *u)?;
+        }
+    }
+    push(&mut after, t)?;
+    for u in line {
+        if number < task_at(state, TaskId(*u)).priority {
+            push(&mut after, *u)?;
+        }
+    }
+    Ok(after)
+}
+
 /// The queue after an entry.
 pub fn queue_after(alloc: Global, did: Did, state: &Snapshot) -> Result<Vec<u32>, PoolError>
-    ensures tasks { IfOk result (λ v. v.items ≡ states.queue_after did state.now.tasks.items state.now.queue.items) }
+    ensures tasks { IfOk result (λ v. v.items
+        ≡ states.queue_after state.now.ranked did state.now.tasks.items state.now.queue.items) }
     ensures refused { IsOkUnless result PoolError.NoMemory }
 {
     let mut after = copy_of(alloc, &state.queue)?;
     keep_staying(did, state, &mut after);
     if let Some(t) = queued_by(did) {
+        if state.ranked {
+            return put_behind(alloc, state, t, &after);
+        }
         push(&mut after, t)?;
     }
     Ok(after)
@@ -276,6 +304,7 @@ pub fn next(alloc: Global, state: &Snapshot, did: Did) -> Result<Snapshot, PoolE
         core_timeout: core_timeout_said(did).unwrap_or(state.core_timeout),
         moment: now_said(did).unwrap_or(state.moment),
         tasks: tasks_after(alloc, did, state)?,
+        ranked: state.ranked,
         queue: queue_after(alloc, did, state)?,
         slots,
         idling: idling_after(alloc, did, state)?,

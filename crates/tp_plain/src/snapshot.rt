@@ -21,6 +21,8 @@ pub struct Snapshot {
     pub moment: u64,
     /// The submitted tasks by number.
     pub tasks: Vec<TaskRow>,
+    /// Whether the queue goes by priority.
+    pub ranked: bool,
     /// The tasks in the work queue, its head first.
     pub queue: Vec<u32>,
     /// The slots by number.

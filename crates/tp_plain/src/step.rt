@@ -84,12 +84,18 @@ pub fn look<S: Readings>(state: &S, w: SlotId) -> Looked
 }
 
 /// The answer to a submission.
-pub fn submit_answer<S: Readings>(state: &S, w: SlotId, kind: Kind) -> Result<Did, PoolError>
-    ensures { result ≡ steps.submit_answer (S.shown state.now) w.0 kind }
+pub fn submit_answer<S: Readings>(
+    state: &S,
+    w: SlotId,
+    kind: Kind,
+    priority: u32,
+) -> Result<Did, PoolError>
+    ensures { result ≡ steps.submit_answer (S.shown state.now) w.0 kind priority }
 {
     let count = state.submitted();
     if count < 4_294_967_295 {
-        Ok(Did::Submit(TaskId(count as u32), kind, look(state, w)))
+        let t = TaskId(count as u32);
+        Ok(Did::Submit(t, kind, priority, look(state, w)))
     } else {
         Err(PoolError::BookFull)
     }
@@ -119,7 +125,7 @@ pub fn offer_to<S: Readings>(queue: QueueKind, state: &S, t: TaskId) -> Result<D
             Some(w) => Ok(Did::Offer(t, Offered::Hand(SlotId(w)))),
             None => Ok(Did::Offer(t, Offered::Full)),
         },
-        QueueKind::Unbounded => Ok(Did::Offer(t, Offered::Queued)),
+        QueueKind::Unbounded | QueueKind::Priority => Ok(Did::Offer(t, Offered::Queued)),
         QueueKind::Bounded(capacity) if state.queued() < capacity as usize => Ok(Did::Offer(
             t,
             Offered::Queued,
@@ -544,7 +550,7 @@ fn fitting_other<S: Readings>(
     ensures { IsAnswer result (steps.fitting config.now (S.shown state.now) w.0 ask) }
 {
     match ask {
-        Ask::Submit(kind) => submit_answer(state, w, kind),
+        Ask::Submit(kind, priority) => submit_answer(state, w, kind, priority),
         Ask::Look(t) => look_answer(state, w, t, row_of(state, t)?.place),
         Ask::Offer(t) => offer_answer(config, state, t, row_of(state, t)?.place),
         Ask::Second(t) => second_answer(state, w, t, row_of(state, t)?),

@@ -5,8 +5,8 @@ ghost use Rattle.tp_record.specs.Fields as fields;
 ghost use Rattle.tp_record.specs.State.{fate_of};
 
 use crate::effects::{
-    cancel_said, ending_said, handed_back, kind_said, moved_to, outcome_said, retry_said,
-    second_said, swept,
+    cancel_said, ending_said, handed_back, kind_said, moved_to, outcome_said, priority_said,
+    retry_said, second_said, swept,
 };
 use crate::lists::{push, with_room};
 use crate::pool::submitted;
@@ -26,6 +26,17 @@ pub fn kind(entries: &[Entry], t: TaskId) -> Kind
         kind = kind_said(entry.did, t).unwrap_or(kind);
     }
     kind
+}
+
+/// The priority of task `t`.
+pub fn priority(entries: &[Entry], t: TaskId) -> u32
+    ensures { result ≡ fields.priority (reverse entries.now) t.0 }
+{
+    let mut priority = 0;
+    for entry in entries {
+        priority = priority_said(entry.did, t).unwrap_or(priority);
+    }
+    priority
 }
 
 /// Whether task `t` was cancelled.
@@ -114,6 +125,7 @@ pub fn task_row(entries: &[Entry], t: TaskId) -> TaskRow
 {
     TaskRow {
         kind: kind(entries, t),
+        priority: priority(entries, t),
         place: place(entries, t),
         second: owes_second(entries, t),
         cancelled: is_cancelled(entries, t),

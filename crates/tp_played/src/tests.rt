@@ -1,9 +1,10 @@
-//! Tables of asks, by wings; readings; want of memory; and a long run.
+//! Tables of asks, by wings; priorities; readings; want of memory; and a long run.
 
 mod compare;
 mod controllers;
 mod long;
 mod memory;
+mod priorities;
 mod stage;
 mod submitters;
 mod workers;

@@ -10,5 +10,4 @@ pub mod Submissions
 pub mod Turned
 pub mod Undone
 pub mod Walks
-pub mod Wants
 pub mod Watched

@@ -62,9 +62,9 @@ deeds t (next.Staff w) = inl tt
 deeds t (next.End end) = inr (inl (end, refl))
 deeds t next.Astray = inr (inr refl)
 
-asks_on : (kind : Kind) (es fs : List Entry) → AsksFor kind es → AsksFor kind (es ++ fs)
-asks_on kind [] fs asks = absurd asks
-asks_on kind (e ∷ es) fs asks = asks
+asks_on : (kind : Kind) (priority : ℕ) (es fs : List Entry) → AsksFor kind priority es → AsksFor kind priority (es ++ fs)
+asks_on kind priority [] fs asks = absurd asks
+asks_on kind priority (e ∷ es) fs asks = asks
 
 -- a pass that stays as it is, or looks
 module _ (c : Config) where
@@ -76,38 +76,38 @@ module _ (c : Config) where
   adds_moved old mid new steps adds moved =
       ⊎_elim (λ (same : new ≡ mid). subst (λ p. Adds c old steps p) (sym same) adds) (λ (looks : LooksOnly c mid new). adds_looks c old mid new steps adds looks) moved
 
--- the pass has the receipts of a front of the path of t, which is of this kind, behind which this deed was to follow, and of one step more that was not to follow there
-pub record Strays (c : Config) (kind : Kind) (t : ℕ) (old new : PassView) : Type 0 where
+-- the pass has the receipts of a front of the path of t, which is of this kind and priority, behind which this deed was to follow, and of one step more that was not to follow there
+pub record Strays (c : Config) (kind : Kind) (priority : ℕ) (t : ℕ) (old new : PassView) : Type 0 where
   pub front : List Entry
   pub deed : Next
   pub is_front : IsFront t front (follow_of t deed)
   pub awaits : Awaits (follow_of t deed)
-  pub asks : AsksFor kind front
+  pub asks : AsksFor kind priority front
   pub last : Entry
   pub astray : goes t (follow_of t deed) last.did ≡ Astray
   pub adds : Adds c old (front ++ last ∷ []) new
 
-module _ {J : Type 0} (c : Config) (kind : Kind) (job : J) (promise : Promise) where
-  -- after so many steps the pass has the receipts of a front of the path of t, which is of this kind, behind which this follows; the pool got the job; and
+module _ {J : Type 0} (c : Config) (kind : Kind) (priority : ℕ) (job : J) (promise : Promise) where
+  -- after so many steps the pass has the receipts of a front of the path of t, which is of this kind and priority, behind which this follows; the pool got the job; and
   -- the pass has room for the others
   pub record Walk (t : ℕ) (old : PassView) (f : Follow) (steps : ℕ) (new : PassView) : Type 0 where
     pub front : List Entry
     pub is_front : IsFront t front f
-    pub asks : AsksFor kind front
+    pub asks : AsksFor kind priority front
     pub adds : Adds c old front new
-    pub got : GotJob c kind job promise old.number t old.front new.front
+    pub got : GotJob c kind priority job promise old.number t old.front new.front
     pub count : length front ≡ steps
     -- where it has left the path, its last entry was not to follow
-    pub torn : f ≡ Astray → Strays c kind t old new
+    pub torn : f ≡ Astray → Strays c kind priority t old new
     pub room : 512 ≤ new.room + steps
 
   pub begun : Begins → (t : TaskId) (look : Looked) (old new : PassView) (task : Task J) → task.job ≡ job →
-      Makes J c old.number old.front (ask.Submit kind) (did.Submit t kind look) (λ old new. PutsIn old new t.0 promise task) new.front →
-      AddsStep c old (ask.Submit kind) (did.Submit t kind look) new → 512 ≤ old.room → old.room ≤ new.room + 1 →
-      Walk t.0 old (follows t.0 (did.Submit t kind look)) 1 new
+      Makes J c old.number old.front (ask.Submit kind priority) (did.Submit t kind priority look) (λ old new. PutsIn old new t.0 promise task) new.front →
+      AddsStep c old (ask.Submit kind priority) (did.Submit t kind priority look) new → 512 ≤ old.room → old.room ≤ new.room + 1 →
+      Walk t.0 old (follows t.0 (did.Submit t kind priority look)) 1 new
   begun law t look old new task has makes step had left =
-      let d = did.Submit t kind look in
-      let e = entry_of old.number (ask.Submit kind) d in record {
+      let d = did.Submit t kind priority look in
+      let e = entry_of old.number (ask.Submit kind priority) d in record {
         front = e ∷ [];
         is_front = law t.0 e (eq-eqb t.0 t.0 refl);
         asks = refl;
@@ -125,9 +125,9 @@ module _ {J : Type 0} (c : Config) (kind : Kind) (job : J) (promise : Promise) w
       let adds = adds_then c old mid new walk.front a d walk.adds step in record {
         front = walk.front ++ e ∷ [];
         is_front = law t walk.front (follow_of t n) e walk.is_front;
-        asks = asks_on kind walk.front (e ∷ []) walk.asks;
+        asks = asks_on kind priority walk.front (e ∷ []) walk.asks;
         adds = adds;
-        got = got_on c kind job promise old.number t old.front mid.front new.front walk.got (leads_front mid.front new.front (entry_of mid.number a d ∷ []) step.leads);
+        got = got_on c kind priority job promise old.number t old.front mid.front new.front walk.got (leads_front mid.front new.front (entry_of mid.number a d ∷ []) step.leads);
         count = length-append walk.front (e ∷ []) ∙ ap (λ k. k + 1) walk.count;
         torn = λ (astray : goes t (follow_of t n) d ≡ Astray).
             record { front = walk.front; deed = n; is_front = walk.is_front; awaits = on; asks = walk.asks; last = e; astray = astray; adds = adds };
@@ -136,17 +136,17 @@ module _ {J : Type 0} (c : Config) (kind : Kind) (job : J) (promise : Promise) w
 
   -- its end, as the answer says it
   pub admits_at : Closes → (t : TaskId) (old new : PassView) (f : Follow) (steps : ℕ) (end : Admission) → f ≡ Ends end → Walk t.0 old f steps new →
-      (r : Result Admitted (Refused J)) → IfOk r (λ a. (task_of a ≡ t) × (end_of a ≡ end)) → IfOk r (IsAdmitted c kind job promise old new)
+      (r : Result Admitted (Refused J)) → IfOk r (λ a. (task_of a ≡ t) × (end_of a ≡ end)) → IfOk r (IsAdmitted c kind priority job promise old new)
   admits_at law t old new f steps end is walk (Ok a) same =
       let path : IsPath t.0 walk.front end = law t.0 walk.front end (subst (λ f. IsFront t.0 walk.front f) is walk.is_front) in (
         (walk.front, subst (λ (u : TaskId). IsPath u.0 walk.front (end_of a)) (sym same.0) (subst (λ e. IsPath t.0 walk.front e) (sym same.1) path), walk.asks, walk.adds),
-        subst (λ (u : TaskId). GotJob c kind job promise old.number u.0 old.front new.front) (sym same.0) walk.got,
+        subst (λ (u : TaskId). GotJob c kind priority job promise old.number u.0 old.front new.front) (sym same.0) walk.got,
       )
   admits_at law t old new f steps end is walk (Err x) same = tt
 
   pub rejects_at : Closes → (t : TaskId) (old new : PassView) (f : Follow) (steps : ℕ) (end : Ending) → f ≡ Ends (admission_of end) → Walk t.0 old f steps new →
       (held : Option (Task J)) → (f ≡ Ends Rejected → ComesBack t.0 held new.front) → (r : Result Admitted (Refused J)) → IfErr r (λ x. (x.error ≡ error.Rejected t) × (end ≡ ending.Rejected)) →
-      IfErr r (λ x. x.job ≡ option_map (λ k. k.job) held) → IfErr r (IsTurnedAway c kind job promise old new)
+      IfErr r (λ x. x.job ≡ option_map (λ k. k.job) held) → IfErr r (IsTurnedAway c kind priority job promise old new)
   rejects_at law t old new f steps end is walk held returned (Ok a) same hands = tt
   rejects_at law t old new f steps end is walk held returned (Err x) same hands =
       let rejected : f ≡ Ends Rejected = is ∙ ap (λ e. Ends (admission_of e)) same.1 in
@@ -160,10 +160,10 @@ module _ {J : Type 0} (c : Config) (kind : Kind) (job : J) (promise : Promise) w
 
   -- torn off where the next step is not taken
   pub torn_off : (t : TaskId) (old mid new : PassView) (n : Next) (steps : ℕ) → Walk t.0 old (follow_of t.0 n) steps mid → ((end : Ending) → ¬ (n ≡ next.End end)) →
-      (new ≡ mid) ⊎ LooksOnly c mid new → (Awaits (follow_of t.0 n) → IsUndone c t n new.front ⊎ (512 ≤ steps)) → (x : Refused J) → x.error ≡ error.TornRecord → IsTurnedAway c kind job promise old new x
+      (new ≡ mid) ⊎ LooksOnly c mid new → (Awaits (follow_of t.0 n) → IsUndone c t n new.front ⊎ (512 ≤ steps)) → (x : Refused J) → x.error ≡ error.TornRecord → IsTurnedAway c kind priority job promise old new x
   torn_off t old mid new n steps walk goes_on moved undone x torn =
-      let got = got_on c kind job promise old.number t.0 old.front mid.front new.front walk.got (moved_on c mid new moved) in
-      let awaited : Awaits (follow_of t.0 n) → AddsFront c kind t old new = λ on. record {
+      let got = got_on c kind priority job promise old.number t.0 old.front mid.front new.front walk.got (moved_on c mid new moved) in
+      let awaited : Awaits (follow_of t.0 n) → AddsFront c kind priority t old new = λ on. record {
         front = walk.front;
         deed = n;
         is_front = walk.is_front;
@@ -171,7 +171,7 @@ module _ {J : Type 0} (c : Config) (kind : Kind) (job : J) (promise : Promise) w
         asks = walk.asks;
         adds = inl (adds_moved c old mid new walk.front walk.adds moved, subst (λ k. IsUndone c t n new.front ⊎ (512 ≤ k)) (sym walk.count) (undone on));
       } in
-      let strayed : n ≡ next.Astray → AddsFront c kind t old new = λ is.
+      let strayed : n ≡ next.Astray → AddsFront c kind priority t old new = λ is.
       let strays = walk.torn (ap (λ n. follow_of t.0 n) is) in record {
         front = strays.front;
         deed = strays.deed;

@@ -39,20 +39,24 @@ end_of (admitted.Accepted t) = Accepted
 end_of (admitted.RanHere t o) = RanHere o
 end_of (admitted.Discarded t) = Discarded
 
--- the first of these is asked as the submission of a task of this kind
-abbrev pub AsksFor : Kind → List Entry → Type 0
-AsksFor kind [] = ⊥
-AsksFor kind (e ∷ es) = e.ask ≡ ask.Submit kind
+-- the first of these is asked as the submission of a task of this kind and priority
+abbrev pub AsksFor : Kind → ℕ → List Entry → Type 0
+AsksFor kind priority [] = ⊥
+AsksFor kind priority (e ∷ es) = e.ask ≡ ask.Submit kind priority
+
+-- it is so at the priority that a job is asked for: 0, or the number that it names
+abbrev pub AtPriority : ℕ → (ℕ → Type 0) → Type 0
+AtPriority urgency F = (priority : ℕ) × ((priority ≡ 0) ⊎ (priority ≡ urgency)) × F priority
 
 -- the pool got this job as task t, with this promise: by a step `submit` of the pass, at a history between the two
-pub record GotJob {J : Type 0} (c : Config) (kind : Kind) (job : J) (promise : Promise) (by t : ℕ) (before after : List Entry) : Type 0 where
+pub record GotJob {J : Type 0} (c : Config) (kind : Kind) (priority : ℕ) (job : J) (promise : Promise) (by t : ℕ) (before after : List Entry) : Type 0 where
   pub task : Task J
   pub look : Looked
   pub then_history : List Entry
   pub has_job : task.job ≡ job
   pub number : TaskId
   pub is_task : number.0 ≡ t
-  pub makes : Makes J c by before (ask.Submit kind) (did.Submit number kind look) (λ old new. PutsIn old new t promise task) then_history
+  pub makes : Makes J c by before (ask.Submit kind priority) (did.Submit number kind priority look) (λ old new. PutsIn old new t promise task) then_history
   pub goes_on : IsFrontOf then_history after
 
 -- a further step is to follow
@@ -64,9 +68,9 @@ Awaits _ = ⊥
 abbrev pub ComesBack : {A : Type 0} → ℕ → Option A → List Entry → Type 0
 ComesBack t job h = is_some job ≡ not (is_cancelled h t)
 
--- the pass has the receipts of the whole path of this task, which is of this kind, and the path ends so
-abbrev pub AddsPath : Config → Kind → TaskId → Admission → PassView → PassView → Type 0
-AddsPath c kind t a old new = (steps : List Entry) × IsPath t.0 steps a × AsksFor kind steps × Adds c old steps new
+-- the pass has the receipts of the whole path of this task, which is of this kind and priority, and the path ends so
+abbrev pub AddsPath : Config → Kind → ℕ → TaskId → Admission → PassView → PassView → Type 0
+AddsPath c kind priority t a old new = (steps : List Entry) × IsPath t.0 steps a × AsksFor kind priority steps × Adds c old steps new
 
 -- what the submitter of task t asks by this deed
 abbrev pub IsAskOf : TaskId → Next → Ask → Type 0
@@ -82,29 +86,29 @@ IsAskOf t _ a = ⊥
 abbrev pub IsUndone : Config → TaskId → Next → List Entry → Type 0
 IsUndone c t n history = ((a : Ask) × IsAskOf t n a × IsBarred c history a) ⊎ (n ≡ next.RunHere)
 
--- the pass has the receipts of a front of the path of this task, which is of this kind, behind which this deed was to follow
-pub record AddsFront (c : Config) (kind : Kind) (t : TaskId) (old new : PassView) : Type 0 where
+-- the pass has the receipts of a front of the path of this task, which is of this kind and priority, behind which this deed was to follow
+pub record AddsFront (c : Config) (kind : Kind) (priority : ℕ) (t : TaskId) (old new : PassView) : Type 0 where
   pub front : List Entry
   pub deed : Next
   pub is_front : IsFront t.0 front (follow_of t.0 deed)
   pub awaits : Awaits (follow_of t.0 deed)
-  pub asks : AsksFor kind front
+  pub asks : AsksFor kind priority front
   -- it has no more: the deed is left undone, or no submission makes as many steps; or it has one more, which was not to follow there
   pub adds : (Adds c old front new × (IsUndone c t deed new.front ⊎ (512 ≤ length front)))
       ⊎ ((e : Entry) × (goes t.0 (follow_of t.0 deed) e.did ≡ Astray) × Adds c old (front ++ e ∷ []) new)
 
-module _ {J : Type 0} (c : Config) (kind : Kind) (job : J) (promise : Promise) (old new : PassView) where
-  -- a submission of this kind with this job, which promises this, is admitted
+module _ {J : Type 0} (c : Config) (kind : Kind) (priority : ℕ) (job : J) (promise : Promise) (old new : PassView) where
+  -- a submission of this kind and priority with this job, which promises this, is admitted
   abbrev pub IsAdmitted : Admitted → Type 0
-  IsAdmitted a = AddsPath c kind (task_of a) (end_of a) old new × GotJob c kind job promise old.number (task_of a).0 old.front new.front
-
-  -- so it is where the answer is not a refusal
-  abbrev pub Admits : Result Admitted (Refused J) → Type 0
-  Admits r = IfOk r IsAdmitted
+  IsAdmitted a = AddsPath c kind priority (task_of a) (end_of a) old new × GotJob c kind priority job promise old.number (task_of a).0 old.front new.front
 
   -- it is refused: after its whole path, with the job unless its task was cancelled; or torn off on it; or before its first step, and then with the job
   abbrev pub IsTurnedAway : Refused J → Type 0
   IsTurnedAway refused =
-      ((t : TaskId) × (refused.error ≡ error.Rejected t) × AddsPath c kind t Rejected old new × GotJob c kind job promise old.number t.0 old.front new.front × ComesBack t.0 refused.job new.front)
-      ⊎ ((t : TaskId) × (refused.error ≡ error.TornRecord) × AddsFront c kind t old new × GotJob c kind job promise old.number t.0 old.front new.front)
-      ⊎ (Refuses c new.front (ask.Submit kind) refused.error × (refused.job ≡ Some job) × AddsNone old new)
+      ((t : TaskId) × (refused.error ≡ error.Rejected t) × AddsPath c kind priority t Rejected old new × GotJob c kind priority job promise old.number t.0 old.front new.front × ComesBack t.0 refused.job new.front)
+      ⊎ ((t : TaskId) × (refused.error ≡ error.TornRecord) × AddsFront c kind priority t old new × GotJob c kind priority job promise old.number t.0 old.front new.front)
+      ⊎ (Refuses c ⊤ new.front (ask.Submit kind priority) refused.error × (refused.job ≡ Some job) × AddsNone old new)
+
+-- where a submission of this kind answers an admission, it is one of this job, at the priority that the job is asked for
+abbrev pub Admits : {J : Type 0} → Config → Kind → ℕ → J → Promise → PassView → PassView → Result Admitted (Refused J) → Type 0
+Admits c kind urgency job promise old new r = IfOk r (λ a. AtPriority urgency (λ priority. IsAdmitted c kind priority job promise old new a))

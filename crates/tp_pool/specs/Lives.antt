@@ -1,5 +1,5 @@
 -- What a pool's whole life in one call leaves.
-use Rattle.std.specs.Prelude.{ℤ, ◌≡◌, ◌⊎◌, ◌≤◌, List, [], ◌∷◌, None, Result, Ok, Err}
+use Rattle.std.specs.Prelude.{ℕ, ℤ, ◌≡◌, ◌⊎◌, ◌≤◌, List, [], ◌∷◌, None, Result, Ok, Err}
 use Rattle.tp_types.specs.Config.{checked}
 use Rattle.tp_types.specs.declared.configs.Config.{Config}
 use Rattle.tp_types.specs.declared.ids.TaskId.{TaskId}
@@ -30,11 +30,11 @@ module _ (J : Type 0) (c : Config) where
   abbrev pub AreTold : List (Result TaskId PoolError) → List (Result ℤ PoolError) → PassView → PassView → Type 0
   AreTold tasks answers old new = ThroughBoth IsTold tasks answers old new
 
--- c are the settings, and a job promises so
-module _ {J : Type 0} (c : Config) (promised : J → Promise) where
+-- c are the settings, and a job promises so and names this priority
+module _ {J : Type 0} (c : Config) (promised : J → Promise) (urgency : J → ℕ) where
   -- the pass submits these jobs with futures, one after another, as these tasks, or is refused so
   abbrev pub AreSubmitted : List J → List (Result TaskId PoolError) → PassView → PassView → Type 0
-  AreSubmitted jobs tasks old new = ThroughBoth (λ job task. Submits c job (promised job) task) jobs tasks old new
+  AreSubmitted jobs tasks old new = ThroughBoth (λ job task. Submits c job (promised job) (urgency job) task) jobs tasks old new
 
   -- it submits these jobs, and then is told, in the same order, what became of each
   pub record AreAnswered (jobs : List J) (answers : List (Result ℤ PoolError)) (old new : PassView) : Type 0 where

@@ -16,8 +16,14 @@ impl Job for Boxed {
 
     ghost promised = { λ b. (Job-box b.job).promised b.job.value };
 
+    ghost urgency = { λ b. (Job-box b.job).urgency b.job.value };
+
     fn promise(&self) -> Promise {
         self.job.promise()
+    }
+
+    fn priority(&self) -> u32 {
+        self.job.priority()
     }
 
     fn call(&mut self, cancel: &CancelFlag) -> Outcome {

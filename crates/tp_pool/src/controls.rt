@@ -1,9 +1,8 @@
 //! The controlling calls: settings, the moment, and single tasks. Each makes one step, with one receipt. A
 //! refused call makes no step, and its pass gets no receipt. Accepted or refused, the call brings its pass up to
 //! the pool's record, and is answered as the pool stands there.
-ghost use Rattle.std.specs.Prelude.{◌≡◌, ◌⊎◌, ◌<◌, IfOk, IfErr, OnOk, OnErr};
+ghost use Rattle.std.specs.Prelude.{◌<◌, ◌≡◌, IfOk, IfErr, OnOk, OnErr};
 ghost use Rattle.tp_locked.specs.Answers.{is_removed};
-ghost use Rattle.tp_locked.specs.Moments.{AtFront};
 ghost use Rattle.tp_locked.specs.Passes.{AddsStep, AddsNone, Refuses};
 ghost use Rattle.tp_locked.specs.Steps.{Removes, removal_of};
 
@@ -42,8 +41,7 @@ impl<G: PoolNaming, J: Job, E: Edge> PoolOf<G, J, E> {
         pass: &mut Pass<G>,
     ) -> Result<(), PoolError>
         ensures step { OnOk result (AddsStep G.config pass.old (Ask.Maximum maximum) (Did.Maximum maximum) pass.new) }
-        ensures refused { IfErr result (Refuses G.config pass.new.front (Ask.Maximum maximum)) }
-        ensures memory { IfErr result (λ e. e ≡ PoolError.NoMemory → (pass.old.room ≡ 0) ⊎ AtFront G.config pass.new.front (λ s. s.maximum < maximum)) }
+        ensures refused { IfErr result (Refuses G.config (pass.old.room < 1) pass.new.front (Ask.Maximum maximum)) }
         ensures unchanged { OnErr result (AddsNone pass.old pass.new) }
     {
         self.shared().control(rt, Maximum(maximum), pass)
@@ -53,7 +51,7 @@ impl<G: PoolNaming, J: Job, E: Edge> PoolOf<G, J, E> {
     /// for 0 while core workers time out, else BookFull (5).
     pub fn set_keep<R: Wait>(&self, rt: &R, keep: u64, pass: &mut Pass<G>) -> Result<(), PoolError>
         ensures step { OnOk result (AddsStep G.config pass.old (Ask.Keep keep) (Did.Keep keep) pass.new) }
-        ensures refused { IfErr result (Refuses G.config pass.new.front (Ask.Keep keep)) }
+        ensures refused { IfErr result (Refuses G.config (pass.old.room < 1) pass.new.front (Ask.Keep keep)) }
         ensures unchanged { OnErr result (AddsNone pass.old pass.new) }
     {
         self.shared().control(rt, Keep(keep), pass)
@@ -68,7 +66,7 @@ impl<G: PoolNaming, J: Job, E: Edge> PoolOf<G, J, E> {
         pass: &mut Pass<G>,
     ) -> Result<(), PoolError>
         ensures step { OnOk result (AddsStep G.config pass.old (Ask.CoreTimeout on) (Did.CoreTimeout on) pass.new) }
-        ensures refused { IfErr result (Refuses G.config pass.new.front (Ask.CoreTimeout on)) }
+        ensures refused { IfErr result (Refuses G.config (pass.old.room < 1) pass.new.front (Ask.CoreTimeout on)) }
         ensures unchanged { OnErr result (AddsNone pass.old pass.new) }
     {
         self.shared().control(rt, CoreTimeout(on), pass)
@@ -78,7 +76,7 @@ impl<G: PoolNaming, J: Job, E: Edge> PoolOf<G, J, E> {
     /// by it. NoMemory (4) for its receipt, else ClockBack (10) for a moment below now, else BookFull (5).
     pub fn tick<R: Wait>(&self, rt: &R, now: u64, pass: &mut Pass<G>) -> Result<(), PoolError>
         ensures step { OnOk result (AddsStep G.config pass.old (Ask.Tick now) (Did.Tick now) pass.new) }
-        ensures refused { IfErr result (Refuses G.config pass.new.front (Ask.Tick now)) }
+        ensures refused { IfErr result (Refuses G.config (pass.old.room < 1) pass.new.front (Ask.Tick now)) }
         ensures unchanged { OnErr result (AddsNone pass.old pass.new) }
     {
         self.shared().control(rt, Tick(now), pass)
@@ -89,7 +87,7 @@ impl<G: PoolNaming, J: Job, E: Edge> PoolOf<G, J, E> {
     /// NoMemory (4) for its receipt, else BookFull (5).
     pub fn purge<R: Wait>(&self, rt: &R, pass: &mut Pass<G>) -> Result<u32, PoolError>
         ensures step { IfOk result (λ n. AddsStep G.config pass.old Ask.Purge (Did.Purge n) pass.new) }
-        ensures refused { IfErr result (Refuses G.config pass.new.front Ask.Purge) }
+        ensures refused { IfErr result (Refuses G.config (pass.old.room < 1) pass.new.front Ask.Purge) }
         ensures unchanged { OnErr result (AddsNone pass.old pass.new) }
     {
         self.shared().control_and_end(rt, Purge, pass)
@@ -107,7 +105,7 @@ impl<G: PoolNaming, J: Job, E: Edge> PoolOf<G, J, E> {
     ) -> Result<Removal<J>, PoolError>
         ensures job { IfOk result (λ r. Removes J G.config pass.old.number pass.old.front t r pass.new.front) }
         ensures step { IfOk result (λ r. AddsStep G.config pass.old (Ask.Remove t) (Did.Remove t (is_removed r)) pass.new) }
-        ensures refused { IfErr result (Refuses G.config pass.new.front (Ask.Remove t)) }
+        ensures refused { IfErr result (Refuses G.config (pass.old.room < 1) pass.new.front (Ask.Remove t)) }
         ensures unchanged { OnErr result (AddsNone pass.old pass.new) }
     {
         match self.shared().control_and_end(rt, Remove(t), pass) {
@@ -128,7 +126,7 @@ impl<G: PoolNaming, J: Job, E: Edge> PoolOf<G, J, E> {
         pass: &mut Pass<G>,
     ) -> Result<bool, PoolError>
         ensures step { IfOk result (λ effective. AddsStep G.config pass.old (Ask.Cancel t flag) (Did.Cancel t flag effective) pass.new) }
-        ensures refused { IfErr result (Refuses G.config pass.new.front (Ask.Cancel t flag)) }
+        ensures refused { IfErr result (Refuses G.config (pass.old.room < 1) pass.new.front (Ask.Cancel t flag)) }
         ensures unchanged { OnErr result (AddsNone pass.old pass.new) }
     {
         match self.shared().control(rt, Cancel(t, flag), pass) {

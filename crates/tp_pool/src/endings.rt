@@ -47,7 +47,7 @@ impl<
     ) -> Result<(), PoolError>
         ensures steps { OnOk result (AddsAndEnds G.config pass.old Ask.Shutdown Did.Shutdown pass.new) }
         ensures seen { OnOk result (1 ≤ rank pass.new.front) }
-        ensures refused { IfErr result (Refuses G.config pass.new.front Ask.Shutdown) }
+        ensures refused { IfErr result (Refuses G.config (pass.old.room < 3) pass.new.front Ask.Shutdown) }
         ensures unchanged { OnErr result (AddsNone pass.old pass.new) }
     {
         if let Err(error) = pass.reserve(3) {
@@ -82,8 +82,7 @@ impl<G: PoolNaming, J: Job, E: Edge> PoolOf<G, J, E> {
         ensures handed { IfOk result (λ drained. (mid : List Entry) × Stops J G.config pass.old.number pass.old.front drained.items mid × IsFrontOf mid pass.new.front) }
         ensures steps { IfOk result (λ drained. AddsAndEnds G.config pass.old Ask.Stop (Did.Stop (length drained.items)) pass.new) }
         ensures seen { OnOk result (2 ≤ rank pass.new.front) }
-        ensures refused { IfErr result (Refuses G.config pass.new.front Ask.Stop) }
-        ensures memory { IfErr result (λ e. e ≡ PoolError.NoMemory → (pass.old.room < 3) ⊎ AtFront G.config pass.new.front (λ s. 0 < length s.queue)) }
+        ensures refused { IfErr result (Refuses G.config ((pass.old.room < 3) ⊎ AtFront G.config pass.new.front (λ s. 0 < length s.queue)) pass.new.front Ask.Stop) }
         ensures unchanged { OnErr result (AddsNone pass.old pass.new) }
     {
         if let Err(error) = pass.reserve(3) {
@@ -115,7 +114,7 @@ impl<G: PoolNaming, J: Job, E: Edge> PoolOf<G, J, E> {
         ensures steps { OnOk result (Adds G.config pass.old [] pass.new ⊎ Adds G.config pass.old (tidied pass.old.number ∷ ended pass.old.number ∷ []) pass.new) }
         ensures seen { OnOk result (rank pass.new.front ≡ 4) }
         ensures late { IfErr result (λ e. e ≡ PoolError.TimedOut → AtFront G.config pass.new.front (λ s. (deadline ≤ s.now) × ¬ (s.rank ≡ 4))) }
-        ensures refused { IfErr result (λ e. ((e ≡ PoolError.NoMemory) × AddsNone pass.old pass.new)
+        ensures refused { IfErr result (λ e. ((e ≡ PoolError.NoMemory) × (pass.old.room < 2) × AddsNone pass.old pass.new)
             ⊎ ((e ≡ PoolError.TimedOut) × Adds G.config pass.old [] pass.new)
             ⊎ ((e ≡ PoolError.TornRecord) × IsBarred G.config pass.new.front Ask.Ended × Adds G.config pass.old (tidied pass.old.number ∷ []) pass.new)) }
     {

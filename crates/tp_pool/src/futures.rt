@@ -89,7 +89,7 @@ impl<G: PoolNaming, J: Job, E: Edge> PoolOf<G, J, E> {
         pass: &mut Pass<G>,
     ) -> Result<TaskId, PoolError>
         ensures step { IfOk result (λ t. AddsStep G.config pass.old (Ask.TakeDone group) (Did.TakeDone group t) pass.new) }
-        ensures refused { IfErr result (Refuses G.config pass.new.front (Ask.TakeDone group)) }
+        ensures refused { IfErr result (Refuses G.config (pass.old.room < 1) pass.new.front (Ask.TakeDone group)) }
         ensures unchanged { OnErr result (AddsNone pass.old pass.new) }
     {
         self.shared().control(rt, TakeDone(group), pass)
@@ -105,7 +105,7 @@ impl<G: PoolNaming, J: Job, E: Edge> PoolOf<G, J, E> {
         pass: &mut Pass<G>,
     ) -> Result<TaskId, PoolError>
         ensures step { IfOk result (λ t. AddsStep G.config pass.old (Ask.TakeDone group) (Did.TakeDone group t) pass.new) }
-        ensures refused { IfErr result (λ e. (e ≡ PoolError.NoMemory) ⊎ AtFront G.config pass.new.front (λ s. IsUndoneAt G.config s group e)) }
+        ensures refused { IfErr result (λ e. ((e ≡ PoolError.NoMemory) × (pass.old.room < 1)) ⊎ AtFront G.config pass.new.front (λ s. IsUndoneAt G.config s group e)) }
         ensures unchanged { OnErr result (AddsNone pass.old pass.new) }
     {
         if let Err(error) = pass.reserve(1) {

@@ -49,7 +49,7 @@ pub fn run_all<J: Job + 'static, E: Edge + Send + Sync + 'static, R: Runtime>(
     edge: E,
     jobs: Vec<J>,
 ) -> Result<(Vec<Answer>, Report), PoolError>
-    ensures run { IfOk result (λ r. IsRun settings J.promised jobs.items r.0.items r.1) }
+    ensures run { IfOk result (λ r. IsRun settings J.promised J.urgency jobs.items r.0.items r.1) }
     ensures over { IfErr result (IsOver settings) }
 {
     let unopened = match Unopened::new(alloc) {
@@ -76,7 +76,7 @@ fn opened<
 ) -> Result<(Vec<Answer>, Report), PoolError>
     requires named { unopened ≡ record { ledger = G.name; parts = G.parts; table = G.table } }
     requires settings { settings ≡ G.config }
-    ensures run { IfOk result (λ r. IsRun settings J.promised jobs.items r.0.items r.1) }
+    ensures run { IfOk result (λ r. IsRun settings J.promised J.urgency jobs.items r.0.items r.1) }
     ensures over { IfErr result (IsOver settings) }
 {
     let (pool, mut pass) = match PoolOf::<G, J, E>::over(alloc, unopened, settings, edge) {
@@ -105,7 +105,7 @@ fn lived<G: PoolName, J: Job + 'static, E: Edge + Send + Sync + 'static, R: Runt
     seen: &mut Sight<G>,
 ) -> Result<(Vec<Answer>, Report), PoolError>
     requires room { 3 ≤ last.room }
-    ensures run { IfOk result (λ r. (new other : PassView) × AreAnswered G.config J.promised jobs.items r.0.items pass new × Reports G.config (new ∷ other ∷ []) r.1) }
+    ensures run { IfOk result (λ r. (new other : PassView) × AreAnswered G.config J.promised J.urgency jobs.items r.0.items pass new × Reports G.config (new ∷ other ∷ []) r.1) }
     ensures cut { IfErr result IsCut }
     ensures seen { 3 ≤ rank seen.new }
     ensures legal { Legal G.config seen.new }
@@ -128,7 +128,7 @@ fn answers_of<G: PoolName, J: Job + 'static, E: Edge + Send + Sync + 'static, R:
     jobs: Vec<J>,
     pass: &mut Pass<G>,
 ) -> Result<Vec<Answer>, PoolError>
-    ensures answered { IfOk result (λ answers. AreAnswered G.config J.promised jobs.items answers.items pass.old pass.new) }
+    ensures answered { IfOk result (λ answers. AreAnswered G.config J.promised J.urgency jobs.items answers.items pass.old pass.new) }
     ensures refused { IfErr result (λ e. e ≡ PoolError.NoMemory) }
 {
     let tasks = match submit_each(rt, alloc, pool, jobs, pass) {
@@ -146,7 +146,7 @@ fn submit_each<G: PoolName, J: Job + 'static, E: Edge + Send + Sync + 'static, R
     jobs: Vec<J>,
     pass: &mut Pass<G>,
 ) -> Result<Vec<Result<TaskId, PoolError>>, PoolError>
-    ensures submitted { IfOk result (λ tasks. AreSubmitted G.config J.promised jobs.items tasks.items pass.old pass.new) }
+    ensures submitted { IfOk result (λ tasks. AreSubmitted G.config J.promised J.urgency jobs.items tasks.items pass.old pass.new) }
     ensures refused { IfErr result (λ e. e ≡ PoolError.NoMemory) }
 {
     let mut tasks = Vec::new(alloc);
@@ -163,7 +163,7 @@ fn submitted<G: PoolName, J: Job + 'static, E: Edge + Send + Sync + 'static, R: 
     job: J,
     pass: &mut Pass<G>,
 ) -> Result<TaskId, PoolError>
-    ensures { Submits G.config job (J.promised job) result pass.old pass.new }
+    ensures { Submits G.config job (J.promised job) (J.urgency job) result pass.old pass.new }
 {
     match pool.execute_as(rt, Kind::Future, job, pass) {
         Ok(admitted) => Ok(task_of(admitted)),

@@ -46,7 +46,7 @@ impl<
         pass: &mut Pass<G>,
     ) -> Result<(), PoolError>
         ensures steps { OnOk result ((added most live : ℕ) × (most ≤ added) × (most < added → most < core → 1024 ≤ most) × AddsStarts G.config (IsServed G.config) most (entry_of pass.old.number (Ask.Core core) (Did.Core core added) ∷ []) pass.old live pass.new) }
-        ensures refused { IfErr result (Refuses G.config pass.new.front (Ask.Core core)) }
+        ensures refused { IfErr result (Refuses G.config ((pass.old.room < 1 + 2 * core) × (pass.old.room < 2049)) pass.new.front (Ask.Core core)) }
         ensures unchanged { OnErr result (AddsNone pass.old pass.new) }
     {
         let most = core.min(MAX_WORKERS);
@@ -97,7 +97,7 @@ impl<
         pass: &mut Pass<G>,
     ) -> Result<bool, PoolError>
         ensures steps { IfOk result (λ live. AddsPrestart G.config pass.old live pass.new) }
-        ensures refused { IfErr result (Refuses G.config pass.new.front Ask.Prestart) }
+        ensures refused { IfErr result (Refuses G.config (pass.old.room < 2) pass.new.front Ask.Prestart) }
         ensures unchanged { OnErr result (AddsNone pass.old pass.new) }
     {
         if let Err(error) = pass.reserve(2) {
@@ -119,7 +119,7 @@ impl<
     ) -> Result<u32, PoolError>
         ensures steps { IfOk result (λ live. AddsStarts G.config (IsRefusedMore G.config) 1024 [] pass.old live pass.new) }
         ensures asked { OnOk result (pass.old.amount < pass.new.amount) }
-        ensures refused { IfErr result (Refuses G.config pass.new.front Ask.Prestart) }
+        ensures refused { IfErr result (Refuses G.config (pass.old.room < 2048) pass.new.front Ask.Prestart) }
         ensures unchanged { OnErr result (AddsNone pass.old pass.new) }
     {
         if let Err(error) = pass.reserve(2 * MAX_WORKERS as usize) {

@@ -167,7 +167,7 @@ impl<G: PoolNaming, J: Drop, E: Edge> Shared<G, J, E> {
         pass: &mut A,
     ) -> Result<S::Answer, PoolError>
         requires brings { S.brings step tt }
-        requires ready { A.ready pass.old }
+        requires ready { A.ready pass.old (S.ask step) }
         ensures answers { IfOk result (λ x. S.answers step x) }
         ensures makes { IfOk result (λ x. Makes J G.config (A.number pass.old) (A.front pass.old) (S.ask step) (S.did step x) (S.moves step tt x) (A.front pass.new)) }
         ensures paid { IfOk result (λ x. A.paid pass.old (entry_of (A.number pass.old) (S.ask step) (S.did step x)) pass.new) }
@@ -217,7 +217,7 @@ impl<G: PoolNaming, J: Drop, E: Edge> Shared<G, J, E> {
         ensures answers { IfOk result.0 (λ x. S.answers step x) }
         ensures makes { IfOk result.0 (λ x. Makes J G.config pass.old.number pass.old.front (S.ask step) (S.did step x) (S.moves step tt x) pass.new.front) }
         ensures step { IfOk result.0 (λ x. AddsStep G.config pass.old (S.ask step) (S.did step x) pass.new) }
-        ensures known { IfOk result.0 (λ x. KnowsStep pass.old (S.ask step) (S.did step x) (S.says step x) pass.new) }
+        ensures known { IfOk result.0 (λ x. KnowsStep pass.old (S.ask step) (S.did step x) (S.says step x G.config) pass.new) }
         ensures left { OnOk result.0 (pass.old.room ≤ pass.new.room + 1) }
         ensures refused { IfErr result.0 (λ e. HasNoOutcome (S.ask step) → IsRefusal G.config pass.new.front (S.ask step) e) }
         ensures unchanged { OnErr result.0 (LooksOnly G.config pass.old pass.new) }
@@ -243,8 +243,7 @@ impl<G: PoolNaming, J: Drop, E: Edge> Shared<G, J, E> {
         ensures answers { IfOk result (λ x. S.answers step x) }
         ensures makes { IfOk result (λ x. Makes J G.config pass.old.number pass.old.front (S.ask step) (S.did step x) (S.moves step tt x) pass.new.front) }
         ensures step { IfOk result (λ x. AddsStep G.config pass.old (S.ask step) (S.did step x) pass.new) }
-        ensures refused { IfErr result (Refuses G.config pass.new.front (S.ask step)) }
-        ensures ready { 0 < pass.old.room → IfErr result (IsRefusal G.config pass.new.front (S.ask step)) }
+        ensures refused { IfErr result (Refuses G.config (pass.old.room < 1) pass.new.front (S.ask step)) }
         ensures unchanged { OnErr result (AddsNone pass.old pass.new) }
     {
         if let Err(error) = pass.reserve(1) {
@@ -266,7 +265,8 @@ impl<G: PoolNaming, J: Drop, E: Edge> Shared<G, J, E> {
         ensures answers { IfOk result (λ x. S.answers step x) }
         ensures makes { IfOk result (λ x. Makes J G.config pass.old.number pass.old.front (S.ask step) (S.did step x) (S.moves step tt x) pass.new.front) }
         ensures step { IfOk result (λ x. AddsStep G.config pass.old (S.ask step) (S.did step x) pass.new) }
-        ensures refused { IfErr result (Refuses G.config pass.new.front (S.ask step)) }
+        ensures known { IfOk result (λ x. KnowsStep pass.old (S.ask step) (S.did step x) (S.says step x G.config) pass.new) }
+        ensures refused { IfErr result (Refuses G.config (pass.old.room < 1) pass.new.front (S.ask step)) }
         ensures unchanged { OnErr result (AddsNone pass.old pass.new) }
     {
         if let Err(error) = pass.reserve(1) {
@@ -289,8 +289,7 @@ impl<G: PoolNaming, J: Drop, E: Edge> Shared<G, J, E> {
         ensures stops { IfOk result (λ drained. Stops J G.config pass.old.number pass.old.front drained.items pass.new.front) }
         ensures step { IfOk result (λ drained. AddsStep G.config pass.old Ask.Stop (Did.Stop (length drained.items)) pass.new) }
         ensures left { OnOk result (pass.old.room ≤ pass.new.room + 1) }
-        ensures refused { IfErr result (Refuses G.config pass.new.front Ask.Stop) }
-        ensures memory { IfErr result (λ e. e ≡ PoolError.NoMemory → AtFront G.config pass.new.front (λ s. 0 < length s.queue)) }
+        ensures refused { IfErr result (Refuses G.config (AtFront G.config pass.new.front (λ s. 0 < length s.queue)) pass.new.front Ask.Stop) }
         ensures unchanged { OnErr result (AddsNone pass.old pass.new) }
     {
         let mut core = self.hold(rt);

@@ -1,6 +1,6 @@
 //! Submissions: a task's path from its first step to its end, each step in a hold of its own. Between two of
 //! them other threads may make steps, so a submission asks after each answer what comes next.
-ghost use Rattle.std.specs.Prelude.{◌≡◌, ◌≢◌, ◌⊎◌, ◌+◌, ◌<◌, ◌≤◌, option_map, Some, IsSome, IfSome, IfNone, IfOk, IfErr, OnSome, OnOk, OnErr};
+ghost use Rattle.std.specs.Prelude.{◌≡◌, ◌≢◌, ◌⊎◌, ◌+◌, ◌<◌, ◌≤◌, option_map, Some, IsSome, IfSome, IfNone, IfOk, IfErr, OnSome, OnOk, OnErr, ⊤};
 ghost use Rattle.tp_record.specs.State.{state};
 ghost use Rattle.tp_record.specs.declared.entries.Ask.{Ask as AskOf};
 ghost use Rattle.tp_record.specs.Paths.{Ends, Rejected, follows as what_follows};
@@ -10,7 +10,7 @@ ghost use Rattle.tp_locked.specs.Left.{IsLeft};
 ghost use Rattle.tp_locked.specs.Passes.{AddsStep, AddsNone, IsRefusal, LooksOnly, Refuses, opening};
 ghost use Rattle.tp_locked.specs.Steps.{Makes};
 ghost use Rattle.tp_locked.specs.declared.tasks.Task.{Task as TaskOf};
-ghost use Rattle.tp_pool.specs.Admissions.{task_of, end_of, Admits, Awaits, ComesBack, IsAdmitted, IsTurnedAway, IsUndone};
+ghost use Rattle.tp_pool.specs.Admissions.{task_of, end_of, Admits, AtPriority, Awaits, ComesBack, IsAdmitted, IsTurnedAway, IsUndone};
 ghost use Rattle.tp_pool.specs.Endings.{IsBarred};
 
 use crate::boxes::Boxed;
@@ -124,11 +124,26 @@ impl<
         job: J,
         pass: &mut Pass<G>,
     ) -> Result<Admitted, Refused<J>>
-        ensures admitted { IfOk result (IsAdmitted G.config kind job (J.promised job) pass.old pass.new) }
-        ensures refused { IfErr result (IsTurnedAway G.config kind job (J.promised job) pass.old pass.new) }
+        ensures admitted { Admits G.config kind (J.urgency job) job (J.promised job) pass.old pass.new result }
+        ensures refused { IfErr result (λ r. AtPriority (J.urgency job) (λ p. IsTurnedAway G.config kind p job (J.promised job) pass.old pass.new r)) }
+    {
+        self.execute_at(rt, kind, job.priority(), job, pass)
+    }
+
+    /// As `execute_as`, at this priority: the job's own is not asked.
+    pub fn execute_at<R: Threads + Wait + Copy + Send + 'static>(
+        &self,
+        rt: &R,
+        kind: Kind,
+        priority: u32,
+        job: J,
+        pass: &mut Pass<G>,
+    ) -> Result<Admitted, Refused<J>>
+        ensures admitted { IfOk result (IsAdmitted G.config kind priority job (J.promised job) pass.old pass.new) }
+        ensures refused { IfErr result (IsTurnedAway G.config kind priority job (J.promised job) pass.old pass.new) }
     {
         match reserve(pass) {
-            Ok(()) => self.submit(*rt, kind, job, pass),
+            Ok(()) => self.submit(*rt, kind, priority, job, pass),
             Err(error) => Err(Refused {
                 error,
                 job: Some(job),
@@ -141,14 +156,15 @@ impl<
         &self,
         rt: R,
         kind: Kind,
+        priority: u32,
         job: J,
         pass: &mut Pass<G>,
     ) -> Result<Admitted, Refused<J>>
         requires room { 512 ≤ pass.old.room }
-        ensures admitted { IfOk result (IsAdmitted G.config kind job (J.promised job) pass.old pass.new) }
-        ensures refused { IfErr result (IsTurnedAway G.config kind job (J.promised job) pass.old pass.new) }
+        ensures admitted { IfOk result (IsAdmitted G.config kind priority job (J.promised job) pass.old pass.new) }
+        ensures refused { IfErr result (IsTurnedAway G.config kind priority job (J.promised job) pass.old pass.new) }
     {
-        let (t, look) = match self.shared().submit(&rt, kind, job, pass) {
+        let (t, look) = match self.shared().submit(&rt, kind, priority, job, pass) {
             Ok(submitted) => submitted,
             Err((error, job)) => {
                 return Err(Refused {
@@ -158,7 +174,7 @@ impl<
             }
         };
         fronts_are_paths();
-        let mut next = follows(t, &Did::Submit(t, kind, look));
+        let mut next = follows(t, &Did::Submit(t, kind, priority, look));
         let mut held = None;
         for _ in 1..MOST_STEPS {
             if let Next::End(ending) = next {
@@ -306,8 +322,8 @@ impl<G: PoolNaming + Send + Sync + 'static> PoolOf<G, Boxed, Boxes> {
         job: Box<dyn Job>,
         pass: &mut Pass<G>,
     ) -> Result<Admitted, Refused<Boxed>>
-        ensures admitted { Admits G.config Kind.Plain (record { job = job }) (promised job) pass.old pass.new result }
-        ensures refused { IfErr result (IsTurnedAway G.config Kind.Plain (record { job = job }) (promised job) pass.old pass.new) }
+        ensures admitted { Admits G.config Kind.Plain (urgency job) (record { job = job }) (promised job) pass.old pass.new result }
+        ensures refused { IfErr result (λ r. AtPriority (urgency job) (λ p. IsTurnedAway G.config Kind.Plain p (record { job = job }) (promised job) pass.old pass.new r)) }
         ensures returned { IfErr result (λ r. r.error ≢ PoolError.TornRecord → IsSome r.job) }
     {
         self.execute_as(rt, Kind::Plain, Boxed { job }, pass)
@@ -321,14 +337,15 @@ impl<G: PoolNaming, J: Job, E: Edge> Shared<G, J, E> {
         &self,
         rt: &R,
         kind: Kind,
+        priority: u32,
         job: J,
         pass: &mut Pass<G>,
     ) -> Result<(TaskId, Looked), (PoolError, J)>
         requires room { 0 < pass.old.room }
-        ensures makes { IfOk result (λ x. (task : TaskOf J) × (task.job ≡ job) × Makes J G.config pass.old.number pass.old.front (Ask.Submit kind) (Did.Submit x.0 kind x.1) (λ old new. PutsIn old new x.0.0 (J.promised job) task) pass.new.front) }
-        ensures step { IfOk result (λ x. AddsStep G.config pass.old (Ask.Submit kind) (Did.Submit x.0 kind x.1) pass.new) }
+        ensures makes { IfOk result (λ x. (task : TaskOf J) × (task.job ≡ job) × Makes J G.config pass.old.number pass.old.front (Ask.Submit kind priority) (Did.Submit x.0 kind priority x.1) (λ old new. PutsIn old new x.0.0 (J.promised job) task) pass.new.front) }
+        ensures step { IfOk result (λ x. AddsStep G.config pass.old (Ask.Submit kind priority) (Did.Submit x.0 kind priority x.1) pass.new) }
         ensures left { OnOk result (pass.old.room ≤ pass.new.room + 1) }
-        ensures refused { IfErr result (λ r. Refuses G.config pass.new.front (Ask.Submit kind) r.0) }
+        ensures refused { IfErr result (λ r. Refuses G.config ⊤ pass.new.front (Ask.Submit kind priority) r.0) }
         ensures returned { IfErr result (λ r. r.1 ≡ job) }
         ensures unchanged { OnErr result (AddsNone pass.old pass.new) }
     {
@@ -338,7 +355,12 @@ impl<G: PoolNaming, J: Job, E: Edge> Shared<G, J, E> {
             Err(error) => return Err((error, job)),
         };
         let task = Task { job, flag: lent };
-        let submitted = core.submit(Submit { kind, promise }, task, kept, &self.glance, pass);
+        let step = Submit {
+            kind,
+            priority,
+            promise,
+        };
+        let submitted = core.submit(step, task, kept, &self.glance, pass);
         self.release(core);
         match submitted {
             Ok(submitted) => Ok(submitted),

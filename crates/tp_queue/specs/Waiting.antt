@@ -1,16 +1,26 @@
 -- What a contract sees of a work queue.
-use Rattle.std.specs.Prelude.{ℕ, ◌≡◌, List, []}
+use Rattle.std.specs.Prelude.{ℕ, ◌≡◌, ◌^◌, List, [], if◌then◌else◌}
 use Rattle.tp_types.specs.declared.configs.QueueKind.{QueueKind}
-use Rattle.tp_types.specs.declared.configs.QueueKind.TheVariants.{Handoff, Unbounded, Bounded}
+use Rattle.tp_types.specs.declared.configs.QueueKind.TheVariants.{Handoff, Unbounded, Bounded, Priority}
 use Rattle.tp_types.specs.declared.ids.TaskId.{TaskId}
+use Rattle.tp_types.specs.Queues.{is_ranked}
 use Rattle.tp_line.specs.Line.{Line}
+use Rattle.tp_line.specs.Ranks.{key}
 
--- the kind; the tasks that wait, in order, each with its place number; how many may wait; how many offers were accepted so far
+-- the kind; the tasks that wait, in order, each with its key; how many may wait; how many offers were accepted so far
 pub record Waiting : Type 0 where
   pub kind : QueueKind
   pub items : List (TaskId × ℕ)
   pub capacity : ℕ
   pub offers : ℕ
+
+-- the key under which a task of this priority and place number waits: the number alone, where the queue does not go by priority
+abbrev pub place_key : QueueKind → ℕ → ℕ → ℕ
+place_key k priority number = if is_ranked k then key priority number else number
+
+-- no key is so great
+abbrev pub key_bound : QueueKind → ℕ → ℕ
+key_bound k offers = if is_ranked k then 2 ^ 96 else offers
 
 -- a queue of this kind whose tasks wait in this line
 abbrev pub waiting_in : QueueKind → Line TaskId → Waiting
@@ -21,6 +31,7 @@ abbrev pub first_places : QueueKind → ℕ
 first_places Handoff = 0
 first_places Unbounded = 0
 first_places (Bounded n) = n
+first_places Priority = 0
 
 -- an empty queue of this kind, without an accepted offer so far
 abbrev pub first_waiting : QueueKind → Waiting
@@ -31,3 +42,4 @@ abbrev pub HasPlaces : QueueKind → ℕ → Type 0
 HasPlaces Handoff n = n ≡ 0
 HasPlaces Unbounded n = Unit {0}
 HasPlaces (Bounded m) n = n ≡ m
+HasPlaces Priority n = Unit {0}

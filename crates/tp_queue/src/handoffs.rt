@@ -5,6 +5,7 @@ ghost use Rattle.tp_queue.specs.Waiting.{first_waiting};
 
 use crate::work::WorkQueue;
 use std::alloc::AllocError;
+use tp_line::sweeps::Sweeper;
 use tp_types::ids::TaskId;
 
 /// A work queue in which no task ever waits, as a `SynchronousQueue`: a task goes straight to an idle
@@ -34,7 +35,7 @@ impl WorkQueue for HandoffQueue {
     }
 
     #[inline(always)]
-    fn offer(&mut self, task: TaskId) -> Result<u64, TaskId> {
+    fn offer(&mut self, task: TaskId, _priority: u32) -> Result<u64, TaskId> {
         Err(task)
     }
 
@@ -48,9 +49,11 @@ impl WorkQueue for HandoffQueue {
         None
     }
 
-    fn remove(&mut self, _place: u64) {}
+    fn remove(&mut self, _priority: u32, _number: u64) {}
 
-    fn first_from(&self, _place: u64) -> Option<(TaskId, u64)> {
-        None
+    fn count<S: Sweeper<TaskId>>(&self, _sweeper: &S) -> usize {
+        0
     }
+
+    fn sweep<S: Sweeper<TaskId>>(&mut self, _sweeper: &mut S) {}
 }

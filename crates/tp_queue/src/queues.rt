@@ -2,21 +2,25 @@
 
 use crate::bounded::Bounded;
 use crate::handoffs::HandoffQueue;
+use crate::priorities::Priority;
 use crate::unbounded::Unbounded;
 use crate::work::WorkQueue;
 use std::alloc::{AllocError, Global};
+use tp_line::sweeps::Sweeper;
 use tp_types::configs::QueueKind;
 use tp_types::ids::TaskId;
 
-/// A work queue of one of the three kinds.
+/// A work queue of one of the four kinds.
 #[derive(Drop)]
 pub enum Queue {
     /// Without places.
     Handoff(HandoffQueue),
-    /// With room always.
+    /// With room always, in the order of the offers.
     Unbounded(Unbounded),
     /// With a fixed number of places.
     Bounded(Bounded),
+    /// With room always, in the order of the priorities.
+    Priority(Priority),
 }
 
 impl Queue {
@@ -33,6 +37,7 @@ impl Queue {
             QueueKind::Handoff => Ok(Queue::Handoff(HandoffQueue)),
             QueueKind::Unbounded => Ok(Queue::Unbounded(Unbounded::new(alloc)?)),
             QueueKind::Bounded(capacity) => Ok(Queue::Bounded(Bounded::new(alloc, capacity)?)),
+            QueueKind::Priority => Ok(Queue::Priority(Priority::new(alloc))),
         }
     }
 }
@@ -48,6 +53,7 @@ impl WorkQueue for Queue {
             Queue::Handoff(queue) => queue.is_lawful(),
             Queue::Unbounded(queue) => queue.is_lawful(),
             Queue::Bounded(queue) => queue.is_lawful(),
+            Queue::Priority(queue) => queue.is_lawful(),
         }
     }
 
@@ -57,6 +63,7 @@ impl WorkQueue for Queue {
             Queue::Handoff(queue) => queue.len(),
             Queue::Unbounded(queue) => queue.len(),
             Queue::Bounded(queue) => queue.len(),
+            Queue::Priority(queue) => queue.len(),
         }
     }
 
@@ -66,6 +73,7 @@ impl WorkQueue for Queue {
             Queue::Handoff(queue) => queue.is_full(),
             Queue::Unbounded(queue) => queue.is_full(),
             Queue::Bounded(queue) => queue.is_full(),
+            Queue::Priority(queue) => queue.is_full(),
         }
     }
 
@@ -75,15 +83,17 @@ impl WorkQueue for Queue {
             Queue::Handoff(queue) => queue.reserve(places),
             Queue::Unbounded(queue) => queue.reserve(places),
             Queue::Bounded(queue) => queue.reserve(places),
+            Queue::Priority(queue) => queue.reserve(places),
         }
     }
 
     #[inline(always)]
-    fn offer(&mut self, task: TaskId) -> Result<u64, TaskId> {
+    fn offer(&mut self, task: TaskId, priority: u32) -> Result<u64, TaskId> {
         match self {
-            Queue::Handoff(queue) => queue.offer(task),
-            Queue::Unbounded(queue) => queue.offer(task),
-            Queue::Bounded(queue) => queue.offer(task),
+            Queue::Handoff(queue) => queue.offer(task, priority),
+            Queue::Unbounded(queue) => queue.offer(task, priority),
+            Queue::Bounded(queue) => queue.offer(task, priority),
+            Queue::Priority(queue) => queue.offer(task, priority),
         }
     }
 
@@ -93,6 +103,7 @@ impl WorkQueue for Queue {
             Queue::Handoff(queue) => queue.head(),
             Queue::Unbounded(queue) => queue.head(),
             Queue::Bounded(queue) => queue.head(),
+            Queue::Priority(queue) => queue.head(),
         }
     }
 
@@ -102,22 +113,34 @@ impl WorkQueue for Queue {
             Queue::Handoff(queue) => queue.take_head(),
             Queue::Unbounded(queue) => queue.take_head(),
             Queue::Bounded(queue) => queue.take_head(),
+            Queue::Priority(queue) => queue.take_head(),
         }
     }
 
-    fn remove(&mut self, place: u64) {
+    fn remove(&mut self, priority: u32, number: u64) {
         match self {
-            Queue::Handoff(queue) => queue.remove(place),
-            Queue::Unbounded(queue) => queue.remove(place),
-            Queue::Bounded(queue) => queue.remove(place),
+            Queue::Handoff(queue) => queue.remove(priority, number),
+            Queue::Unbounded(queue) => queue.remove(priority, number),
+            Queue::Bounded(queue) => queue.remove(priority, number),
+            Queue::Priority(queue) => queue.remove(priority, number),
         }
     }
 
-    fn first_from(&self, place: u64) -> Option<(TaskId, u64)> {
+    fn count<S: Sweeper<TaskId>>(&self, sweeper: &S) -> usize {
         match self {
-            Queue::Handoff(queue) => queue.first_from(place),
-            Queue::Unbounded(queue) => queue.first_from(place),
-            Queue::Bounded(queue) => queue.first_from(place),
+            Queue::Handoff(queue) => queue.count(sweeper),
+            Queue::Unbounded(queue) => queue.count(sweeper),
+            Queue::Bounded(queue) => queue.count(sweeper),
+            Queue::Priority(queue) => queue.count(sweeper),
+        }
+    }
+
+    fn sweep<S: Sweeper<TaskId>>(&mut self, sweeper: &mut S) {
+        match self {
+            Queue::Handoff(queue) => queue.sweep(sweeper),
+            Queue::Unbounded(queue) => queue.sweep(sweeper),
+            Queue::Bounded(queue) => queue.sweep(sweeper),
+            Queue::Priority(queue) => queue.sweep(sweeper),
         }
     }
 }

@@ -8,6 +8,7 @@ use crate::work::WorkQueue;
 use std::alloc::{AllocError, Global};
 use std::marker::Model;
 use tp_line::lines::Line;
+use tp_line::sweeps::Sweeper;
 use tp_types::ids::TaskId;
 
 /// A work queue without a limit, as a `LinkedBlockingQueue`. It has room for what was reserved: who
@@ -62,7 +63,8 @@ impl WorkQueue for Unbounded {
     }
 
     #[inline(always)]
-    fn offer(&mut self, task: TaskId) -> Result<u64, TaskId> {
+    fn offer(&mut self, task: TaskId, _priority: u32) -> Result<u64, TaskId> {
+        self.line.rises();
         self.line.offer(task)
     }
 
@@ -76,11 +78,15 @@ impl WorkQueue for Unbounded {
         self.line.take_head()
     }
 
-    fn remove(&mut self, place: u64) {
-        self.line.remove(place);
+    fn remove(&mut self, _priority: u32, number: u64) {
+        self.line.remove(number);
     }
 
-    fn first_from(&self, place: u64) -> Option<(TaskId, u64)> {
-        self.line.first_from(place)
+    fn count<S: Sweeper<TaskId>>(&self, sweeper: &S) -> usize {
+        self.line.count(sweeper)
+    }
+
+    fn sweep<S: Sweeper<TaskId>>(&mut self, sweeper: &mut S) {
+        self.line.sweep(sweeper);
     }
 }

@@ -1,26 +1,32 @@
 //! What each work queue does.
 
 use std::alloc::AllocError;
+use tp_line::sweeps::Sweeper;
 use tp_types::ids::TaskId;
 
-/// Tasks that wait for a worker, the oldest first, each under its place number, as a
+/// Tasks that wait for a worker, in the order in which they leave, each under a key, as a
 /// `BlockingQueue<Runnable>`.
 ///
-/// Place numbers count the accepted offers from 0, so they rise along the queue and none comes twice.
-/// No call but `reserve` takes memory, and none searches: a task is taken out by its place number.
+/// Place numbers count the accepted offers from 0, so none comes twice. A priority queue's keys are made of a task's priority and
+/// its place number, and another queue's are the place numbers alone. Keys rise along the queue. No call but `reserve` takes
+/// memory.
 pub trait WorkQueue {
-    ghost use Rattle.std.specs.Prelude.{◌≡◌, ◌==◌, ◌+◌, ◌-◌, ◌^◌, ◌<◌, ◌≤◌, ◌++◌, ◌∷◌, [], length, drop, slice_get, option_map, vec_len, vec_capacity, IfOk, IfErr, OnOk, OnErr, IsTrue, IsOk, ◌↔◌};
-    ghost use Rattle.tp_line.specs.Line.{without_place, from_place, ids, Ordered};
-    ghost use Rattle.tp_types.specs.declared.configs.QueueKind.TheVariants.{Unbounded as AnyNumber};
-    ghost use Rattle.tp_queue.specs.Waiting.{Waiting, HasPlaces};
+    ghost use Rattle.std.specs.Prelude.{◌≡◌, ◌==◌, ◌+◌, ◌-◌, ◌^◌, ◌<◌, ◌≤◌, ◌++◌, ◌∷◌, [], length, drop, slice_get, option_map, IsTrue, vec_len, vec_capacity, IfOk, IfErr, OnOk, OnErr, IsOk, ◌↔◌};
+    ghost use Rattle.std.specs.List.{FoldsTo};
+    ghost use Rattle.tp_line.specs.Line.{without_place, staying, leaving, ids, Ordered};
+    ghost use Rattle.tp_line.specs.Ranks.{enter, AreNumbered};
+    ghost use Rattle.tp_types.specs.Queues.{is_open};
+    ghost use Rattle.tp_queue.specs.Waiting.{Waiting, HasPlaces, place_key, key_bound};
 
     /// What contracts see.
     ghost waiting: { Self → Waiting };
 
-    /// The law of each queue: place numbers rise and stay below the number of accepted offers, no more
-    /// tasks wait than the capacity, and the capacity is its kind's.
+    /// The law of each queue: keys rise, place numbers stay below the number of accepted offers and none comes twice. No more
+    /// tasks wait than were accepted, nor more than the capacity, and the capacity is its kind's.
     fn is_lawful(&self)
-        ensures numbers { Ordered 0 (waiting self.now).items (waiting self.now).offers }
+        ensures keys { Ordered 0 (waiting self.now).items (key_bound (waiting self.now).kind (waiting self.now).offers) }
+        ensures numbers { AreNumbered (waiting self.now).offers (waiting self.now).items }
+        ensures few { length (waiting self.now).items ≤ (waiting self.now).offers }
         ensures within { length (waiting self.now).items ≤ (waiting self.now).capacity }
         ensures capacity { HasPlaces (waiting self.now).kind (waiting self.now).capacity };
 
@@ -32,46 +38,52 @@ pub trait WorkQueue {
     fn is_full(&self) -> bool
         ensures { IsTrue result ↔ ((waiting self.now).capacity ≤ length (waiting self.now).items) };
 
-    /// Makes places for so many tasks in all, where the queue is unbounded; a queue of another kind
+    /// Makes places for so many tasks in all, where the queue has no limit; a queue of another kind
     /// stays as it is. `AllocError` is refusal 4: nothing has changed. To ask for one place more each
     /// time moves each task but a few times.
     fn reserve(&mut self, places: usize) -> Result<(), AllocError>
-        ensures room { OnOk result ((waiting self.old).kind ≡ AnyNumber → places ≤ (waiting self.new).capacity) }
+        ensures room { OnOk result (IsTrue (is_open (waiting self.old).kind) → places ≤ (waiting self.new).capacity) }
         ensures kept { (waiting self.old).capacity ≤ (waiting self.new).capacity }
         ensures same { waiting self.new ≡ record (waiting self.old) { capacity = (waiting self.new).capacity } }
-        ensures refused { OnErr result ((waiting self.old).kind ≡ AnyNumber) }
+        ensures refused { OnErr result (IsTrue (is_open (waiting self.old).kind)) }
         ensures err { OnErr result (waiting self.new ≡ waiting self.old) };
 
-    /// Puts a task at the end and answers its place number, or gives the task back where the queue is
-    /// full, as `BlockingQueue.offer`.
-    fn offer(&mut self, task: TaskId) -> Result<u64, TaskId>
+    /// Puts a task in behind all whose key is not greater and answers its place number, or gives the task back where the queue
+    /// is full, as `BlockingQueue.offer`. In a priority queue it goes behind those of the same priority, in another to the end.
+    fn offer(&mut self, task: TaskId, priority: u32) -> Result<u64, TaskId>
         requires { (waiting self.old).offers < 2 ^ 64 - 1 }
         ensures room { IsOk result ↔ (length (waiting self.old).items < (waiting self.old).capacity) }
         ensures place { IfOk result (λ n. n ≡ (waiting self.old).offers) }
         ensures queued { OnOk result (waiting self.new ≡ record (waiting self.old) {
-          items = (waiting self.old).items ++ (task, (waiting self.old).offers) ∷ [];
+          items = enter (place_key (waiting self.old).kind priority (waiting self.old).offers) task (waiting self.old).items;
           offers = (waiting self.old).offers + 1;
         }) }
         ensures full { IfErr result (λ t. (t ≡ task) × (waiting self.new ≡ waiting self.old)) };
 
-    /// The task that waits longest, as `BlockingQueue.peek`.
+    /// The task that leaves first, as `BlockingQueue.peek`.
     fn head(&self) -> Option<TaskId>
         ensures { result ≡ option_map (λ x. x.0) (slice_get (waiting self.now).items 0) };
 
-    /// Takes out the task that waits longest, as `BlockingQueue.poll`.
+    /// Takes out the task that leaves first, as `BlockingQueue.poll`.
     fn take_head(&mut self) -> Option<TaskId>
         ensures head { result ≡ option_map (λ x. x.0) (slice_get (waiting self.old).items 0) }
         ensures rest { waiting self.new ≡ record (waiting self.old) { items = drop 1 (waiting self.old).items } };
 
-    /// Takes out the task of this place number, if it waits, as `BlockingQueue.remove`. The others keep
-    /// their order and numbers.
-    fn remove(&mut self, place: u64)
-        ensures { waiting self.new ≡ record (waiting self.old) { items = without_place place (waiting self.old).items } };
+    /// Takes out the task of this priority and place number, if it waits, as `BlockingQueue.remove`. The others keep their order
+    /// and numbers. A queue that does not go by priority looks for the number alone.
+    fn remove(&mut self, priority: u32, number: u64)
+        ensures { waiting self.new ≡ record (waiting self.old) { items = without_place (place_key (waiting self.old).kind priority number) (waiting self.old).items } };
 
-    /// The first task at this place number or a later one, with its place number. A walk along the
-    /// queue, which may take tasks out on its way, asks again from the number after the one answered.
-    fn first_from(&self, place: u64) -> Option<(TaskId, u64)>
-        ensures { result ≡ slice_get (from_place place (waiting self.now).items) 0 };
+    /// How many tasks wait that the sweeper would take.
+    fn count<S: Sweeper<TaskId>>(&self, sweeper: &S) -> usize
+        ensures { result ≡ length (leaving (S.takes sweeper.now) (waiting self.now).items) };
+
+    /// Hands to the sweeper, in the queue's order, the tasks that it takes, as `BlockingQueue.removeIf`: in one pass and without
+    /// memory. The others keep their order and numbers.
+    fn sweep<S: Sweeper<TaskId>>(&mut self, sweeper: &mut S)
+        ensures rest { waiting self.new ≡ record (waiting self.old) { items = staying (S.takes sweeper.old) (waiting self.old).items } }
+        ensures took { FoldsTo S.took sweeper.old (ids (leaving (S.takes sweeper.old) (waiting self.old).items)) sweeper.new }
+        ensures same { (t : TaskId) → S.takes sweeper.new t ≡ S.takes sweeper.old t };
 
     /// Moves all tasks, in the queue's order, to the end of a list that has room for them, as
     /// `BlockingQueue.drainTo`.

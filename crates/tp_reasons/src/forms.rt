@@ -15,12 +15,16 @@ pub const POOL_FORMS: &[&str] = &[
     "pool CORE MAX bounded PLACES keep TICKS POLICY coretimeout",
     "pool CORE MAX bounded PLACES keep TICKS POLICY limit ENTRIES",
     "pool CORE MAX bounded PLACES keep TICKS POLICY coretimeout limit ENTRIES",
+    "pool CORE MAX priority keep TICKS POLICY",
+    "pool CORE MAX priority keep TICKS POLICY coretimeout",
+    "pool CORE MAX priority keep TICKS POLICY limit ENTRIES",
+    "pool CORE MAX priority keep TICKS POLICY coretimeout limit ENTRIES",
 ];
 
 /// The forms of a pool line in short, and an example.
 pub const POOL_SUMMARY: &[&str] = &[
     "form: pool CORE MAX QUEUE keep TICKS POLICY, then maybe coretimeout, then maybe limit ENTRIES",
-    "QUEUE is handoff, unbounded or bounded PLACES",
+    "QUEUE is handoff, unbounded, bounded PLACES or priority",
     "as: pool 1 4 bounded 16 keep 0 abort",
 ];
 
@@ -32,6 +36,12 @@ pub const STEP_FORMS: &[&str] = &[
     "submit future !N",
     "submit group G V",
     "submit group G !N",
+    "submit plain V prio N",
+    "submit plain !N prio N",
+    "submit future V prio N",
+    "submit future !N prio N",
+    "submit group G V prio N",
+    "submit group G !N prio N",
     "look T",
     "offer T",
     "second T",
@@ -63,7 +73,16 @@ pub const STEP_FORMS: &[&str] = &[
 ];
 
 /// The forms of the lines of a file of jobs.
-pub const JOB_FORMS: &[&str] = &["execute V", "execute !N", "submit V", "submit !N"];
+pub const JOB_FORMS: &[&str] = &[
+    "execute V",
+    "execute !N",
+    "submit V",
+    "submit !N",
+    "execute V prio N",
+    "execute !N prio N",
+    "submit V prio N",
+    "submit !N prio N",
+];
 
 /// What a record's line begins with, behind the pool line: an entry's number, or `end`.
 pub const BODY_FORMS: &[&str] = &["ENTRY STEP", "end N"];
@@ -85,6 +104,15 @@ pub const ENTRY_FORMS: &[&str] = &[
     "submit tN group G reserve wN",
     "submit tN group G queue",
     "submit tN group G refuse",
+    "submit tN plain prio N reserve wN",
+    "submit tN plain prio N queue",
+    "submit tN plain prio N refuse",
+    "submit tN future prio N reserve wN",
+    "submit tN future prio N queue",
+    "submit tN future prio N refuse",
+    "submit tN group G prio N reserve wN",
+    "submit tN group G prio N queue",
+    "submit tN group G prio N refuse",
     "look tN reserve wN",
     "look tN queue",
     "look tN refuse",

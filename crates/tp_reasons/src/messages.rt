@@ -130,12 +130,19 @@ fn write_wording<W: Write>(out: &mut W, margin: usize, wording: &Wording<'_>) ->
     if wording.forms.iter().any(|form| form.starts_with("pool ")) {
         return write_pool_summary(out, margin);
     }
-    if wording.fitting == 0 || wording.forms.len() > FORMS {
+    let told = wording
+        .forms
+        .iter()
+        .filter(|form| wording.tells(**form))
+        .count();
+    if wording.fitting == 0 || told > FORMS {
         return Ok(());
     }
     for form in &wording.forms {
-        write_times(out, b' ', margin)?;
-        writeln!(out, " = form: {form}")?;
+        if wording.tells(*form) {
+            write_times(out, b' ', margin)?;
+            writeln!(out, " = form: {form}")?;
+        }
     }
     Ok(())
 }

@@ -38,7 +38,7 @@ pub enum Mistake<'a> {
     Words(Wording<'a>),
     /// A setting that no pool can have.
     Setting(Setting),
-    /// A record's first line is not `tprecord 1`.
+    /// A record's first line is neither `tprecord 2` nor `tprecord 1`.
     NoVersion,
     /// An entry stands where a record begins.
     Headless,
@@ -52,6 +52,10 @@ pub enum Mistake<'a> {
     Misnumbered(u32),
     /// An entry that names pass 0, which is not written.
     PassNought,
+    /// An entry that says priority 0, which is not written.
+    PriorityNought,
+    /// A priority, or a queue that goes by priority, in a record that begins with `tprecord 1`.
+    FirstForm,
     /// The last line of a record of so many entries says another number.
     Miscounted(u32),
     /// A record of so many entries has no last line.

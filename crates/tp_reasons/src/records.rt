@@ -3,11 +3,13 @@
 use crate::forms::{BODY_FORMS, END_FORMS, ENTRY_FORMS, PASS_FORMS, POOL_FORMS};
 use crate::lines::{Line, line_at};
 use crate::mistakes::{Finding, Kind, Mistake, of_bytes, of_line, of_word, of_words};
+use crate::words::{start_of, word_at};
 use std::alloc::{AllocError, Global};
 use tp_text::lines::clean_text;
 use tp_text::numbers::number as number_of;
 use tp_text::pools::pool_of;
 use tp_text::words::{behind, command, first_word};
+use tp_types::limits::DEFAULT_RECORD_LIMIT;
 
 /// What is wrong with the first line.
 fn in_version<'a>(line: Line<'a>, text: &'a str) -> Finding<'a> {
@@ -27,11 +29,15 @@ fn in_pool_line<'a>(
     line: Line<'a>,
     text: &'a str,
 ) -> Result<Finding<'a>, AllocError> {
-    if pool_of(text).is_some() {
+    let Some(pool) = pool_of(text) else {
+        return of_words(alloc, line, 0, POOL_FORMS, text);
+    };
+    if pool.limit == Some(DEFAULT_RECORD_LIMIT) {
         let limit = text.split(' ').count().saturating_sub(2);
         return Ok(of_word(line, text, limit, Mistake::UsualLimit));
     }
-    of_words(alloc, line, 0, POOL_FORMS, text)
+    // Else it is a written pool line, whose queue is of the second form alone.
+    Ok(of_word(line, text, 3, Mistake::FirstForm))
 }
 
 /// Whether a pass's name begins so: a `p` and a digit.
@@ -39,6 +45,38 @@ fn is_pass(word: &str) -> bool {
     match word.strip_prefix('p') {
         Some(digits) => digits.starts_with(|c: char| c.is_ascii_digit()),
         None => false,
+    }
+}
+
+/// What is wrong with the priority that an entry says, behind so many bytes, if it says one: it is 0, or the record is of the
+/// first form.
+fn in_priority<'a>(line: Line<'a>, before: usize, text: &'a str) -> Option<Finding<'a>> {
+    let word = text.split(' ').position(|word| word == "prio")?;
+    let is_nought = word_at(text, word.saturating_add(1)) == Some("0");
+    let (width, mistake) = if is_nought {
+        ("prio 0".len(), Mistake::PriorityNought)
+    } else {
+        ("prio".len(), Mistake::FirstForm)
+    };
+    Some(Finding {
+        line,
+        start: before.saturating_add(start_of(text, word)),
+        width,
+        mistake,
+    })
+}
+
+/// What is wrong with an entry's words, the first of which stands behind so many bytes.
+fn in_words<'a>(
+    alloc: Global,
+    line: Line<'a>,
+    before: usize,
+    text: &'a str,
+) -> Result<Finding<'a>, AllocError> {
+    let finding = of_words(alloc, line, before, ENTRY_FORMS, text)?;
+    match &finding.mistake {
+        Mistake::Unknown => Ok(in_priority(line, before, text).unwrap_or(finding)),
+        _ => Ok(finding),
     }
 }
 
@@ -59,7 +97,7 @@ fn in_entry<'a>(
         });
     }
     let Some(rest) = rest else {
-        return of_words(alloc, line, before, ENTRY_FORMS, text);
+        return in_words(alloc, line, before, text);
     };
     let is_pass_number = match word.strip_prefix('p') {
         Some(digits) => number_of(digits).is_some(),
@@ -67,12 +105,12 @@ fn in_entry<'a>(
     };
     if is_pass_number {
         let before = before.saturating_add(word.len()).saturating_add(1);
-        return of_words(alloc, line, before, ENTRY_FORMS, rest);
+        return in_words(alloc, line, before, rest);
     }
     if is_pass(word) {
         return of_words(alloc, line, before, PASS_FORMS, text);
     }
-    of_words(alloc, line, before, ENTRY_FORMS, text)
+    in_words(alloc, line, before, text)
 }
 
 /// What is wrong with a line behind so many entries.

@@ -39,13 +39,17 @@ impl fmt::Display for Mistake<'_> {
                 let name = kind.name();
                 write!(f, "this is a line of {name}")
             }
-            Mistake::NoVersion => f.write_str("a record begins with the line 'tprecord 1'"),
+            Mistake::NoVersion => f.write_str("a record begins with the line 'tprecord 2'"),
             Mistake::Headless => f.write_str("an entry stands where the record begins"),
             Mistake::UsualLimit => f.write_str("a record's limit of 4096 is not written"),
             Mistake::Skipped => f.write_str("a record has no empty lines and no comments"),
             Mistake::Unnumbered(_) => f.write_str("the entry's number is missing"),
             Mistake::Misnumbered(_) => f.write_str("the entry has another entry's number"),
             Mistake::PassNought => f.write_str("pass 0 is not written"),
+            Mistake::PriorityNought => f.write_str("priority 0 is not written"),
+            Mistake::FirstForm => {
+                f.write_str("a record that begins with 'tprecord 1' has no priorities")
+            }
             Mistake::Miscounted(_) => f.write_str("the number of entries is wrong"),
             Mistake::NoEnd(_) => f.write_str("the record's last line is missing"),
             Mistake::BehindEnd => f.write_str("something stands behind the record's last line"),
@@ -80,12 +84,15 @@ impl fmt::Display for Advice<'_> {
                 let command = kind.command();
                 write!(f, " it is for `{command}`")
             }
-            Mistake::NoVersion => f.write_str(" write 'tprecord 1' here"),
+            Mistake::NoVersion => f.write_str(" write 'tprecord 2' here"),
             Mistake::Headless => f.write_str(
-                " write 'tprecord 1' and the pool line before it, as `poolrun steps --record` does",
+                " write 'tprecord 2' and the pool line before it, as `poolrun steps --record` does",
             ),
             Mistake::UsualLimit => f.write_str(" leave out 'limit 4096'"),
-            Mistake::Skipped | Mistake::PassNought => f.write_str(" take it out"),
+            Mistake::Skipped | Mistake::PassNought | Mistake::PriorityNought => {
+                f.write_str(" take it out")
+            }
+            Mistake::FirstForm => f.write_str(" write 'tprecord 2' in the first line"),
             Mistake::Unnumbered(number) => write!(f, " write {number} before it"),
             Mistake::Misnumbered(number) => write!(f, " this is entry {number}"),
             Mistake::Miscounted(entries) => write!(f, " write {entries}: so many stand before it"),

@@ -51,7 +51,7 @@ impl Setting {
 /// The setting for which a pool line is refused so, and its word, counted from 0.
 pub fn refused_setting(pool: PoolLine, refusal: PoolError) -> Option<(usize, Setting)> {
     let behind_queue = match pool.queue {
-        QueueKind::Handoff | QueueKind::Unbounded => 4,
+        QueueKind::Handoff | QueueKind::Unbounded | QueueKind::Priority => 4,
         QueueKind::Bounded(_) => 5,
     };
     let core_timeout = usize::from(pool.core_timeout);

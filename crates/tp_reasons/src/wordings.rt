@@ -101,6 +101,7 @@ fn called_in_java(name: &str) -> Option<&'static str> {
         "SynchronousQueue" => Some("handoff"),
         "LinkedBlockingQueue" => Some("unbounded"),
         "ArrayBlockingQueue" => Some("bounded"),
+        "PriorityBlockingQueue" => Some("priority"),
         "AbortPolicy" => Some("abort"),
         "CallerRunsPolicy" => Some("callerruns"),
         "DiscardPolicy" => Some("discard"),
@@ -154,6 +155,14 @@ impl<'a> Wording<'a> {
     /// The first word that does not fit; None where the line ends before it.
     pub fn found(&self) -> Option<&'a str> {
         word_at(self.text, self.fitting)
+    }
+
+    /// Whether a form is told of the line: one that ends in a priority is not where the line breaks off before that.
+    pub fn tells(&self, form: &str) -> bool {
+        match form.strip_suffix(" prio N") {
+            None => true,
+            Some(short) => self.fitting >= short.split(' ').count(),
+        }
     }
 
     /// Whether the line is of one of the forms.

@@ -88,7 +88,7 @@ moved_started w (started.Skip t) = (t.0, at.Gone) ∷ []
 
 -- the tasks that an entry names and moves, each with its new place
 abbrev pub moved : Did → List (ℕ × Place)
-moved (did.Submit t k l) = (t.0, place_looked l) ∷ []
+moved (did.Submit t k p l) = (t.0, place_looked l) ∷ []
 moved (did.Look t l) = (t.0, place_looked l) ∷ []
 moved (did.Offer t o) = (t.0, place_offered o) ∷ []
 moved (did.Second t s) = moved_second t.0 s
@@ -105,12 +105,12 @@ moved _ = []
 
 -- the task that an entry submits
 abbrev pub submits : Did → Option ℕ
-submits (did.Submit t k l) = Some t.0
+submits (did.Submit t k p l) = Some t.0
 submits _ = None
 
 -- an entry that submits
 abbrev pub is_submit : Did → Bool
-is_submit (did.Submit t k l) = true
+is_submit (did.Submit t k p l) = true
 is_submit _ = false
 
 -- the task that an entry puts in the queue
@@ -120,12 +120,17 @@ queues _ = None
 
 -- whose kind an entry says
 abbrev pub kinds_said : Did → List (ℕ × Kind)
-kinds_said (did.Submit t k l) = (t.0, k) ∷ []
+kinds_said (did.Submit t k p l) = (t.0, k) ∷ []
 kinds_said _ = []
+
+-- whose priority an entry says
+abbrev pub priorities_said : Did → List (ℕ × ℕ)
+priorities_said (did.Submit t k p l) = (t.0, p) ∷ []
+priorities_said _ = []
 
 -- which tasks come to owe a second look, and which pay it
 abbrev pub seconds : Did → List (ℕ × Bool)
-seconds (did.Submit t k l) = (t.0, false) ∷ []
+seconds (did.Submit t k p l) = (t.0, false) ∷ []
 seconds (did.Offer t offered.Queued) = (t.0, true) ∷ []
 seconds (did.Offer t (offered.Hand w)) = (t.0, true) ∷ []
 seconds (did.Second t s) = (t.0, false) ∷ []
@@ -133,7 +138,7 @@ seconds _ = []
 
 -- which tasks an entry cancels
 abbrev pub cancels : Did → List (ℕ × Bool)
-cancels (did.Submit t k l) = (t.0, false) ∷ []
+cancels (did.Submit t k p l) = (t.0, false) ∷ []
 cancels (did.Cancel t flag true) = (t.0, true) ∷ []
 cancels _ = []
 
@@ -145,7 +150,7 @@ endings_ruled t _ = []
 
 -- the fates that an entry gives to the tasks that it names, unless they are cancelled
 abbrev pub endings : Did → List (ℕ × Option Fate)
-endings (did.Submit t k l) = (t.0, None) ∷ []
+endings (did.Submit t k p l) = (t.0, None) ∷ []
 endings (did.Verdict t v r) = endings_ruled t.0 r
 endings (did.CallerEnd t o) = (t.0, Some fate.RunByCaller) ∷ []
 endings (did.End w t o) = (t.0, Some fate.Run) ∷ []
@@ -154,7 +159,7 @@ endings _ = []
 
 -- how the bodies that an entry ends ended
 abbrev pub outcomes : Did → List (ℕ × Option Outcome)
-outcomes (did.Submit t k l) = (t.0, None) ∷ []
+outcomes (did.Submit t k p l) = (t.0, None) ∷ []
 outcomes (did.CallerEnd t o) = (t.0, Some o) ∷ []
 outcomes (did.End w t o) = (t.0, Some o) ∷ []
 outcomes _ = []
@@ -167,7 +172,7 @@ is_retry _ = false
 
 -- whose retries begin anew (false), and who retries (true)
 abbrev pub tries : Did → List (ℕ × Bool)
-tries (did.Submit t k l) = (t.0, false) ∷ []
+tries (did.Submit t k p l) = (t.0, false) ∷ []
 tries (did.Verdict t v r) = if is_retry r then (t.0, true) ∷ [] else []
 tries _ = []
 
@@ -181,7 +186,7 @@ reserved_option (Some w) = Some w.0
 
 -- the slot that an entry reserves
 abbrev pub reserves : Did → Option ℕ
-reserves (did.Submit t k l) = reserved_looked l
+reserves (did.Submit t k p l) = reserved_looked l
 reserves (did.Look t l) = reserved_looked l
 reserves (did.Second t (seconded.StayReserve w)) = Some w.0
 reserves (did.Grow t (grown.Reserve w)) = Some w.0
@@ -213,7 +218,7 @@ turned_looked l = one_said (reserved_looked l) stages.ReservedCore
 -- the stages in which an entry leaves the slots that it names and does not free. `now` is the moment before it,
 -- `dies` says that it ends a plain task with a fault
 abbrev pub turned : ℕ → Bool → Did → List (ℕ × Stage)
-turned now dies (did.Submit t k l) = turned_looked l
+turned now dies (did.Submit t k p l) = turned_looked l
 turned now dies (did.Look t l) = turned_looked l
 turned now dies (did.Offer t (offered.Hand w)) = (w.0, stages.Working) ∷ []
 turned now dies (did.Second t (seconded.StayReserve w)) = (w.0, stages.ReservedBare) ∷ []
@@ -242,7 +247,7 @@ seated_started w (started.Skip t) = (w.0, None) ∷ []
 
 -- the task that an entry leaves in the slots that it names, None where it leaves none
 abbrev pub seated : Did → List (ℕ × Option TaskId)
-seated (did.Submit t k l) = seated_looked t l
+seated (did.Submit t k p l) = seated_looked t l
 seated (did.Look t l) = seated_looked t l
 seated (did.Offer t (offered.Hand w)) = (w.0, Some t) ∷ []
 seated (did.Second t (seconded.StayReserve w)) = (w.0, None) ∷ []
@@ -298,7 +303,7 @@ completes _ kind_of cancelled_of = None
 
 -- which completions an entry hands out
 abbrev pub hands_out : Did → List (ℕ × Bool)
-hands_out (did.Submit t k l) = (t.0, false) ∷ []
+hands_out (did.Submit t k p l) = (t.0, false) ∷ []
 hands_out (did.TakeDone g t) = (t.0, false) ∷ []
 hands_out _ = []
 

@@ -1,6 +1,7 @@
 -- What the history says, by the working tables. A history is the record's list of entries, the latest first, so that
 -- 'the last entry that ..' is the first that fits, and a front of the record is a tail of the history.
 use Rattle.std.specs.Prelude.{ℕ, suc, max, Bool, true, false, ◌&&◌, List, [], ◌∷◌, filter, map, count_by, Option, Some, None, unwrap_or, if◌then◌else◌}
+use Rattle.tp_types.specs.declared.configs.Config.{Config}
 use Rattle.tp_types.specs.declared.ids.TaskId.{TaskId}
 use Rattle.tp_types.specs.declared.tasks.Kind.{Kind}
 use Rattle.tp_types.specs.declared.tasks.Kind.TheVariants as kinds
@@ -8,6 +9,7 @@ use Rattle.tp_types.specs.declared.tasks.Place.{Place}
 use Rattle.tp_types.specs.declared.tasks.Place.TheVariants as at
 use Rattle.tp_types.specs.declared.tasks.Fate.{Fate}
 use Rattle.tp_types.specs.declared.tasks.Fate.TheVariants as fate
+use Rattle.tp_types.specs.Queues.{is_ranked}
 use Rattle.tp_record.specs.declared.entries.Entry.{Entry}
 use Rattle.tp_record.specs.declared.entries.Did.{Did}
 use Rattle.tp_record.specs.declared.entries.Did.TheVariants as did
@@ -15,8 +17,8 @@ use Rattle.tp_record.specs.declared.rows.Stage.{Stage}
 use Rattle.tp_record.specs.declared.rows.Stage.TheVariants as stages
 use Rattle.tp_record.specs.declared.rows.TaskRow.{TaskRow}
 use Rattle.tp_record.specs.declared.rows.SlotRow.{SlotRow}
-use Rattle.tp_record.specs.Lists.{said_of, is_it, at_end, count_from}
-use Rattle.tp_record.specs.Effects.{Outcome, moved, queues, seconds, kinds_said, cancels, endings, outcomes, tries, is_submit, reserves, holds, turned, seated, idles, completes, hands_out, is_completion, is_plain_fault, reaches, sets_now}
+use Rattle.tp_record.specs.Lists.{said_of, is_it, at_end, count_from, in_line}
+use Rattle.tp_record.specs.Effects.{Outcome, moved, queues, seconds, kinds_said, priorities_said, cancels, endings, outcomes, tries, is_submit, reserves, holds, turned, seated, idles, completes, hands_out, is_completion, is_plain_fault, reaches, sets_now}
 
 -- what the last entry that says something of x says
 abbrev pub last_said : {A : Type 0} → (Did → List (ℕ × A)) → A → List Entry → ℕ → A
@@ -49,6 +51,9 @@ completions (e ∷ h) = if is_completion e.did then suc (completions h) else com
 
 abbrev pub kind : List Entry → ℕ → Kind
 kind h t = last_said kinds_said kinds.Plain h t
+
+abbrev pub priority : List Entry → ℕ → ℕ
+priority h t = last_said priorities_said 0 h t
 
 abbrev pub is_cancelled : List Entry → ℕ → Bool
 is_cancelled h t = last_said cancels false h t
@@ -108,9 +113,13 @@ abbrev pub offered : List Entry → List ℕ
 offered [] = []
 offered (e ∷ h) = at_end (queues e.did) (offered h)
 
--- the queue: the offered tasks that no later entry takes out
-abbrev pub queue : List Entry → List ℕ
-queue h = filter (is_queued h) (offered h)
+-- the offered tasks that no later entry takes out, in the order of their offers
+abbrev pub queued : List Entry → List ℕ
+queued h = filter (is_queued h) (offered h)
+
+-- the queue: these, in a priority queue the least priority first, and of equal ones the earlier offer
+abbrev pub queue : Config → List Entry → List ℕ
+queue c h = in_line (is_ranked c.queue) (priority h) (queued h)
 
 -- no slot is idle after a `shutdown` or a `stop`
 abbrev pub woken_stage : Stage → Stage
@@ -149,6 +158,7 @@ abbrev pub task_row : List Entry → ℕ → TaskRow
 task_row h t =
     record {
       kind = kind h t;
+      priority = priority h t;
       place = place h t;
       second = owes_second h t;
       cancelled = is_cancelled h t;

@@ -9,14 +9,15 @@ use Rattle.tp_types.specs.declared.states.Counts.{Counts}
 use Rattle.tp_types.specs.declared.configs.Config.{Config}
 use Rattle.tp_types.specs.declared.refusals.PoolError.{PoolError}
 use Rattle.tp_types.specs.declared.refusals.PoolError.TheVariants.{CancelledTask, Faulted, Lost}
+use Rattle.tp_types.specs.Queues.{is_ranked}
 use Rattle.tp_record.specs.declared.entries.Entry.{Entry}
 use Rattle.tp_record.specs.declared.entries.Did.{Did}
 use Rattle.tp_record.specs.declared.rows.Stage.{Stage}
 use Rattle.tp_record.specs.declared.rows.Stage.TheVariants as stages
 use Rattle.tp_record.specs.declared.rows.TaskRow.{TaskRow}
 use Rattle.tp_record.specs.declared.rows.SlotRow.{SlotRow}
-use Rattle.tp_record.specs.Lists.{said_of, at_end, change_each, long_enough}
-use Rattle.tp_record.specs.Effects.{Outcome, moved, queues, seconds, kinds_said, cancels, endings, outcomes, tries, is_submit, reserves, holds, turned, seated, idles, completes, hands_out, is_completion, is_plain_fault, reaches, sets_core, sets_maximum, sets_keep, sets_core_timeout, sets_now}
+use Rattle.tp_record.specs.Lists.{said_of, at_end, change_each, long_enough, join_line}
+use Rattle.tp_record.specs.Effects.{Outcome, moved, queues, seconds, kinds_said, priorities_said, cancels, endings, outcomes, tries, is_submit, reserves, holds, turned, seated, idles, completes, hands_out, is_completion, is_plain_fault, reaches, sets_core, sets_maximum, sets_keep, sets_core_timeout, sets_now}
 use Rattle.tp_record.specs.Fields.{last_set, rank, now, queue, task_rows, slot_rows, idling, done, completions, largest, swept, handed_back, is_queued_place, is_idle_row, is_live, woken, counted}
 use Rattle.std.specs.Prelude.{ℤ}
 
@@ -30,6 +31,8 @@ pub record State : Type 0 where
   pub core_timeout : Bool
   pub now : ℕ
   pub tasks : List TaskRow
+  -- the queue goes by priority
+  pub ranked : Bool
   pub queue : List ℕ
   pub slots : List (Option SlotRow)
   pub idling : List ℕ
@@ -49,7 +52,8 @@ state c h =
       core_timeout = last_set sets_core_timeout c.core_timeout h;
       now = now h;
       tasks = task_rows h;
-      queue = queue h;
+      ranked = is_ranked c.queue;
+      queue = queue c h;
       slots = slot_rows h;
       idling = idling h;
       done = done h;
@@ -59,7 +63,7 @@ state c h =
 
 -- what is read of a task that was never submitted
 abbrev pub no_row : TaskRow
-no_row = record { kind = kinds.Plain; place = at.Gone; second = false; cancelled = false; ending = None; outcome = None; retries = 0 }
+no_row = record { kind = kinds.Plain; priority = 0; place = at.Gone; second = false; cancelled = false; ending = None; outcome = None; retries = 0 }
 
 abbrev pub row_at : List TaskRow → ℕ → TaskRow
 row_at rows t = slice_index_or rows t no_row
@@ -77,6 +81,7 @@ abbrev pub row_after : Did → ℕ → TaskRow → TaskRow
 row_after d t r =
     record {
       kind = unwrap_or (said_of t (kinds_said d)) r.kind;
+      priority = unwrap_or (said_of t (priorities_said d)) r.priority;
       place = unwrap_or (said_of t (moved d)) (swept d r.cancelled r.place);
       second = unwrap_or (said_of t (seconds d)) r.second;
       cancelled = unwrap_or (said_of t (cancels d)) r.cancelled;
@@ -95,8 +100,9 @@ tasks_after d rows =
 abbrev pub stays_queued : Did → List TaskRow → ℕ → Bool
 stays_queued d rows t = is_queued_place (unwrap_or (said_of t (moved d)) (swept d (row_at rows t).cancelled at.Queued))
 
-abbrev pub queue_after : Did → List TaskRow → List ℕ → List ℕ
-queue_after d rows ts = filter (stays_queued d rows) ts ++ option_to_list (queues d)
+-- the queue after an entry: those that stay, and the one that it puts there, behind its equals where the queue goes by priority
+abbrev pub queue_after : Bool → Did → List TaskRow → List ℕ → List ℕ
+queue_after ranked d rows ts = join_line ranked (λ t. (row_at rows t).priority) (queues d) (filter (stays_queued d rows) ts)
 
 -- the row of a slot that stays, or of a new one
 abbrev pub seat_after : Did → State → ℕ → SlotRow → SlotRow
@@ -148,7 +154,8 @@ next s d =
       core_timeout = unwrap_or (sets_core_timeout d) s.core_timeout;
       now = unwrap_or (sets_now d) s.now;
       tasks = tasks_after d s.tasks;
-      queue = queue_after d s.tasks s.queue;
+      ranked = s.ranked;
+      queue = queue_after s.ranked d s.tasks s.queue;
       slots = slots_after d s;
       idling = idling_after d s;
       done = done_after d s;

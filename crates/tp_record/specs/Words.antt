@@ -2,6 +2,7 @@
 -- Fields. A history lists the entries latest first, so 'later' entries stand in front.
 use Rattle.std.specs.Prelude.{ℕ, ℤ, suc, ◌==◌, max, Bool, true, false, not, ◌&&◌, ◌||◌, List, [], ◌∷◌, ◌++◌, filter, length, count_by, drop, Option, Some, None, Result, Err, is_some, is_none, option_to_list, if◌then◌else◌}
 use Rattle.std.specs.List.{list_any}
+use Rattle.tp_types.specs.declared.configs.Config.{Config}
 use Rattle.tp_types.specs.declared.tasks.Kind.{Kind}
 use Rattle.tp_types.specs.declared.tasks.Kind.TheVariants as kinds
 use Rattle.tp_types.specs.declared.tasks.Place.{Place}
@@ -9,6 +10,7 @@ use Rattle.tp_types.specs.declared.tasks.Place.TheVariants as at
 use Rattle.tp_types.specs.declared.tasks.Fate.{Fate}
 use Rattle.tp_types.specs.declared.tasks.Fate.TheVariants as fate
 use Rattle.tp_types.specs.declared.states.Counts.{Counts}
+use Rattle.tp_types.specs.Queues.{is_ranked}
 use Rattle.tp_record.specs.declared.entries.Entry.{Entry}
 use Rattle.tp_record.specs.declared.entries.Did.{Did}
 use Rattle.tp_record.specs.declared.entries.Did.TheVariants as did
@@ -23,7 +25,7 @@ use Rattle.tp_record.specs.declared.entries.Took.TheVariants as took
 use Rattle.tp_record.specs.declared.entries.Started.TheVariants as started
 use Rattle.tp_record.specs.declared.rows.Stage.{Stage}
 use Rattle.tp_record.specs.declared.rows.Stage.TheVariants as stages
-use Rattle.tp_record.specs.Lists.{is_it, count_from}
+use Rattle.tp_record.specs.Lists.{is_it, count_from, in_line}
 
 -- what is said of x, if it is x that is named
 abbrev pub of_it : {A : Type 0} → Option (ℕ × A) → ℕ → Option A
@@ -34,7 +36,7 @@ of_it (Some p) x = if x == p.0 then Some p.1 else None
 
 -- the task that it submits
 abbrev pub submitted_by : Did → Option ℕ
-submitted_by (did.Submit t k l) = Some t.0
+submitted_by (did.Submit t k p l) = Some t.0
 submitted_by _ = None
 
 -- the task that it puts in the queue
@@ -44,7 +46,7 @@ queued_by _ = None
 
 -- the task that it puts in a slot, and the slot
 abbrev pub seated_by : Did → Option (ℕ × ℕ)
-seated_by (did.Submit t k (looked.Reserve w)) = Some (t.0, w.0)
+seated_by (did.Submit t k p (looked.Reserve w)) = Some (t.0, w.0)
 seated_by (did.Look t (looked.Reserve w)) = Some (t.0, w.0)
 seated_by (did.Grow t (grown.Reserve w)) = Some (t.0, w.0)
 seated_by (did.Offer t (offered.Hand w)) = Some (t.0, w.0)
@@ -53,8 +55,8 @@ seated_by _ = None
 
 -- the task that it gives to its submitter, and what the submitter is to do with it
 abbrev pub returned_by : Did → Option (ℕ × Place)
-returned_by (did.Submit t k looked.Queue) = Some (t.0, at.ToOffer)
-returned_by (did.Submit t k looked.Refuse) = Some (t.0, at.Refused)
+returned_by (did.Submit t k p looked.Queue) = Some (t.0, at.ToOffer)
+returned_by (did.Submit t k p looked.Refuse) = Some (t.0, at.Refused)
 returned_by (did.Look t looked.Queue) = Some (t.0, at.ToOffer)
 returned_by (did.Look t looked.Refuse) = Some (t.0, at.Refused)
 returned_by (did.Offer t offered.Full) = Some (t.0, at.ToGrow)
@@ -109,7 +111,7 @@ abbrev pub submissions : List Entry → ℕ
 submissions h = count_by (λ e. is_some (submitted_by e.did)) h
 
 abbrev pub kind_submitted : Did → Option (ℕ × Kind)
-kind_submitted (did.Submit t k l) = Some (t.0, k)
+kind_submitted (did.Submit t k p l) = Some (t.0, k)
 kind_submitted _ = None
 
 abbrev pub or_else : {A : Type 0} → Option A → A → A
@@ -120,6 +122,15 @@ or_else (Some b) a = b
 abbrev pub kind_of : List Entry → ℕ → Kind
 kind_of [] t = kinds.Plain
 kind_of (e ∷ h) t = or_else (of_it (kind_submitted e.did) t) (kind_of h t)
+
+abbrev pub priority_submitted : Did → Option (ℕ × ℕ)
+priority_submitted (did.Submit t k p l) = Some (t.0, p)
+priority_submitted _ = None
+
+-- the priority in the entry that submits t
+abbrev pub priority_of : List Entry → ℕ → ℕ
+priority_of [] t = 0
+priority_of (e ∷ h) t = or_else (of_it (priority_submitted e.did) t) (priority_of h t)
 
 -- an entry cancels t
 abbrev pub was_cancelled : List Entry → ℕ → Bool
@@ -148,9 +159,13 @@ abbrev pub offers_in_order : List Entry → List ℕ
 offers_in_order [] = []
 offers_in_order (e ∷ h) = offers_in_order h ++ option_to_list (queued_by e.did)
 
--- the queue, as `getQueue` would list it
-abbrev pub waiting_line : List Entry → List ℕ
-waiting_line h = filter (waits_in_queue h) (offers_in_order h)
+-- those of them that wait
+abbrev pub waiting : List Entry → List ℕ
+waiting h = filter (waits_in_queue h) (offers_in_order h)
+
+-- the queue, as `getQueue` would list it: in a priority queue the least priority first, and of equal ones the earlier offer
+abbrev pub waiting_line : Config → List Entry → List ℕ
+waiting_line c h = in_line (is_ranked c.queue) (priority_of h) (waiting h)
 
 -- the entry, after the history, finishes t
 abbrev pub finishes : Entry → List Entry → ℕ → Bool
@@ -287,7 +302,7 @@ is_waiting h t = is_submitted h t && not (is_begun h t) && not (was_cancelled h 
 -- the slot that an entry reserves, and what for: for the core after `submit` or `look`, for the maximum after `grow`,
 -- bare after `second`, `leave` or `prestart`
 abbrev pub reserved_by : Did → Option (ℕ × Stage)
-reserved_by (did.Submit t k (looked.Reserve w)) = Some (w.0, stages.ReservedCore)
+reserved_by (did.Submit t k p (looked.Reserve w)) = Some (w.0, stages.ReservedCore)
 reserved_by (did.Look t (looked.Reserve w)) = Some (w.0, stages.ReservedCore)
 reserved_by (did.Grow t (grown.Reserve w)) = Some (w.0, stages.ReservedMaximum)
 reserved_by (did.Second t (seconded.StayReserve w)) = Some (w.0, stages.ReservedBare)
@@ -331,7 +346,7 @@ is_live_now h w = is_slot_now h w && was_opened h w
 
 -- an entry names slot w
 abbrev pub names_slot : Did → ℕ → Bool
-names_slot (did.Submit t k (looked.Reserve v)) w = w == v.0
+names_slot (did.Submit t k p (looked.Reserve v)) w = w == v.0
 names_slot (did.Look t (looked.Reserve v)) w = w == v.0
 names_slot (did.Offer t (offered.Hand v)) w = w == v.0
 names_slot (did.Second t (seconded.StayReserve v)) w = w == v.0
@@ -503,7 +518,7 @@ counters h =
       removed = with_fate fate.Removed h;
       cancelled = with_fate fate.Cancelled h;
       completed = count_by (λ e. is_completed_by e.did) h;
-      queued = length (waiting_line h);
+      queued = length (waiting h);
       live = live_slots h;
       largest = largest_live h;
     }

@@ -8,8 +8,8 @@ use tp_types::tasks::{Kind, Outcome};
 /// What a step asks of the pool.
 #[derive(Clone, Copy, Debug, PartialEq, Eq)]
 pub enum Ask {
-    /// A new task of this kind, as in `execute` and `submit`.
-    Submit(Kind),
+    /// A new task of this kind and priority, as in `execute` and `submit`.
+    Submit(Kind, u32),
     /// The submitter looks for a core slot again, after a retry.
     Look(TaskId),
     /// The submitter offers the task to the queue.
@@ -170,8 +170,8 @@ pub enum Started {
 /// What was done: the answer to an ask, with the tasks and slots that it speaks of.
 #[derive(Clone, Copy, Debug, PartialEq, Eq)]
 pub enum Did {
-    /// The task's number and kind, and what its first look answered.
-    Submit(TaskId, Kind, Looked),
+    /// The task's number, kind and priority, and what its first look answered.
+    Submit(TaskId, Kind, u32, Looked),
     /// What a look after a retry answered.
     Look(TaskId, Looked),
     /// What an offer answered.

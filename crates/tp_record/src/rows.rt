@@ -51,6 +51,8 @@ pub struct TaskRow {
     pub outcome: Option<Outcome>,
     /// How often its verdict was a retry.
     pub retries: u32,
+    /// Its priority: the task with the least number leaves a priority queue first.
+    pub priority: u32,
 }
 
 impl Stage {
@@ -137,12 +139,13 @@ impl SlotRow {
 impl TaskRow {
     ghost use Rattle.tp_record.specs.State as states;
 
-    /// The row of a new task of this kind, in this place.
-    pub fn new(kind: Kind, place: Place) -> TaskRow
-        ensures { result ≡ record states.no_row { kind = kind; place = place } }
+    /// The row of a new task of this kind and priority, in this place.
+    pub fn new(kind: Kind, priority: u32, place: Place) -> TaskRow
+        ensures { result ≡ record states.no_row { kind = kind; priority = priority; place = place } }
     {
         TaskRow {
             kind,
+            priority,
             place,
             second: false,
             cancelled: false,

@@ -26,7 +26,7 @@ use Rattle.tp_text.specs.declared.commands.PoolVerb.TheVariants as pool
 use Rattle.tp_text.specs.declared.commands.SizeVerb.TheVariants as size
 use Rattle.tp_text.specs.declared.commands.TickVerb.TheVariants as ticks
 use Rattle.tp_text.specs.Commands.{command_word}
-use Rattle.tp_text.specs.EntryLine.{task_name, slot_name, effect_word, switch_word, kind_words, outcome_words, looked_words, offered_words, seconded_words, grown_words, ruled_words, opened_words, failed_words, took_words, started_words, reserved_words, prestart_words, flag_words, command_of, argument_words, did_words}
+use Rattle.tp_text.specs.EntryLine.{task_name, slot_name, effect_word, switch_word, kind_words, priority_words, outcome_words, looked_words, offered_words, seconded_words, grown_words, ruled_words, opened_words, failed_words, took_words, started_words, reserved_words, prestart_words, flag_words, command_of, argument_words, did_words}
 use Rattle.tp_text.specs.Fits.{Fits32, Fits64, FitsKind, FitsOutcome}
 use Rattle.tp_text.specs.Reads.{ReadsAs}
 use Rattle.tp_text.proofs.CommandWords.{command_word-injective}
@@ -35,7 +35,8 @@ use Rattle.tp_record_text.specs.Rests.{Alone}
 
 -- the words are those of no arguments of the command
 abbrev pub NoArguments : Command → List (List ℕ) → Type 0
-NoArguments command.Submit ws = (p : TaskId × (Kind × Looked)) → FitsTask p.0 × (FitsKind p.1.0 × FitsLooked p.1.1) → ws ≢ task_name p.0 ∷ (kind_words p.1.0 ++ looked_words p.1.1)
+NoArguments command.Submit ws =
+    (p : TaskId × (Kind × (ℕ × Looked))) → FitsTask p.0 × (FitsKind p.1.0 × (Fits32 p.1.1.0 × FitsLooked p.1.1.1)) → ws ≢ task_name p.0 ∷ (kind_words p.1.0 ++ (priority_words p.1.1.0 ++ looked_words p.1.1.1))
 NoArguments (command.OfTask task.Look) ws = (p : TaskId × Looked) → FitsTask p.0 × FitsLooked p.1 → ws ≢ task_name p.0 ∷ looked_words p.1
 NoArguments (command.OfTask task.Offer) ws = (p : TaskId × Offered) → FitsTask p.0 × FitsOffered p.1 → ws ≢ task_name p.0 ∷ offered_words p.1
 NoArguments (command.OfTask task.Second) ws = (p : TaskId × Seconded) → FitsTask p.0 × FitsSeconded p.1 → ws ≢ task_name p.0 ∷ seconded_words p.1
@@ -64,7 +65,7 @@ NoArguments (command.OfTicks ticks.Tick) ws = (n : ℕ) → Fits64 n → ws ≢ 
 NoArguments command.CoreTimeout ws = (on : Bool) → Unit {0} → ws ≢ switch_word on ∷ []
 
 no_arguments_of : (d : Did) (ws : List (List ℕ)) → NoArguments (command_of d) ws → FitsDid d → ws ≢ argument_words d
-no_arguments_of (did.Submit t k l) ws none fits same = none (t, (k, l)) (fits.0, (fits.1, fits.2)) same
+no_arguments_of (did.Submit t k p l) ws none fits same = none (t, (k, (p, l))) (fits.0, (fits.1, (fits.2, fits.3))) same
 no_arguments_of (did.Look t l) ws none fits same = none (t, l) (fits.0, fits.1) same
 no_arguments_of (did.Offer t l) ws none fits same = none (t, l) (fits.0, fits.1) same
 no_arguments_of (did.Second t l) ws none fits same = none (t, l) (fits.0, fits.1) same

@@ -7,7 +7,7 @@ use Rattle.std.proofs.lemmas.List.{reverse-append, length-reverse}
 use Rattle.tp_types.specs.Config.{HasGoodCapacity, IsConfig}
 use Rattle.tp_types.specs.declared.configs.Config.{Config}
 use Rattle.tp_types.specs.declared.configs.QueueKind.{QueueKind}
-use Rattle.tp_types.specs.declared.configs.QueueKind.TheVariants.{Handoff, Unbounded, Bounded}
+use Rattle.tp_types.specs.declared.configs.QueueKind.TheVariants.{Handoff, Unbounded, Bounded, Priority}
 use Rattle.tp_types.specs.declared.configs.Verdict.{Verdict}
 use Rattle.tp_types.specs.declared.refusals.PoolError.TheVariants.{UnknownTask}
 use Rattle.tp_types.specs.declared.ids.SlotId.{SlotId}
@@ -30,8 +30,9 @@ use Rattle.tp_model.proofs.Weak.{within}
 use Rattle.tp_room.proofs.OwedLaws.{room_is_enough}
 use Rattle.tp_text.specs.Fits.{Fits32, Fits64}
 use Rattle.tp_text.specs.Pools.{FitsQueue}
+use Rattle.tp_record_text.specs.declared.versions.Version.TheVariants as version
 use Rattle.tp_record_text.specs.EntryFits.{IsInRange, IsStep, asked}
-use Rattle.tp_record_text.specs.RecordText.{FitsConfig, HasText}
+use Rattle.tp_record_text.specs.RecordText.{HasPoolLine, HasText}
 
 -- an answer, where it is none of a refusal, is of the form of this ask
 abbrev HasForm : Ask → Answer → Type 0
@@ -64,6 +65,7 @@ hand_form t (w ∷ ws) = refl
 offer_to_form : (q : QueueKind) (s : State) (t : TaskId) → HasForm (ask.Offer t) (offer_to q s t)
 offer_to_form Handoff s t = hand_form t s.idling
 offer_to_form Unbounded s t = refl
+offer_to_form Priority s t = refl
 offer_to_form (Bounded n) s t = form_if (ask.Offer t) (nat_lt (length s.queue) n) _ _ refl refl
 
 offer_form : (c : Config) (s : State) (t : TaskId) (p : Place) → HasForm (ask.Offer t) (offer_answer c s t p)
@@ -149,7 +151,7 @@ first_done_form g (t ∷ ts) = refl
 
 -- each answer that fits is of the form of its ask
 fitting_form : (c : Config) (s : State) (w : ℕ) (a : Ask) → HasForm a (fitting c s w a)
-fitting_form c s w (ask.Submit k) = form_if (ask.Submit k) (nat_lt (length s.tasks) (2 ^ 32 - 1)) _ _ refl tt
+fitting_form c s w (ask.Submit k p) = form_if (ask.Submit k p) (nat_lt (length s.tasks) (2 ^ 32 - 1)) _ _ refl tt
 fitting_form c s w (ask.Look t) = form_task (ask.Look t) s t (λ r. look_answer s w t r.place) (λ r. look_form s w t r.place)
 fitting_form c s w (ask.Offer t) = form_task (ask.Offer t) s t (λ r. offer_answer c s t r.place) (λ r. offer_form c s t r.place)
 fitting_form c s w (ask.Second t) = form_task (ask.Second t) s t (second_answer s w t) (second_form s w t)
@@ -202,34 +204,35 @@ each_back P (x ∷ xs) all =
     let both = split_last P (reverse xs) x (subst (λ ys. AllByRecursion P ys) (reverse-append (x ∷ []) xs) all) in
     (both.1, each_back P xs both.0)
 
-steps_each : (es : List Entry) → AllByRecursion IsInRange es → AllByRecursion IsAsked es → AllByRecursion IsStep es
+steps_each : (es : List Entry) → AllByRecursion IsInRange es → AllByRecursion IsAsked es → AllByRecursion (IsStep version.Two) es
 steps_each [] fits asks = tt
-steps_each (e ∷ es) fits asks = ((fits.0.0, fits.0.1, asks.0), steps_each es fits.1 asks.1)
+steps_each (e ∷ es) fits asks = (((fits.0.0, fits.0.1, asks.0), tt), steps_each es fits.1 asks.1)
 
 -- the settings that a pool can have are in the range of their types, but for the keep-alive, which has no bound
 
 queue_fits : (q : QueueKind) → HasGoodCapacity q → FitsQueue q
 queue_fits Handoff good = tt
 queue_fits Unbounded good = tt
+queue_fits Priority good = tt
 queue_fits (Bounded n) good = let most = good.1 in omega (arith, most)
 
 limit_fits : (b : Bool) (n : ℕ) → Fits32 n → IfSome (if b then None else Some n) Fits32
 limit_fits true n fits = tt
 limit_fits false n fits = fits
 
-config_fits : (c : Config) → IsConfig c → Fits64 c.keep → FitsConfig c
+config_fits : (c : Config) → IsConfig c → Fits64 c.keep → HasPoolLine c
 config_fits c config keep =
     let most = config.greatest_maximum in
     let below = config.greatest_core in
     let limit : Fits32 c.record_limit = omega (arith, config.greatest_limit) in
     ((omega (arith, most, below), omega (arith, most), queue_fits c.queue config.capacity, keep, limit_fits (c.record_limit == 4096) c.record_limit limit), limit)
 
-pub legal_has_text : (c : Config) (es : List Entry) → IsConfig c → Fits64 c.keep → Legal c (reverse es) → AllByRecursion IsInRange es → HasText c es
+pub legal_has_text : (c : Config) (es : List Entry) → IsConfig c → Fits64 c.keep → Legal c (reverse es) → AllByRecursion IsInRange es → HasText version.Two c es
 legal_has_text c es config keep legal fits =
     let room = room_is_enough c (reverse es) config legal in
     let limit = config.greatest_limit in
     record {
-      config = config_fits c config keep;
+      config = (config_fits c config keep, tt);
       count = omega (arith, room, limit, length-reverse es);
       steps = steps_each es fits (each_back IsAsked es (asked_each c (reverse es) legal));
     }

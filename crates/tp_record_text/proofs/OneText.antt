@@ -1,5 +1,5 @@
 -- No two entries share a text, and no two records do.
-use Rattle.std.proofs.Common.{◌≡◌, ◌≢◌, ℕ, suc, ◌+◌, ◌<◌, ◌^◌, List, [], ◌∷◌, ◌++◌, length, get_or, refl, sym, ◌∙◌, ap, arith, inl, inr, append-nil}
+use Rattle.std.proofs.Common.{◌≡◌, ◌≢◌, ℕ, suc, ◌+◌, ◌<◌, ◌^◌, List, [], ◌∷◌, ◌++◌, length, get_or, refl, sym, ◌∙◌, ap, subst, arith, inl, inr, append-nil}
 use Rattle.std.specs.Fmt.{decimal}
 use Rattle.std.specs.List.{AllByRecursion}
 use Rattle.std.proofs.lemmas.Bool.Decides.{eqb_tells}
@@ -19,17 +19,18 @@ use Rattle.tp_text.specs.declared.commands.TickVerb.TheVariants as ticks
 use Rattle.tp_text.specs.Commands.{command_word}
 use Rattle.tp_text.specs.EntryLine.{entry_line, pass_name, command_of, did_words, entry_words, pass_words}
 use Rattle.tp_text.specs.Fits.{Fits32}
-use Rattle.tp_text.specs.Lines.{IsLines}
+use Rattle.tp_text.specs.Lines.{IsLines, ended}
 use Rattle.tp_text.proofs.LineSplits.{same_lines}
 use Rattle.tp_text.proofs.NumberTexts.{own}
-use Rattle.tp_record_text.specs.EntryFits.{IsStep, asked}
+use Rattle.tp_record_text.specs.declared.versions.Version.{Version}
+use Rattle.tp_record_text.specs.EntryFits.{HasLine, IsStep, Suits, asked}
 use Rattle.tp_record_text.specs.Rests.{split_words}
 use Rattle.tp_record_text.specs.RecordText.{HasText, end_line, entry_text, entry_texts, record_lines, record_text}
 use Rattle.tp_record_text.proofs.BodyLines.{no_end, same_number, split_entry}
 use Rattle.tp_record_text.proofs.EntryLaws.{pass_written}
 use Rattle.tp_record_text.proofs.EntryTexts.{entry_line-words}
 use Rattle.tp_record_text.proofs.PoolTexts.{pool_line-injective}
-use Rattle.tp_record_text.proofs.RecordLines.{record_lines-single}
+use Rattle.tp_record_text.proofs.RecordLines.{header-injective, record_lines-single}
 use Rattle.tp_record_text.proofs.TellDid.{did_words-injective}
 
 -- the second byte of each command is a letter
@@ -106,12 +107,12 @@ entry_by : ℕ → Did → Entry
 entry_by by d = record { by = by; ask = asked d; did = d }
 
 -- an entry whose answer is of the form of its ask is that of its pass and what was done
-by_its_did : (e : Entry) → IsStep e → e ≡ entry_by e.by e.did
+by_its_did : (e : Entry) → HasLine e → e ≡ entry_by e.by e.did
 unfolding entry_by
 by_its_did e step = ap (λ a. record e { ask = a }) step.2
 
 -- entries of one text are one entry, with one number
-entry_text-injective : (n m : ℕ) (e f : Entry) → Fits32 n → Fits32 m → IsStep e → IsStep f → entry_text n e ≡ entry_text m f → (n ≡ m) × (e ≡ f)
+entry_text-injective : (n m : ℕ) (e f : Entry) → Fits32 n → Fits32 m → HasLine e → HasLine f → entry_text n e ≡ entry_text m f → (n ≡ m) × (e ≡ f)
 entry_text-injective n m e f x y step other same =
     let both : entry_words n e ≡ entry_words m f = sym (split_entry n e x step) ∙ ap split_words same ∙ split_entry m f y other in
     let behind : pass_words e.by ++ did_words e.did ≡ pass_words f.by ++ did_words f.did = cc in
@@ -120,9 +121,14 @@ entry_text-injective n m e f x y step other same =
     (same_number n m e f x y step other same, by_its_did e step ∙ ap (λ b. entry_by b e.did) parts.0 ∙ ap (entry_by f.by) dids ∙ sym (by_its_did f other))
 
 -- so are entries of one line
-pub entry_line-injective : (n m : ℕ) (e f : Entry) → Fits32 n → Fits32 m → IsStep e → IsStep f → entry_line n e ≡ entry_line m f → (n ≡ m) × (e ≡ f)
+pub entry_line-injective : (n m : ℕ) (e f : Entry) → Fits32 n → Fits32 m → HasLine e → HasLine f → entry_line n e ≡ entry_line m f → (n ≡ m) × (e ≡ f)
 entry_line-injective n m e f x y step other same =
     entry_text-injective n m e f x y step other (append_cancel_right (entry_text n e) (entry_text m f) (10 ∷ []) (sym (entry_line-words n e) ∙ same ∙ entry_line-words m f))
+
+-- a line of an entry for which a form has none is that of no entry in this form
+pub unsuited_line : (v : Version) (bs : List ℕ) (n : ℕ) (e : Entry) → Fits32 n → HasLine e → ended bs ≡ entry_line n e → (Suits v e.did → ⊥) → (p : ℕ × Entry) → Fits32 p.0 × IsStep v p.1 → ended bs ≢ entry_line p.0 p.1
+unsuited_line v bs n e small line is none p fits same =
+    let one = entry_line-injective n p.0 e p.1 small fits.0 line fits.1.0 (sym is ∙ same) in none (subst (λ (x : Entry). Suits v x.did) (sym one.1) fits.1.1)
 
 heads : (x y : List ℕ) (xs ys : List (List ℕ)) → x ∷ xs ≡ y ∷ ys → x ≡ y
 heads x y xs ys e = cc
@@ -131,22 +137,22 @@ tails : (x y : List ℕ) (xs ys : List (List ℕ)) → x ∷ xs ≡ y ∷ ys →
 tails x y xs ys e = cc
 
 -- the lines of entries and of the end tell the entries
-same_entries : (n k l : ℕ) (es fs : List Entry) → Fits32 k → Fits32 l → n + length es < 2 ^ 32 → n + length fs < 2 ^ 32 → AllByRecursion IsStep es → AllByRecursion IsStep fs
+same_entries : (v w : Version) (n k l : ℕ) (es fs : List Entry) → Fits32 k → Fits32 l → n + length es < 2 ^ 32 → n + length fs < 2 ^ 32 → AllByRecursion (IsStep v) es → AllByRecursion (IsStep w) fs
     → entry_texts (suc n) es ++ end_line k ∷ [] ≡ entry_texts (suc n) fs ++ end_line l ∷ [] → es ≡ fs
-same_entries n k l [] [] x y a b steps others same = refl
-same_entries n k l [] (f ∷ fs) x y a b steps others same = absurd (no_end (suc n) k f (omega (arith, b)) x others.0 (sym (heads _ _ _ _ same)))
-same_entries n k l (e ∷ es) [] x y a b steps others same = absurd (no_end (suc n) l e (omega (arith, a)) y steps.0 (heads _ _ _ _ same))
-same_entries n k l (e ∷ es) (f ∷ fs) x y a b steps others same =
-    let first = (entry_text-injective (suc n) (suc n) e f (omega (arith, a)) (omega (arith, b)) steps.0 others.0 (heads _ _ _ _ same)).1 in
-    let rest = same_entries (suc n) k l es fs x y (omega (arith, a)) (omega (arith, b)) steps.1 others.1 (tails _ _ _ _ same) in
-    ap (λ v. v ∷ es) first ∙ ap (λ v. f ∷ v) rest
+same_entries v w n k l [] [] x y a b steps others same = refl
+same_entries v w n k l [] (f ∷ fs) x y a b steps others same = absurd (no_end (suc n) k f (omega (arith, b)) x others.0.0 (sym (heads _ _ _ _ same)))
+same_entries v w n k l (e ∷ es) [] x y a b steps others same = absurd (no_end (suc n) l e (omega (arith, a)) y steps.0.0 (heads _ _ _ _ same))
+same_entries v w n k l (e ∷ es) (f ∷ fs) x y a b steps others same =
+    let first = (entry_text-injective (suc n) (suc n) e f (omega (arith, a)) (omega (arith, b)) steps.0.0 others.0.0 (heads _ _ _ _ same)).1 in
+    let rest = same_entries v w (suc n) k l es fs x y (omega (arith, a)) (omega (arith, b)) steps.1 others.1 (tails _ _ _ _ same) in
+    ap (λ x. x ∷ es) first ∙ ap (λ x. f ∷ x) rest
 
-lines_of : (text : List ℕ) (c : Config) (es : List Entry) → HasText c es → text ≡ record_text c es → IsLines text (record_lines c es) []
-lines_of text c es has is = record { whole = is ∙ sym (append-nil (record_text c es)); each = record_lines-single c es has; last = λ i within. absurd (omega arith) }
+lines_of : (text : List ℕ) (v : Version) (c : Config) (es : List Entry) → HasText v c es → text ≡ record_text v c es → IsLines text (record_lines v c es) []
+lines_of text v c es has is = record { whole = is ∙ sym (append-nil (record_text v c es)); each = record_lines-single v c es has; last = λ i within. absurd (omega arith) }
 
--- records of one text are one record
-pub record_text-injective : (c d : Config) (es fs : List Entry) → HasText c es → HasText d fs → record_text c es ≡ record_text d fs → (c ≡ d) × (es ≡ fs)
-record_text-injective c d es fs x y same =
-    let lines = (same_lines (record_text c es) (record_lines c es) (record_lines d fs) [] [] (lines_of (record_text c es) c es x refl) (lines_of (record_text c es) d fs y same)).0 in
+-- records of one text are one record, in one form
+pub record_text-injective : (v w : Version) (c d : Config) (es fs : List Entry) → HasText v c es → HasText w d fs → record_text v c es ≡ record_text w d fs → (v ≡ w) × (c ≡ d) × (es ≡ fs)
+record_text-injective v w c d es fs x y same =
+    let lines = (same_lines (record_text v c es) (record_lines v c es) (record_lines w d fs) [] [] (lines_of (record_text v c es) v c es x refl) (lines_of (record_text v c es) w d fs y same)).0 in
     let behind = tails _ _ _ _ lines in
-    (pool_line-injective c d x.config y.config (heads _ _ _ _ behind), same_entries 0 (length es) (length fs) es fs x.count y.count (omega (arith, x.count)) (omega (arith, y.count)) x.steps y.steps (tails _ _ _ _ behind))
+    (header-injective v w (heads _ _ _ _ lines), pool_line-injective c d x.config.0 y.config.0 (heads _ _ _ _ behind), same_entries v w 0 (length es) (length fs) es fs x.count y.count (omega (arith, x.count)) (omega (arith, y.count)) x.steps y.steps (tails _ _ _ _ behind))

@@ -48,7 +48,7 @@ use Rattle.tp_text.specs.declared.commands.PoolVerb.TheVariants as pool
 use Rattle.tp_text.specs.declared.commands.SizeVerb.TheVariants as size
 use Rattle.tp_text.specs.declared.commands.TickVerb.TheVariants as ticks
 use Rattle.tp_text.specs.Commands.{command_word}
-use Rattle.tp_text.specs.EntryLine.{words, task_name, slot_name, pass_name, effect_word, switch_word, kind_words, outcome_words, looked_words, offered_words, seconded_words, grown_words, ruled_words, opened_words, failed_words, took_words, started_words, reserved_words, prestart_words, flag_words, command_of, argument_words, did_words, pass_words, entry_words}
+use Rattle.tp_text.specs.EntryLine.{words, task_name, slot_name, pass_name, effect_word, switch_word, kind_words, priority_words, outcome_words, looked_words, offered_words, seconded_words, grown_words, ruled_words, opened_words, failed_words, took_words, started_words, reserved_words, prestart_words, flag_words, command_of, argument_words, did_words, pass_words, entry_words}
 use Rattle.tp_text.specs.Fits.{Fits32, FitsKind, FitsOutcome, FitsValue}
 use Rattle.tp_text.specs.Lines.{HasNoLineFeed}
 use Rattle.tp_text.specs.Reads.{IsWord}
@@ -238,8 +238,14 @@ command_piece (command.OfSize size.Maximum) = code (codes "max") refl refl
 command_piece (command.OfTicks ticks.Keep) = code (codes "keep") refl refl
 command_piece (command.OfTicks ticks.Tick) = code (codes "tick") refl refl
 
+priority_pieces : (p : ℕ) (b : Bool) → (p == 0) ≡ b → Fits32 p → Pieces (priority_words p)
+priority_pieces p true is fits = rw is tt
+priority_pieces p false is fits = rw is (code (codes "prio") refl refl, (number_piece p (omega (arith, fits)), tt))
+
 argument_pieces : (d : Did) → FitsDid d → Pieces (argument_words d)
-argument_pieces (did.Submit t k l) fits = (task_piece t fits.0, both (kind_words k) (looked_words l) (kind_pieces k fits.1) (looked_pieces l fits.2))
+argument_pieces (did.Submit t k p l) fits =
+    let rest = both (priority_words p) (looked_words l) (priority_pieces p (p == 0) refl fits.2) (looked_pieces l fits.3) in
+    (task_piece t fits.0, both (kind_words k) (priority_words p ++ looked_words l) (kind_pieces k fits.1) rest)
 argument_pieces (did.Look t l) fits = (task_piece t fits.0, looked_pieces l fits.1)
 argument_pieces (did.Offer t l) fits = (task_piece t fits.0, offered_pieces l fits.1)
 argument_pieces (did.Second t l) fits = (task_piece t fits.0, seconded_pieces l fits.1)

@@ -8,7 +8,8 @@ use Rattle.tp_text.specs.declared.pools.PoolLine.{PoolLine}
 use Rattle.tp_text.specs.Fits.{Fits32}
 use Rattle.tp_text.specs.Pools.{FitsPool, config_of, pool_text}
 use Rattle.tp_text.proofs.PoolReading.{pool_text-injective}
-use Rattle.tp_record_text.specs.RecordText.{FitsConfig, pool_line, written, written_limit}
+use Rattle.tp_record_text.specs.declared.versions.Version.{Version}
+use Rattle.tp_record_text.specs.RecordText.{FitsConfig, HasPoolLine, SuitsQueue, pool_line, written, written_limit}
 
 other_limit : (n : ℕ) → n ≢ 4096 → written_limit n ≡ Some n
 other_limit n other = elim (eqb_tells n 4096) [ inl p ↦ absurd (other p.1) | inr p ↦ rw p.0 refl ]
@@ -29,7 +30,7 @@ fits_limit : (l : Option ℕ) → IfSome l Fits32 → Fits32 (unwrap_or l 4096)
 fits_limit None fits = omega arith
 fits_limit (Some n) fits = fits
 
-pub pool_read : (bs : List ℕ) (p : PoolLine) → FitsPool p → bs ≡ pool_text p → p.limit ≢ Some 4096 → FitsConfig (config_of p) × (bs ≡ pool_line (config_of p))
+pub pool_read : (bs : List ℕ) (p : PoolLine) → FitsPool p → bs ≡ pool_text p → p.limit ≢ Some 4096 → HasPoolLine (config_of p) × (bs ≡ pool_line (config_of p))
 pool_read bs p fits is other =
     let same = written_back p other in
     ((subst FitsPool (sym same) fits, fits_limit p.limit fits.4), is ∙ ap pool_text (sym same))
@@ -38,7 +39,7 @@ usual_unwritten : (n : ℕ) → written_limit n ≢ Some 4096
 usual_unwritten n e = elim (eqb_tells n 4096) [ inl p ↦ none-some 4096 (sym (rw p.0 refl) ∙ e) | inr p ↦ p.1 (same_Some n 4096 (sym (other_limit n p.1) ∙ e)) ]
 
 -- a pool line that says the usual limit is not written
-pub no_usual : (bs : List ℕ) (p : PoolLine) → FitsPool p → bs ≡ pool_text p → p.limit ≡ Some 4096 → (c : Config) → FitsConfig c → bs ≢ pool_line c
+pub no_usual : (bs : List ℕ) (p : PoolLine) → FitsPool p → bs ≡ pool_text p → p.limit ≡ Some 4096 → (c : Config) → HasPoolLine c → bs ≢ pool_line c
 no_usual bs p fits is usual c good same =
     let one : p ≡ written c = pool_text-injective p (written c) fits good.0 (sym is ∙ same) in
     usual_unwritten c.record_limit (sym (ap (λ (x : PoolLine). x.limit) one) ∙ usual)
@@ -55,5 +56,10 @@ unfolding with_limit
 written_again c = ap (with_limit c) (back_limit c.record_limit)
 
 -- no text is the written pool line of two configurations
-pub pool_line-injective : (c d : Config) → FitsConfig c → FitsConfig d → pool_line c ≡ pool_line d → c ≡ d
+pub pool_line-injective : (c d : Config) → HasPoolLine c → HasPoolLine d → pool_line c ≡ pool_line d → c ≡ d
 pool_line-injective c d x y same = sym (written_again c) ∙ ap config_of (pool_text-injective (written c) (written d) x.0 y.0 same) ∙ written_again d
+
+-- a pool line with a queue that a form does not know is none in this form
+pub unsuited_pool : (v : Version) (bs : List ℕ) (c : Config) → HasPoolLine c → bs ≡ pool_line c → (SuitsQueue v c.queue → ⊥) → (d : Config) → FitsConfig v d → bs ≢ pool_line d
+unsuited_pool v bs c fits is none d good same =
+    let one = pool_line-injective c d fits good.0 (sym is ∙ same) in none (subst (λ (x : Config). SuitsQueue v x.queue) (sym one) good.1)

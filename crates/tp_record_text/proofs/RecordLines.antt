@@ -9,7 +9,7 @@ use Rattle.tp_types.specs.declared.configs.Config.{Config}
 use Rattle.tp_types.specs.declared.configs.Policy.{Policy}
 use Rattle.tp_types.specs.declared.configs.Policy.TheVariants as policy
 use Rattle.tp_types.specs.declared.configs.QueueKind.{QueueKind}
-use Rattle.tp_types.specs.declared.configs.QueueKind.TheVariants.{Handoff, Unbounded, Bounded}
+use Rattle.tp_types.specs.declared.configs.QueueKind.TheVariants.{Handoff, Unbounded, Bounded, Priority}
 use Rattle.tp_types.specs.Policy.{policy_name}
 use Rattle.tp_record.specs.declared.entries.Entry.{Entry}
 use Rattle.tp_text.specs.declared.pools.PoolLine.{PoolLine}
@@ -19,8 +19,11 @@ use Rattle.tp_text.specs.Lines.{HasNoLineFeed}
 use Rattle.tp_text.specs.Pools.{FitsOptions, FitsPool, FitsQueue, Options, keep_text, options_text, policy_text, pool_text, queue_text, said, sizes_text, waiting_text}
 use Rattle.tp_text.specs.Reads.{followed, spaced}
 use Rattle.tp_text.proofs.LineSplits.{single-append, single_from_test}
-use Rattle.tp_record_text.specs.EntryFits.{IsStep}
-use Rattle.tp_record_text.specs.RecordText.{FitsConfig, HasText, end_line, entry_text, entry_texts, header, pool_line, record_lines, written}
+use Rattle.tp_text.proofs.WordSplits.{differ}
+use Rattle.tp_record_text.specs.declared.versions.Version.{Version}
+use Rattle.tp_record_text.specs.declared.versions.Version.TheVariants as version
+use Rattle.tp_record_text.specs.EntryFits.{HasLine, IsStep}
+use Rattle.tp_record_text.specs.RecordText.{HasPoolLine, HasText, end_line, entry_text, entry_texts, header, pool_line, record_lines, written}
 use Rattle.tp_record_text.proofs.Pieces.{IsPiece, Pieces, code, entry_pieces, number_piece, space_ascii, words_are_ascii}
 
 -- ASCII without a line feed
@@ -72,6 +75,7 @@ options_plain (true, Some n) w fits x =
 queue_plain : (q : QueueKind) → FitsQueue q → IsPlainLine (queue_text q)
 queue_plain Handoff fits = word_plain (codes "handoff") refl refl
 queue_plain Unbounded fits = word_plain (codes "unbounded") refl refl
+queue_plain Priority fits = word_plain (codes "priority") refl refl
 queue_plain (Bounded n) fits = spaced_plain (codes "bounded") (decimal n) (word_plain (codes "bounded") refl refl) (number_plain n (omega (arith, fits)))
 
 pool_plain : (p : PoolLine) → FitsPool p → IsPlainLine (pool_text p)
@@ -83,13 +87,21 @@ pool_plain p fits =
     let sizes = spaced_plain (decimal s.0) (spaced (decimal s.1.0) (waiting_text s.1.1)) (number_plain s.0 (omega (arith, fits.0))) (spaced_plain (decimal s.1.0) (waiting_text s.1.1) (number_plain s.1.0 (omega (arith, fits.1))) waiting) in
     spaced_plain (codes "pool") (sizes_text s) (word_plain (codes "pool") refl refl) sizes
 
-pub pool_line-plain : (c : Config) → FitsConfig c → IsPlainLine (pool_line c)
+pub pool_line-plain : (c : Config) → HasPoolLine c → IsPlainLine (pool_line c)
 pool_line-plain c fits = pool_plain (written c) fits.0
 
 -- the other lines
 
-pub header-plain : IsPlainLine header
-header-plain = spaced_plain (codes "tprecord") (codes "1") (word_plain (codes "tprecord") refl refl) (word_plain (codes "1") refl refl)
+pub header-plain : (v : Version) → IsPlainLine (header v)
+header-plain version.One = spaced_plain (codes "tprecord") (codes "1") (word_plain (codes "tprecord") refl refl) (word_plain (codes "1") refl refl)
+header-plain version.Two = spaced_plain (codes "tprecord") (codes "2") (word_plain (codes "tprecord") refl refl) (word_plain (codes "2") refl refl)
+
+-- no line begins a text of both forms
+pub header-injective : (v w : Version) → header v ≡ header w → v ≡ w
+header-injective version.One version.One same = refl
+header-injective version.One version.Two same = absurd (differ (codes "tprecord 1") (codes "tprecord 2") refl same)
+header-injective version.Two version.One same = absurd (differ (codes "tprecord 2") (codes "tprecord 1") refl same)
+header-injective version.Two version.Two same = refl
 
 pub end_line-plain : (n : ℕ) → Fits32 n → IsPlainLine (end_line n)
 end_line-plain n fits = spaced_plain (codes "end") (decimal n) (word_plain (codes "end") refl refl) (number_plain n (omega (arith, fits)))
@@ -98,17 +110,17 @@ words_single : (w : List ℕ) (ws : List (List ℕ)) → Pieces (w ∷ ws) → H
 words_single w [] are = are.0.single
 words_single w (v ∷ vs) are = single-append w (32 ∷ words (v ∷ vs)) are.0.single (single-append (32 ∷ []) (words (v ∷ vs)) a_space.single (words_single v vs are.1))
 
-pub entry_text-plain : (n : ℕ) (e : Entry) → Fits32 n → IsStep e → IsPlainLine (entry_text n e)
+pub entry_text-plain : (n : ℕ) (e : Entry) → Fits32 n → HasLine e → IsPlainLine (entry_text n e)
 entry_text-plain n e number step =
     let pieces = entry_pieces n e number step.0 step.1 in
     let behind = pass_words e.by ++ did_words e.did in
     record { ascii = words_are_ascii (decimal n) behind pieces; single = words_single (decimal n) behind pieces }
 
-body_single : (n m : ℕ) (es : List Entry) → Fits32 m → n + length es < 2 ^ 32 → AllByRecursion IsStep es → AllByRecursion HasNoLineFeed (entry_texts (suc n) es ++ end_line m ∷ [])
-body_single n m [] end small steps = ((end_line-plain m end).single, tt)
-body_single n m (e ∷ es) end small steps = ((entry_text-plain (suc n) e (omega (arith, small)) steps.0).single, body_single (suc n) m es end (omega (arith, small)) steps.1)
+body_single : (v : Version) (n m : ℕ) (es : List Entry) → Fits32 m → n + length es < 2 ^ 32 → AllByRecursion (IsStep v) es → AllByRecursion HasNoLineFeed (entry_texts (suc n) es ++ end_line m ∷ [])
+body_single v n m [] end small steps = ((end_line-plain m end).single, tt)
+body_single v n m (e ∷ es) end small steps = ((entry_text-plain (suc n) e (omega (arith, small)) steps.0.0).single, body_single v (suc n) m es end (omega (arith, small)) steps.1)
 
 -- no line of a record text has a line feed
-pub record_lines-single : (c : Config) (es : List Entry) → HasText c es → AllByRecursion HasNoLineFeed (record_lines c es)
-record_lines-single c es has =
-    (header-plain.single, ((pool_line-plain c has.config).single, body_single 0 (length es) es has.count (omega (arith, has.count)) has.steps))
+pub record_lines-single : (v : Version) (c : Config) (es : List Entry) → HasText v c es → AllByRecursion HasNoLineFeed (record_lines v c es)
+record_lines-single v c es has =
+    ((header-plain v).single, ((pool_line-plain c has.config.0).single, body_single v 0 (length es) es has.count (omega (arith, has.count)) has.steps))

@@ -43,11 +43,12 @@ use Rattle.tp_text.specs.declared.commands.PoolVerb.TheVariants as pool
 use Rattle.tp_text.specs.declared.commands.SizeVerb.TheVariants as size
 use Rattle.tp_text.specs.declared.commands.TickVerb.TheVariants as ticks
 use Rattle.tp_text.specs.Commands.{command_word}
-use Rattle.tp_text.specs.EntryLine.{task_name, slot_name, effect_word, switch_word, kind_words, outcome_words, looked_words, offered_words, seconded_words, grown_words, ruled_words, opened_words, failed_words, took_words, started_words, reserved_words, prestart_words, flag_words, command_of, argument_words, did_words}
-use Rattle.tp_text.specs.Fits.{Fits64, FitsKind, FitsOutcome, FitsValue}
+use Rattle.tp_text.specs.EntryLine.{task_name, slot_name, effect_word, switch_word, kind_words, priority_words, outcome_words, looked_words, offered_words, seconded_words, grown_words, ruled_words, opened_words, failed_words, took_words, started_words, reserved_words, prestart_words, flag_words, command_of, argument_words, did_words}
+use Rattle.tp_text.specs.Fits.{Fits32, Fits64, FitsKind, FitsOutcome, FitsValue}
 use Rattle.tp_text.proofs.CommandWords.{command_word-injective}
 use Rattle.tp_text.proofs.NumberTexts.{own}
 use Rattle.tp_record_text.specs.EntryFits.{FitsTask, FitsSlot, FitsLooked, FitsOffered, FitsSeconded, FitsGrown, FitsRuled, FitsOpened, FitsFailed, FitsTook, FitsStarted, FitsReserved, FitsDid}
+use Rattle.tp_record_text.proofs.AnswerLaws.{priority_unwritten, priority_written}
 
 -- the value beside the word in the table, else the other
 among : {V : Type 0} → V → List (List ℕ × V) → List ℕ → V
@@ -272,23 +273,44 @@ unfolding flags_of
 back_flags true effect = ap (λ b. (true, b)) (back_effect effect)
 back_flags false effect = ap (λ b. (false, b)) (back_effect effect)
 
-grouped_of : List (List ℕ) → Kind × Looked
-grouped_of (g ∷ ws) = (kinds.Group (number_of g), looked_of ws)
-grouped_of [] = (kinds.Plain, looked.Refuse)
+ranked_of : List (List ℕ) → ℕ × Looked
+ranked_of (w ∷ v ∷ ws) = among (0, looked_of (w ∷ v ∷ ws)) ((codes "prio", (number_of v, looked_of ws)) ∷ []) w
+ranked_of ws = (0, looked_of ws)
 
-submitted_of : List (List ℕ) → Kind × Looked
-submitted_of (w ∷ ws) = among (kinds.Plain, looked_of ws) ((codes "future", (kinds.Future, looked_of ws)) ∷ (codes "group", grouped_of ws) ∷ []) w
-submitted_of [] = (kinds.Plain, looked.Refuse)
+back_unranked : (x : Looked) → FitsLooked x → ranked_of (looked_words x) ≡ (0, x)
+unfolding ranked_of among
+back_unranked (looked.Reserve w) fits = ap (λ l. (0, l)) (back_looked (looked.Reserve w) fits)
+back_unranked looked.Queue fits = ap (λ l. (0, l)) (back_looked looked.Queue fits)
+back_unranked looked.Refuse fits = ap (λ l. (0, l)) (back_looked looked.Refuse fits)
 
-back_submitted : (k : Kind) (x : Looked) → FitsKind k → FitsLooked x → submitted_of (kind_words k ++ looked_words x) ≡ (k, x)
+back_stated : (p : ℕ) (x : Looked) → Fits32 p → FitsLooked x → ranked_of (codes "prio" ∷ decimal p ∷ looked_words x) ≡ (p, x)
+unfolding ranked_of among
+back_stated p x small fits = two (λ n (l : Looked). (n, l)) (back_number p (omega (arith, small))) (back_looked x fits)
+
+back_ranked : (p : ℕ) (x : Looked) → Fits32 p → FitsLooked x → ranked_of (priority_words p ++ looked_words x) ≡ (p, x)
+back_ranked p x small fits =
+    elim (eqb_tells p 0) [
+      | inl is ↦ ap (λ ws. ranked_of (ws ++ looked_words x)) (priority_unwritten p is.1) ∙ back_unranked x fits ∙ ap (λ n. (n, x)) (sym is.1)
+      | inr is ↦ ap (λ ws. ranked_of (ws ++ looked_words x)) (priority_written p is.1) ∙ back_stated p x small fits
+    ]
+
+grouped_of : List (List ℕ) → Kind × (ℕ × Looked)
+grouped_of (g ∷ ws) = (kinds.Group (number_of g), ranked_of ws)
+grouped_of [] = (kinds.Plain, (0, looked.Refuse))
+
+submitted_of : List (List ℕ) → Kind × (ℕ × Looked)
+submitted_of (w ∷ ws) = among (kinds.Plain, ranked_of ws) ((codes "future", (kinds.Future, ranked_of ws)) ∷ (codes "group", grouped_of ws) ∷ []) w
+submitted_of [] = (kinds.Plain, (0, looked.Refuse))
+
+back_submitted : (k : Kind) (p : ℕ) (x : Looked) → FitsKind k → Fits32 p → FitsLooked x → submitted_of (kind_words k ++ (priority_words p ++ looked_words x)) ≡ (k, (p, x))
 unfolding submitted_of grouped_of among
-back_submitted kinds.Plain x k fits = ap (λ l. (kinds.Plain, l)) (back_looked x fits)
-back_submitted kinds.Future x k fits = ap (λ l. (kinds.Future, l)) (back_looked x fits)
-back_submitted (kinds.Group g) x k fits = two (λ n l. (kinds.Group n, l)) (back_number g (omega (arith, k))) (back_looked x fits)
+back_submitted kinds.Plain p x k small fits = ap (λ l. (kinds.Plain, l)) (back_ranked p x small fits)
+back_submitted kinds.Future p x k small fits = ap (λ l. (kinds.Future, l)) (back_ranked p x small fits)
+back_submitted (kinds.Group g) p x k small fits = two (λ n (l : ℕ × Looked). (kinds.Group n, l)) (back_number g (omega (arith, k))) (back_ranked p x small fits)
 
 -- what was done, from its command and the words behind it
 did_of : Command → List (List ℕ) → Did
-did_of command.Submit (t ∷ ws) = did.Submit (task_of t) (submitted_of ws).0 (submitted_of ws).1
+did_of command.Submit (t ∷ ws) = did.Submit (task_of t) (submitted_of ws).0 (submitted_of ws).1.0 (submitted_of ws).1.1
 did_of (command.OfTask task.Look) (t ∷ ws) = did.Look (task_of t) (looked_of ws)
 did_of (command.OfTask task.Offer) (t ∷ ws) = did.Offer (task_of t) (offered_of ws)
 did_of (command.OfTask task.Second) (t ∷ ws) = did.Second (task_of t) (seconded_of ws)
@@ -319,7 +341,7 @@ did_of c ws = did.Shutdown
 
 back_did : (d : Did) → FitsDid d → did_of (command_of d) (argument_words d) ≡ d
 unfolding did_of
-back_did (did.Submit t k l) fits = two (λ u (p : Kind × Looked). did.Submit u p.0 p.1) (back_task t fits.0) (back_submitted k l fits.1 fits.2)
+back_did (did.Submit t k p l) fits = two (λ u (x : Kind × (ℕ × Looked)). did.Submit u x.0 x.1.0 x.1.1) (back_task t fits.0) (back_submitted k p l fits.1 fits.2 fits.3)
 back_did (did.Look t l) fits = two did.Look (back_task t fits.0) (back_looked l fits.1)
 back_did (did.Offer t l) fits = two did.Offer (back_task t fits.0) (back_offered l fits.1)
 back_did (did.Second t l) fits = two did.Second (back_task t fits.0) (back_seconded l fits.1)

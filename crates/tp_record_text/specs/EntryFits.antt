@@ -28,6 +28,8 @@ use Rattle.tp_record.specs.declared.entries.Took.TheVariants as took
 use Rattle.tp_text.specs.declared.commands.Command.{Command}
 use Rattle.tp_text.specs.EntryLine.{argument_words, command_of}
 use Rattle.tp_text.specs.Fits.{Fits32, Fits64, FitsKind, FitsOutcome}
+use Rattle.tp_record_text.specs.declared.versions.Version.{Version}
+use Rattle.tp_record_text.specs.declared.versions.Version.TheVariants as version
 
 abbrev pub FitsTask : TaskId → Type 0
 FitsTask t = Fits32 t.0
@@ -97,7 +99,7 @@ FitsReserved None = Unit {0}
 FitsReserved (Some w) = FitsSlot w
 
 abbrev pub FitsDid : Did → Type 0
-FitsDid (did.Submit t k l) = FitsTask t × FitsKind k × FitsLooked l
+FitsDid (did.Submit t k p l) = FitsTask t × FitsKind k × Fits32 p × FitsLooked l
 FitsDid (did.Look t l) = FitsTask t × FitsLooked l
 FitsDid (did.Offer t o) = FitsTask t × FitsOffered o
 FitsDid (did.Second t s) = FitsTask t × FitsSeconded s
@@ -127,7 +129,7 @@ FitsDid (did.Prestart o) = FitsReserved o
 
 -- the one ask that an answer of this form answers
 abbrev pub asked : Did → Ask
-asked (did.Submit t k l) = ask.Submit k
+asked (did.Submit t k p l) = ask.Submit k p
 asked (did.Look t l) = ask.Look t
 asked (did.Offer t o) = ask.Offer t
 asked (did.Second t s) = ask.Second t
@@ -159,13 +161,31 @@ asked (did.Prestart o) = ask.Prestart
 abbrev pub FitsPass : ℕ → Type 0
 FitsPass by = Fits32 by × (by ≢ 0)
 
+-- a priority that is written: any but 0
+abbrev pub FitsPriority : ℕ → Type 0
+FitsPriority p = Fits32 p × (p ≢ 0)
+
 -- the numbers of an entry are in the range of their types
 abbrev pub IsInRange : Entry → Type 0
 IsInRange e = Fits32 e.by × FitsDid e.did
 
--- an entry in the range of its types, whose answer is of the form of its ask
-abbrev pub IsStep : Entry → Type 0
-IsStep e = Fits32 e.by × FitsDid e.did × (e.ask ≡ asked e.did)
+-- an entry that has a line: in the range of its types, its answer of the form of its ask
+abbrev pub HasLine : Entry → Type 0
+HasLine e = Fits32 e.by × FitsDid e.did × (e.ask ≡ asked e.did)
+
+-- the priority that an answer says, or 0
+abbrev pub stated_priority : Did → ℕ
+stated_priority (did.Submit t k p l) = p
+stated_priority _ = 0
+
+-- the first form says no priority
+abbrev pub Suits : Version → Did → Type 0
+Suits version.One d = stated_priority d ≡ 0
+Suits version.Two d = Unit {0}
+
+-- an entry that has a line in this form
+abbrev pub IsStep : Version → Entry → Type 0
+IsStep v e = HasLine e × Suits v e.did
 
 -- the words behind a command are read just where they are the arguments of an answer with it
 abbrev pub ReadsDid : Command → List (List ℕ) → Option Did → Type 0

@@ -11,6 +11,7 @@ use Rattle.tp_text.specs.RunText.{IsFront}
 use Rattle.tp_record_text.specs.declared.records.BodyLine.{BodyLine}
 use Rattle.tp_record_text.specs.declared.records.BodyLine.TheVariants as body
 use Rattle.tp_record_text.specs.declared.records.Record.{Record}
+use Rattle.tp_record_text.specs.declared.versions.Version.{Version}
 use Rattle.tp_record_text.specs.EntryFits.{IsStep}
 use Rattle.tp_record_text.specs.RecordText.{FitsConfig, HasText, end_line, entry_text, header, pool_line, record_lines, record_text}
 
@@ -19,21 +20,22 @@ abbrev pub body_text : ℕ → BodyLine → List ℕ
 body_text n (body.Entry e) = entry_text (suc n) e
 body_text n body.End = end_line n
 
-abbrev pub FitsBody : BodyLine → Type 0
-FitsBody (body.Entry e) = IsStep e
-FitsBody body.End = Unit {0}
+abbrev pub FitsBody : Version → BodyLine → Type 0
+FitsBody v (body.Entry e) = IsStep v e
+FitsBody v body.End = Unit {0}
 
--- lines with which the text of a record begins
+-- lines with which the text of a record begins, in one of the forms
 pub record Begins (lines : List (List ℕ)) : Type 0 where
+  pub version : Version
   pub config : Config
   pub entries : List Entry
-  pub has_text : HasText config entries
+  pub has_text : HasText version config entries
   pub more : List (List ℕ)
-  pub whole : record_lines config entries ≡ lines ++ more
+  pub whole : record_lines version config entries ≡ lines ++ more
 
--- the lines that say what pool a record is of
-abbrev pub head : Config → List ℕ
-head c = ended header ++ ended (pool_line c)
+-- the lines that say the form, and what pool a record is of
+abbrev pub head : Version → Config → List ℕ
+head v c = ended (header v) ++ ended (pool_line c)
 
 -- line k of a text is the first that is wrong in the text of a record: such a text begins with the lines before it, and
 -- none with line k too; and where there is no line k that is ended, the text is that of no record. No pool line before it
@@ -46,31 +48,32 @@ pub record IsFirstWrong (text : List ℕ) (k : ℕ) : Type 0 where
   pub number : k ≡ suc (length before)
   pub begins : Begins before
   pub wrong : (line rest : List ℕ) → HasNoLineFeed line → behind ≡ line ++ 10 ∷ rest → Begins (before ++ line ∷ []) → ⊥
-  pub no_text : (c : Config) (es : List Entry) → HasText c es → text ≢ record_text c es
-  pub accepted : (c : Config) → FitsConfig c → IsFront (head c) text → checked c ≡ Ok tt
+  pub no_text : (v : Version) (c : Config) (es : List Entry) → HasText v c es → text ≢ record_text v c es
+  pub accepted : (v : Version) (c : Config) → FitsConfig v c → IsFront (head v c) text → checked c ≡ Ok tt
 
 -- all is good up to a pool line that is refused so
 pub record HasRefusedPool (text : List ℕ) (e : PoolError) : Type 0 where
+  pub version : Version
   pub config : Config
-  pub fits : FitsConfig config
-  pub begins : IsFront (head config) text
+  pub fits : FitsConfig version config
+  pub begins : IsFront (head version config) text
   pub refused : checked config ≡ Err e
 
 -- a text has a first wrong line, and this is its refusal
 abbrev pub IsWrongAt : List ℕ → PoolError → Type 0
 IsWrongAt text e = (k : ℕ) × (e ≡ BadEntry k) × IsFirstWrong text k
 
--- a text is read as a record just where it is that record's text; else the refusal is that of its pool line, or it tells
+-- a text is read as a record just where it is that record's text in the form that it says; else the refusal is that of its pool line, or it tells
 -- the first wrong line, or there was no memory
 abbrev pub ReadsRecord : List ℕ → Result Record PoolError → Type 0
 ReadsRecord text (Ok r) =
-    HasText r.config r.entries.items × (checked r.config ≡ Ok tt) × (text ≡ record_text r.config r.entries.items)
+    HasText r.version r.config r.entries.items × (checked r.config ≡ Ok tt) × (text ≡ record_text r.version r.config r.entries.items)
 ReadsRecord text (Err e) = (e ≡ NoMemory) ⊎ (HasRefusedPool text e ⊎ IsWrongAt text e)
 
 -- the text behind the two lines that say the pool is that of these entries
-abbrev pub IsBody : Config → List ℕ → List Entry → Type 0
-IsBody c text es = HasText c es × (head c ++ text ≡ record_text c es)
+abbrev pub IsBody : Version → Config → List ℕ → List Entry → Type 0
+IsBody v c text es = HasText v c es × (head v c ++ text ≡ record_text v c es)
 
 -- it has a first wrong line, or there was no memory
-abbrev pub IsNoBody : Config → List ℕ → PoolError → Type 0
-IsNoBody c text e = (e ≡ NoMemory) ⊎ IsWrongAt (head c ++ text) e
+abbrev pub IsNoBody : Version → Config → List ℕ → PoolError → Type 0
+IsNoBody v c text e = (e ≡ NoMemory) ⊎ IsWrongAt (head v c ++ text) e

@@ -1,10 +1,11 @@
 //! What an entry answers, read from the words of its line.
 ghost use Rattle.std.specs.Prelude.{◌≡◌, ◌≢◌, ◌++◌, List, ℕ, [], ◌∷◌, Some, None, codes};
+ghost use Rattle.std.specs.Fmt.{decimal};
 ghost use Rattle.tp_text.specs.Fits.{Fits32, FitsKind, FitsOutcome};
 ghost use Rattle.tp_text.specs.Reads.{Any, ReadsAs};
-ghost use Rattle.tp_text.specs.EntryLine.{task_name, slot_name, kind_words, outcome_words, looked_words, offered_words, seconded_words, grown_words, ruled_words, opened_words, failed_words, took_words, started_words, reserved_words, prestart_words, dropped_words, refused_words, flag_words};
-ghost use Rattle.tp_record_text.specs.EntryFits.{FitsTask, FitsSlot, FitsLooked, FitsOffered, FitsSeconded, FitsGrown, FitsRuled, FitsOpened, FitsFailed, HasTask, FitsTook, FitsStarted, FitsReserved, FitsTold};
-ghost use Rattle.tp_record_text.specs.Rests.{left};
+ghost use Rattle.tp_text.specs.EntryLine.{task_name, slot_name, kind_words, priority_words, outcome_words, looked_words, offered_words, seconded_words, grown_words, ruled_words, opened_words, failed_words, took_words, started_words, reserved_words, prestart_words, dropped_words, refused_words, flag_words};
+ghost use Rattle.tp_record_text.specs.EntryFits.{FitsTask, FitsSlot, FitsLooked, FitsOffered, FitsSeconded, FitsGrown, FitsRuled, FitsOpened, FitsFailed, HasTask, FitsTook, FitsStarted, FitsReserved, FitsTold, FitsPriority};
+ghost use Rattle.tp_record_text.specs.Rests.{ReadsOn, left};
 
 use crate::words::{
     alone, last_effect, last_number, last_slot, last_task, last_value, next_word, number_on,
@@ -181,17 +182,48 @@ pub fn prestarted(rest: Option<&str>) -> Option<Option<SlotId>>
     }
 }
 
-/// A new task's kind, and what its first look answered.
-pub fn submitted(rest: Option<&str>) -> Option<(Kind, Looked)>
-    ensures { ReadsAs (λ p. kind_words p.0 ++ looked_words p.1) (λ p. FitsKind p.0 × FitsLooked p.1) (left rest.entry) result }
+/// The priority that the next word is, any but 0, and what is left behind it.
+fn priority_on(rest: Option<&str>) -> Option<(u32, Option<&str>)>
+    ensures { ReadsOn decimal FitsPriority (left rest.entry) result }
+{
+    let (priority, rest) = number_on(rest)?;
+    if priority == 0 {
+        None
+    } else {
+        Some((priority, rest))
+    }
+}
+
+/// A priority that is written, and what its task's first look answered.
+fn ranked(rest: Option<&str>) -> Option<(u32, Looked)>
+    ensures { ReadsAs (λ p. decimal p.0 ∷ looked_words p.1) (λ p. FitsPriority p.0 × FitsLooked p.1) (left rest.entry) result }
+{
+    let (priority, rest) = priority_on(rest)?;
+    Some((priority, looked(rest)?))
+}
+
+/// A new task's priority, which is written where it is not 0, and what its first look answered.
+fn prioritized(rest: Option<&str>) -> Option<(u32, Looked)>
+    ensures { ReadsAs (λ p. priority_words p.0 ++ looked_words p.1) (λ p. Fits32 p.0 × FitsLooked p.1) (left rest.entry) result }
+{
+    let (word, behind) = next_word(rest)?;
+    match word {
+        "prio" => ranked(behind),
+        _ => Some((0, looked(rest)?)),
+    }
+}
+
+/// A new task's kind and priority, and what its first look answered.
+pub fn submitted(rest: Option<&str>) -> Option<(Kind, (u32, Looked))>
+    ensures { ReadsAs (λ p. kind_words p.0 ++ (priority_words p.1.0 ++ looked_words p.1.1)) (λ p. FitsKind p.0 × (Fits32 p.1.0 × FitsLooked p.1.1)) (left rest.entry) result }
 {
     let (word, rest) = next_word(rest)?;
     match word {
-        "plain" => Some((Kind::Plain, looked(rest)?)),
-        "future" => Some((Kind::Future, looked(rest)?)),
+        "plain" => Some((Kind::Plain, prioritized(rest)?)),
+        "future" => Some((Kind::Future, prioritized(rest)?)),
         "group" => {
             let (group, rest) = number_on(rest)?;
-            Some((Kind::Group(group), looked(rest)?))
+            Some((Kind::Group(group), prioritized(rest)?))
         }
         _ => None,
     }

@@ -126,8 +126,8 @@ fn did_by(command: Command, rest: Option<&str>) -> Option<Did>
 {
     match command {
         Command::Submit => {
-            let (task, (kind, looked)) = submission(rest)?;
-            Some(Did::Submit(task, kind, looked))
+            let (task, (kind, (priority, looked))) = submission(rest)?;
+            Some(Did::Submit(task, kind, priority, looked))
         }
         Command::OfTask(verb) => task_did(verb, rest),
         Command::Verdict => {

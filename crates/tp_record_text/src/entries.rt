@@ -4,10 +4,11 @@ ghost use Rattle.tp_text.specs.EntryLine.{entry_line, pass_name, did_words, entr
 ghost use Rattle.tp_text.specs.Fits.{Fits32};
 ghost use Rattle.tp_text.specs.Lines.{ended};
 ghost use Rattle.tp_text.specs.Reads.{ReadsAs};
-ghost use Rattle.tp_record_text.specs.EntryFits.{FitsPass, IsStep, asked as ask_of};
+ghost use Rattle.tp_record_text.specs.EntryFits.{FitsPass, HasLine, IsStep, asked as ask_of};
 ghost use Rattle.tp_record_text.specs.Rests.{ReadsOn, left, split_words};
 
 use crate::dids::did_of;
+use crate::versions::{Version, suits};
 use crate::words::{next_word, number_on};
 use tp_record::entries::{Ask, Did, Entry};
 use tp_text::numbers::number;
@@ -17,7 +18,7 @@ fn asked(did: Did) -> Ask
     ensures { result ≡ ask_of did }
 {
     match did {
-        Did::Submit(_, kind, _) => Ask::Submit(kind),
+        Did::Submit(_, kind, priority, _) => Ask::Submit(kind, priority),
         Did::Look(task, _) => Ask::Look(task),
         Did::Offer(task, _) => Ask::Offer(task),
         Did::Second(task, _) => Ask::Second(task),
@@ -76,7 +77,7 @@ fn pass_on(rest: Option<&str>) -> Option<(u32, Option<&str>)>
 
 /// What a pass did: pass 0 is not written.
 fn entry_behind(rest: Option<&str>) -> Option<Entry>
-    ensures { ReadsAs (λ e. pass_words e.by ++ did_words e.did) IsStep (left rest.entry) result }
+    ensures { ReadsAs (λ e. pass_words e.by ++ did_words e.did) HasLine (left rest.entry) result }
 {
     if let Some(did) = did_of(rest) {
         return Some(entry_by(0, did));
@@ -87,17 +88,29 @@ fn entry_behind(rest: Option<&str>) -> Option<Entry>
 
 /// The entry, and its number, that a text is the line of.
 fn entry_of(text: &str) -> Option<(u32, Entry)>
-    ensures { ReadsAs (λ p. entry_words p.0 p.1) (λ p. Fits32 p.0 × IsStep p.1) (split_words text.now) result }
+    ensures { ReadsAs (λ p. entry_words p.0 p.1) (λ p. Fits32 p.0 × HasLine p.1) (split_words text.now) result }
 {
     let (number, rest) = number_on(Some(text))?;
     Some((number, entry_behind(rest)?))
 }
 
-/// The entry, and its number, that a line is the line of, as `3 p1 take w0 held t0`. A line that is
-/// that of no entry gives none. An answer that is not to its ask, as a `caller` under `abort`, is
-/// read like any other.
-pub fn read_entry(line: &[u8]) -> Option<(u32, Entry)>
-    ensures { ReadsAs (λ p. entry_line p.0 p.1) (λ p. Fits32 p.0 × IsStep p.1) (ended line.now) result }
+/// The entry, and its number, that a line is the line of in some form.
+fn read_line(line: &[u8]) -> Option<(u32, Entry)>
+    ensures { ReadsAs (λ p. entry_line p.0 p.1) (λ p. Fits32 p.0 × HasLine p.1) (ended line.now) result }
 {
     entry_of(str::from_utf8(line).ok()?)
+}
+
+/// The entry, and its number, that a line is the line of in this form, as `3 p1 take w0 held t0`. A
+/// line that is that of no entry gives none. An answer that is not to its ask, as a `caller` under
+/// `abort`, is read like any other.
+pub fn read_entry(version: Version, line: &[u8]) -> Option<(u32, Entry)>
+    ensures { ReadsAs (λ p. entry_line p.0 p.1) (λ p. Fits32 p.0 × IsStep version p.1) (ended line.now) result }
+{
+    let (number, entry) = read_line(line)?;
+    if suits(version, entry.did) {
+        Some((number, entry))
+    } else {
+        None
+    }
 }

@@ -1,6 +1,7 @@
 //! The first two lines of a record text.
 ghost use Rattle.std.specs.Prelude.{Some};
 ghost use Rattle.tp_text.specs.Pools.{queue_text};
+ghost use Rattle.tp_record_text.specs.declared.versions.Version.{Version};
 ghost use Rattle.tp_record_text.specs.ReadRecord.{head};
 ghost use Rattle.tp_record_text.specs.RecordText.{written_options};
 
@@ -20,6 +21,7 @@ impl fmt::Display for Queue {
             QueueKind::Handoff => f.write_str("handoff"),
             QueueKind::Unbounded => f.write_str("unbounded"),
             QueueKind::Bounded(places) => write!(f, "bounded {places}"),
+            QueueKind::Priority => f.write_str("priority"),
         }
     }
 }
@@ -43,13 +45,13 @@ impl fmt::Display for Options<'_> {
     }
 }
 
-/// The first two lines of the text of a record of a pool of this configuration: the version, and the
+/// The first two lines of the text of a record of a pool of this configuration: the second form, and the
 /// pool line, with a limit only where it is not 4,096.
 #[derive(Clone, Copy)]
 pub struct Head<'a>(pub &'a Config);
 
 impl fmt::Display for Head<'_> {
-    ghost output = { λ shown. Some (head shown.0.now) };
+    ghost output = { λ shown. Some (head Version.Two shown.0.now) };
 
     fn fmt<W: fmt::Write>(&self, f: &mut fmt::Formatter<W>) -> fmt::Result {
         let config = self.0;
@@ -64,7 +66,7 @@ impl fmt::Display for Head<'_> {
         let options = Options(config);
         write!(
             f,
-            "tprecord 1\npool {core} {maximum} {queue} keep {keep} {policy}{options}\n"
+            "tprecord 2\npool {core} {maximum} {queue} keep {keep} {policy}{options}\n"
         )
     }
 }

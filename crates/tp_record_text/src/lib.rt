@@ -8,5 +8,6 @@ mod heads;
 pub mod laws;
 pub mod records;
 mod steps;
+pub mod versions;
 mod words;
 pub mod writing;

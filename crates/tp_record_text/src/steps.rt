@@ -4,7 +4,7 @@ ghost use Rattle.std.specs.Fmt.{decimal};
 ghost use Rattle.tp_types.specs.Verdict.{verdict_name};
 ghost use Rattle.tp_text.specs.Fits.{Fits32, FitsKind, FitsOutcome};
 ghost use Rattle.tp_text.specs.Reads.{Any, ReadsAs};
-ghost use Rattle.tp_text.specs.EntryLine.{task_name, slot_name, effect_word, kind_words, outcome_words, looked_words, offered_words, seconded_words, grown_words, ruled_words, opened_words, failed_words, took_words, started_words, reserved_words, flag_words};
+ghost use Rattle.tp_text.specs.EntryLine.{task_name, slot_name, effect_word, kind_words, priority_words, outcome_words, looked_words, offered_words, seconded_words, grown_words, ruled_words, opened_words, failed_words, took_words, started_words, reserved_words, flag_words};
 ghost use Rattle.tp_record_text.specs.EntryFits.{FitsTask, FitsSlot, FitsLooked, FitsOffered, FitsSeconded, FitsGrown, FitsRuled, FitsOpened, FitsFailed, FitsTook, FitsStarted, FitsReserved};
 ghost use Rattle.tp_record_text.specs.Rests.{left};
 
@@ -20,9 +20,9 @@ use tp_types::configs::Verdict;
 use tp_types::ids::{SlotId, TaskId};
 use tp_types::tasks::{Kind, Outcome};
 
-/// `t0 group 3 reserve w0`.
-pub fn submission(rest: Option<&str>) -> Option<(TaskId, (Kind, Looked))>
-    ensures { ReadsAs (λ p. task_name p.0 ∷ (kind_words p.1.0 ++ looked_words p.1.1)) (λ p. FitsTask p.0 × (FitsKind p.1.0 × FitsLooked p.1.1)) (left rest.entry) result }
+/// `t0 group 3 prio 5 reserve w0`.
+pub fn submission(rest: Option<&str>) -> Option<(TaskId, (Kind, (u32, Looked)))>
+    ensures { ReadsAs (λ p. task_name p.0 ∷ (kind_words p.1.0 ++ (priority_words p.1.1.0 ++ looked_words p.1.1.1))) (λ p. FitsTask p.0 × (FitsKind p.1.0 × (Fits32 p.1.1.0 × FitsLooked p.1.1.1))) (left rest.entry) result }
 {
     let (task, rest) = task_on(rest)?;
     Some((task, submitted(rest)?))

@@ -1,5 +1,6 @@
 //! Record texts, written.
 ghost use Rattle.std.specs.Prelude.{◌≡◌, ◌++◌, IfOk, IsOkUnless, OnOk, string_bytes};
+ghost use Rattle.tp_record_text.specs.declared.versions.Version.{Version};
 ghost use Rattle.tp_record_text.specs.RecordText.{record_text as text_of};
 
 use crate::heads::Head;
@@ -12,7 +13,7 @@ use tp_types::refusals::PoolError;
 /// Writes the text of a record behind what is written. Where room is missing, some of it may be
 /// written.
 fn write_record(text: &mut String, config: &Config, entries: &[Entry]) -> Result<(), AllocError>
-    ensures { OnOk result (string_bytes text.new ≡ string_bytes text.old ++ text_of config.now entries.now) }
+    ensures { OnOk result (string_bytes text.new ≡ string_bytes text.old ++ text_of Version.Two config.now entries.now) }
 {
     write!(text, "{}", Head(config))?;
     for (i, entry) in entries.iter().enumerate() {
@@ -22,11 +23,11 @@ fn write_record(text: &mut String, config: &Config, entries: &[Entry]) -> Result
     write!(text, "end {count}\n")
 }
 
-/// The text of a record, version 1: the configuration's pool line, with a limit only where it is not
+/// The text of a record in the second form: the configuration's pool line, with a limit only where it is not
 /// 4,096, a line for each entry, oldest first, and the line that says how many they are. Want of memory
 /// is 4 `NoMemory`.
 pub fn record_text(alloc: Global, config: &Config, entries: &[Entry]) -> Result<Vec<u8>, PoolError>
-    ensures text { IfOk result (λ text. text.items ≡ text_of config.now entries.now) }
+    ensures text { IfOk result (λ text. text.items ≡ text_of Version.Two config.now entries.now) }
     ensures only_memory { IsOkUnless result PoolError.NoMemory }
 {
     let mut text = String::new(alloc);

@@ -28,7 +28,7 @@ asks_on c h os (k ∷ lines) (b ∷ answers) l a each =
 
 -- the first lines are answered so
 pub record Going (c : Config) (lines : List ScenarioLine) (n : ℕ) (r : Playing) (xs : List Answered) : Type 0 where
-  pub stands : Stands c (take n lines) (answers_of xs) r (run_lines [] (answers_of xs))
+  pub stands : Stands c (take n lines) (answers_of xs) r (run_lines c [] (answers_of xs))
   pub asked : asked_of xs ≡ asks_of c [] [] (take n lines) (answers_of xs)
 
 -- no line is answered yet
@@ -48,9 +48,9 @@ going_on c lines n r p xs d x so_far below asks answers leads =
     let given : List Answer = answers_of xs in
     let more : take (n + 1) lines ≡ front ++ l ∷ [] = take_more lines n d below in
     let told : answers_of (xs ++ x ∷ []) ≡ given ++ a ∷ [] = map_push (λ (y : Answered). y.answer) xs x in
-    let next : Stands c (front ++ l ∷ []) (given ++ a ∷ []) p (run_lines [] given ++ answer_lines r.history a) =
-    stands_on c front given r p (run_lines [] given) (run_lines [] given ++ answer_lines r.history a) l a so_far.stands answers leads refl in
-    let whole : Stands c (front ++ l ∷ []) (given ++ a ∷ []) p (run_lines [] (given ++ a ∷ [])) = record { plays = next.plays; runner = next.runner; output = refl } in
+    let next : Stands c (front ++ l ∷ []) (given ++ a ∷ []) p (run_lines c [] given ++ answer_lines r.config r.history a) =
+    stands_on c front given r p (run_lines c [] given) (run_lines c [] given ++ answer_lines r.config r.history a) l a so_far.stands answers leads refl in
+    let whole : Stands c (front ++ l ∷ []) (given ++ a ∷ []) p (run_lines c [] (given ++ a ∷ [])) = record { plays = next.plays; runner = next.runner; output = refl } in
     let there : x.ask ≡ ask_of (state c (after_all [] given)) (outcomes_all [] front given) l =
     asks ∙ ap (λ (q : Playing). ask_of (state q.config q.history) q.outcomes l) so_far.stands.runner in
     let each : length given ≡ length front = one_each c [] [] front given so_far.stands.plays in
@@ -61,8 +61,8 @@ going_on c lines n r p xs d x so_far below asks answers leads =
     let all : List Answer = answers_of (xs ++ x ∷ []) in
     let asked_so : List Answer → List ScenarioLine → Type 0 = λ given_then lines_then. asked_of (xs ++ x ∷ []) ≡ asks_of c [] [] lines_then given_then in
     record {
-      stands = subst (λ lines_then. Stands c lines_then all p (run_lines [] all)) (sym more)
-          (subst (λ given_then. Stands c (front ++ l ∷ []) given_then p (run_lines [] given_then)) (sym told) whole);
+      stands = subst (λ lines_then. Stands c lines_then all p (run_lines c [] all)) (sym more)
+          (subst (λ given_then. Stands c (front ++ l ∷ []) given_then p (run_lines c [] given_then)) (sym told) whole);
       asked = subst (asked_so all) (sym more) (subst (λ given_then. asked_so given_then (front ++ l ∷ [])) (sym told) asked);
     }
 

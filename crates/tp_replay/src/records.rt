@@ -5,6 +5,7 @@ ghost use Rattle.std.specs.Option.{option_to_list};
 ghost use Rattle.std.specs.Result.{result_ok};
 ghost use Rattle.std.specs.Io.KnownBytes.{Appends};
 ghost use Rattle.tp_text.specs.Watching.{TellsWriter, sink};
+ghost use Rattle.tp_record_text.specs.declared.versions.Version.{Version};
 ghost use Rattle.tp_record_text.specs.RecordText.{record_text};
 ghost use Rattle.tp_replay.specs.Plays.{entries_in};
 
@@ -44,7 +45,7 @@ fn entries_of(alloc: Global, answers: &[Answered]) -> Result<Vec<Entry>, AllocEr
 impl Play {
     /// The text of its record; NoMemory (4).
     fn record_text(&self, alloc: Global) -> Result<Vec<u8>, PoolError>
-        ensures text { IfOk result (λ text. text.items ≡ record_text self.now.config (entries_in self.now.answers.items)) }
+        ensures text { IfOk result (λ text. text.items ≡ record_text Version.Two self.now.config (entries_in self.now.answers.items)) }
         ensures only_memory { IsOkUnless result PoolError.NoMemory }
     {
         let Ok(entries) = entries_of(alloc, self.answers.as_slice()) else {
@@ -60,7 +61,7 @@ impl Play {
         alloc: Global,
         out: &mut WatchedWriter<W>,
     ) -> Result<(), PoolError>
-        ensures written { OnOk result (Appends (W.contents (sink out.old)) (W.contents (sink out.new)) (record_text self.now.config (entries_in self.now.answers.items))) }
+        ensures written { OnOk result (Appends (W.contents (sink out.old)) (W.contents (sink out.new)) (record_text Version.Two self.now.config (entries_in self.now.answers.items))) }
         ensures unwritten { result ≡ Err PoolError.NoMemory → out.new ≡ out.old }
         ensures refused { IfErr result (λ e. (e ≡ PoolError.NoMemory) ⊎ (e ≡ PoolError.WriteFailed)) }
         ensures tells { TellsWriter out.old result out.new }

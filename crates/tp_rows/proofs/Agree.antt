@@ -92,6 +92,7 @@ is_begun_row _ o = o
 abbrev task_agrees : List Entry → ℕ → Bool
 task_agrees h t =
     same_kind (words.kind_of h t) (fields.kind h t)
+    && (words.priority_of h t == fields.priority h t)
     && same (words.was_cancelled h t) (fields.is_cancelled h t)
     && same (words.waits_in_queue h t) (fields.is_queued h t)
     && same_with (words.with_submitter h t) (fields.place h t)
@@ -143,7 +144,7 @@ abbrev agrees : Config → List Entry → Bool
 agrees c h =
     list_all (task_agrees h) (count_from 0 (words.submissions h))
     && list_all (slot_agrees h) (count_from 0 (words.slot_numbers h))
-    && same_list (words.waiting_line h) (fields.queue h)
+    && same_list (words.waiting_line c h) (fields.queue c h)
     && list_all (λ g. same_list (words.done_in_group g h) (done_of (state c h) g)) (count_from 0 5)
 
 -- at each front

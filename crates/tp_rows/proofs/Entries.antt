@@ -7,7 +7,7 @@ use Rattle.tp_types.specs.declared.ids.SlotId.{SlotId}
 pub use Rattle.tp_types.specs.declared.tasks.Kind.TheVariants as kinds
 pub use Rattle.tp_types.specs.declared.tasks.Fate.TheVariants as fate
 pub use Rattle.tp_types.specs.declared.configs.Config.{Config}
-pub use Rattle.tp_types.specs.declared.configs.QueueKind.TheVariants.{Unbounded, Bounded, Handoff}
+pub use Rattle.tp_types.specs.declared.configs.QueueKind.TheVariants.{Unbounded, Bounded, Handoff, Priority}
 pub use Rattle.tp_types.specs.declared.configs.Policy.TheVariants as policy
 pub use Rattle.tp_types.specs.declared.configs.Verdict.TheVariants as verdict
 pub use Rattle.tp_types.specs.declared.refusals.PoolError.TheVariants.{BadSizes, BookFull, UnknownTask, UnknownSlot, NotThere, NotFuture, ClockBack, KeepZero, Lost, CancelledTask, Faulted}

@@ -28,3 +28,4 @@ pub mod Row_30
 pub mod Row_31
 pub mod Row_33
 pub mod Row_34
+pub mod Row_36

@@ -19,7 +19,7 @@ fn runs_the_shortest_life(rt: HostRuntime) -> Result<(), Fail> {
     let task = TaskId(0);
     let asks = [
         (1, Ask::Take(slot)),
-        (0, Ask::Submit(Kind::Plain)),
+        (0, Ask::Submit(Kind::Plain, 0)),
         (3, Ask::Open(slot)),
         (1, Ask::Take(slot)),
         (1, Ask::Begin(slot)),
@@ -28,7 +28,7 @@ fn runs_the_shortest_life(rt: HostRuntime) -> Result<(), Fail> {
     let run = run_asks(rt.alloc(), LONE, &asks)?;
     let answers = [
         Err(PoolError::UnknownSlot),
-        Ok(Did::Submit(task, Kind::Plain, Looked::Reserve(slot))),
+        Ok(Did::Submit(task, Kind::Plain, 0, Looked::Reserve(slot))),
         Ok(Did::Open(slot, Opened::Live)),
         Ok(Did::Take(slot, Took::Held(task))),
         Ok(Did::Begin(slot, Started::Run(task))),
@@ -64,8 +64,8 @@ fn goes_on(alloc: Global, asks: usize, run: &Run) -> bool {
 #[test]
 fn run_goes_on_where_memory_is_wanted(rt: HostRuntime) {
     let asks = [
-        (0, Ask::Submit(Kind::Plain)),
-        (1, Ask::Submit(Kind::Future)),
+        (0, Ask::Submit(Kind::Plain, 0)),
+        (1, Ask::Submit(Kind::Future, 0)),
         (2, Ask::Maximum(3)),
         (2, Ask::Stop),
         (2, Ask::Tick(5)),

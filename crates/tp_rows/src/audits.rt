@@ -8,6 +8,7 @@ use std::process::Abort;
 use std::test::Fail;
 use tp_audit_text::audits::audit_text;
 use tp_record_text::records::read_record;
+use tp_record_text::versions::Version;
 use tp_record_text::writing::record_text;
 use tp_text::watched::{WatchedReader, WatchedWriter};
 use tp_types::limits::MAX_TEXT_BYTES;
@@ -78,6 +79,53 @@ const SETTINGS_OUTPUT: &[u8] = b"legal 4\n\
 state running\n\
 counts submitted=0 run=0 caller=0 rejected=0 discarded=0 handedback=0 removed=0 cancelled=0 completed=0 queued=0 live=0 largest=0\n";
 
+/// A priority queue of one worker: of three tasks that wait the least priority leaves first, and of equal ones the earlier.
+const RANKED: &[u8] = b"tprecord 2\n\
+pool 1 1 priority keep 0 abort\n\
+1 submit t0 plain reserve w0\n\
+2 submit t1 plain prio 5 queue\n\
+3 offer t1 queued\n\
+4 second t1 stay\n\
+5 submit t2 plain prio 2 queue\n\
+6 offer t2 queued\n\
+7 second t2 stay\n\
+8 submit t3 plain prio 5 queue\n\
+9 offer t3 queued\n\
+10 second t3 stay\n\
+11 open w0 live\n\
+12 take w0 held t0\n\
+13 begin w0 t0\n\
+14 end w0 t0 value 0\n\
+15 take w0 head t2\n\
+16 begin w0 t2\n\
+17 end w0 t2 value 2\n\
+18 take w0 head t1\n\
+19 begin w0 t1\n\
+20 end w0 t1 value 1\n\
+21 stop drained 1\n\
+end 21\n";
+
+const RANKED_OUTPUT: &[u8] = b"legal 21\n\
+state stop\n\
+counts submitted=4 run=3 caller=0 rejected=0 discarded=0 handedback=1 removed=0 cancelled=0 completed=3 queued=0 live=1 largest=1\n";
+
+/// The same priorities in a queue that does not go by them: the second task leaves before the first.
+const UNRANKED: &[u8] = b"tprecord 2\n\
+pool 1 1 unbounded keep 0 abort\n\
+1 submit t0 plain reserve w0\n\
+2 submit t1 plain prio 5 queue\n\
+3 offer t1 queued\n\
+4 second t1 stay\n\
+5 submit t2 plain prio 2 queue\n\
+6 offer t2 queued\n\
+7 second t2 stay\n\
+8 open w0 live\n\
+9 take w0 held t0\n\
+10 begin w0 t0\n\
+11 end w0 t0 value 0\n\
+12 take w0 head t2\n\
+end 12\n";
+
 /// A limit that is not the usual one.
 const LIMITED: &[u8] = b"tprecord 1\n\
 pool 1 1 unbounded keep 0 abort limit 64\n\
@@ -109,13 +157,15 @@ fn refuses<R: Read>(
 }
 
 /// A text, what is written of it, and whether it is legal.
-const JUDGED: [(&[u8], &[u8], bool); 6] = [
+const JUDGED: [(&[u8], &[u8], bool); 8] = [
     (ROW_21, b"flaw 2\n", false),
     (LEGAL, LEGAL_OUTPUT, true),
     (ROW_35, ROW_35_OUTPUT, true),
     (TWO_PASSES, TWO_PASSES_OUTPUT, true),
     (SETTINGS, SETTINGS_OUTPUT, true),
     (LIMITED, LIMITED_OUTPUT, true),
+    (RANKED, RANKED_OUTPUT, true),
+    (UNRANKED, b"flaw 12\n", false),
 ];
 
 #[test]
@@ -151,7 +201,7 @@ const WRONG_LINES: [(&[u8], u32); 19] = [
         3,
     ),
     (b"", 1),
-    (b"tprecord 2\npool 1 1 unbounded keep 0 abort\nend 0\n", 1),
+    (b"tprecord 3\npool 1 1 unbounded keep 0 abort\nend 0\n", 1),
     (b"tprecord 1\r\npool 1 1 unbounded keep 0 abort\nend 0\n", 1),
     (
         b"# a record\ntprecord 1\npool 1 1 unbounded keep 0 abort\nend 0\n",
@@ -212,7 +262,7 @@ const REFUSED_POOLS: [(&[u8], PoolError); 6] = [
         PoolError::KeepZero,
     ),
     (
-        b"tprecord 2\npool 3 2 unbounded keep 0 abort\nend 0\n",
+        b"tprecord 3\npool 3 2 unbounded keep 0 abort\nend 0\n",
         PoolError::BadEntry(1),
     ),
     (
@@ -238,7 +288,7 @@ fn refuses_each_cut_text(rt: HostRuntime) {
     }
 }
 
-/// What a text says, written again; None where it is refused.
+/// What a text says, written again in the form that it says; None where it is refused.
 fn written_again(alloc: Global, text: &[u8]) -> Result<Option<Vec<u8>>, PoolError> {
     if text.len() > MAX_TEXT_BYTES {
         return Ok(None);
@@ -246,7 +296,11 @@ fn written_again(alloc: Global, text: &[u8]) -> Result<Option<Vec<u8>>, PoolErro
     match read_record(alloc, text) {
         Ok(record) => {
             let entries = record.entries.as_slice();
-            Ok(Some(record_text(alloc, &record.config, entries)?))
+            let mut again = record_text(alloc, &record.config, entries)?;
+            if let (Version::One, Some(digit)) = (record.version, again.get_mut(9)) {
+                *digit = b'1';
+            }
+            Ok(Some(again))
         }
         Err(PoolError::NoMemory) => Err(PoolError::NoMemory),
         Err(_) => Ok(None),

@@ -30,8 +30,8 @@ fn shortest_life(slot: usize) -> [Entry; 5] {
     [
         Entry {
             by: 0,
-            ask: Ask::Submit(Kind::Plain),
-            did: Did::Submit(task, Kind::Plain, Looked::Reserve(slot)),
+            ask: Ask::Submit(Kind::Plain, 0),
+            did: Did::Submit(task, Kind::Plain, 0, Looked::Reserve(slot)),
         },
         Entry {
             by: 3,
@@ -113,8 +113,8 @@ fn judges_the_shortest_life(rt: HostRuntime) {
 fn judges_records_with_nothing_begun(rt: HostRuntime) {
     let submit = |task, slot| Entry {
         by: 0,
-        ask: Ask::Submit(Kind::Plain),
-        did: Did::Submit(TaskId(task), Kind::Plain, Looked::Reserve(SlotId(slot))),
+        ask: Ask::Submit(Kind::Plain, 0),
+        did: Did::Submit(TaskId(task), Kind::Plain, 0, Looked::Reserve(SlotId(slot))),
     };
     let two = Config {
         core: 2,

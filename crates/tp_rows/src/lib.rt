@@ -10,6 +10,8 @@ mod audits;
 #[cfg(test)]
 mod compare;
 #[cfg(test)]
+mod forms;
+#[cfg(test)]
 mod judged;
 #[cfg(test)]
 mod lines;

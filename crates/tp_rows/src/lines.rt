@@ -36,26 +36,41 @@ fn entry(by: u32, did: Did) -> Entry {
     }
 }
 
-const SUBMISSIONS_AND_LOOKS: [(usize, Did, &str); 7] = [
+const SUBMISSIONS_AND_LOOKS: [(usize, Did, &str); 10] = [
     (
         1,
-        Did::Submit(TASK_0, Kind::Plain, Looked::Reserve(SLOT_0)),
+        Did::Submit(TASK_0, Kind::Plain, 0, Looked::Reserve(SLOT_0)),
         "1 submit t0 plain reserve w0\n",
     ),
     (
         2,
-        Did::Submit(TASK_1, Kind::Future, Looked::Queue),
+        Did::Submit(TASK_1, Kind::Future, 0, Looked::Queue),
         "2 submit t1 future queue\n",
     ),
     (
         1,
-        Did::Submit(TASK_0, Kind::Group(3), Looked::Reserve(SLOT_0)),
+        Did::Submit(TASK_0, Kind::Group(3), 0, Looked::Reserve(SLOT_0)),
         "1 submit t0 group 3 reserve w0\n",
     ),
     (
         10,
-        Did::Submit(TASK_2, Kind::Plain, Looked::Refuse),
+        Did::Submit(TASK_2, Kind::Plain, 0, Looked::Refuse),
         "10 submit t2 plain refuse\n",
+    ),
+    (
+        2,
+        Did::Submit(TASK_1, Kind::Plain, 5, Looked::Queue),
+        "2 submit t1 plain prio 5 queue\n",
+    ),
+    (
+        3,
+        Did::Submit(TASK_2, Kind::Group(3), 1, Looked::Reserve(SLOT_1)),
+        "3 submit t2 group 3 prio 1 reserve w1\n",
+    ),
+    (
+        4,
+        Did::Submit(TASK_0, Kind::Future, u32::MAX, Looked::Refuse),
+        "4 submit t0 future prio 4294967295 refuse\n",
     ),
     (9, Did::Look(TASK_2, Looked::Queue), "9 look t2 queue\n"),
     (

@@ -50,7 +50,9 @@ fn other_slot(w: SlotId) -> SlotId {
 /// The entry of another task, if it names one first.
 fn with_other_task(did: Did) -> Did {
     match did {
-        Did::Submit(t, kind, looked) => Did::Submit(other_task(t), kind, looked),
+        Did::Submit(t, kind, priority, looked) => {
+            Did::Submit(other_task(t), kind, priority, looked)
+        }
         Did::Look(t, looked) => Did::Look(other_task(t), looked),
         Did::Offer(t, offered) => Did::Offer(other_task(t), offered),
         Did::Second(t, seconded) => Did::Second(other_task(t), seconded),
@@ -71,9 +73,10 @@ fn with_other_task(did: Did) -> Did {
 /// The entry of another slot, if it names one.
 fn with_other_slot(did: Did) -> Did {
     match did {
-        Did::Submit(t, kind, Looked::Reserve(w)) => Did::Submit(
+        Did::Submit(t, kind, priority, Looked::Reserve(w)) => Did::Submit(
             t,
             kind,
+            priority,
             Looked::Reserve(other_slot(w)),
         ),
         Did::Offer(t, Offered::Hand(w)) => Did::Offer(t, Offered::Hand(other_slot(w))),
@@ -91,8 +94,10 @@ fn with_other_slot(did: Did) -> Did {
 /// The entry with another answer to the same ask, where there is one.
 fn with_other_answer(did: Did) -> Did {
     match did {
-        Did::Submit(t, kind, Looked::Queue) => Did::Submit(t, kind, Looked::Refuse),
-        Did::Submit(t, kind, _) => Did::Submit(t, kind, Looked::Queue),
+        Did::Submit(t, kind, priority, Looked::Queue) => {
+            Did::Submit(t, kind, priority, Looked::Refuse)
+        }
+        Did::Submit(t, kind, priority, _) => Did::Submit(t, kind, priority, Looked::Queue),
         Did::Offer(t, Offered::Queued) => Did::Offer(t, Offered::Full),
         Did::Offer(t, _) => Did::Offer(t, Offered::Queued),
         Did::Second(t, Seconded::Back) => Did::Second(t, Seconded::Stay),
@@ -181,12 +186,12 @@ pub fn neighbours_agree(alloc: Global, config: &Config, asks: &[(u32, Ask)]) -> 
 fn a_purge_and_a_shutdown(rt: HostRuntime) -> Result<(), Fail> {
     let slot = SlotId(0);
     let asks = [
-        (0, Ask::Submit(Kind::Plain)),
+        (0, Ask::Submit(Kind::Plain, 0)),
         (1, Ask::Open(slot)),
-        (0, Ask::Submit(Kind::Future)),
+        (0, Ask::Submit(Kind::Future, 0)),
         (0, Ask::Offer(TaskId(1))),
         (0, Ask::Second(TaskId(1))),
-        (0, Ask::Submit(Kind::Future)),
+        (0, Ask::Submit(Kind::Future, 0)),
         (0, Ask::Offer(TaskId(2))),
         (0, Ask::Second(TaskId(2))),
         (2, Ask::Cancel(TaskId(1), true)),
@@ -219,16 +224,16 @@ fn a_drop_and_a_stop(rt: HostRuntime) -> Result<(), Fail> {
         ..LONE
     };
     let asks = [
-        (0, Ask::Submit(Kind::Group(3))),
+        (0, Ask::Submit(Kind::Group(3), 0)),
         (1, Ask::Open(SlotId(0))),
-        (0, Ask::Submit(Kind::Plain)),
+        (0, Ask::Submit(Kind::Plain, 0)),
         (0, Ask::Offer(TaskId(1))),
         (0, Ask::Second(TaskId(1))),
-        (0, Ask::Submit(Kind::Plain)),
+        (0, Ask::Submit(Kind::Plain, 0)),
         (0, Ask::Offer(TaskId(2))),
         (0, Ask::Grow(TaskId(2))),
         (2, Ask::Open(SlotId(1))),
-        (0, Ask::Submit(Kind::Group(3))),
+        (0, Ask::Submit(Kind::Group(3), 0)),
         (0, Ask::Offer(TaskId(3))),
         (0, Ask::Grow(TaskId(3))),
         (0, Ask::Verdict(TaskId(3), Verdict::DiscardOldest)),
@@ -259,13 +264,13 @@ fn a_drop_and_a_stop(rt: HostRuntime) -> Result<(), Fail> {
 /// of idling and a group.
 const TOLD: [(Ask, Did); 12] = [
     (
-        Ask::Submit(Kind::Group(1)),
-        Did::Submit(TaskId(0), Kind::Group(1), Looked::Reserve(SlotId(7))),
+        Ask::Submit(Kind::Group(1), 0),
+        Did::Submit(TaskId(0), Kind::Group(1), 0, Looked::Reserve(SlotId(7))),
     ),
     (Ask::Open(SlotId(7)), Did::Open(SlotId(7), Opened::Live)),
     (
-        Ask::Submit(Kind::Plain),
-        Did::Submit(TaskId(1), Kind::Plain, Looked::Queue),
+        Ask::Submit(Kind::Plain, 0),
+        Did::Submit(TaskId(1), Kind::Plain, 0, Looked::Queue),
     ),
     (
         Ask::Offer(TaskId(1)),

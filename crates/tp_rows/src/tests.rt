@@ -38,12 +38,12 @@ const GROWING: Config = Config {
 /// Four submissions: one held for the core, one queued, one held up to the maximum, one rejected.
 const REJECTED: [(Ask, Did); 11] = [
     (
-        Ask::Submit(Kind::Plain),
-        Did::Submit(TaskId(0), Kind::Plain, Looked::Reserve(SlotId(0))),
+        Ask::Submit(Kind::Plain, 0),
+        Did::Submit(TaskId(0), Kind::Plain, 0, Looked::Reserve(SlotId(0))),
     ),
     (
-        Ask::Submit(Kind::Plain),
-        Did::Submit(TaskId(1), Kind::Plain, Looked::Queue),
+        Ask::Submit(Kind::Plain, 0),
+        Did::Submit(TaskId(1), Kind::Plain, 0, Looked::Queue),
     ),
     (
         Ask::Offer(TaskId(1)),
@@ -54,8 +54,8 @@ const REJECTED: [(Ask, Did); 11] = [
         Did::Second(TaskId(1), Seconded::Stay),
     ),
     (
-        Ask::Submit(Kind::Plain),
-        Did::Submit(TaskId(2), Kind::Plain, Looked::Queue),
+        Ask::Submit(Kind::Plain, 0),
+        Did::Submit(TaskId(2), Kind::Plain, 0, Looked::Queue),
     ),
     (Ask::Offer(TaskId(2)), Did::Offer(TaskId(2), Offered::Full)),
     (
@@ -63,8 +63,8 @@ const REJECTED: [(Ask, Did); 11] = [
         Did::Grow(TaskId(2), Grown::Reserve(SlotId(1))),
     ),
     (
-        Ask::Submit(Kind::Plain),
-        Did::Submit(TaskId(3), Kind::Plain, Looked::Queue),
+        Ask::Submit(Kind::Plain, 0),
+        Did::Submit(TaskId(3), Kind::Plain, 0, Looked::Queue),
     ),
     (Ask::Offer(TaskId(3)), Did::Offer(TaskId(3), Offered::Full)),
     (Ask::Grow(TaskId(3)), Did::Grow(TaskId(3), Grown::Refuse)),
@@ -88,12 +88,12 @@ const OLDEST: Config = Config {
 /// Three submissions, the last of which drops the second from the queue.
 const DROPPED: [(Ask, Did); 11] = [
     (
-        Ask::Submit(Kind::Plain),
-        Did::Submit(TaskId(0), Kind::Plain, Looked::Reserve(SlotId(0))),
+        Ask::Submit(Kind::Plain, 0),
+        Did::Submit(TaskId(0), Kind::Plain, 0, Looked::Reserve(SlotId(0))),
     ),
     (
-        Ask::Submit(Kind::Plain),
-        Did::Submit(TaskId(1), Kind::Plain, Looked::Queue),
+        Ask::Submit(Kind::Plain, 0),
+        Did::Submit(TaskId(1), Kind::Plain, 0, Looked::Queue),
     ),
     (
         Ask::Offer(TaskId(1)),
@@ -104,8 +104,8 @@ const DROPPED: [(Ask, Did); 11] = [
         Did::Second(TaskId(1), Seconded::Stay),
     ),
     (
-        Ask::Submit(Kind::Plain),
-        Did::Submit(TaskId(2), Kind::Plain, Looked::Queue),
+        Ask::Submit(Kind::Plain, 0),
+        Did::Submit(TaskId(2), Kind::Plain, 0, Looked::Queue),
     ),
     (Ask::Offer(TaskId(2)), Did::Offer(TaskId(2), Offered::Full)),
     (Ask::Grow(TaskId(2)), Did::Grow(TaskId(2), Grown::Refuse)),
@@ -131,12 +131,12 @@ const DROPPED: [(Ask, Did); 11] = [
 /// Three futures: one answers 5, one faults with 4, one is cancelled before anybody takes it.
 const FUTURES: [(Ask, Did); 13] = [
     (
-        Ask::Submit(Kind::Future),
-        Did::Submit(TaskId(0), Kind::Future, Looked::Reserve(SlotId(0))),
+        Ask::Submit(Kind::Future, 0),
+        Did::Submit(TaskId(0), Kind::Future, 0, Looked::Reserve(SlotId(0))),
     ),
     (
-        Ask::Submit(Kind::Future),
-        Did::Submit(TaskId(1), Kind::Future, Looked::Queue),
+        Ask::Submit(Kind::Future, 0),
+        Did::Submit(TaskId(1), Kind::Future, 0, Looked::Queue),
     ),
     (
         Ask::Offer(TaskId(1)),
@@ -147,8 +147,8 @@ const FUTURES: [(Ask, Did); 13] = [
         Did::Second(TaskId(1), Seconded::Stay),
     ),
     (
-        Ask::Submit(Kind::Future),
-        Did::Submit(TaskId(2), Kind::Future, Looked::Queue),
+        Ask::Submit(Kind::Future, 0),
+        Did::Submit(TaskId(2), Kind::Future, 0, Looked::Queue),
     ),
     (
         Ask::Cancel(TaskId(2), false),
@@ -367,7 +367,7 @@ fn told_otherwise(alloc: Global, end: &End) -> Result<Option<&'static str>, Fail
     if !has_slots(alloc, entries, end.slots)? {
         return Ok(Some("slots"));
     }
-    if queue(alloc, entries)?.as_slice() != end.queue {
+    if queue(alloc, &end.config, entries)?.as_slice() != end.queue {
         return Ok(Some("queue"));
     }
     if counts(alloc, &end.config, entries)? != end.counts {

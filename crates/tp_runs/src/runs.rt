@@ -44,8 +44,8 @@ fn answer(machine: &mut Machine<(), Full>, by: u32, ask: Ask) -> Result<Did, Poo
     ensures unchanged { OnErr result (Stays ⟦<Full as Recorder>⟧.tells machine.old machine.new) }
     ensures promises { AllPromise WIDEST machine.new }
 {
-    if let Ask::Submit(kind) = ask {
-        return match machine.submit(by, kind, WIDEST, ()) {
+    if let Ask::Submit(kind, priority) = ask {
+        return match machine.submit(by, kind, priority, WIDEST, ()) {
             Ok((_, did)) => Ok(did),
             Err((error, _)) => Err(error),
         };

@@ -8,12 +8,16 @@ use tp_reasons::reasons::reason;
 use tp_types::refusals::PoolError;
 
 const SCENARIO: &[u8] =
-    b"# all forms\npool 1 2 bounded 3 keep 0 own coretimeout limit 64\n\nsubmit group 3 -5\nverdict 0 abort\ncancel 0 flag\nopen 0\n";
+    b"# all forms\npool 1 2 bounded 3 keep 0 own coretimeout limit 64\n\nsubmit group 3 -5 prio 6\nverdict 0 abort\ncancel 0 flag\nopen 0\n";
 
 const RECORD: &[u8] =
     b"tprecord 1\npool 1 2 bounded 3 keep 7 own limit 64\n1 submit t0 plain reserve w0\n2 p1 open w0 live\nend 2\n";
 
-const JOBS: &[u8] = b"pool 1 1 unbounded keep 0 abort\nexecute 5\nsubmit !7\n";
+/// Of the second form.
+const RANKED: &[u8] =
+    b"tprecord 2\npool 1 2 priority keep 7 own limit 64\n1 submit t0 plain prio 5 reserve w0\n2 p1 open w0 live\nend 2\n";
+
+const JOBS: &[u8] = b"pool 1 1 unbounded keep 0 abort\nexecute 5\nsubmit !7 prio 5\n";
 
 /// The bytes that are set in place of each.
 const OTHERS: [u8; 12] = [
@@ -53,6 +57,7 @@ fn tells_of_the_line_that_is_refused(rt: HostRuntime) -> Result<(), Fail> {
     for (kind, whole) in [
         (Kind::Scenario, SCENARIO),
         (Kind::Record, RECORD),
+        (Kind::Record, RANKED),
         (Kind::Jobs, JOBS),
     ] {
         for end in 0..whole.len() {

@@ -50,7 +50,7 @@ fn tells(rt: &impl Abort, alloc: Global, kind: Kind, rows: &[Row]) -> Result<(),
     Ok(())
 }
 
-const WORDS: [Row; 22] = [
+const WORDS: [Row; 25] = [
     (
         b"pool 1 1 unbounded keep 0 abort\nsubmitt plain 5\n",
         "2:1",
@@ -78,6 +78,24 @@ const WORDS: [Row; 22] = [
     (
         b"pool 1 1 unbounded keep 0 abort\nsubmit plain 5 6\n",
         "2:16",
+        "'6' may not stand here",
+        "= expected: prio or the end of the line\n",
+    ),
+    (
+        b"pool 1 1 unbounded keep 0 abort\nsubmit plain 5 prio\n",
+        "2:21",
+        "a word is missing",
+        "= form: submit plain V prio N\n",
+    ),
+    (
+        b"pool 1 1 unbounded keep 0 abort\nsubmit plain 5 prio 05\n",
+        "2:21",
+        "'05' begins with a zero",
+        "^^ write 5\n",
+    ),
+    (
+        b"pool 1 1 unbounded keep 0 abort\nsubmit plain 5 prio 4 6\n",
+        "2:23",
         "'6' is one word too many",
         "^ the line should end before it\n",
     ),
@@ -299,7 +317,7 @@ const SETTINGS: [Row; 6] = [
     ),
 ];
 
-const RECORDS: [Row; 17] = [
+const RECORDS: [Row; 21] = [
     (
         b"pool 1 1 unbounded keep 0 abort\nstop\n",
         "1:1",
@@ -309,14 +327,14 @@ const RECORDS: [Row; 17] = [
     (
         b"",
         "1:1",
-        "a record begins with the line 'tprecord 1'",
-        "write 'tprecord 1' here",
+        "a record begins with the line 'tprecord 2'",
+        "write 'tprecord 2' here",
     ),
     (
-        b"tprecord 2\n",
+        b"tprecord 3\n",
         "1:1",
-        "a record begins with the line 'tprecord 1'",
-        "write 'tprecord 1' here",
+        "a record begins with the line 'tprecord 2'",
+        "write 'tprecord 2' here",
     ),
     (
         b"tprecord 1\npool 1 1 unbounded keep 0 abort limit 4096\nend 0\n",
@@ -376,13 +394,37 @@ const RECORDS: [Row; 17] = [
         b"tprecord 1\npool 1 1 unbounded keep 0 abort\n1 submit t0 plain\nend 1\n",
         "3:19",
         "a word is missing",
-        "= expected: reserve, queue or refuse\n",
+        "= expected: reserve, queue, refuse or prio\n",
     ),
     (
         b"tprecord 1\npool 1 1 unbounded keep 0 abort\n1 p0 shutdown\nend 1\n",
         "3:3",
         "pass 0 is not written",
         "take it out",
+    ),
+    (
+        b"tprecord 2\npool 1 1 unbounded keep 0 abort\n1 submit t0 plain prio 0 queue\nend 1\n",
+        "3:19",
+        "priority 0 is not written",
+        "^^^^^^ take it out",
+    ),
+    (
+        b"tprecord 1\npool 1 1 unbounded keep 0 abort\n1 submit t0 plain prio 5 queue\nend 1\n",
+        "3:19",
+        "a record that begins with 'tprecord 1' has no priorities",
+        "^^^^ write 'tprecord 2' in the first line",
+    ),
+    (
+        b"tprecord 1\npool 1 1 unbounded keep 0 abort\n1 p1 submit t0 group 3 prio 5 queue\nend 1\n",
+        "3:24",
+        "a record that begins with 'tprecord 1' has no priorities",
+        "^^^^ write 'tprecord 2' in the first line",
+    ),
+    (
+        b"tprecord 1\npool 3 2 priority keep 0 abort\nend 0\n",
+        "2:10",
+        "a record that begins with 'tprecord 1' has no priorities",
+        "^^^^^^^^ write 'tprecord 2' in the first line",
     ),
     (
         b"tprecord 1\npool 1 1 unbounded keep 0 abort\n1 p1 take w0 heads t0\nend 1\n",

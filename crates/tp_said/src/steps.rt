@@ -41,7 +41,7 @@ line 19: tidy: refused 8 NotThere (the state is running, with 1 slots and 0 queu
 line 21: second 0: refused 8 NotThere (t0 owes no second look; t0 has its fate: run)
 ";
 
-const RECORD: &[u8] = b"tprecord 1
+const RECORD: &[u8] = b"tprecord 2
 pool 1 1 unbounded keep 5 abort limit 64
 1 submit t0 plain reserve w0
 2 open w0 live

@@ -38,7 +38,7 @@ pub comes_whole : (p : PoolLine) (asked : Asked) (mid out : List ℕ) (c : Confi
     → out ≡ mid ++ end_lines (state r.config r.history) → ComesOf (Ok (p, asked)) out (Ok tt)
 comes_whole p asked mid out c answers r one good none stands ends =
     comes_played p asked out (Ok tt) c answers one good stands.plays
-    (ends ∙ ap (λ x. x ++ end_lines (state r.config r.history)) stands.output ∙ ap (λ (q : Playing). run_lines [] answers ++ end_lines (state q.config q.history)) stands.runner ∙ ap (written c answers) (sym none))
+    (ends ∙ ap (λ x. x ++ end_lines (state r.config r.history)) stands.output ∙ ap (λ (q : Playing). run_lines c [] answers ++ end_lines (state q.config q.history)) stands.runner ∙ ap (written c answers) (sym none))
     (ap ending_of (sym none))
 
 -- a pool that could not be made
@@ -51,7 +51,7 @@ comes_of_new p asked out c e one good empty (inr is) = inr (ap Err is.0, (sym (g
 -- memory gave out between two answers
 pub breaks_off : (p : PoolLine) (asked : Asked) (out : List ℕ) (c : Config) → c ≡ config_of p → Ok tt ≡ checked c → Breaks c asked.0 out → BreaksOff (Ok (p, asked)) out
 breaks_off p asked out c one good b =
-    (sym (good ∙ ap checked one), (b.1, b.0, (play (config_of p) (take b.0 asked.0) b.1 (subst (λ x. PlaysFrom x [] [] (take b.0 asked.0) b.1) one b.2), inl b.3)))
+    (sym (good ∙ ap checked one), (b.1, b.0, (play (config_of p) (take b.0 asked.0) b.1 (subst (λ x. PlaysFrom x [] [] (take b.0 asked.0) b.1) one b.2), inl (b.3 ∙ ap (λ x. run_lines x [] b.1) one))))
 
 front_of : (front out mid run : List ℕ) (s : State) → mid ≡ run → out ≡ mid ++ front → IsFront front (end_lines s) → IsFront out (run ++ end_lines s)
 front_of front out mid run s written grows more =
@@ -72,7 +72,7 @@ breaks_end p asked mid out front c answers r one good none stands grows more =
         length asked.0,
         (
           subst (λ x. IsPlay d x answers) (sym (take-length asked.0)) (play d asked.0 answers there),
-          inr (refl, none, front_of front out mid (run_lines [] answers) (state d (after_all [] answers)) stands.output grows more_there),
+          inr (refl, none, front_of front out mid (run_lines d [] answers) (state d (after_all [] answers)) (stands.output ∙ ap (λ x. run_lines x [] answers) one) grows more_there),
         ),
       ),
     )

@@ -12,10 +12,10 @@ use Rattle.tp_text.proofs.Refusals.{checked_inner, outer_err, same_outer}
 use Rattle.tp_text.proofs.WordSplits.{differ, same_words, word_from_test}
 use Rattle.tp_scenario.specs.declared.jobs.JobLine.{JobLine}
 use Rattle.tp_scenario.specs.declared.jobs.Jobs.{Jobs}
-use Rattle.tp_scenario.specs.Lines.{outcome_text}
+use Rattle.tp_scenario.specs.Lines.{Given, given_text}
 use Rattle.tp_scenario.specs.Jobs.{FitsJob, IsJobsText, IsRead, JobsSaid, ReadsJobs, answer_behind, answer_of, answer_to, job_text, job_word}
 use Rattle.tp_scenario.specs.PoolText.{IsSkipped, LinesSaid}
-use Rattle.tp_scenario.proofs.OneReading.{outcome_text-injective}
+use Rattle.tp_scenario.proofs.OneReading.{given_text-injective}
 use Rattle.tp_scenario.proofs.OneText.{followed_first, letter_not_skipped, one_said}
 
 job_is_word : (future : Bool) → IsWord (job_word future)
@@ -23,9 +23,9 @@ job_is_word false = word_from_test (codes "execute") refl
 job_is_word true = word_from_test (codes "submit") refl
 
 -- a text is that of a job only by its first word and what follows
-pub no_job : (bs w : List ℕ) (r : Option (List ℕ)) → FirstWord bs w r → ((j : JobLine) → FitsJob j → w ≡ job_word j.future → r ≢ Some (outcome_text j.outcome)) → (j : JobLine) → FitsJob j → bs ≢ job_text j
+pub no_job : (bs w : List ℕ) (r : Option (List ℕ)) → FirstWord bs w r → ((j : JobLine) → FitsJob j → w ≡ job_word j.future → r ≢ Some (given_text (j.outcome, j.priority))) → (j : JobLine) → FitsJob j → bs ≢ job_text j
 no_job bs w r first none j fits same =
-    let p = first.only (job_word j.future) (Some (outcome_text j.outcome)) (job_is_word j.future) same in none j fits p.0 p.1
+    let p = first.only (job_word j.future) (Some (given_text (j.outcome, j.priority))) (job_is_word j.future) same in none j fits p.0 p.1
 
 -- no other word begins a job's line
 pub no_job_word : (w : List ℕ) → w ≢ codes "execute" → w ≢ codes "submit" → (future : Bool) → w ≢ job_word future
@@ -64,9 +64,9 @@ same_word true true e = refl
 -- no text is that of two jobs
 pub job_text-injective : (j k : JobLine) → FitsJob j → FitsJob k → job_text j ≡ job_text k → j ≡ k
 job_text-injective j k f h e =
-    let p = same_words (job_word j.future) (job_word k.future) (Some (outcome_text j.outcome)) (Some (outcome_text k.outcome)) (job_is_word j.future) (job_is_word k.future) e in
-    ap (λ x. record { future = x; outcome = j.outcome }) (same_word j.future k.future p.0)
-    ∙ ap (λ x. record { future = k.future; outcome = x }) (outcome_text-injective j.outcome k.outcome f h (same_Some _ _ p.1))
+    let p = same_words (job_word j.future) (job_word k.future) (Some (given_text (j.outcome, j.priority))) (Some (given_text (k.outcome, k.priority))) (job_is_word j.future) (job_is_word k.future) e in
+    ap (λ x. record { future = x; outcome = j.outcome; priority = j.priority }) (same_word j.future k.future p.0)
+    ∙ ap (λ (g : Given). record { future = k.future; outcome = g.0; priority = g.1 }) (given_text-injective (j.outcome, j.priority) (k.outcome, k.priority) f h (same_Some _ _ p.1))
 
 letter_first : (future : Bool) → 96 < get_or (job_word future) 0 0
 letter_first false = omega arith
@@ -75,7 +75,7 @@ letter_first true = omega arith
 job_not_skipped : (bytes : List ℕ) (j : JobLine) → bytes ≡ job_text j → IsSkipped bytes → ⊥
 job_not_skipped bytes j is skipped =
     let P : List ℕ → Type 0 = λ x. 96 < get_or x 0 0 in
-    letter_not_skipped bytes (subst P (sym is) (followed_first (job_word j.future) (Some (outcome_text j.outcome)) (letter_first j.future))) skipped
+    letter_not_skipped bytes (subst P (sym is) (followed_first (job_word j.future) (Some (given_text (j.outcome, j.priority))) (letter_first j.future))) skipped
 
 -- a text of jobs says one thing
 pub one_file : (text : List ℕ) (s t : JobsSaid) → IsJobsText text s → IsJobsText text t → s ≡ t

@@ -8,9 +8,8 @@ use Rattle.tp_text.specs.declared.commands.Command.{Command}
 use Rattle.tp_text.specs.declared.commands.Command.TheVariants as command
 use Rattle.tp_scenario.specs.declared.lines.ScenarioLine.{ScenarioLine}
 use Rattle.tp_scenario.specs.declared.lines.ScenarioLine.TheVariants as line
-use Rattle.tp_record.specs.Effects.{Outcome}
 use Rattle.tp_text.specs.Reads.{ReadsAs, FirstWord, followed}
-use Rattle.tp_scenario.specs.Lines.{ReadsAfter, FitsLine, FitsSubmission, arguments, cancel_text, command_of, line_text, ruling_text, submission_text}
+use Rattle.tp_scenario.specs.Lines.{ReadsAfter, FitsLine, FitsSubmission, Given, arguments, cancel_text, command_of, line_text, ruling_text, submission_text}
 use Rattle.tp_text.specs.Fits.{Fits32, Fits64}
 use Rattle.tp_text.specs.Commands.{command_word}
 use Rattle.tp_text.specs.EntryLine.{switch_word}
@@ -18,7 +17,7 @@ use Rattle.tp_text.proofs.CommandWords.{command_word-injective, word_of_command}
 
 -- what follows the command is the text of no argument
 abbrev pub NoArguments : Command → List ℕ → Type 0
-NoArguments command.Submit text = (s : Kind × Outcome) → FitsSubmission s → text ≢ submission_text s
+NoArguments command.Submit text = (s : Kind × Given) → FitsSubmission s → text ≢ submission_text s
 NoArguments (command.OfTask v) text = (n : ℕ) → Fits32 n → text ≢ decimal n
 NoArguments command.Verdict text = (p : ℕ × Verdict) → Fits32 p.0 → text ≢ ruling_text p
 NoArguments (command.OfSlot v) text = (n : ℕ) → Fits64 n → text ≢ decimal n
@@ -29,7 +28,7 @@ NoArguments (command.OfTicks v) text = (n : ℕ) → Fits64 n → text ≢ decim
 NoArguments command.CoreTimeout text = (on : Bool) → Unit {0} → text ≢ switch_word on
 
 no_arguments_of : (l : ScenarioLine) (text : List ℕ) → NoArguments (command_of l) text → FitsLine l → Some text ≡ arguments l → ⊥
-no_arguments_of (line.Submit k o) text none fits same = none (k, o) fits (same_Some _ _ same)
+no_arguments_of (line.Submit k o p) text none fits same = none (k, (o, p)) fits (same_Some _ _ same)
 no_arguments_of (line.OfTask v t) text none fits same = none t.0 fits (same_Some _ _ same)
 no_arguments_of (line.Verdict t v) text none fits same = none (t.0, v) fits (same_Some _ _ same)
 no_arguments_of (line.OfSlot v w) text none fits same = none w.0 fits (same_Some _ _ same)
@@ -49,7 +48,7 @@ is_alone (command.OfPool v) = true
 is_alone _ = false
 
 alone_arguments : (l : ScenarioLine) → is_alone (command_of l) ≡ false → None ≢ arguments l
-alone_arguments (line.Submit k o) is = λ e. none-some _ e
+alone_arguments (line.Submit k o p) is = λ e. none-some _ e
 alone_arguments (line.OfTask v t) is = λ e. none-some _ e
 alone_arguments (line.Verdict t v) is = λ e. none-some _ e
 alone_arguments (line.OfSlot v w) is = λ e. none-some _ e

@@ -1,5 +1,5 @@
 -- No text has two readings.
-use Rattle.std.proofs.Common.{◌≡◌, ℕ, List, ◌∷◌, Some, None, Ok, Err, Bool, true, false, refl, sym, ◌∙◌, ap, arith, codes, append_assoc}
+use Rattle.std.proofs.Common.{◌≡◌, ℕ, List, ◌∷◌, Option, Some, None, IfSome, Ok, Err, Bool, true, false, refl, sym, ◌∙◌, ap, arith, codes, append_assoc}
 use Rattle.std.specs.Prelude.{ℤ}
 use Rattle.std.proofs.lemmas.Option.{none-some, same_Some}
 use Rattle.std.proofs.lemmas.Fmt.{decimal_injective, signed_decimal_injective}
@@ -13,13 +13,13 @@ use Rattle.tp_scenario.specs.declared.lines.ScenarioLine.TheVariants as line
 use Rattle.tp_record.specs.Effects.{Outcome}
 use Rattle.tp_text.specs.Reads.{IsWord, followed, spaced}
 use Rattle.tp_text.specs.Fits.{Fits32, FitsKind, FitsOutcome}
-use Rattle.tp_scenario.specs.Lines.{FitsLine, FitsSubmission, arguments, cancel_text, command_of, line_text, outcome_text, ruling_text, submission_text}
+use Rattle.tp_scenario.specs.Lines.{FitsGiven, FitsLine, FitsSubmission, Given, arguments, cancel_text, command_of, given_text, line_text, outcome_text, priority_text, ruling_text, submission_text}
 use Rattle.tp_text.specs.Commands.{command_word}
 use Rattle.tp_text.specs.EntryLine.{kind_text, switch_word}
 use Rattle.tp_types.specs.Verdict.{verdict_name}
 use Rattle.tp_text.proofs.WordSplits.{differ, same_words, word_from_test}
 use Rattle.tp_text.proofs.NumberTexts.{word_decimal}
-use Rattle.tp_scenario.proofs.OutcomeTexts.{marked}
+use Rattle.tp_scenario.proofs.OutcomeTexts.{marked, outcome_is_word}
 use Rattle.tp_text.proofs.CommandWords.{command_word-injective, word_of_command}
 
 -- what is printed of a number says which
@@ -35,6 +35,19 @@ outcome_text-injective (Ok z) (Ok y) x w e = ap Ok (signed_decimal_injective z y
 outcome_text-injective (Ok z) (Err n) x w e = absurd (value_or_fault z n x e)
 outcome_text-injective (Err m) (Ok y) x w e = absurd (value_or_fault y m w (sym e))
 outcome_text-injective (Err m) (Err n) x w e = ap Err (same_number m n x w cc)
+
+priority_text-injective : (p q : Option ℕ) → IfSome p Fits32 → IfSome q Fits32 → priority_text p ≡ priority_text q → p ≡ q
+priority_text-injective None None x y e = refl
+priority_text-injective None (Some n) x y e = absurd (none-some _ e)
+priority_text-injective (Some m) None x y e = absurd (none-some _ (sym e))
+priority_text-injective (Some m) (Some n) x y e =
+    let parts = same_words (codes "prio") (codes "prio") (Some (decimal m)) (Some (decimal n)) (word_from_test (codes "prio") refl) (word_from_test (codes "prio") refl) (same_Some _ _ e) in
+    ap Some (same_number m n x y (same_Some _ _ parts.1))
+
+pub given_text-injective : (g h : Given) → FitsGiven g → FitsGiven h → given_text g ≡ given_text h → g ≡ h
+given_text-injective g h x y e =
+    let p = same_words (outcome_text g.0) (outcome_text h.0) (priority_text g.1) (priority_text h.1) (outcome_is_word g.0 x.0) (outcome_is_word h.0 y.0) e in
+    ap (λ o. (o, g.1)) (outcome_text-injective g.0 h.0 x.0 y.0 p.0) ∙ ap (λ q. (h.0, q)) (priority_text-injective g.1 h.1 x.1 y.1 p.1)
 
 -- a submission's text, as its first word and what follows
 abbrev kind_word : Kind → List ℕ
@@ -71,12 +84,12 @@ same_kind (kinds.Group g) (kinds.Group i) x y f h w e =
     let p = same_words (decimal g) (decimal i) (Some x) (Some y) (word_decimal g (omega (arith, f))) (word_decimal i (omega (arith, h))) e in
     (ap kinds.Group (same_number g i f h p.0), same_Some _ _ p.1)
 
-submission_text-injective : (k j : Kind) (o p : Outcome) → FitsSubmission (k, o) → FitsSubmission (j, p) → submission_text (k, o) ≡ submission_text (j, p) → (k ≡ j) × (o ≡ p)
+submission_text-injective : (k j : Kind) (o p : Given) → FitsSubmission (k, o) → FitsSubmission (j, p) → submission_text (k, o) ≡ submission_text (j, p) → (k ≡ j) × (o ≡ p)
 submission_text-injective k j o p f h e =
-    let words = same_words (kind_word k) (kind_word j) (Some (behind_kind k (outcome_text o))) (Some (behind_kind j (outcome_text p))) (kind_is_word k) (kind_is_word j)
-    (sym (submission_parts k (outcome_text o)) ∙ e ∙ submission_parts j (outcome_text p)) in
-    let parts = same_kind k j (outcome_text o) (outcome_text p) f.0 h.0 words.0 (same_Some _ _ words.1) in
-    (parts.0, outcome_text-injective o p f.1 h.1 parts.1)
+    let words = same_words (kind_word k) (kind_word j) (Some (behind_kind k (given_text o))) (Some (behind_kind j (given_text p))) (kind_is_word k) (kind_is_word j)
+    (sym (submission_parts k (given_text o)) ∙ e ∙ submission_parts j (given_text p)) in
+    let parts = same_kind k j (given_text o) (given_text p) f.0 h.0 words.0 (same_Some _ _ words.1) in
+    (parts.0, given_text-injective o p f.1 h.1 parts.1)
 
 verdict_word-injective : (v u : Verdict) → verdict_name v ≡ verdict_name u → v ≡ u
 verdict_word-injective verdict.Abort verdict.Abort e = refl
@@ -118,7 +131,7 @@ cancel_text-injective t s true true f h e =
 
 -- a line is determined by its command and its arguments
 same_line : (l m : ScenarioLine) → FitsLine l → FitsLine m → command_of l ≡ command_of m → arguments l ≡ arguments m → l ≡ m
-same_line (line.Submit k o) (line.Submit j p) f h c e = let q = submission_text-injective k j o p f h (same_Some _ _ e) in ap (λ x. line.Submit x o) q.0 ∙ ap (line.Submit j) q.1
+same_line (line.Submit k o p) (line.Submit j i q) f h c e = let w = submission_text-injective k j (o, p) (i, q) f h (same_Some _ _ e) in ap (λ x. line.Submit x o p) w.0 ∙ ap (λ (g : Given). line.Submit j g.0 g.1) w.1
 same_line (line.OfTask v t) (line.OfTask u s) f h c e = let n : t.0 ≡ s.0 = same_number t.0 s.0 f h (same_Some _ _ e) in let w : v ≡ u = cc in ap (λ x. line.OfTask x t) w ∙ ap (λ x. line.OfTask u (record { 0 = x })) n
 same_line (line.Verdict t v) (line.Verdict s u) f h c e = let q = ruling_text-injective t.0 s.0 v u f h (same_Some _ _ e) in ap (λ x. line.Verdict (record { 0 = x }) v) q.0 ∙ ap (line.Verdict s) q.1
 same_line (line.OfSlot v t) (line.OfSlot u s) f h c e = let n : t.0 ≡ s.0 = decimal_injective t.0 s.0 f h (same_Some _ _ e) in let w : v ≡ u = cc in ap (λ x. line.OfSlot x t) w ∙ ap (λ x. line.OfSlot u (record { 0 = x })) n

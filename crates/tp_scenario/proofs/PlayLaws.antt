@@ -62,7 +62,7 @@ outcomes_on os (k ∷ lines) (b ∷ answers) l a each = outcomes_on (outcomes_af
 pub stands_on : (c : Config) (lines : List ScenarioLine) (answers : List Answer) (r p : Playing) (out out' : List ℕ) (l : ScenarioLine) (a : Answer) → Stands c lines answers r out
     → Answers r.config r.history (ask_of (state r.config r.history) r.outcomes l) a
     → p ≡ record { config = r.config; history = after r.history a; outcomes = outcomes_after r.outcomes l a }
-    → out' ≡ out ++ answer_lines r.history a
+    → out' ≡ out ++ answer_lines r.config r.history a
     → Stands c (lines ++ l ∷ []) (answers ++ a ∷ []) p out'
 stands_on c lines answers r p out out' l a so_far more leads grows =
     let Next : Playing → Type 0 = λ q. Answers q.config q.history (ask_of (state q.config q.history) q.outcomes l) a in
@@ -74,7 +74,7 @@ stands_on c lines answers r p out out' l a so_far more leads grows =
       runner = leads ∙ ap on so_far.runner
           ∙ ap (λ h. record { config = c; history = h; outcomes = outcomes_after (outcomes_all [] lines answers) l a }) (sym (after_all-push [] answers a))
           ∙ ap (λ os. record { config = c; history = after_all [] (answers ++ a ∷ []); outcomes = os }) (sym (outcomes_on [] lines answers l a (one_each c [] [] lines answers so_far.plays)));
-      output = grows ∙ ap (λ x. x ++ answer_lines r.history a) so_far.output ∙ ap (λ (q : Playing). run_lines [] answers ++ answer_lines q.history a) so_far.runner ∙ sym (run_lines-push [] answers a);
+      output = grows ∙ ap (λ x. x ++ answer_lines r.config r.history a) so_far.output ∙ ap (λ (q : Playing). run_lines c [] answers ++ answer_lines q.config q.history a) so_far.runner ∙ sym (run_lines-push c [] answers a);
     }
 
 -- the first lines are answered, and as many entries are counted as the record has
@@ -99,7 +99,7 @@ at_most n m k b few (inr same) = omega (arith, same.1)
 pub going_on : (c : Config) (lines : List ScenarioLine) (n accepted m : ℕ) (r p : Playing) (out out' : List ℕ) (d : ScenarioLine) (a : Answer) (b : Bool) → Going c lines n accepted r out → n < length lines
     → Answers r.config r.history (ask_of (state r.config r.history) r.outcomes (get_or lines n d)) a
     → p ≡ record { config = r.config; history = after r.history a; outcomes = outcomes_after r.outcomes (get_or lines n d) a }
-    → (accepted + 1 ≡ suc (length r.history) → out' ≡ out ++ answer_lines r.history a)
+    → (accepted + 1 ≡ suc (length r.history) → out' ≡ out ++ answer_lines r.config r.history a)
     → b ≡ is_ok a → ((b ≡ true) × (m ≡ accepted + 1)) ⊎ ((b ≡ false) × (m ≡ accepted)) → Going c lines (n + 1) m p out'
 going_on c lines n accepted m r p out out' d a b so_far below answers leads writes test counts =
     let l : ScenarioLine = get_or lines n d in

@@ -36,40 +36,40 @@ stop_asked c s w ask.Stop n is = refl
 stop_asked c s w _ n is = absurd (grind (arith, nat_tests))
 
 -- another ask hands no task back
-quiet : (c : Config) (s : State) (h : List Entry) (a : Ask) (d : Did) → Gives c s a d → a ≢ ask.Stop → drained h d ≡ []
-quiet c s h a (did.Stop n) gives other = absurd (other (stop_asked c s _ a n (within c s _ _ gives.0)))
-quiet c s h a _ gives other = refl
+quiet : (c : Config) (s : State) (h : List Entry) (a : Ask) (d : Did) → Gives c s a d → a ≢ ask.Stop → (b : Config) → drained b h d ≡ []
+quiet c s h a (did.Stop n) gives other b = absurd (other (stop_asked c s _ a n (within c s _ _ gives.0)))
+quiet c s h a _ gives other b = refl
 
 -- the tasks that the machine hands back are those of the history's queue
 module _ {P R : Type 0} (tells : R → List Entry → Type 0) (m : Seen P R) (h : List Entry) (at : At tells m h) (c : Config) (s : State) where
-  drains : (a : Ask) (x : Stepped P) → IsAnswer a x → Gives c s a (did_of a x) → IsInOrder tells m x → handed_back x ≡ drained h (did_of a x)
+  drains : (a : Ask) (x : Stepped P) → IsAnswer a x → Gives c s a (did_of a x) → IsInOrder tells m x → handed_back x ≡ drained (config_of m) h (did_of a x)
   drains a (stepped.Stop handed) answer gives order = order h at
-  drains a (stepped.Submit t d) answer gives order = sym (quiet c s h a _ gives (λ e. let no = sym e ∙ answer.1 in cc))
-  drains a (stepped.Look d) answer gives order = sym (quiet c s h a _ gives (λ e. let no = sym e ∙ answer.1 in cc))
-  drains a (stepped.Offer d) answer gives order = sym (quiet c s h a _ gives (λ e. let no = sym e ∙ answer.1 in cc))
-  drains a (stepped.Second d) answer gives order = sym (quiet c s h a _ gives (λ e. let no = sym e ∙ answer.1 in cc))
-  drains a (stepped.Grow d) answer gives order = sym (quiet c s h a _ gives (λ e. let no = sym e ∙ answer.1 in cc))
-  drains a (stepped.Verdict j) answer gives order = sym (quiet c s h a _ gives (λ e. let no = sym e ∙ answer.2 in cc))
-  drains a stepped.CallerEnd answer gives order = sym (quiet c s h a _ gives (λ e. let no = sym e ∙ answer.2 in cc))
-  drains a (stepped.Open d) answer gives order = sym (quiet c s h a _ gives (λ e. let no = sym e ∙ answer.1 in cc))
-  drains a (stepped.Fail d) answer gives order = sym (quiet c s h a _ gives (λ e. let no = sym e ∙ answer.1 in cc))
-  drains a (stepped.Take d) answer gives order = sym (quiet c s h a _ gives (λ e. let no = sym e ∙ answer.1 in cc))
-  drains a (stepped.Begin b) answer gives order = sym (quiet c s h a _ gives (λ e. let no = sym e ∙ answer.1 in cc))
-  drains a (stepped.End d) answer gives order = sym (quiet c s h a _ gives (λ e. let no = sym e ∙ answer.2 in cc))
-  drains a (stepped.Leave d) answer gives order = sym (quiet c s h a _ gives (λ e. let no = sym e ∙ answer.1 in cc))
-  drains a stepped.Shutdown answer gives order = sym (quiet c s h a _ gives (λ e. let no = sym e ∙ answer in cc))
-  drains a stepped.Tidy answer gives order = sym (quiet c s h a _ gives (λ e. let no = sym e ∙ answer in cc))
-  drains a stepped.Ended answer gives order = sym (quiet c s h a _ gives (λ e. let no = sym e ∙ answer in cc))
-  drains a (stepped.Remove r) answer gives order = sym (quiet c s h a _ gives (λ e. let no = sym e ∙ answer.1 in cc))
-  drains a (stepped.Purge n) answer gives order = sym (quiet c s h a _ gives (λ e. let no = sym e ∙ answer in cc))
-  drains a (stepped.Cancel b o) answer gives order = sym (quiet c s h a _ gives (λ e. let no = sym e ∙ answer.2 in cc))
-  drains a (stepped.TakeDone t) answer gives order = sym (quiet c s h a _ gives (λ e. let no = sym e ∙ answer.1 in cc))
-  drains a (stepped.Core k) answer gives order = sym (quiet c s h a _ gives (λ e. let no = sym e ∙ answer.1 in cc))
-  drains a stepped.Maximum answer gives order = sym (quiet c s h a _ gives (λ e. let no = sym e ∙ answer.1 in cc))
-  drains a stepped.Keep answer gives order = sym (quiet c s h a _ gives (λ e. let no = sym e ∙ answer.1 in cc))
-  drains a stepped.CoreTimeout answer gives order = sym (quiet c s h a _ gives (λ e. let no = sym e ∙ answer.1 in cc))
-  drains a stepped.Tick answer gives order = sym (quiet c s h a _ gives (λ e. let no = sym e ∙ answer.1 in cc))
-  drains a (stepped.Prestart w) answer gives order = sym (quiet c s h a _ gives (λ e. let no = sym e ∙ answer in cc))
+  drains a (stepped.Submit t d) answer gives order = sym (quiet c s h a _ gives (λ e. let no = sym e ∙ answer.2 in cc) (config_of m))
+  drains a (stepped.Look d) answer gives order = sym (quiet c s h a _ gives (λ e. let no = sym e ∙ answer.1 in cc) (config_of m))
+  drains a (stepped.Offer d) answer gives order = sym (quiet c s h a _ gives (λ e. let no = sym e ∙ answer.1 in cc) (config_of m))
+  drains a (stepped.Second d) answer gives order = sym (quiet c s h a _ gives (λ e. let no = sym e ∙ answer.1 in cc) (config_of m))
+  drains a (stepped.Grow d) answer gives order = sym (quiet c s h a _ gives (λ e. let no = sym e ∙ answer.1 in cc) (config_of m))
+  drains a (stepped.Verdict j) answer gives order = sym (quiet c s h a _ gives (λ e. let no = sym e ∙ answer.2 in cc) (config_of m))
+  drains a stepped.CallerEnd answer gives order = sym (quiet c s h a _ gives (λ e. let no = sym e ∙ answer.2 in cc) (config_of m))
+  drains a (stepped.Open d) answer gives order = sym (quiet c s h a _ gives (λ e. let no = sym e ∙ answer.1 in cc) (config_of m))
+  drains a (stepped.Fail d) answer gives order = sym (quiet c s h a _ gives (λ e. let no = sym e ∙ answer.1 in cc) (config_of m))
+  drains a (stepped.Take d) answer gives order = sym (quiet c s h a _ gives (λ e. let no = sym e ∙ answer.1 in cc) (config_of m))
+  drains a (stepped.Begin b) answer gives order = sym (quiet c s h a _ gives (λ e. let no = sym e ∙ answer.1 in cc) (config_of m))
+  drains a (stepped.End d) answer gives order = sym (quiet c s h a _ gives (λ e. let no = sym e ∙ answer.2 in cc) (config_of m))
+  drains a (stepped.Leave d) answer gives order = sym (quiet c s h a _ gives (λ e. let no = sym e ∙ answer.1 in cc) (config_of m))
+  drains a stepped.Shutdown answer gives order = sym (quiet c s h a _ gives (λ e. let no = sym e ∙ answer in cc) (config_of m))
+  drains a stepped.Tidy answer gives order = sym (quiet c s h a _ gives (λ e. let no = sym e ∙ answer in cc) (config_of m))
+  drains a stepped.Ended answer gives order = sym (quiet c s h a _ gives (λ e. let no = sym e ∙ answer in cc) (config_of m))
+  drains a (stepped.Remove r) answer gives order = sym (quiet c s h a _ gives (λ e. let no = sym e ∙ answer.1 in cc) (config_of m))
+  drains a (stepped.Purge n) answer gives order = sym (quiet c s h a _ gives (λ e. let no = sym e ∙ answer in cc) (config_of m))
+  drains a (stepped.Cancel b o) answer gives order = sym (quiet c s h a _ gives (λ e. let no = sym e ∙ answer.2 in cc) (config_of m))
+  drains a (stepped.TakeDone t) answer gives order = sym (quiet c s h a _ gives (λ e. let no = sym e ∙ answer.1 in cc) (config_of m))
+  drains a (stepped.Core k) answer gives order = sym (quiet c s h a _ gives (λ e. let no = sym e ∙ answer.1 in cc) (config_of m))
+  drains a stepped.Maximum answer gives order = sym (quiet c s h a _ gives (λ e. let no = sym e ∙ answer.1 in cc) (config_of m))
+  drains a stepped.Keep answer gives order = sym (quiet c s h a _ gives (λ e. let no = sym e ∙ answer.1 in cc) (config_of m))
+  drains a stepped.CoreTimeout answer gives order = sym (quiet c s h a _ gives (λ e. let no = sym e ∙ answer.1 in cc) (config_of m))
+  drains a stepped.Tick answer gives order = sym (quiet c s h a _ gives (λ e. let no = sym e ∙ answer.1 in cc) (config_of m))
+  drains a (stepped.Prestart w) answer gives order = sym (quiet c s h a _ gives (λ e. let no = sym e ∙ answer in cc) (config_of m))
 
 -- as many tasks as outcomes
 known_at : (os : Outcomes) (t : ℕ) → is_some (option_map promise_of (slice_get os t)) ≡ nat_lt t (length os)
@@ -107,33 +107,33 @@ module _ (m n : Seen (Unit {0}) Full) (os : Outcomes) (c : Config) (s : State) w
       Moves x a (submission o) m.parts.tasks n.parts.tasks → ((t : ℕ) → is_some (promise m t) ≡ nat_lt t (length s.tasks)) → ArePromised n (os ++ option_to_list o)
   promised_after a x None promised paid answer gives moves law = λ t. promises_stay m.parts.tasks n.parts.tasks a x answer moves t ∙ promised t ∙ ap (λ ys. option_map promise_of (slice_get ys t)) (sym (append-nil os))
   promised_after a (stepped.Submit t d) (Some o) promised paid answer gives moves law =
-      promised_more m n os c s t.0 o tt promised moves (submits_next c s _ a d t.0 (within c s _ _ gives.0) answer.2 ∙ counted m n os c s promised law)
-  promised_after a (stepped.Look d) (Some o) promised paid answer gives moves law = let no = sym paid.1 ∙ answer.1 in absurd cc
-  promised_after a (stepped.Offer d) (Some o) promised paid answer gives moves law = let no = sym paid.1 ∙ answer.1 in absurd cc
-  promised_after a (stepped.Second d) (Some o) promised paid answer gives moves law = let no = sym paid.1 ∙ answer.1 in absurd cc
-  promised_after a (stepped.Grow d) (Some o) promised paid answer gives moves law = let no = sym paid.1 ∙ answer.1 in absurd cc
-  promised_after a (stepped.Verdict j) (Some o) promised paid answer gives moves law = let no = sym paid.1 ∙ answer.2 in absurd cc
-  promised_after a stepped.CallerEnd (Some o) promised paid answer gives moves law = let no = sym paid.1 ∙ answer.2 in absurd cc
-  promised_after a (stepped.Open d) (Some o) promised paid answer gives moves law = let no = sym paid.1 ∙ answer.1 in absurd cc
-  promised_after a (stepped.Fail d) (Some o) promised paid answer gives moves law = let no = sym paid.1 ∙ answer.1 in absurd cc
-  promised_after a (stepped.Take d) (Some o) promised paid answer gives moves law = let no = sym paid.1 ∙ answer.1 in absurd cc
-  promised_after a (stepped.Begin b) (Some o) promised paid answer gives moves law = let no = sym paid.1 ∙ answer.1 in absurd cc
-  promised_after a (stepped.End d) (Some o) promised paid answer gives moves law = let no = sym paid.1 ∙ answer.2 in absurd cc
-  promised_after a (stepped.Leave d) (Some o) promised paid answer gives moves law = let no = sym paid.1 ∙ answer.1 in absurd cc
-  promised_after a stepped.Shutdown (Some o) promised paid answer gives moves law = let no = sym paid.1 ∙ answer in absurd cc
-  promised_after a stepped.Tidy (Some o) promised paid answer gives moves law = let no = sym paid.1 ∙ answer in absurd cc
-  promised_after a stepped.Ended (Some o) promised paid answer gives moves law = let no = sym paid.1 ∙ answer in absurd cc
-  promised_after a (stepped.Remove r) (Some o) promised paid answer gives moves law = let no = sym paid.1 ∙ answer.1 in absurd cc
-  promised_after a (stepped.Purge n) (Some o) promised paid answer gives moves law = let no = sym paid.1 ∙ answer in absurd cc
-  promised_after a (stepped.Cancel b x) (Some o) promised paid answer gives moves law = let no = sym paid.1 ∙ answer.2 in absurd cc
-  promised_after a (stepped.TakeDone t) (Some o) promised paid answer gives moves law = let no = sym paid.1 ∙ answer.1 in absurd cc
-  promised_after a (stepped.Core k) (Some o) promised paid answer gives moves law = let no = sym paid.1 ∙ answer.1 in absurd cc
-  promised_after a stepped.Maximum (Some o) promised paid answer gives moves law = let no = sym paid.1 ∙ answer.1 in absurd cc
-  promised_after a stepped.Keep (Some o) promised paid answer gives moves law = let no = sym paid.1 ∙ answer.1 in absurd cc
-  promised_after a stepped.CoreTimeout (Some o) promised paid answer gives moves law = let no = sym paid.1 ∙ answer.1 in absurd cc
-  promised_after a stepped.Tick (Some o) promised paid answer gives moves law = let no = sym paid.1 ∙ answer.1 in absurd cc
-  promised_after a (stepped.Prestart w) (Some o) promised paid answer gives moves law = let no = sym paid.1 ∙ answer in absurd cc
-  promised_after a (stepped.Stop handed) (Some o) promised paid answer gives moves law = let no = sym paid.1 ∙ answer.0 in absurd cc
+      promised_more m n os c s t.0 o tt promised moves (submits_next c s _ a d t.0 (within c s _ _ gives.0) answer.3 ∙ counted m n os c s promised law)
+  promised_after a (stepped.Look d) (Some o) promised paid answer gives moves law = let no = sym paid.2 ∙ answer.1 in absurd cc
+  promised_after a (stepped.Offer d) (Some o) promised paid answer gives moves law = let no = sym paid.2 ∙ answer.1 in absurd cc
+  promised_after a (stepped.Second d) (Some o) promised paid answer gives moves law = let no = sym paid.2 ∙ answer.1 in absurd cc
+  promised_after a (stepped.Grow d) (Some o) promised paid answer gives moves law = let no = sym paid.2 ∙ answer.1 in absurd cc
+  promised_after a (stepped.Verdict j) (Some o) promised paid answer gives moves law = let no = sym paid.2 ∙ answer.2 in absurd cc
+  promised_after a stepped.CallerEnd (Some o) promised paid answer gives moves law = let no = sym paid.2 ∙ answer.2 in absurd cc
+  promised_after a (stepped.Open d) (Some o) promised paid answer gives moves law = let no = sym paid.2 ∙ answer.1 in absurd cc
+  promised_after a (stepped.Fail d) (Some o) promised paid answer gives moves law = let no = sym paid.2 ∙ answer.1 in absurd cc
+  promised_after a (stepped.Take d) (Some o) promised paid answer gives moves law = let no = sym paid.2 ∙ answer.1 in absurd cc
+  promised_after a (stepped.Begin b) (Some o) promised paid answer gives moves law = let no = sym paid.2 ∙ answer.1 in absurd cc
+  promised_after a (stepped.End d) (Some o) promised paid answer gives moves law = let no = sym paid.2 ∙ answer.2 in absurd cc
+  promised_after a (stepped.Leave d) (Some o) promised paid answer gives moves law = let no = sym paid.2 ∙ answer.1 in absurd cc
+  promised_after a stepped.Shutdown (Some o) promised paid answer gives moves law = let no = sym paid.2 ∙ answer in absurd cc
+  promised_after a stepped.Tidy (Some o) promised paid answer gives moves law = let no = sym paid.2 ∙ answer in absurd cc
+  promised_after a stepped.Ended (Some o) promised paid answer gives moves law = let no = sym paid.2 ∙ answer in absurd cc
+  promised_after a (stepped.Remove r) (Some o) promised paid answer gives moves law = let no = sym paid.2 ∙ answer.1 in absurd cc
+  promised_after a (stepped.Purge n) (Some o) promised paid answer gives moves law = let no = sym paid.2 ∙ answer in absurd cc
+  promised_after a (stepped.Cancel b x) (Some o) promised paid answer gives moves law = let no = sym paid.2 ∙ answer.2 in absurd cc
+  promised_after a (stepped.TakeDone t) (Some o) promised paid answer gives moves law = let no = sym paid.2 ∙ answer.1 in absurd cc
+  promised_after a (stepped.Core k) (Some o) promised paid answer gives moves law = let no = sym paid.2 ∙ answer.1 in absurd cc
+  promised_after a stepped.Maximum (Some o) promised paid answer gives moves law = let no = sym paid.2 ∙ answer.1 in absurd cc
+  promised_after a stepped.Keep (Some o) promised paid answer gives moves law = let no = sym paid.2 ∙ answer.1 in absurd cc
+  promised_after a stepped.CoreTimeout (Some o) promised paid answer gives moves law = let no = sym paid.2 ∙ answer.1 in absurd cc
+  promised_after a stepped.Tick (Some o) promised paid answer gives moves law = let no = sym paid.2 ∙ answer.1 in absurd cc
+  promised_after a (stepped.Prestart w) (Some o) promised paid answer gives moves law = let no = sym paid.2 ∙ answer in absurd cc
+  promised_after a (stepped.Stop handed) (Some o) promised paid answer gives moves law = let no = sym paid.2 ∙ answer.0 in absurd cc
 
 abbrev pub playing : Seen (Unit {0}) Full → Outcomes → Playing
 playing m os = record { config = config_of m; history = reverse m.noted.entries; outcomes = os }
@@ -154,10 +154,10 @@ module _ (tells : Full → List Entry → Type 0) (whole : (f : Full) (h : List 
   refused l a e asks says =
       subst (λ b. IsRefused p.config (state p.config p.history) b e) (asked l a asks) (subst (λ (q : Playing). IsRefused q.config (state q.config q.history) a e) is (refused_as (config_of m) (state (config_of m) (reverse m.noted.entries)) a e (says (reverse m.noted.entries) at)))
 
-  pub back : (a : Ask) (x : Stepped (Unit {0})) (n : Seen (Unit {0}) Full) → IsAnswer a x → IsStep tells m n 0 a (did_of a x) → IsInOrder tells m x → handed_back x ≡ drained p.history (did_of a x)
+  pub back : (a : Ask) (x : Stepped (Unit {0})) (n : Seen (Unit {0}) Full) → IsAnswer a x → IsStep tells m n 0 a (did_of a x) → IsInOrder tells m x → handed_back x ≡ drained p.config p.history (did_of a x)
   back a x n answer step order =
       drains tells m (reverse m.noted.entries) at (config_of m) (state (config_of m) (reverse m.noted.entries)) a x answer (step.gives (reverse m.noted.entries) at) order
-      ∙ ap (λ (q : Playing). drained q.history (did_of a x)) is
+      ∙ ap (λ (q : Playing). drained q.config q.history (did_of a x)) is
 
   -- the machine stands at its record again
   pub stands_after : (n : Seen (Unit {0}) Full) (a : Ask) (d : Did) → IsStep tells m n 0 a d → At tells n (reverse n.noted.entries)

@@ -4,26 +4,25 @@ use Rattle.std.specs.Fmt.{decimal}
 use Rattle.std.proofs.lemmas.Option.{none-some, same_Some}
 use Rattle.tp_types.specs.declared.tasks.Kind.{Kind}
 use Rattle.tp_types.specs.declared.tasks.Kind.TheVariants as kinds
-use Rattle.tp_record.specs.Effects.{Outcome}
 use Rattle.tp_text.specs.Reads.{FirstWord, spaced}
-use Rattle.tp_text.specs.Fits.{Fits32, FitsOutcome}
-use Rattle.tp_scenario.specs.Lines.{cancel_text, FitsSubmission, submission_text, outcome_text}
+use Rattle.tp_text.specs.Fits.{Fits32}
+use Rattle.tp_scenario.specs.Lines.{FitsGiven, FitsSubmission, Given, cancel_text, given_text, submission_text}
 use Rattle.tp_text.proofs.WordSplits.{differ, word_from_test}
 use Rattle.tp_text.proofs.NumberTexts.{word_decimal}
 
 -- what the three kinds of submission begin with and go on with
 pub record NoSubmission (w : List ℕ) (r : Option (List ℕ)) : Type 0 where
-  pub plain : (o : Outcome) → FitsOutcome o → w ≡ codes "plain" → r ≢ Some (outcome_text o)
-  pub future : (o : Outcome) → FitsOutcome o → w ≡ codes "future" → r ≢ Some (outcome_text o)
-  pub group : (g : ℕ) (o : Outcome) → Fits32 g → FitsOutcome o → w ≡ codes "group" → r ≢ Some (spaced (decimal g) (outcome_text o))
+  pub plain : (o : Given) → FitsGiven o → w ≡ codes "plain" → r ≢ Some (given_text o)
+  pub future : (o : Given) → FitsGiven o → w ≡ codes "future" → r ≢ Some (given_text o)
+  pub group : (g : ℕ) (o : Given) → Fits32 g → FitsGiven o → w ≡ codes "group" → r ≢ Some (spaced (decimal g) (given_text o))
 
-pub no_submission : (bs w : List ℕ) (r : Option (List ℕ)) → FirstWord bs w r → NoSubmission w r → (s : Kind × Outcome) → FitsSubmission s → bs ≢ submission_text s
+pub no_submission : (bs w : List ℕ) (r : Option (List ℕ)) → FirstWord bs w r → NoSubmission w r → (s : Kind × Given) → FitsSubmission s → bs ≢ submission_text s
 no_submission bs w r first none (kinds.Plain, o) fits same =
-    let p = first.only (codes "plain") (Some (outcome_text o)) (word_from_test (codes "plain") refl) same in none.plain o fits.1 p.0 p.1
+    let p = first.only (codes "plain") (Some (given_text o)) (word_from_test (codes "plain") refl) same in none.plain o fits.1 p.0 p.1
 no_submission bs w r first none (kinds.Future, o) fits same =
-    let p = first.only (codes "future") (Some (outcome_text o)) (word_from_test (codes "future") refl) same in none.future o fits.1 p.0 p.1
+    let p = first.only (codes "future") (Some (given_text o)) (word_from_test (codes "future") refl) same in none.future o fits.1 p.0 p.1
 no_submission bs w r first none (kinds.Group g, o) fits same =
-    let p = first.only (codes "group") (Some (spaced (decimal g) (outcome_text o))) (word_from_test (codes "group") refl) (same ∙ append_assoc (codes "group") (32 ∷ decimal g) (32 ∷ outcome_text o)) in none.group g o fits.0 fits.1 p.0 p.1
+    let p = first.only (codes "group") (Some (spaced (decimal g) (given_text o))) (word_from_test (codes "group") refl) (same ∙ append_assoc (codes "group") (32 ∷ decimal g) (32 ∷ given_text o)) in none.group g o fits.0 fits.1 p.0 p.1
 
 -- a word alone begins no submission
 pub alone : (w : List ℕ) (r : Option (List ℕ)) → r ≡ None → NoSubmission w r
@@ -33,9 +32,9 @@ alone w r none = record {
   group = λ g o f h e s. none-some _ (sym none ∙ s);
 }
 
--- a group's word begins a submission only before a number and an outcome
+-- a group's word begins a submission only before a number and what a task is given
 pub no_group : (w : List ℕ) (r : Option (List ℕ)) (rest : List ℕ) → w ≡ codes "group" → r ≡ Some rest
-    → ((p : ℕ × Outcome) → Fits32 p.0 × FitsOutcome p.1 → rest ≢ spaced (decimal p.0) (outcome_text p.1)) → NoSubmission w r
+    → ((p : ℕ × Given) → Fits32 p.0 × FitsGiven p.1 → rest ≢ spaced (decimal p.0) (given_text p.1)) → NoSubmission w r
 no_group w r rest is goes none = record {
   plain = λ o f e s. differ (codes "group") (codes "plain") refl (sym is ∙ e);
   future = λ o f e s. differ (codes "group") (codes "future") refl (sym is ∙ e);

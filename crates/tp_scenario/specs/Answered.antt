@@ -66,8 +66,8 @@ outcomes_all os _ _ = os
 pub record Stands (c : Config) (lines : List ScenarioLine) (answers : List Answer) (r : Playing) (out : List ℕ) : Type 0 where
   pub plays : PlaysFrom c [] [] lines answers
   pub runner : r ≡ record { config = c; history = after_all [] answers; outcomes = outcomes_all [] lines answers }
-  pub output : out ≡ run_lines [] answers
+  pub output : out ≡ run_lines c [] answers
 
 -- the answers of some first lines are written, and nothing else
 abbrev pub Breaks : Config → List ScenarioLine → List ℕ → Type 0
-Breaks c lines out = (n : ℕ) × (answers : List Answer) × PlaysFrom c [] [] (take n lines) answers × (out ≡ run_lines [] answers)
+Breaks c lines out = (n : ℕ) × (answers : List Answer) × PlaysFrom c [] [] (take n lines) answers × (out ≡ run_lines c [] answers)

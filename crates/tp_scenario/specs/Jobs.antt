@@ -4,12 +4,11 @@ use Rattle.tp_types.specs.declared.configs.Config.{Config}
 use Rattle.tp_types.specs.declared.refusals.PoolError.{PoolError}
 use Rattle.tp_types.specs.declared.refusals.PoolError.TheVariants.{NoMemory, BadLine, ReadFailed}
 use Rattle.tp_types.specs.Config.{checked}
-use Rattle.tp_text.specs.Fits.{FitsOutcome}
 use Rattle.tp_text.specs.Pools.{config_of}
 use Rattle.tp_text.specs.Reads.{spaced}
 use Rattle.tp_scenario.specs.declared.jobs.JobLine.{JobLine}
 use Rattle.tp_scenario.specs.declared.jobs.Jobs.{Jobs}
-use Rattle.tp_scenario.specs.Lines.{outcome_text}
+use Rattle.tp_scenario.specs.Lines.{FitsGiven, given_text}
 use Rattle.tp_scenario.specs.PoolText.{IsPoolText, LinesSaid, TextSaid}
 
 -- a job with a future is submitted, one without is executed
@@ -19,10 +18,10 @@ job_word true = codes "submit"
 
 -- the text of a job's line
 abbrev pub job_text : JobLine → List ℕ
-job_text j = spaced (job_word j.future) (outcome_text j.outcome)
+job_text j = spaced (job_word j.future) (given_text (j.outcome, j.priority))
 
 abbrev pub FitsJob : JobLine → Type 0
-FitsJob j = FitsOutcome j.outcome
+FitsJob j = FitsGiven (j.outcome, j.priority)
 
 -- the pool, the jobs in order up to the first bad line, and that line, if there is one; or the bad line before any pool line
 abbrev pub JobsSaid : Type 0

@@ -1,5 +1,5 @@
 -- The text of each line that asks for a step.
-use Rattle.std.specs.Prelude.{◌≡◌, ◌≢◌, ℕ, Bool, true, false, List, ◌∷◌, Option, Some, None, Ok, Err, codes}
+use Rattle.std.specs.Prelude.{◌≡◌, ◌≢◌, ℕ, Bool, true, false, List, ◌∷◌, Option, Some, None, Ok, Err, IfSome, codes}
 use Rattle.std.specs.Fmt.{decimal, signed_decimal}
 use Rattle.tp_types.specs.declared.tasks.Kind.{Kind}
 use Rattle.tp_types.specs.declared.configs.Verdict.{Verdict}
@@ -19,9 +19,21 @@ abbrev pub outcome_text : Outcome → List ℕ
 outcome_text (Ok v) = signed_decimal v
 outcome_text (Err code) = 33 ∷ decimal code
 
--- a task's kind and the outcome that its end gives
-abbrev pub submission_text : Kind × Outcome → List ℕ
-submission_text s = spaced (kind_text s.0) (outcome_text s.1)
+-- a priority, where one is said
+abbrev pub priority_text : Option ℕ → Option (List ℕ)
+priority_text None = None
+priority_text (Some n) = Some (spaced (codes "prio") (decimal n))
+
+-- what a line gives its task: the outcome of its end, and a priority where one is said
+abbrev pub Given : Type 0
+Given = Outcome × Option ℕ
+
+abbrev pub given_text : Given → List ℕ
+given_text g = followed (outcome_text g.0) (priority_text g.1)
+
+-- a task's kind and what it is given
+abbrev pub submission_text : Kind × Given → List ℕ
+submission_text s = spaced (kind_text s.0) (given_text s.1)
 
 -- a task's number, and whether its flag is asked for
 abbrev pub cancel_text : ℕ × Bool → List ℕ
@@ -34,7 +46,7 @@ ruling_text p = spaced (decimal p.0) (verdict_name p.1)
 
 -- the word that a line begins with
 abbrev pub command_of : ScenarioLine → Command
-command_of (line.Submit k o) = command.Submit
+command_of (line.Submit k o p) = command.Submit
 command_of (line.OfTask v t) = command.OfTask v
 command_of (line.Verdict t v) = command.Verdict
 command_of (line.OfSlot v w) = command.OfSlot v
@@ -46,7 +58,7 @@ command_of (line.CoreTimeout on) = command.CoreTimeout
 
 -- what follows that word after a space, if anything does
 abbrev pub arguments : ScenarioLine → Option (List ℕ)
-arguments (line.Submit k o) = Some (submission_text (k, o))
+arguments (line.Submit k o p) = Some (submission_text (k, (o, p)))
 arguments (line.OfTask v t) = Some (decimal t.0)
 arguments (line.Verdict t v) = Some (ruling_text (t.0, v))
 arguments (line.OfSlot v w) = Some (decimal w.0)
@@ -60,11 +72,14 @@ arguments (line.CoreTimeout on) = Some (switch_word on)
 abbrev pub line_text : ScenarioLine → List ℕ
 line_text l = followed (command_word (command_of l)) (arguments l)
 
-abbrev pub FitsSubmission : Kind × Outcome → Type 0
-FitsSubmission s = FitsKind s.0 × FitsOutcome s.1
+abbrev pub FitsGiven : Given → Type 0
+FitsGiven g = FitsOutcome g.0 × IfSome g.1 Fits32
+
+abbrev pub FitsSubmission : Kind × Given → Type 0
+FitsSubmission s = FitsKind s.0 × FitsGiven s.1
 
 abbrev pub FitsLine : ScenarioLine → Type 0
-FitsLine (line.Submit k o) = FitsSubmission (k, o)
+FitsLine (line.Submit k o p) = FitsSubmission (k, (o, p))
 FitsLine (line.OfTask v t) = Fits32 t.0
 FitsLine (line.Verdict t v) = Fits32 t.0
 FitsLine (line.OfSlot v w) = Fits64 w.0

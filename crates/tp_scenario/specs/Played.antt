@@ -1,5 +1,5 @@
 -- What comes of a scenario: what its lines ask of the pool, how the pool answers, what is written and how the run ends.
-use Rattle.std.specs.Prelude.{◌≡◌, ◌⊎◌, ℕ, pos, List, [], ◌∷◌, ◌++◌, length, map, take, Option, Some, None, Result, Ok, Err, IfSome, slice_index_or}
+use Rattle.std.specs.Prelude.{◌≡◌, ◌⊎◌, ℕ, pos, List, [], ◌∷◌, ◌++◌, length, map, take, Option, Some, None, Result, Ok, Err, IfSome, slice_index_or, unwrap_or}
 use Rattle.std.specs.Option.{option_to_list}
 use Rattle.std.specs.Io.KnownBytes.{Appends, Keeps}
 use Rattle.tp_types.specs.declared.configs.Config.{Config}
@@ -81,7 +81,7 @@ tick_ask ticks.Tick n = ask.Tick n
 
 -- what a line asks in this state
 abbrev pub ask_of : State → Outcomes → ScenarioLine → Ask
-ask_of s os (line.Submit k o) = ask.Submit k
+ask_of s os (line.Submit k o p) = ask.Submit k (unwrap_or p 0)
 ask_of s os (line.OfTask v t) = task_ask v t (outcome_of os t.0)
 ask_of s os (line.Verdict t v) = ask.Verdict t v
 ask_of s os (line.OfSlot v w) = slot_ask v w (outcome_there os (task_of_row (slot_at s.slots w.0)))
@@ -93,7 +93,7 @@ ask_of s os (line.CoreTimeout on) = ask.CoreTimeout on
 
 -- how the task ends that a line submits
 abbrev pub outcome_said : ScenarioLine → Option Outcome
-outcome_said (line.Submit k o) = Some o
+outcome_said (line.Submit k o p) = Some o
 outcome_said _ = None
 
 -- an accepted submission says how one more task ends
@@ -124,7 +124,7 @@ Ending = Result (Unit {0}) PoolError
 -- the lines of the answers alone where there is a bad line, else the whole output
 abbrev pub written : Config → List Answer → Option ℕ → List ℕ
 written c answers None = output c answers
-written c answers (Some k) = run_lines [] answers
+written c answers (Some k) = run_lines c [] answers
 
 abbrev pub ending_of : Option ℕ → Ending
 ending_of None = Ok tt
@@ -147,7 +147,7 @@ ComesOf (Ok q) out ending = ComesOfPool (checked (config_of q.0)) (config_of q.0
 abbrev pub BreaksOffAt : Config → Asked → List ℕ → List Answer → ℕ → Type 0
 BreaksOffAt c asked out answers n =
     IsPlay c (take n asked.0) answers
-    × ((out ≡ run_lines [] answers) ⊎ ((n ≡ length asked.0) × (asked.1 ≡ None) × IsFront out (output c answers)))
+    × ((out ≡ run_lines c [] answers) ⊎ ((n ≡ length asked.0) × (asked.1 ≡ None) × IsFront out (output c answers)))
 
 abbrev pub BreaksOff : Said → List ℕ → Type 0
 BreaksOff (Err k) out = out ≡ []

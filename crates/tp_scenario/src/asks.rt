@@ -102,7 +102,7 @@ pub fn ask_of(machine: &Machine<(), Full>, outcomes: &[Outcome], line: &Scenario
     ensures paid { IsPaid result (submission (outcome_said line.now)) }
 {
     match *line {
-        ScenarioLine::Submit(kind, _) => Ask::Submit(kind),
+        ScenarioLine::Submit(kind, _, priority) => Ask::Submit(kind, priority.unwrap_or(0)),
         ScenarioLine::OfTask(verb, task) => task_ask(verb, task, outcome_of(outcomes, task)),
         ScenarioLine::Verdict(task, verdict) => Ask::Verdict(task, verdict),
         ScenarioLine::OfSlot(verb, slot) => {

@@ -7,7 +7,7 @@ ghost use Rattle.tp_scenario.specs.declared.jobs.JobLine.{JobLine};
 ghost use Rattle.tp_scenario.specs.Jobs.{FitsJob, IsJobsText, IsRead, JobsSaid, ReadsJobs, job_text};
 
 use crate::forms::LineForm;
-use crate::reading::outcome;
+use crate::reading::given;
 use crate::texts::{PoolText, read_pool_text};
 use std::alloc::Global;
 use std::io::Read;
@@ -25,6 +25,8 @@ pub struct JobLine {
     pub future: bool,
     /// How its body ends: with a value, or with a fault's code.
     pub outcome: Outcome,
+    /// Its priority, where the line says one; else it is 0.
+    pub priority: Option<u32>,
 }
 
 /// What a file of jobs says.
@@ -36,20 +38,22 @@ pub struct Jobs {
     pub jobs: Vec<JobLine>,
 }
 
-/// The job of this text: `execute 5`, `submit !7`.
+/// The job of this text: `execute 5`, `submit !7 prio 2`.
 fn job_of(text: &str) -> Option<JobLine>
     ensures { ReadsAs job_text FitsJob text.now result }
 {
     let (word, rest) = first_word(text);
-    let outcome = outcome(rest?)?;
+    let (outcome, priority) = given(rest?)?;
     match word {
         "execute" => Some(JobLine {
             future: false,
             outcome,
+            priority,
         }),
         "submit" => Some(JobLine {
             future: true,
             outcome,
+            priority,
         }),
         _ => None,
     }
@@ -91,7 +95,7 @@ fn jobs_of(alloc: Global, text: &[u8]) -> Result<Jobs, PoolError>
 }
 
 /// Reads a file of jobs whole: a pool line, and behind it a line `execute V` or `submit V` for each
-/// job, in their order. Empty lines and comments are skipped, and counted.
+/// job, which may end in ` prio N`, in their order. Empty lines and comments are skipped, and counted.
 ///
 /// The first of these that holds is the answer: a reader that fails now, which keeps why, or gives more
 /// than 1,048,576 bytes is 25 `ReadFailed`, which comes of nothing else; a bad line up to the pool line is 23 `BadLine`, and where there is no pool line

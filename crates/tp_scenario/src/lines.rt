@@ -8,8 +8,8 @@ use tp_types::tasks::{Kind, Outcome};
 /// A line that asks for a step.
 #[derive(Clone, Copy, Debug, PartialEq, Eq)]
 pub enum ScenarioLine {
-    /// A new task of this kind, whose end gives this outcome.
-    Submit(Kind, Outcome),
+    /// A new task of this kind, whose end gives this outcome, and its priority where the line says one; else it is 0.
+    Submit(Kind, Outcome, Option<u32>),
     /// A step of a task.
     OfTask(TaskVerb, TaskId),
     /// What becomes of a refused task.

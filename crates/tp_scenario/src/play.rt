@@ -1,6 +1,7 @@
 //! A scenario is played: from its text to what is written of it, in memory.
 
 ghost use Rattle.std.specs.Prelude.{◌≡◌, ◌⊎◌, ◌≤◌, ◌++◌, ℕ, suc, [], List, length, map, take, Ok, Err, IfOk, OnOk, OnErr, IsOkUnless};
+ghost use Rattle.tp_types.specs.declared.configs.Config.{Config};
 ghost use Rattle.tp_record.specs.declared.entries.Entry.{Entry};
 ghost use Rattle.tp_record.specs.State.{state};
 ghost use Rattle.tp_text.specs.RunText.{Answer, answer_lines, drained, fate_lines, end_lines, IsFront};
@@ -58,9 +59,9 @@ fn write_told(
     told: &Told,
     output: &mut Output,
 ) -> Result<(), PoolError>
-    ensures ok { OnOk result ((h : List Entry) → number ≡ suc (length h)
-        → IfOk told.now (λ x. handed_back x.1 ≡ drained h x.0.did)
-        → output.new.written.items ≡ output.old.written.items ++ answer_lines h (answer_of told.now)) }
+    ensures ok { OnOk result ((c : Config) (h : List Entry) → number ≡ suc (length h)
+        → IfOk told.now (λ x. handed_back x.1 ≡ drained c h x.0.did)
+        → output.new.written.items ≡ output.old.written.items ++ answer_lines c h (answer_of told.now)) }
     ensures err { OnErr result (output.new.written.items ≡ output.old.written.items) }
     ensures only_memory { IsOkUnless result PoolError.NoMemory }
 {

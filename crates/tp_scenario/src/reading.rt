@@ -1,17 +1,17 @@
 //! Lines that ask for steps.
 
-ghost use Rattle.std.specs.Prelude.{◌≡◌, ◌≢◌, List, ℕ, Option, Some, None, MatchOption};
+ghost use Rattle.std.specs.Prelude.{◌≡◌, ◌≢◌, ◌++◌, ◌∷◌, List, ℕ, Option, Some, None, IfSome, MatchOption, codes};
 ghost use Rattle.std.specs.Option.{option_map};
 ghost use Rattle.std.specs.Fmt.{decimal};
 ghost use Rattle.tp_text.specs.Reads.{Any, ReadsAs, spaced};
 ghost use Rattle.tp_text.specs.Fits.{Fits32, FitsOutcome};
-ghost use Rattle.tp_scenario.specs.Lines.{FitsLine, FitsSubmission, arguments, command_of, line_text, outcome_text, ruling_text, cancel_text, submission_text, ReadsAfter};
+ghost use Rattle.tp_scenario.specs.Lines.{FitsGiven, FitsLine, FitsSubmission, arguments, command_of, given_text, line_text, outcome_text, priority_text, ruling_text, cancel_text, submission_text, ReadsAfter};
 
 use crate::forms::LineForm;
 use crate::lines::ScenarioLine;
 use tp_text::commands::Command;
 use tp_text::numbers::{index, long_number, number, value};
-use tp_text::words::{command, first_word, switch, verdict};
+use tp_text::words::{behind, command, first_word, switch, verdict};
 use tp_types::configs::Verdict;
 use tp_types::ids::{SlotId, TaskId};
 use tp_types::tasks::{Kind, Outcome};
@@ -27,27 +27,52 @@ pub fn outcome(text: &str) -> Option<Outcome>
     }
 }
 
-/// A group's number and the outcome that a task's end gives.
-fn numbered_outcome(text: &str) -> Option<(u32, Outcome)>
-    ensures { ReadsAs (λ p. spaced (decimal p.0) (outcome_text p.1)) (λ p. Fits32 p.0 × FitsOutcome p.1) text.now result }
+/// A priority behind its word.
+fn priority(text: &str) -> Option<u32>
+    ensures { ReadsAs (λ n. spaced (codes "prio") (decimal n)) Fits32 text.now result }
 {
-    let (word, rest) = first_word(text);
-    Some((number(word)?, outcome(rest?)?))
+    number(behind(text, "prio")?)
 }
 
-/// A task's kind and the outcome that its end gives.
+/// A priority, where one is said.
+fn priority_said(rest: Option<&str>) -> Option<Option<u32>>
+    ensures { ReadsAs priority_text (λ p. IfSome p Fits32) (option_map (λ r. r.now) rest.entry) result }
+{
+    match rest {
+        None => Some(None),
+        Some(text) => Some(Some(priority(text)?)),
+    }
+}
+
+/// What a task's end gives, and its priority where one is said.
+pub fn given(text: &str) -> Option<(Outcome, Option<u32>)>
+    ensures { ReadsAs given_text FitsGiven text.now result }
+{
+    let (word, rest) = first_word(text);
+    Some((outcome(word)?, priority_said(rest)?))
+}
+
+/// A group's number, and what a task of the group is given.
+fn numbered(text: &str) -> Option<(u32, (Outcome, Option<u32>))>
+    ensures { ReadsAs (λ p. spaced (decimal p.0) (given_text p.1)) (λ p. Fits32 p.0 × FitsGiven p.1) text.now result }
+{
+    let (word, rest) = first_word(text);
+    Some((number(word)?, given(rest?)?))
+}
+
+/// A task's kind and what it is given.
 #[inline(always)]
-fn submission(text: &str) -> Option<(Kind, Outcome)>
+fn submission(text: &str) -> Option<(Kind, (Outcome, Option<u32>))>
     ensures { ReadsAs submission_text FitsSubmission text.now result }
 {
     let (word, rest) = first_word(text);
     let rest = rest?;
     match word {
-        "plain" => Some((Kind::Plain, outcome(rest)?)),
-        "future" => Some((Kind::Future, outcome(rest)?)),
+        "plain" => Some((Kind::Plain, given(rest)?)),
+        "future" => Some((Kind::Future, given(rest)?)),
         "group" => {
-            let (group, outcome) = numbered_outcome(rest)?;
-            Some((Kind::Group(group), outcome))
+            let (group, given) = numbered(rest)?;
+            Some((Kind::Group(group), given))
         }
         _ => None,
     }
@@ -81,8 +106,8 @@ fn with_arguments(command: Command, text: &str) -> Option<ScenarioLine>
 {
     match command {
         Command::Submit => {
-            let (kind, outcome) = submission(text)?;
-            Some(ScenarioLine::Submit(kind, outcome))
+            let (kind, (outcome, priority)) = submission(text)?;
+            Some(ScenarioLine::Submit(kind, outcome, priority))
         }
         Command::OfTask(verb) => Some(ScenarioLine::OfTask(verb, TaskId(number(text)?))),
         Command::Verdict => {

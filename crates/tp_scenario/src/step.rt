@@ -69,7 +69,7 @@ fn outcome_said(line: &ScenarioLine) -> Option<Outcome>
     ensures { result ≡ outcome_said line.now }
 {
     match *line {
-        ScenarioLine::Submit(_, outcome) => Some(outcome),
+        ScenarioLine::Submit(_, outcome, _) => Some(outcome),
         _ => None,
     }
 }
@@ -136,7 +136,7 @@ impl Runner {
     pub fn step(&mut self, line: &ScenarioLine) -> Result<Told, AllocError>
         ensures answers { IfOk result (λ a. Answers self.old.config self.old.history
             (ask_of (state self.old.config self.old.history) self.old.outcomes line.now) (answer_of a)) }
-        ensures back { IfOk result (λ a. IfOk a (λ x. handed_back x.1 ≡ drained self.old.history x.0.did)) }
+        ensures back { IfOk result (λ a. IfOk a (λ x. handed_back x.1 ≡ drained self.old.config self.old.history x.0.did)) }
         ensures leads { IfOk result (λ a. self.new ≡ record {
           config = self.old.config;
           history = after self.old.history (answer_of a);

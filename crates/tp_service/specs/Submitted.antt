@@ -21,7 +21,7 @@ module _ (P : Type 0) (c : Config) where
   abbrev pub AddsCancel : TaskId → PassView → PassView → Type 0
   AddsCancel t old new =
       ((effective : Bool) × AddsStep c old (ask.Cancel t true) (did.Cancel t true effective) new)
-      ⊎ (AddsNone old new × (IsClosed P c new.front t ⊎ ((e : PoolError) × Refuses c new.front (ask.Cancel t true) e)))
+      ⊎ (AddsNone old new × (IsClosed P c new.front t ⊎ ((e : PoolError) × Refuses c (old.room < 1) new.front (ask.Cancel t true) e)))
 
   -- that of each of these tasks, one after another
   abbrev pub AddsCancels : List TaskId → PassView → PassView → Type 0
@@ -31,11 +31,11 @@ module _ (P : Type 0) (c : Config) where
   abbrev pub IsOneLate : ℕ → List TaskId → PassView → PassView → Type 0
   IsOneLate deadline ts old new = AddsNone old new × Any (IsLate P c deadline new.front) ts
 
--- c are the pool's settings, and a job promises so
-module _ {J : Type 0} (c : Config) (promised : J → Promise) where
+-- c are the pool's settings, and a job promises so and names this priority
+module _ {J : Type 0} (c : Config) (promised : J → Promise) (urgency : J → ℕ) where
   -- these jobs are submitted with futures, one after another, as tasks of these numbers
   abbrev pub AddsSubmissions : List J → List TaskId → PassView → PassView → Type 0
-  AddsSubmissions jobs ts old new = ThroughBoth (λ job t. AddsJob c kind.Future job (promised job) t) jobs ts old new
+  AddsSubmissions jobs ts old new = ThroughBoth (λ job t. AddsJob c kind.Future job (promised job) (urgency job) t) jobs ts old new
 
   -- the first of these jobs were submitted, the next one was refused so, and those before it are cancelled
   pub record IsTurnedBack (jobs : List J) (e : PoolError) (old new : PassView) : Type 0 where
@@ -47,7 +47,7 @@ module _ {J : Type 0} (c : Config) (promised : J → Promise) where
     pub submitted : PassView
     pub refused : PassView
     pub submits : AddsSubmissions before earlier old submitted
-    pub refuses : Submits c job (promised job) (Err e) submitted refused
+    pub refuses : Submits c job (promised job) (urgency job) (Err e) submitted refused
     pub cancels : AddsCancels (Task J) c earlier refused new
 
   -- these jobs are not all submitted: for want of memory before the first, or since one was refused

@@ -1,10 +1,10 @@
 //! Jobs of a group, taken in the order in which they are done.
-ghost use Rattle.std.specs.Prelude.{◌≡◌, ◌≢◌, ◌⊎◌, IfOk, IfErr, IfSome, IfNone, OnErr};
+ghost use Rattle.std.specs.Prelude.{◌≡◌, ◌≢◌, ◌⊎◌, ◌<◌, IfOk, IfErr, IfSome, IfNone, OnErr};
 ghost use Rattle.tp_types.specs.declared.tasks.Kind.TheVariants.{Group};
 ghost use Rattle.tp_locked.specs.Passes.{AddsNone, AddsStep, IsRefusal, Refuses};
 ghost use Rattle.tp_locked.specs.Moments.{AtFront};
 ghost use Rattle.tp_locked.specs.Readings.{IsUndoneAt};
-ghost use Rattle.tp_pool.specs.Admissions.{IsTurnedAway};
+ghost use Rattle.tp_pool.specs.Admissions.{AtPriority, IsTurnedAway};
 ghost use Rattle.tp_pool.specs.Submissions.{AddsJob};
 
 use std::sync::Wait;
@@ -51,8 +51,8 @@ impl CompletionService {
         job: J,
         pass: &mut Pass<G>,
     ) -> Result<TaskId, Refused<J>>
-        ensures submitted { IfOk result (λ t. AddsJob G.config (Group self.now.group) job (J.promised job) t pass.old pass.new) }
-        ensures refused { IfErr result (IsTurnedAway G.config (Group self.now.group) job (J.promised job) pass.old pass.new) }
+        ensures submitted { IfOk result (λ t. AddsJob G.config (Group self.now.group) job (J.promised job) (J.urgency job) t pass.old pass.new) }
+        ensures refused { IfErr result (λ r. AtPriority (J.urgency job) (λ p. IsTurnedAway G.config (Group self.now.group) p job (J.promised job) pass.old pass.new r)) }
     {
         match pool.execute_as(rt, Kind::Group(self.group), job, pass) {
             Ok(admitted) => Ok(task_of(admitted)),
@@ -72,7 +72,7 @@ impl CompletionService {
         pass: &mut Pass<G>,
     ) -> Result<TaskId, PoolError>
         ensures step { IfOk result (λ t. AddsStep G.config pass.old (Ask.TakeDone self.now.group) (Did.TakeDone self.now.group t) pass.new) }
-        ensures refused { IfErr result (λ e. (e ≡ PoolError.NoMemory) ⊎ AtFront G.config pass.new.front (λ s. IsUndoneAt G.config s self.now.group e)) }
+        ensures refused { IfErr result (λ e. ((e ≡ PoolError.NoMemory) × (pass.old.room < 1)) ⊎ AtFront G.config pass.new.front (λ s. IsUndoneAt G.config s self.now.group e)) }
         ensures unchanged { OnErr result (AddsNone pass.old pass.new) }
     {
         pool.await_done(rt, self.group, pass)
@@ -89,7 +89,7 @@ impl CompletionService {
     ) -> Result<Option<TaskId>, PoolError>
         ensures step { IfOk result (λ o. IfSome o (λ t. AddsStep G.config pass.old (Ask.TakeDone self.now.group) (Did.TakeDone self.now.group t) pass.new)) }
         ensures none { IfOk result (λ o. IfNone o (IsRefusal G.config pass.new.front (Ask.TakeDone self.now.group) PoolError.NotThere × AddsNone pass.old pass.new)) }
-        ensures refused { IfErr result (λ e. (e ≢ PoolError.NotThere) × Refuses G.config pass.new.front (Ask.TakeDone self.now.group) e) }
+        ensures refused { IfErr result (λ e. (e ≢ PoolError.NotThere) × Refuses G.config (pass.old.room < 1) pass.new.front (Ask.TakeDone self.now.group) e) }
         ensures unchanged { OnErr result (AddsNone pass.old pass.new) }
     {
         match pool.take_done(rt, self.group, pass) {

@@ -5,7 +5,7 @@ ghost use Rattle.tp_locked.specs.Readings.{got, IsFound, IsResult};
 ghost use Rattle.tp_locked.specs.Moments.{BookAt, BookAtSome};
 ghost use Rattle.tp_locked.specs.Passes.{LooksOnly};
 ghost use Rattle.tp_locked.specs.declared.tasks.Task.{Task};
-ghost use Rattle.tp_pool.specs.Admissions.{IsTurnedAway};
+ghost use Rattle.tp_pool.specs.Admissions.{AtPriority, IsTurnedAway};
 ghost use Rattle.tp_pool.specs.Submissions.{AddsJob};
 
 use std::sync::Wait;
@@ -31,8 +31,8 @@ pub fn submit<
     E: Edge + Send + Sync + 'static,
     R: Threads + Wait + Copy + Send + 'static,
 >(pool: &PoolOf<G, J, E>, rt: &R, job: J, pass: &mut Pass<G>) -> Result<TaskId, Refused<J>>
-    ensures submitted { IfOk result (λ t. AddsJob G.config Future job (J.promised job) t pass.old pass.new) }
-    ensures refused { IfErr result (IsTurnedAway G.config Future job (J.promised job) pass.old pass.new) }
+    ensures submitted { IfOk result (λ t. AddsJob G.config Future job (J.promised job) (J.urgency job) t pass.old pass.new) }
+    ensures refused { IfErr result (λ r. AtPriority (J.urgency job) (λ p. IsTurnedAway G.config Future p job (J.promised job) pass.old pass.new r)) }
 {
     match pool.execute_as(rt, Kind::Future, job, pass) {
         Ok(admitted) => Ok(task_of(admitted)),

@@ -184,8 +184,8 @@ fn submit_all<
     pass: &mut Pass<G>,
 ) -> Result<Vec<TaskId>, PoolError>
     ensures count { IfOk result (λ tasks. vec_len tasks ≡ vec_len jobs) }
-    ensures submitted { IfOk result (λ tasks. AddsSubmissions G.config J.promised jobs.items tasks.items pass.old pass.new) }
-    ensures refused { IfErr result (λ e. AreTurnedBack G.config J.promised jobs.items e pass.old pass.new) }
+    ensures submitted { IfOk result (λ tasks. AddsSubmissions G.config J.promised J.urgency jobs.items tasks.items pass.old pass.new) }
+    ensures refused { IfErr result (λ e. AreTurnedBack G.config J.promised J.urgency jobs.items e pass.old pass.new) }
 {
     let Ok(mut tasks) = Vec::with_capacity(alloc, jobs.len()) else {
         return Err(PoolError::NoMemory);
@@ -222,8 +222,8 @@ pub fn invoke_all<
     pass: &mut Pass<G>,
 ) -> Result<Vec<TaskId>, PoolError>
     ensures count { IfOk result (λ tasks. vec_len tasks ≡ vec_len jobs) }
-    ensures all { IfOk result (λ tasks. IsAll G.config J.promised jobs.items tasks.items pass.old pass.new) }
-    ensures refused { IfErr result (λ e. AreTurnedBack G.config J.promised jobs.items e pass.old pass.new) }
+    ensures all { IfOk result (λ tasks. IsAll G.config J.promised J.urgency jobs.items tasks.items pass.old pass.new) }
+    ensures refused { IfErr result (λ e. AreTurnedBack G.config J.promised J.urgency jobs.items e pass.old pass.new) }
 {
     let tasks = submit_all(pool, rt, alloc, jobs, pass)?;
     await_all(pool, rt, tasks.as_slice(), pass);
@@ -247,8 +247,8 @@ pub fn invoke_all_until<
     pass: &mut Pass<G>,
 ) -> Result<Vec<TaskId>, PoolError>
     ensures count { IfOk result (λ tasks. vec_len tasks ≡ vec_len jobs) }
-    ensures all { IfOk result (λ tasks. IsAllUntil G.config J.promised deadline jobs.items tasks.items pass.old pass.new) }
-    ensures refused { IfErr result (λ e. AreTurnedBack G.config J.promised jobs.items e pass.old pass.new) }
+    ensures all { IfOk result (λ tasks. IsAllUntil G.config J.promised J.urgency deadline jobs.items tasks.items pass.old pass.new) }
+    ensures refused { IfErr result (λ e. AreTurnedBack G.config J.promised J.urgency jobs.items e pass.old pass.new) }
 {
     let tasks = submit_all(pool, rt, alloc, jobs, pass)?;
     if all_close_by(pool, rt, tasks.as_slice(), deadline, pass) {
@@ -276,8 +276,8 @@ pub fn invoke_any<
     jobs: Vec<J>,
     pass: &mut Pass<G>,
 ) -> Result<i64, PoolError>
-    ensures value { IfOk result (λ v. IsAnyValue G.config J.promised jobs.items v pass.old pass.new) }
-    ensures refused { IfErr result (λ e. HasNoValue G.config J.promised jobs.items e pass.old pass.new) }
+    ensures value { IfOk result (λ v. IsAnyValue G.config J.promised J.urgency jobs.items v pass.old pass.new) }
+    ensures refused { IfErr result (λ e. HasNoValue G.config J.promised J.urgency jobs.items e pass.old pass.new) }
 {
     if jobs.is_empty() {
         return Err(PoolError::NoTasks);

@@ -2,7 +2,7 @@
 
 use crate::boards::{Board, Signal};
 use tp_pool::closing::Report;
-use tp_record::entries::{Did, Entry, Failed, Looked, Offered, Opened, Seconded};
+use tp_record::entries::{Did, Entry, Failed, Looked, Offered, Opened, Seconded, Took};
 use tp_types::ids::{SlotId, TaskId};
 use tp_types::states::Counts;
 use tp_types::tasks::{Kind, Outcome};
@@ -25,6 +25,8 @@ pub enum Finding {
     Told(usize, Did),
     /// The whole record of a task that is handed back by a pool without workers, all by the one caller.
     Unstaffed,
+    /// These tasks were taken from the queue, in this order, and no others.
+    Taken([u32; 3]),
     /// No task faulted.
     NoFault,
     /// So many workers faulted, and each had another made in its place, or had not.
@@ -80,7 +82,7 @@ fn told(entries: &[Entry], times: usize, did: Did) -> bool {
 
 /// A submission where no worker is made, and what follows a stop.
 pub const UNSTAFFED: [Did; 8] = [
-    Did::Submit(TaskId(0), Kind::Plain, Looked::Reserve(SlotId(0))),
+    Did::Submit(TaskId(0), Kind::Plain, 0, Looked::Reserve(SlotId(0))),
     Did::Fail(SlotId(0), Failed::Offer(TaskId(0))),
     Did::Offer(TaskId(0), Offered::Queued),
     Did::Second(TaskId(0), Seconded::StayReserve(SlotId(0))),
@@ -100,6 +102,18 @@ pub fn is_unstaffed(entries: &[Entry], entries_wanted: usize) -> bool {
         found = found.saturating_add(1);
     }
     found == entries_wanted && entries.len() == entries_wanted
+}
+
+fn taken(entries: &[Entry], tasks: &[u32]) -> bool {
+    let mut rest = tasks.iter();
+    for entry in entries {
+        if let Did::Take(_, Took::Head(TaskId(task))) = entry.did
+            && rest.next() != Some(&task)
+        {
+            return false;
+        }
+    }
+    rest.next().is_none()
 }
 
 fn no_fault(entries: &[Entry]) -> bool {
@@ -172,6 +186,7 @@ fn is_found(report: &Report, board: &Board, finding: Finding) -> bool {
         Finding::Ended(t, outcome) => ended(entries, t, outcome),
         Finding::Told(times, did) => told(entries, times, did),
         Finding::Unstaffed => is_unstaffed(entries, 8),
+        Finding::Taken(tasks) => taken(entries, &tasks),
         Finding::NoFault => no_fault(entries),
         Finding::Replaced(faults) => are_followed(entries, faults, true),
         Finding::Unreplaced(faults) => are_followed(entries, faults, false),

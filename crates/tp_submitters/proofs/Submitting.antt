@@ -53,17 +53,17 @@ look_free s w free = by (nat_lt 0 s.rank) (nat_lt (slot_count s) s.core)
     by false false = tt
 
 -- what is owed rises with a submission
-pub submit_moves : (c : Config) (h : List Entry) (t : TaskId) (k : Kind) (l : Looked) → Legal c h → Given c h (did.Submit t k l) → (v : View) × Effect (state c h) (did.Submit t k l) v 0 (rise_of l)
-submit_moves c h t k (looked.Reserve w) legal given = (_, submit_reserve c h t k w legal given)
-submit_moves c h t k looked.Queue legal given = (_, submit_queue c h t k legal given)
-submit_moves c h t k looked.Refuse legal given = (_, submit_refuse c h t k legal given)
+pub submit_moves : (c : Config) (h : List Entry) (t : TaskId) (k : Kind) (r : ℕ) (l : Looked) → Legal c h → Given c h (did.Submit t k r l) → (v : View) × Effect (state c h) (did.Submit t k r l) v 0 (rise_of l)
+submit_moves c h t k r (looked.Reserve w) legal given = (_, submit_reserve c h t k r w legal given)
+submit_moves c h t k r looked.Queue legal given = (_, submit_queue c h t k r legal given)
+submit_moves c h t k r looked.Refuse legal given = (_, submit_refuse c h t k r legal given)
 
 -- a submission fits always, and gets the next number
-pub submit_fits : {P : Type 0} (p : Parts P) → Stands p → (k : Kind) (h : List Entry) → Shows p (state p.config h) → (w : ℕ) →
-    fitting p.config (state p.config h) w (ask.Submit k) ≡ Ok (did.Submit (record { 0 = submissions p.tasks }) k (look (state p.config h) w))
-submit_fits p stands k h sh w =
+pub submit_fits : {P : Type 0} (p : Parts P) → Stands p → (k : Kind) (r : ℕ) (h : List Entry) → Shows p (state p.config h) → (w : ℕ) →
+    fitting p.config (state p.config h) w (ask.Submit k r) ≡ Ok (did.Submit (record { 0 = submissions p.tasks }) k r (look (state p.config h) w))
+submit_fits p stands k r h sh w =
     let s = state p.config h in
     let few = few_tasks p stands in
     let counted = sh.seen.submitted in
     let below : nat_lt (length s.tasks) (2 ^ 32 - 1) ≡ true = lt-ltb _ _ (omega (arith, few, counted)) in
-    ap (λ b. cond b (Ok (did.Submit (record { 0 = length s.tasks }) k (look s w))) (Err BookFull)) below ∙ ap (λ n. Ok (did.Submit (record { 0 = n }) k (look s w))) sh.seen.submitted
+    ap (λ b. cond b (Ok (did.Submit (record { 0 = length s.tasks }) k r (look s w))) (Err BookFull)) below ∙ ap (λ n. Ok (did.Submit (record { 0 = n }) k r (look s w))) sh.seen.submitted

@@ -34,27 +34,27 @@ use Rattle.tp_parts.proofs.Reading.{row_shown, task_answers}
 use Rattle.tp_submitters.specs.Owed.{retry_rise}
 
 -- what is owed rises with a retry
-retry_moves : (c : Config) (h : List Entry) (t : TaskId) (v : Verdict) → Legal c h → IsAt h t.0 at.Refused → rank h ≡ 0 → retries h t.0 < 64 → (q : List ℕ) → queue h ≡ q →
+retry_moves : (c : Config) (h : List Entry) (t : TaskId) (v : Verdict) → Legal c h → IsAt h t.0 at.Refused → rank h ≡ 0 → retries h t.0 < 64 → (q : List ℕ) → queue c h ≡ q →
     (w : View) × Effect (state c h) (did.Verdict t v (retry_of q)) w 0 (retry_rise (retry_of q))
 retry_moves c h t v legal there runs few [] is = (_, verdict_retry c h t v legal (there, (runs, few, is)))
 retry_moves c h t v legal there runs few (u ∷ us) is =
-    (_, verdict_retry_drop c h t (record { 0 = u }) v legal (there, (runs, few, (us, is), head_at h (sound_legal c h legal) u us is)))
+    (_, verdict_retry_drop c h t (record { 0 = u }) v legal (there, (runs, few, (us, is), head_at c h (sound_legal c h legal) u us is)))
 
 module _ {P : Type 0} (p : Parts P) (h : List Entry) (sh : Shows p (state p.config h)) (t : TaskId) (row : TaskRow) (there : row_of p.tasks t.0 ≡ Some row) where
   -- a retry by its tests: b tells whether there is room for it
-  pub retried_by : Legal p.config h → row.place ≡ at.Refused → rank h ≡ 0 → row.retries < 64 → (b : Bool) → TellsRoom p 0 (retry_rise (retry_of (queue h))) b →
-      (if b then retry_of (queue h) else ruled.Discarded) ≡ retried p.config (state p.config h) t row
+  pub retried_by : Legal p.config h → row.place ≡ at.Refused → rank h ≡ 0 → row.retries < 64 → (b : Bool) → TellsRoom p 0 (retry_rise (retry_of (queue p.config h))) b →
+      (if b then retry_of (queue p.config h) else ruled.Discarded) ≡ retried p.config (state p.config h) t row
   retried_by legal refused runs few b tells =
       let s = state p.config h in
-      let d = did.Verdict t verdict.DiscardOldest (retry_of (queue h)) in
+      let d = did.Verdict t verdict.DiscardOldest (retry_of (queue p.config h)) in
       let counted = tasks_counted h in
       let shown = row_shown p s sh t.0 row there in
       let known : t.0 < submitted h = let k = shown.0 in omega (arith, counted, k) in
       let read = sym (row_read h t.0 known) ∙ shown.1 in
       let tried = ap (λ r. r.retries) read in
-      let moves = retry_moves p.config h t verdict.DiscardOldest legal (known, ap (λ r. r.place) read ∙ refused) runs (omega (arith, few, tried)) (queue h) refl in
-      sym (ap (λ x. cond x ruled.Discarded (cond (leaves_room p.config s d) (retry_of (queue h)) ruled.Discarded)) (may (rank h) row.retries runs few)
-      ∙ ap (λ x. cond x (retry_of (queue h)) ruled.Discarded) (sym (tells s d moves.0 sh moves.1)))
+      let moves = retry_moves p.config h t verdict.DiscardOldest legal (known, ap (λ r. r.place) read ∙ refused) runs (omega (arith, few, tried)) (queue p.config h) refl in
+      sym (ap (λ x. cond x ruled.Discarded (cond (leaves_room p.config s d) (retry_of (queue p.config h)) ruled.Discarded)) (may (rank h) row.retries runs few)
+      ∙ ap (λ x. cond x (retry_of (queue p.config h)) ruled.Discarded) (sym (tells s d moves.0 sh moves.1)))
     where
       may : (n m : ℕ) → n ≡ 0 → m < 64 → (nat_lt 0 n || nat_le 64 m) ≡ false
       may n m none few = grind (arith, nat_tests)

@@ -31,7 +31,7 @@ pub fn answer<P>(parts: &Parts<P>, t: TaskId) -> Result<Offered, PoolError>
             None => Offered::Full,
         },
         QueueKind::Bounded(capacity) if parts.queue.len() >= capacity as usize => Offered::Full,
-        QueueKind::Bounded(_) | QueueKind::Unbounded => Offered::Queued,
+        QueueKind::Bounded(_) | QueueKind::Unbounded | QueueKind::Priority => Offered::Queued,
     })
 }
 
@@ -51,7 +51,7 @@ pub fn apply<P>(parts: &mut Parts<P>, t: TaskId, offered: Offered)
     }
 }
 
-/// The task is at the queue's tail.
+/// The task is in the queue.
 #[inline(always)]
 fn queue<P>(parts: &mut Parts<P>, t: TaskId)
     requires stands { Stands parts.old }

@@ -19,14 +19,14 @@ use tp_types::ids::{SlotId, TaskId};
 use tp_types::refusals::PoolError;
 use tp_types::tasks::{Kind, Place, Promise};
 
-/// Whether the next task is held by a new core slot, is to be offered, or is refused. BookFull (5) where the record has no
+/// Whether the next task, of this kind and priority, is held by a new core slot, is to be offered, or is refused. BookFull (5) where the record has no
 /// room for it.
 #[inline(always)]
-pub fn answer<P>(parts: &Parts<P>, kind: Kind) -> Result<Looked, PoolError>
+pub fn answer<P>(parts: &Parts<P>, kind: Kind, priority: u32) -> Result<Looked, PoolError>
     requires stands { Stands parts.now }
-    ensures accepts { IfOk result (λ l. Accepts parts.now (Ask.Submit kind) (Did.Submit (record { 0 = submissions parts.now.tasks }) kind l)) }
+    ensures accepts { IfOk result (λ l. Accepts parts.now (Ask.Submit kind priority) (Did.Submit (record { 0 = submissions parts.now.tasks }) kind priority l)) }
     ensures next { IfOk result (λ l. IfSome (reserved_looked l) (λ w. w ≡ parts.now.slots.next)) }
-    ensures refuses { IfErr result (λ e. Refuses parts.now (Ask.Submit kind) e) }
+    ensures refuses { IfErr result (λ e. Refuses parts.now (Ask.Submit kind priority) e) }
 {
     let looked = parts.look();
     if parts.has_room(0, rise(looked)) {
@@ -59,6 +59,7 @@ pub fn prepare<P>(parts: &mut Parts<P>, kind: Kind) -> Result<(), PoolError>
 pub fn apply<P>(
     parts: &mut Parts<P>,
     kind: Kind,
+    priority: u32,
     promise: Promise,
     payload: P,
     looked: Looked,
@@ -67,16 +68,16 @@ where
     P: Drop,
     requires stands { Stands parts.old }
     requires memory { HasMemory parts.old kind }
-    requires fits { Fits parts.old (Ask.Submit kind) (Did.Submit (record { 0 = submissions parts.old.tasks }) kind looked) }
+    requires fits { Fits parts.old (Ask.Submit kind priority) (Did.Submit (record { 0 = submissions parts.old.tasks }) kind priority looked) }
     requires next { IfSome (reserved_looked looked) (λ w. w ≡ parts.old.slots.next) }
     ensures number { result.0 ≡ submissions parts.old.tasks }
-    ensures leads { Leads parts.old (Did.Submit result kind looked) parts.new }
+    ensures leads { Leads parts.old (Did.Submit result kind priority looked) parts.new }
     ensures payloads { PutsIn parts.old.tasks parts.new.tasks result.0 promise payload }
 {
     match looked {
-        Looked::Reserve(w) => reserve(parts, kind, promise, payload, w),
-        Looked::Queue => queue(parts, kind, promise, payload),
-        Looked::Refuse => refuse(parts, kind, promise, payload),
+        Looked::Reserve(w) => reserve(parts, kind, priority, promise, payload, w),
+        Looked::Queue => queue(parts, kind, priority, promise, payload),
+        Looked::Refuse => refuse(parts, kind, priority, promise, payload),
     }
 }
 
@@ -95,51 +96,64 @@ fn rise(looked: Looked) -> u64
 
 /// The next slot is reserved for the core, and holds the task.
 #[inline(never)]
-fn reserve<P>(parts: &mut Parts<P>, kind: Kind, promise: Promise, payload: P, w: SlotId) -> TaskId
+fn reserve<P>(
+    parts: &mut Parts<P>,
+    kind: Kind,
+    priority: u32,
+    promise: Promise,
+    payload: P,
+    w: SlotId,
+) -> TaskId
 where
     P: Drop,
     requires stands { Stands parts.old }
     requires memory { HasMemory parts.old kind }
-    requires fits { Fits parts.old (Ask.Submit kind) (Did.Submit (record { 0 = submissions parts.old.tasks }) kind (Looked.Reserve w)) }
+    requires fits { Fits parts.old (Ask.Submit kind priority) (Did.Submit (record { 0 = submissions parts.old.tasks }) kind priority (Looked.Reserve w)) }
     requires next { w.0 ≡ parts.old.slots.next }
     ensures number { result.0 ≡ submissions parts.old.tasks }
-    ensures leads { Leads parts.old (Did.Submit result kind (Looked.Reserve w)) parts.new }
+    ensures leads { Leads parts.old (Did.Submit result kind priority (Looked.Reserve w)) parts.new }
     ensures payloads { PutsIn parts.old.tasks parts.new.tasks result.0 promise payload }
 {
     parts.count_rising_entry(12);
-    let t = parts.put_task(kind, Place::Held(w), promise, payload);
+    let t = parts.put_task(kind, priority, Place::Held(w), promise, payload);
     parts.reserve(Stage::ReservedCore, Some(t));
     t
 }
 
 /// The task is to be offered.
 #[inline(always)]
-fn queue<P>(parts: &mut Parts<P>, kind: Kind, promise: Promise, payload: P) -> TaskId
+fn queue<P>(parts: &mut Parts<P>, kind: Kind, priority: u32, promise: Promise, payload: P) -> TaskId
 where
     P: Drop,
     requires stands { Stands parts.old }
     requires memory { HasMemory parts.old kind }
-    requires fits { Fits parts.old (Ask.Submit kind) (Did.Submit (record { 0 = submissions parts.old.tasks }) kind Looked.Queue) }
+    requires fits { Fits parts.old (Ask.Submit kind priority) (Did.Submit (record { 0 = submissions parts.old.tasks }) kind priority Looked.Queue) }
     ensures number { result.0 ≡ submissions parts.old.tasks }
-    ensures leads { Leads parts.old (Did.Submit result kind Looked.Queue) parts.new }
+    ensures leads { Leads parts.old (Did.Submit result kind priority Looked.Queue) parts.new }
     ensures payloads { PutsIn parts.old.tasks parts.new.tasks result.0 promise payload }
 {
     parts.count_rising_entry(11);
-    parts.put_task(kind, Place::ToOffer, promise, payload)
+    parts.put_task(kind, priority, Place::ToOffer, promise, payload)
 }
 
 /// The pool is shut down: the task awaits a verdict.
 #[inline(never)]
-fn refuse<P>(parts: &mut Parts<P>, kind: Kind, promise: Promise, payload: P) -> TaskId
+fn refuse<P>(
+    parts: &mut Parts<P>,
+    kind: Kind,
+    priority: u32,
+    promise: Promise,
+    payload: P,
+) -> TaskId
 where
     P: Drop,
     requires stands { Stands parts.old }
     requires memory { HasMemory parts.old kind }
-    requires fits { Fits parts.old (Ask.Submit kind) (Did.Submit (record { 0 = submissions parts.old.tasks }) kind Looked.Refuse) }
+    requires fits { Fits parts.old (Ask.Submit kind priority) (Did.Submit (record { 0 = submissions parts.old.tasks }) kind priority Looked.Refuse) }
     ensures number { result.0 ≡ submissions parts.old.tasks }
-    ensures leads { Leads parts.old (Did.Submit result kind Looked.Refuse) parts.new }
+    ensures leads { Leads parts.old (Did.Submit result kind priority Looked.Refuse) parts.new }
     ensures payloads { PutsIn parts.old.tasks parts.new.tasks result.0 promise payload }
 {
     parts.count_rising_entry(2);
-    parts.put_task(kind, Place::Refused, promise, payload)
+    parts.put_task(kind, priority, Place::Refused, promise, payload)
 }

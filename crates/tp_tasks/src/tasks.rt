@@ -93,17 +93,24 @@ impl<P> Tasks<P> {
         self.submitted
     }
 
-    /// Puts a new task of this kind, in this place, with what its job promises and its payload, and gives its number. There
-    /// is memory for it.
+    /// Puts a new task of this kind and priority, in this place, with what its job promises and its payload, and gives its
+    /// number. There is memory for it.
     #[inline(always)]
-    pub fn put(&mut self, kind: Kind, place: Place, promise: Promise, payload: P) -> TaskId
+    pub fn put(
+        &mut self,
+        kind: Kind,
+        priority: u32,
+        place: Place,
+        promise: Promise,
+        payload: P,
+    ) -> TaskId
     where
         P: Drop,
         requires ready { IsReady self.old kind }
         requires few { submissions self.old < 2 ^ 32 - 1 }
         ensures number { result.0 ≡ submissions self.old }
         ensures submitted { submissions self.new ≡ submissions self.old + 1 }
-        ensures row { row_of self.new result.0 ≡ Some (record no_row { kind = kind; place = place }) }
+        ensures row { row_of self.new result.0 ≡ Some (record no_row { kind = kind; priority = priority; place = place }) }
         ensures promise { promise_of self.new result.0 ≡ Some promise }
         ensures unqueued { number_of self.new result.0 ≡ None }
         ensures payload { payload_of self.new result.0 ≡ Some payload }
@@ -113,7 +120,7 @@ impl<P> Tasks<P> {
     {
         let t = self.submitted;
         let task = Task {
-            row: TaskRow::new(kind, place),
+            row: TaskRow::new(kind, priority, place),
             promise,
             number: None,
             payload: Some(payload),

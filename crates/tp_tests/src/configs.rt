@@ -58,6 +58,10 @@ fn checks_each_setting(rt: HostRuntime) {
         queue: QueueKind::Handoff,
         ..USUAL
     };
+    let ranked = Config {
+        queue: QueueKind::Priority,
+        ..USUAL
+    };
     let cases = [
         (sized(0, 1), Ok(())),
         (sized(1, 1), Ok(())),
@@ -68,6 +72,7 @@ fn checks_each_setting(rt: HostRuntime) {
         (sized(0, 1025), Err(PoolError::BadSizes)),
         (sized(1025, 1024), Err(PoolError::BadSizes)),
         (handoff, Ok(())),
+        (ranked, Ok(())),
         (bounded(0), Err(PoolError::BadCapacity)),
         (bounded(1), Ok(())),
         (bounded(65_536), Ok(())),

@@ -9,8 +9,8 @@ use tp_types::tasks::{Kind, Place};
 /// Four submissions to a pool of one worker: the first holds a slot for the core, the others are to be offered.
 #[test]
 fn four_submissions_owe_49(rt: HostRuntime) {
-    let first = TaskRow::new(Kind::Plain, Place::Held(SlotId(0)));
-    let other = TaskRow::new(Kind::Plain, Place::ToOffer);
+    let first = TaskRow::new(Kind::Plain, 0, Place::Held(SlotId(0)));
+    let other = TaskRow::new(Kind::Plain, 0, Place::ToOffer);
     let slot = SlotRow {
         stage: Stage::ReservedCore,
         task: Some(TaskId(0)),

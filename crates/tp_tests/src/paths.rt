@@ -13,7 +13,10 @@ const SLOT: SlotId = SlotId(2);
 
 // Answers, and what follows each; the last stands for another task's.
 const PATH: [(Did, Next); 9] = [
-    (Did::Submit(TASK, Kind::Plain, Looked::Queue), Next::Offer),
+    (
+        Did::Submit(TASK, Kind::Plain, 0, Looked::Queue),
+        Next::Offer,
+    ),
     (Did::Offer(TASK, Offered::Queued), Next::Second),
     (Did::Second(TASK, Seconded::Back), Next::Judge),
     (

@@ -3,10 +3,11 @@
 ghost use Rattle.std.specs.Prelude.{◌≤◌};
 
 use crate::compare::same;
-use Answer::{Count, Done, First, Head, Holds, Placed, Refused};
+use Answer::{Count, Done, Head, Holds, Placed, Refused, Swept};
 use std::alloc::{AllocError, Global};
 use std::process::Abort;
 use std::test::Fail;
+use tp_line::sweeps::Sweeper;
 use tp_queue::bounded::Bounded;
 use tp_queue::queues::Queue;
 use tp_queue::unbounded::Unbounded;
@@ -17,9 +18,13 @@ use tp_types::ids::TaskId;
 /// A call of a queue.
 #[derive(Clone, Copy)]
 enum Call {
+    /// An offer at priority 0.
     Offer(u32),
-    Remove(u64),
-    FirstFrom(u64),
+    /// An offer at this priority.
+    OfferAt(u32, u32),
+    Remove(u32, u64),
+    /// The tasks of odd numbers are counted and taken out.
+    SweepOdd,
     Head,
     TakeHead,
     Len,
@@ -32,12 +37,35 @@ enum Call {
 enum Answer {
     Done,
     Placed(Result<u64, TaskId>),
-    First(Option<(TaskId, u64)>),
     Head(Option<TaskId>),
     Count(usize),
     Holds(bool),
+    /// How many were counted, and how many were taken out.
+    Swept(usize, u32),
     /// The memory was wanting.
     Refused,
+}
+
+/// Takes the tasks of odd numbers.
+#[derive(Drop)]
+struct Odd {
+    taken: u32,
+}
+
+impl Sweeper<TaskId> for Odd {
+    ghost use Rattle.std.specs.Prelude.{◌==◌, ◌%◌};
+
+    ghost takes = { λ _ t. t.0 % 2 == 1 };
+
+    ghost took = { λ _ _ _. Unit {0} };
+
+    fn wants(&self, task: TaskId) -> bool {
+        task.0 % 2 == 1
+    }
+
+    fn take(&mut self, _task: TaskId) {
+        self.taken = self.taken.wrapping_add(1);
+    }
 }
 
 /// A queue, with a bound on the offers made to it.
@@ -51,12 +79,13 @@ struct Tasks<Q: WorkQueue> {
 impl<Q: WorkQueue> Tasks<Q> {
     fn call(&mut self, call: Call) -> Answer {
         match call {
-            Call::Offer(number) => self.offer(TaskId(number)),
-            Call::Remove(place) => {
-                self.queue.remove(place);
+            Call::Offer(number) => self.offer(TaskId(number), 0),
+            Call::OfferAt(number, priority) => self.offer(TaskId(number), priority),
+            Call::Remove(priority, place) => {
+                self.queue.remove(priority, place);
                 Done
             }
-            Call::FirstFrom(place) => First(self.queue.first_from(place)),
+            Call::SweepOdd => self.sweep_odd(),
             Call::Head => Head(self.queue.head()),
             Call::TakeHead => Head(self.queue.take_head()),
             Call::Len => Count(self.queue.len()),
@@ -68,13 +97,20 @@ impl<Q: WorkQueue> Tasks<Q> {
         }
     }
 
-    fn offer(&mut self, task: TaskId) -> Answer {
+    fn offer(&mut self, task: TaskId, priority: u32) -> Answer {
         let Some(offers) = self.offers.checked_add(1) else {
             return Refused;
         };
-        let placed = self.queue.offer(task);
+        let placed = self.queue.offer(task, priority);
         self.offers = offers;
         Placed(placed)
+    }
+
+    fn sweep_odd(&mut self) -> Answer {
+        let mut odd = Odd { taken: 0 };
+        let counted = self.queue.count(&odd);
+        self.queue.sweep(&mut odd);
+        Swept(counted, odd.taken)
     }
 
     /// Takes out all tasks at once.
@@ -142,12 +178,10 @@ fn churn<Q: WorkQueue>(rt: &impl Abort, tasks: &mut Tasks<Q>, capacity: u32, to:
     for new in capacity..to {
         let dead = (new - capacity).wrapping_add(behind_head);
         let place = u64::from(dead);
-        let first = First(Some((TaskId(dead), place)));
-        asks(rt, 2, tasks, Call::FirstFrom(place), first);
-        asks(rt, 3, tasks, Call::Remove(place), Done);
-        asks(rt, 4, tasks, Call::IsFull, Holds(false));
+        asks(rt, 2, tasks, Call::Remove(0, place), Done);
+        asks(rt, 3, tasks, Call::IsFull, Holds(false));
         let placed = Placed(Ok(u64::from(new)));
-        asks(rt, 5, tasks, Call::Offer(new), placed);
+        asks(rt, 4, tasks, Call::Offer(new), placed);
     }
 }
 
@@ -221,12 +255,69 @@ fn exact_unbounded_queue_gives_up_its_dead(rt: HostRuntime) -> Result<(), Fail> 
     Ok(())
 }
 
+const RANKED: [(Call, Answer); 18] = [
+    (Call::OfferAt(0, 5), Placed(Err(TaskId(0)))),
+    (Call::Reserve(9), Done),
+    (Call::OfferAt(0, 5), Placed(Ok(0))),
+    (Call::OfferAt(1, u32::MAX), Placed(Ok(1))),
+    (Call::OfferAt(2, 0), Placed(Ok(2))),
+    (Call::OfferAt(3, 5), Placed(Ok(3))),
+    (Call::OfferAt(4, 0), Placed(Ok(4))),
+    (Call::OfferAt(5, 2), Placed(Ok(5))),
+    // They wait as 2 4 5 0 3 1.
+    (Call::Remove(5, 3), Done),
+    (Call::Remove(4, 0), Done),
+    (Call::TakeHead, Head(Some(TaskId(2)))),
+    (Call::OfferAt(6, 0), Placed(Ok(6))),
+    // They wait as 4 6 5 0 1.
+    (Call::SweepOdd, Swept(2, 2)),
+    (Call::Len, Count(3)),
+    (Call::TakeHead, Head(Some(TaskId(4)))),
+    (Call::TakeHead, Head(Some(TaskId(6)))),
+    (Call::TakeHead, Head(Some(TaskId(0)))),
+    (Call::TakeHead, Head(None)),
+];
+
+#[test]
+fn priority_queue_goes_by_priority_and_then_by_offer(rt: HostRuntime) -> Result<(), Fail> {
+    let mut tasks = Tasks {
+        queue: Queue::new(rt.alloc(), QueueKind::Priority)?,
+        offers: 0,
+    };
+    play(&rt, &mut tasks, &RANKED);
+    Ok(())
+}
+
+const UNRANKED: [(Call, Answer); 9] = [
+    (Call::Reserve(4), Done),
+    (Call::OfferAt(0, 9), Placed(Ok(0))),
+    (Call::OfferAt(1, 8), Placed(Ok(1))),
+    (Call::OfferAt(2, 7), Placed(Ok(2))),
+    (Call::OfferAt(3, 6), Placed(Ok(3))),
+    (Call::SweepOdd, Swept(2, 2)),
+    (Call::TakeHead, Head(Some(TaskId(0)))),
+    (Call::TakeHead, Head(Some(TaskId(2)))),
+    (Call::TakeHead, Head(None)),
+];
+
+#[test]
+fn other_queues_go_by_offer(rt: HostRuntime) -> Result<(), Fail> {
+    for kind in [QueueKind::Unbounded, QueueKind::Bounded(4)] {
+        let mut tasks = Tasks {
+            queue: Queue::new(rt.alloc(), kind)?,
+            offers: 0,
+        };
+        play(&rt, &mut tasks, &UNRANKED);
+    }
+    Ok(())
+}
+
 const HANDOFF: [(Call, Answer); 6] = [
     (Call::Reserve(1 << 60), Done),
     (Call::IsFull, Holds(true)),
     (Call::Offer(5), Placed(Err(TaskId(5)))),
-    (Call::Remove(0), Done),
-    (Call::FirstFrom(0), First(None)),
+    (Call::Remove(0, 0), Done),
+    (Call::SweepOdd, Swept(0, 0)),
     (Call::TakeHead, Head(None)),
 ];
 
@@ -260,10 +351,12 @@ fn want_of_memory_changes_nothing(rt: HostRuntime) {
     if let Ok(queue) = Queue::new(rt.alloc(), QueueKind::Bounded(3)) {
         same(&rt, 0, &queue.is_full(), &false);
     }
-    let Ok(queue) = Queue::new(rt.alloc(), QueueKind::Unbounded) else {
-        return;
-    };
-    let mut tasks = Tasks { queue, offers: 0 };
-    reserve_and_fill(&rt, &mut tasks, 0, 20);
-    reserve_and_fill(&rt, &mut tasks, 20, 60);
+    for kind in [QueueKind::Unbounded, QueueKind::Priority] {
+        let Ok(queue) = Queue::new(rt.alloc(), kind) else {
+            return;
+        };
+        let mut tasks = Tasks { queue, offers: 0 };
+        reserve_and_fill(&rt, &mut tasks, 0, 20);
+        reserve_and_fill(&rt, &mut tasks, 20, 60);
+    }
 }

@@ -100,7 +100,7 @@ fn submit(rt: &impl Abort, tasks: &mut Tasks<u64>, kind: Kind, payload: u64) -> 
     if tasks.submitted() == u32::MAX {
         return Refused;
     }
-    Task(Some(tasks.put(kind, Place::ToOffer, ANY, payload)))
+    Task(Some(tasks.put(kind, PRIORITY, Place::ToOffer, ANY, payload)))
 }
 
 /// Makes the call that changes the task with this row.
@@ -141,8 +141,12 @@ fn play(rt: &impl Abort, tasks: &mut Tasks<u64>, calls: &[(Call, Answer)]) {
     }
 }
 
+// The priority of each task.
+const PRIORITY: u32 = 7;
+
 const NEW: TaskRow = TaskRow {
     kind: Kind::Plain,
+    priority: PRIORITY,
     place: Place::ToOffer,
     second: false,
     cancelled: false,

@@ -7,7 +7,7 @@ use Rattle.std.proofs.lemmas.List.{append_cancel_left}
 use Rattle.std.proofs.lemmas.Fmt.{decimal_injective}
 use Rattle.tp_types.specs.declared.configs.Policy.{Policy}
 use Rattle.tp_types.specs.declared.configs.QueueKind.{QueueKind}
-use Rattle.tp_types.specs.declared.configs.QueueKind.TheVariants.{Handoff, Unbounded, Bounded}
+use Rattle.tp_types.specs.declared.configs.QueueKind.TheVariants.{Handoff, Unbounded, Bounded, Priority}
 use Rattle.tp_text.specs.declared.pools.PoolLine.{PoolLine}
 use Rattle.tp_text.specs.Reads.{FirstWord, followed, spaced, ReadsNumberOn}
 use Rattle.tp_text.specs.Fits.{Fits32, Fits64}
@@ -54,11 +54,12 @@ no_options text alone none limit (true, None) fits = λ e. alone (same_Some _ _ 
 no_options text alone none limit (false, Some n) fits = λ e. limit n fits (same_Some _ _ e)
 no_options text alone none limit (true, Some n) fits = λ e. none (limit_text n) (same_Some _ _ e)
 
--- what the three kinds of queue begin with and go on with
+-- what the kinds of queue begin with and go on with
 pub record NoQueue (w : List ℕ) (r : Option (List ℕ)) : Type 0 where
   pub handoff : (k : Kept) → FitsKept k → w ≡ codes "handoff" → r ≢ Some (keep_text k)
   pub unbounded : (k : Kept) → FitsKept k → w ≡ codes "unbounded" → r ≢ Some (keep_text k)
   pub bounded : (n : ℕ) (k : Kept) → Fits32 n → FitsKept k → w ≡ codes "bounded" → r ≢ Some (spaced (decimal n) (keep_text k))
+  pub priority : (k : Kept) → FitsKept k → w ≡ codes "priority" → r ≢ Some (keep_text k)
 
 pub no_queue : (bs w : List ℕ) (r : Option (List ℕ)) → FirstWord bs w r → NoQueue w r → (p : QueueKind × Kept) → FitsQueue p.0 × Fits64 p.1.0 × FitsOptions p.1.1.1 → bs ≢ waiting_text p
 no_queue bs w r first none (Handoff, k) fits same =
@@ -67,6 +68,8 @@ no_queue bs w r first none (Unbounded, k) fits same =
     let q = first.only (codes "unbounded") (Some (keep_text k)) (word_from_test (codes "unbounded") refl) same in none.unbounded k (fits.1, fits.2) q.0 q.1
 no_queue bs w r first none (Bounded n, k) fits same =
     let q = first.only (codes "bounded") (Some (spaced (decimal n) (keep_text k))) (word_from_test (codes "bounded") refl) (same ∙ append_assoc (codes "bounded") (32 ∷ decimal n) (32 ∷ keep_text k)) in none.bounded n k fits.0 (fits.1, fits.2) q.0 q.1
+no_queue bs w r first none (Priority, k) fits same =
+    let q = first.only (codes "priority") (Some (keep_text k)) (word_from_test (codes "priority") refl) same in none.priority k (fits.1, fits.2) q.0 q.1
 
 -- a queue's word alone begins nothing
 pub queue_alone : (w : List ℕ) (r : Option (List ℕ)) → r ≡ None → NoQueue w r
@@ -74,6 +77,7 @@ queue_alone w r none = record {
   handoff = λ k f e s. none-some _ (sym none ∙ s);
   unbounded = λ k f e s. none-some _ (sym none ∙ s);
   bounded = λ n k f g e s. none-some _ (sym none ∙ s);
+  priority = λ k f e s. none-some _ (sym none ∙ s);
 }
 
 -- a bounded queue's word stands before a capacity only
@@ -83,14 +87,16 @@ no_capacity w r rest is goes none = record {
   handoff = λ k f e s. differ (codes "bounded") (codes "handoff") refl (sym is ∙ e);
   unbounded = λ k f e s. differ (codes "bounded") (codes "unbounded") refl (sym is ∙ e);
   bounded = λ n k f g e s. none (n, k) (f, g.0, g.1) (same_Some _ _ (sym goes ∙ s));
+  priority = λ k f e s. differ (codes "bounded") (codes "priority") refl (sym is ∙ e);
 }
 
 -- no other word begins a queue
-pub no_queue_word : (w : List ℕ) (r : Option (List ℕ)) → w ≢ codes "handoff" → w ≢ codes "unbounded" → w ≢ codes "bounded" → NoQueue w r
-no_queue_word w r handoff unbounded bounded = record {
+pub no_queue_word : (w : List ℕ) (r : Option (List ℕ)) → w ≢ codes "handoff" → w ≢ codes "unbounded" → w ≢ codes "bounded" → w ≢ codes "priority" → NoQueue w r
+no_queue_word w r handoff unbounded bounded priority = record {
   handoff = λ k f e s. handoff e;
   unbounded = λ k f e s. unbounded e;
   bounded = λ n k f g e s. bounded e;
+  priority = λ k f e s. priority e;
 }
 
 -- what stands behind the first word is no pool's

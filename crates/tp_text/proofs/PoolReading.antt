@@ -6,7 +6,7 @@ use Rattle.std.specs.Fmt.{decimal}
 use Rattle.tp_types.specs.declared.configs.Policy.{Policy}
 use Rattle.tp_types.specs.declared.configs.Policy.TheVariants as policy
 use Rattle.tp_types.specs.declared.configs.QueueKind.{QueueKind}
-use Rattle.tp_types.specs.declared.configs.QueueKind.TheVariants.{Handoff, Unbounded, Bounded}
+use Rattle.tp_types.specs.declared.configs.QueueKind.TheVariants.{Handoff, Unbounded, Bounded, Priority}
 use Rattle.tp_text.specs.declared.pools.PoolLine.{PoolLine}
 use Rattle.tp_text.specs.Reads.{IsWord, spaced}
 use Rattle.tp_text.specs.Fits.{Fits32, Fits64}
@@ -113,14 +113,21 @@ behind_queue : (a b : QueueKind) (r q : List ℕ) → FitsQueue a → FitsQueue 
 behind_queue Handoff Handoff r q x y e = (refl, behind_word (codes "handoff") r q (word_from_test (codes "handoff") refl) e)
 behind_queue Handoff Unbounded r q x y e = absurd (differ (codes "handoff") (codes "unbounded") refl (same_spaced (codes "handoff") (codes "unbounded") r q (word_from_test (codes "handoff") refl) (word_from_test (codes "unbounded") refl) e).0)
 behind_queue Handoff (Bounded n) r q x y e = absurd (differ (codes "handoff") (codes "bounded") refl (same_spaced (codes "handoff") (codes "bounded") r (spaced (decimal n) q) (word_from_test (codes "handoff") refl) (word_from_test (codes "bounded") refl) e).0)
+behind_queue Handoff Priority r q x y e = absurd (differ (codes "handoff") (codes "priority") refl (same_spaced (codes "handoff") (codes "priority") r q (word_from_test (codes "handoff") refl) (word_from_test (codes "priority") refl) e).0)
 behind_queue Unbounded Handoff r q x y e = absurd (differ (codes "unbounded") (codes "handoff") refl (same_spaced (codes "unbounded") (codes "handoff") r q (word_from_test (codes "unbounded") refl) (word_from_test (codes "handoff") refl) e).0)
 behind_queue Unbounded Unbounded r q x y e = (refl, behind_word (codes "unbounded") r q (word_from_test (codes "unbounded") refl) e)
 behind_queue Unbounded (Bounded n) r q x y e = absurd (differ (codes "unbounded") (codes "bounded") refl (same_spaced (codes "unbounded") (codes "bounded") r (spaced (decimal n) q) (word_from_test (codes "unbounded") refl) (word_from_test (codes "bounded") refl) e).0)
+behind_queue Unbounded Priority r q x y e = absurd (differ (codes "unbounded") (codes "priority") refl (same_spaced (codes "unbounded") (codes "priority") r q (word_from_test (codes "unbounded") refl) (word_from_test (codes "priority") refl) e).0)
 behind_queue (Bounded m) Handoff r q x y e = absurd (differ (codes "bounded") (codes "handoff") refl (same_spaced (codes "bounded") (codes "handoff") (spaced (decimal m) r) q (word_from_test (codes "bounded") refl) (word_from_test (codes "handoff") refl) e).0)
 behind_queue (Bounded m) Unbounded r q x y e = absurd (differ (codes "bounded") (codes "unbounded") refl (same_spaced (codes "bounded") (codes "unbounded") (spaced (decimal m) r) q (word_from_test (codes "bounded") refl) (word_from_test (codes "unbounded") refl) e).0)
 behind_queue (Bounded m) (Bounded n) r q x y e =
     let t = behind_number m n r q (omega (arith, x)) (omega (arith, y)) (behind_word (codes "bounded") (spaced (decimal m) r) (spaced (decimal n) q) (word_from_test (codes "bounded") refl) e) in
     (ap Bounded t.0, t.1)
+behind_queue (Bounded m) Priority r q x y e = absurd (differ (codes "bounded") (codes "priority") refl (same_spaced (codes "bounded") (codes "priority") (spaced (decimal m) r) q (word_from_test (codes "bounded") refl) (word_from_test (codes "priority") refl) e).0)
+behind_queue Priority Handoff r q x y e = absurd (differ (codes "priority") (codes "handoff") refl (same_spaced (codes "priority") (codes "handoff") r q (word_from_test (codes "priority") refl) (word_from_test (codes "handoff") refl) e).0)
+behind_queue Priority Unbounded r q x y e = absurd (differ (codes "priority") (codes "unbounded") refl (same_spaced (codes "priority") (codes "unbounded") r q (word_from_test (codes "priority") refl) (word_from_test (codes "unbounded") refl) e).0)
+behind_queue Priority (Bounded n) r q x y e = absurd (differ (codes "priority") (codes "bounded") refl (same_spaced (codes "priority") (codes "bounded") r (spaced (decimal n) q) (word_from_test (codes "priority") refl) (word_from_test (codes "bounded") refl) e).0)
+behind_queue Priority Priority r q x y e = (refl, behind_word (codes "priority") r q (word_from_test (codes "priority") refl) e)
 
 -- the line that says so
 line_of : Sizes → PoolLine

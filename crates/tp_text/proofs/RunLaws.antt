@@ -16,18 +16,18 @@ after_all-append h [] ys = refl
 after_all-append h (x ∷ xs) ys = after_all-append (after h x) xs ys
 
 -- what answers write is what the earlier ones write, and then what the later ones do
-pub run_lines-append : (h : List Entry) (xs ys : List Answer) → run_lines h (xs ++ ys) ≡ run_lines h xs ++ run_lines (after_all h xs) ys
-run_lines-append h [] ys = refl
-run_lines-append h (x ∷ xs) ys =
-    ap (λ v. answer_lines h x ++ v) (run_lines-append (after h x) xs ys)
-    ∙ sym (append_assoc (answer_lines h x) (run_lines (after h x) xs) (run_lines (after_all (after h x) xs) ys))
+pub run_lines-append : (c : Config) (h : List Entry) (xs ys : List Answer) → run_lines c h (xs ++ ys) ≡ run_lines c h xs ++ run_lines c (after_all h xs) ys
+run_lines-append c h [] ys = refl
+run_lines-append c h (x ∷ xs) ys =
+    ap (λ v. answer_lines c h x ++ v) (run_lines-append c (after h x) xs ys)
+    ∙ sym (append_assoc (answer_lines c h x) (run_lines c (after h x) xs) (run_lines c (after_all (after h x) xs) ys))
 
 -- one more answer
 pub after_all-push : (h : List Entry) (xs : List Answer) (a : Answer) → after_all h (xs ++ a ∷ []) ≡ after (after_all h xs) a
 after_all-push h xs a = after_all-append h xs (a ∷ [])
 
-pub run_lines-push : (h : List Entry) (xs : List Answer) (a : Answer) → run_lines h (xs ++ a ∷ []) ≡ run_lines h xs ++ answer_lines (after_all h xs) a
-run_lines-push h xs a = run_lines-append h xs (a ∷ []) ∙ ap (λ v. run_lines h xs ++ v) (append-nil (answer_lines (after_all h xs) a))
+pub run_lines-push : (c : Config) (h : List Entry) (xs : List Answer) (a : Answer) → run_lines c h (xs ++ a ∷ []) ≡ run_lines c h xs ++ answer_lines c (after_all h xs) a
+run_lines-push c h xs a = run_lines-append c h xs (a ∷ []) ∙ ap (λ v. run_lines c h xs ++ v) (append-nil (answer_lines c (after_all h xs) a))
 
 -- one more task
 pub fate_lines-more : (t i : ℕ) (rows : List TaskRow) → i < length rows → fate_lines t (take (suc i) rows) ≡ fate_lines t (take i rows) ++ fate_line (t + i) (fate_of (row_at rows i))
@@ -52,30 +52,30 @@ fate_lines-take t (suc i) (r ∷ rows) =
     (later.0, ap (λ v. fate_line t (fate_of r) ++ v) later.1 ∙ sym (append_assoc (fate_line t (fate_of r)) (fate_lines (suc t) (take i rows)) later.0))
 
 -- what the earlier answers write begins every output of a run that begins with them
-pub IsFront-run_lines : (c : Config) (earlier later : List Answer) → IsFront (run_lines [] earlier) (output c (earlier ++ later))
+pub IsFront-run_lines : (c : Config) (earlier later : List Answer) → IsFront (run_lines c [] earlier) (output c (earlier ++ later))
 IsFront-run_lines c earlier later =
     let end : List ℕ = end_lines (state c (after_all [] (earlier ++ later))) in (
-      run_lines (after_all [] earlier) later ++ end,
-      ap (λ v. v ++ end) (run_lines-append [] earlier later) ∙ append_assoc (run_lines [] earlier) (run_lines (after_all [] earlier) later) end,
+      run_lines c (after_all [] earlier) later ++ end,
+      ap (λ v. v ++ end) (run_lines-append c [] earlier later) ∙ append_assoc (run_lines c [] earlier) (run_lines c (after_all [] earlier) later) end,
     )
 
 -- so does an output that breaks off between two fates, and one that breaks off before the counters
-pub IsFront-fate_lines : (c : Config) (answers : List Answer) (i : ℕ) → IsFront (run_lines [] answers ++ fate_lines 0 (take i (state c (after_all [] answers)).tasks)) (output c answers)
+pub IsFront-fate_lines : (c : Config) (answers : List Answer) (i : ℕ) → IsFront (run_lines c [] answers ++ fate_lines 0 (take i (state c (after_all [] answers)).tasks)) (output c answers)
 IsFront-fate_lines c answers i =
     let s : State = state c (after_all [] answers) in
     let later = fate_lines-take 0 i s.tasks in
     let end : List ℕ = state_line (state_at s.rank) ++ counts_line (counts s) in (
       later.0 ++ end,
-      ap (λ v. run_lines [] answers ++ v) (ap (λ v. v ++ end) later.1 ∙ append_assoc (fate_lines 0 (take i s.tasks)) later.0 end)
-          ∙ sym (append_assoc (run_lines [] answers) (fate_lines 0 (take i s.tasks)) (later.0 ++ end)),
+      ap (λ v. run_lines c [] answers ++ v) (ap (λ v. v ++ end) later.1 ∙ append_assoc (fate_lines 0 (take i s.tasks)) later.0 end)
+          ∙ sym (append_assoc (run_lines c [] answers) (fate_lines 0 (take i s.tasks)) (later.0 ++ end)),
     )
 
-pub IsFront-state_line : (c : Config) (answers : List Answer) → IsFront (run_lines [] answers ++ (fate_lines 0 (state c (after_all [] answers)).tasks ++ state_line (state_at (state c (after_all [] answers)).rank))) (output c answers)
+pub IsFront-state_line : (c : Config) (answers : List Answer) → IsFront (run_lines c [] answers ++ (fate_lines 0 (state c (after_all [] answers)).tasks ++ state_line (state_at (state c (after_all [] answers)).rank))) (output c answers)
 IsFront-state_line c answers =
     let s : State = state c (after_all [] answers) in (
       counts_line (counts s),
-      ap (λ v. run_lines [] answers ++ v) (sym (append_assoc (fate_lines 0 s.tasks) (state_line (state_at s.rank)) (counts_line (counts s))))
-          ∙ sym (append_assoc (run_lines [] answers) (fate_lines 0 s.tasks ++ state_line (state_at s.rank)) (counts_line (counts s))),
+      ap (λ v. run_lines c [] answers ++ v) (sym (append_assoc (fate_lines 0 s.tasks) (state_line (state_at s.rank)) (counts_line (counts s))))
+          ∙ sym (append_assoc (run_lines c [] answers) (fate_lines 0 s.tasks ++ state_line (state_at s.rank)) (counts_line (counts s))),
     )
 
 -- a run state is the one of its rank

@@ -29,11 +29,11 @@ accepted a d = Ok (record { by = 0; ask = a; did = d })
 -- a stop hands back one task of two that were cancelled
 stop_hands_back :
     output (record { core = 1; maximum = 1; queue = Unbounded; keep = 0; core_timeout = false; policy = Abort; record_limit = 4096 })
-    (accepted (ask.Submit kinds.Plain) (did.Submit (record { 0 = 0 }) kinds.Plain (looked.Reserve (record { 0 = 0 })))
-    ∷ accepted (ask.Submit kinds.Future) (did.Submit (record { 0 = 1 }) kinds.Future looked.Queue)
+    (accepted (ask.Submit kinds.Plain 0) (did.Submit (record { 0 = 0 }) kinds.Plain 0 (looked.Reserve (record { 0 = 0 })))
+    ∷ accepted (ask.Submit kinds.Future 0) (did.Submit (record { 0 = 1 }) kinds.Future 0 looked.Queue)
     ∷ accepted (ask.Offer (record { 0 = 1 })) (did.Offer (record { 0 = 1 }) offered.Queued)
     ∷ accepted (ask.Second (record { 0 = 1 })) (did.Second (record { 0 = 1 }) seconded.Stay)
-    ∷ accepted (ask.Submit kinds.Future) (did.Submit (record { 0 = 2 }) kinds.Future looked.Queue)
+    ∷ accepted (ask.Submit kinds.Future 0) (did.Submit (record { 0 = 2 }) kinds.Future 0 looked.Queue)
     ∷ accepted (ask.Offer (record { 0 = 2 })) (did.Offer (record { 0 = 2 }) offered.Queued)
     ∷ accepted (ask.Second (record { 0 = 2 })) (did.Second (record { 0 = 2 }) seconded.Stay)
     ∷ accepted (ask.Cancel (record { 0 = 1 }) false) (did.Cancel (record { 0 = 1 }) false true)
@@ -65,7 +65,7 @@ stop_hands_back = refl
 -- a worker times out, and two steps are refused
 worker_times_out :
     output (record { core = 0; maximum = 1; queue = Unbounded; keep = 10; core_timeout = false; policy = Abort; record_limit = 4096 })
-    (accepted (ask.Submit kinds.Plain) (did.Submit (record { 0 = 0 }) kinds.Plain looked.Queue)
+    (accepted (ask.Submit kinds.Plain 0) (did.Submit (record { 0 = 0 }) kinds.Plain 0 looked.Queue)
     ∷ accepted (ask.Offer (record { 0 = 0 })) (did.Offer (record { 0 = 0 }) offered.Queued)
     ∷ accepted (ask.Second (record { 0 = 0 })) (did.Second (record { 0 = 0 }) (seconded.StayReserve (record { 0 = 0 })))
     ∷ accepted (ask.Open (record { 0 = 0 })) (did.Open (record { 0 = 0 }) opened.Live)

@@ -78,6 +78,10 @@ kind_words (kinds.Group g) = codes "group" ∷ decimal g ∷ []
 abbrev pub kind_text : Kind → List ℕ
 kind_text k = words (kind_words k)
 
+-- the priority, where it isn't 0
+abbrev pub priority_words : ℕ → List (List ℕ)
+priority_words p = if p == 0 then [] else codes "prio" ∷ decimal p ∷ []
+
 abbrev pub outcome_words : Outcome → List (List ℕ)
 outcome_words (Ok v) = codes "value" ∷ signed_decimal v ∷ []
 outcome_words (Err code) = codes "fault" ∷ decimal code ∷ []
@@ -154,7 +158,7 @@ flag_words false effect = effect_word effect ∷ []
 
 -- the word that an answer begins with
 abbrev pub command_of : Did → Command
-command_of (did.Submit t k l) = command.Submit
+command_of (did.Submit t k p l) = command.Submit
 command_of (did.Look t l) = command.OfTask task.Look
 command_of (did.Offer t o) = command.OfTask task.Offer
 command_of (did.Second t s) = command.OfTask task.Second
@@ -184,7 +188,7 @@ command_of (did.Prestart o) = command.OfPool pool.Prestart
 
 -- the words behind that word
 abbrev pub argument_words : Did → List (List ℕ)
-argument_words (did.Submit t k l) = task_name t ∷ (kind_words k ++ looked_words l)
+argument_words (did.Submit t k p l) = task_name t ∷ (kind_words k ++ (priority_words p ++ looked_words l))
 argument_words (did.Look t l) = task_name t ∷ looked_words l
 argument_words (did.Offer t o) = task_name t ∷ offered_words o
 argument_words (did.Second t s) = task_name t ∷ seconded_words s

@@ -3,7 +3,7 @@ use Rattle.std.specs.Prelude.{ℕ, Bool, true, false, List, Option, Some, None, 
 use Rattle.std.specs.Fmt.{decimal}
 use Rattle.tp_types.specs.declared.configs.Config.{Config}
 use Rattle.tp_types.specs.declared.configs.QueueKind.{QueueKind}
-use Rattle.tp_types.specs.declared.configs.QueueKind.TheVariants.{Handoff, Unbounded, Bounded}
+use Rattle.tp_types.specs.declared.configs.QueueKind.TheVariants.{Handoff, Unbounded, Bounded, Priority}
 use Rattle.tp_types.specs.declared.configs.Policy.{Policy}
 use Rattle.tp_types.specs.Policy.{policy_name}
 use Rattle.tp_text.specs.declared.pools.PoolLine.{PoolLine}
@@ -14,6 +14,7 @@ abbrev pub queue_text : QueueKind → List ℕ
 queue_text Handoff = codes "handoff"
 queue_text Unbounded = codes "unbounded"
 queue_text (Bounded n) = spaced (codes "bounded") (decimal n)
+queue_text Priority = codes "priority"
 
 abbrev pub limit_text : ℕ → List ℕ
 limit_text n = spaced (codes "limit") (decimal n)
@@ -58,6 +59,7 @@ abbrev pub FitsQueue : QueueKind → Type 0
 FitsQueue Handoff = Unit {0}
 FitsQueue Unbounded = Unit {0}
 FitsQueue (Bounded n) = Fits32 n
+FitsQueue Priority = Unit {0}
 
 abbrev pub FitsSizes : Sizes → Type 0
 FitsSizes p = Fits32 p.0 × Fits32 p.1.0 × FitsQueue p.1.1.0 × Fits64 p.1.1.1.0 × FitsOptions p.1.1.1.1.1

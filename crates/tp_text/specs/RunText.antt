@@ -16,9 +16,9 @@ abbrev pub Answer : Type 0
 Answer = Result Entry PoolError
 
 -- the tasks that an entry hands back: at a stop the whole queue of the history before it
-abbrev pub drained : List Entry → Did → List ℕ
-drained h (did.Stop n) = queue h
-drained h _ = []
+abbrev pub drained : Config → List Entry → Did → List ℕ
+drained c h (did.Stop n) = queue c h
+drained c h _ = []
 
 -- the line of tasks that were handed back, where there are any
 abbrev pub back_lines : List ℕ → List ℕ
@@ -26,9 +26,9 @@ back_lines [] = []
 back_lines (t ∷ ts) = back_line (t ∷ ts)
 
 -- what an answer after the history h writes
-abbrev pub answer_lines : List Entry → Answer → List ℕ
-answer_lines h (Ok e) = entry_line (suc (length h)) e ++ back_lines (drained h e.did)
-answer_lines h (Err r) = refusal_line r
+abbrev pub answer_lines : Config → List Entry → Answer → List ℕ
+answer_lines c h (Ok e) = entry_line (suc (length h)) e ++ back_lines (drained c h e.did)
+answer_lines c h (Err r) = refusal_line r
 
 -- the history after an answer
 abbrev pub after : List Entry → Answer → List Entry
@@ -41,9 +41,9 @@ after_all h [] = h
 after_all h (a ∷ answers) = after_all (after h a) answers
 
 -- what these answers write, the first of which comes first
-abbrev pub run_lines : List Entry → List Answer → List ℕ
-run_lines h [] = []
-run_lines h (a ∷ answers) = answer_lines h a ++ run_lines (after h a) answers
+abbrev pub run_lines : Config → List Entry → List Answer → List ℕ
+run_lines c h [] = []
+run_lines c h (a ∷ answers) = answer_lines c h a ++ run_lines c (after h a) answers
 
 -- the fates of the tasks from number t on
 abbrev pub fate_lines : ℕ → List TaskRow → List ℕ
@@ -56,7 +56,7 @@ end_lines s = fate_lines 0 s.tasks ++ (state_line (state_at s.rank) ++ counts_li
 
 -- the output of a whole run of a pool that was made with c, by its answers, the first of which comes first
 abbrev pub output : Config → List Answer → List ℕ
-output c answers = run_lines [] answers ++ end_lines (state c (after_all [] answers))
+output c answers = run_lines c [] answers ++ end_lines (state c (after_all [] answers))
 
 -- a text begins with this one
 abbrev pub IsFront : List ℕ → List ℕ → Type 0

@@ -2,7 +2,7 @@
 ghost use Rattle.std.specs.Prelude.{◌≡◌};
 ghost use Rattle.std.specs.Fmt.{WritesOnOk};
 ghost use Rattle.tp_record.specs.declared.entries.Did.{Did};
-ghost use Rattle.tp_text.specs.EntryLine.{behind, did_words, effect_word, kind_words, looked_words, outcome_words};
+ghost use Rattle.tp_text.specs.EntryLine.{behind, did_words, effect_word, kind_words, looked_words, outcome_words, priority_words};
 
 use std::fmt::{self, Formatter};
 use tp_record::entries::{Failed, Grown, Looked, Offered, Opened, Ruled, Seconded, Started, Took};
@@ -26,6 +26,15 @@ fn write_kind<W: fmt::Write>(f: &mut Formatter<W>, kind: Kind) -> fmt::Result
     }
 }
 
+fn write_priority<W: fmt::Write>(f: &mut Formatter<W>, priority: u32) -> fmt::Result
+    ensures { WritesOnOk W.write_str_gives f.old result (behind (priority_words priority)) f.new }
+{
+    if priority == 0 {
+        return Ok(());
+    }
+    write!(f, " prio {priority}")
+}
+
 fn write_looked<W: fmt::Write>(f: &mut Formatter<W>, looked: Looked) -> fmt::Result
     ensures { WritesOnOk W.write_str_gives f.old result (behind (looked_words looked)) f.new }
 {
@@ -45,18 +54,20 @@ fn write_outcome<W: fmt::Write>(f: &mut Formatter<W>, outcome: Outcome) -> fmt::
     }
 }
 
-/// ` submit t0 group 3 reserve w0`.
+/// ` submit t0 group 3 prio 5 reserve w0`.
 pub fn write_submit<W: fmt::Write>(
     f: &mut Formatter<W>,
     task: TaskId,
     kind: Kind,
+    priority: u32,
     looked: Looked,
 ) -> fmt::Result
-    ensures { WritesOnOk W.write_str_gives f.old result (behind (did_words (Did.Submit task kind looked))) f.new }
+    ensures { WritesOnOk W.write_str_gives f.old result (behind (did_words (Did.Submit task kind priority looked))) f.new }
 {
     let TaskId(task) = task;
     write!(f, " submit t{task}")?;
     write_kind(f, kind)?;
+    write_priority(f, priority)?;
     write_looked(f, looked)
 }
 

@@ -18,7 +18,9 @@ fn write_did<W: fmt::Write>(f: &mut Formatter<W>, did: Did) -> fmt::Result
     ensures { WritesOnOk W.write_str_gives f.old result (behind (did_words did)) f.new }
 {
     match did {
-        Did::Submit(task, kind, looked) => write_submit(f, task, kind, looked),
+        Did::Submit(task, kind, priority, looked) => {
+            write_submit(f, task, kind, priority, looked)
+        }
         Did::Look(task, looked) => write_look(f, task, looked),
         Did::Offer(task, offered) => write_offer(f, task, offered),
         Did::Second(task, seconded) => write_second(f, task, seconded),

@@ -131,6 +131,7 @@ fn queue_on(text: &str) -> Option<(QueueKind, (u64, (Policy, Options)))>
             let (capacity, on) = capacity_on(rest)?;
             Some((QueueKind::Bounded(capacity), on))
         }
+        "priority" => Some((QueueKind::Priority, keep_on(rest)?)),
         _ => None,
     }
 }

@@ -1,5 +1,6 @@
 //! The output of a run, as far as it is written.
 ghost use Rattle.std.specs.Prelude.{◌≡◌, ℕ, suc, List, [], ◌++◌, length, map, Ok, IsOk, OnErr, OnOk, IsOkUnless, string_bytes};
+ghost use Rattle.tp_types.specs.declared.configs.Config.{Config};
 ghost use Rattle.tp_record.specs.declared.entries.Entry.{Entry};
 ghost use Rattle.tp_text.specs.EndLines.{refusal_line, fate_line, state_line, counts_line};
 ghost use Rattle.tp_text.specs.RunText.{answer_lines, drained};
@@ -51,9 +52,9 @@ impl Output {
     /// Writes what an accepted step writes: the line of its entry, which has this number, and the line
     /// of the tasks that it handed back, where there are any.
     pub fn entry(&mut self, number: usize, entry: &Entry, back: &[TaskId]) -> Result<(), PoolError>
-        ensures ok { OnOk result ((h : List Entry) → number ≡ suc (length h)
-            → map (λ task. task.0) back.now ≡ drained h entry.now.did
-            → self.new.written.items ≡ self.old.written.items ++ answer_lines h (Ok entry.now)) }
+        ensures ok { OnOk result ((c : Config) (h : List Entry) → number ≡ suc (length h)
+            → map (λ task. task.0) back.now ≡ drained c h entry.now.did
+            → self.new.written.items ≡ self.old.written.items ++ answer_lines c h (Ok entry.now)) }
         ensures err { OnErr result (self.new.written.items ≡ self.old.written.items) }
         ensures only_memory { IsOkUnless result PoolError.NoMemory }
     {

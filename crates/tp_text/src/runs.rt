@@ -23,9 +23,9 @@ pub fn write_lines(
     entry: &Entry,
     back: &[TaskId],
 ) -> Result<(), AllocError>
-    ensures { OnOk result ((h : List Entry) → number ≡ suc (length h)
-        → map (λ task. task.0) back.now ≡ drained h entry.now.did
-        → string_bytes line.new ≡ string_bytes line.old ++ answer_lines h (Ok entry.now)) }
+    ensures { OnOk result ((c : Config) (h : List Entry) → number ≡ suc (length h)
+        → map (λ task. task.0) back.now ≡ drained c h entry.now.did
+        → string_bytes line.new ≡ string_bytes line.old ++ answer_lines c h (Ok entry.now)) }
 {
     write_entry(line, number, entry)?;
     if back.is_empty() {
@@ -38,10 +38,10 @@ pub fn write_lines(
 pub fn lines_grow()
     ensures history { (h : List Entry) (earlier : List Answer) (a : Answer)
         → after_all h (earlier ++ a ∷ []) ≡ after (after_all h earlier) a }
-    ensures lines { (h : List Entry) (earlier : List Answer) (a : Answer)
-        → run_lines h (earlier ++ a ∷ []) ≡ run_lines h earlier ++ answer_lines (after_all h earlier) a }
-    ensures parts { (h : List Entry) (earlier later : List Answer)
-        → run_lines h (earlier ++ later) ≡ run_lines h earlier ++ run_lines (after_all h earlier) later }
+    ensures lines { (c : Config) (h : List Entry) (earlier : List Answer) (a : Answer)
+        → run_lines c h (earlier ++ a ∷ []) ≡ run_lines c h earlier ++ answer_lines c (after_all h earlier) a }
+    ensures parts { (c : Config) (h : List Entry) (earlier later : List Answer)
+        → run_lines c h (earlier ++ later) ≡ run_lines c h earlier ++ run_lines c (after_all h earlier) later }
 {}
 
 /// The law that the lines of fates grow task by task.
@@ -54,11 +54,11 @@ pub fn fates_grow()
 /// answers, between two fates, or before the counters.
 pub fn broken_off_is_front()
     ensures answers { (c : Config) (earlier later : List Answer)
-        → IsFront (run_lines [] earlier) (output c (earlier ++ later)) }
+        → IsFront (run_lines c [] earlier) (output c (earlier ++ later)) }
     ensures fates { (c : Config) (answers : List Answer) (i : ℕ)
-        → IsFront (run_lines [] answers ++ fate_lines 0 (take i (state c (after_all [] answers)).tasks)) (output c answers) }
+        → IsFront (run_lines c [] answers ++ fate_lines 0 (take i (state c (after_all [] answers)).tasks)) (output c answers) }
     ensures state { (c : Config) (answers : List Answer)
-        → IsFront (run_lines [] answers ++ (fate_lines 0 (state c (after_all [] answers)).tasks
+        → IsFront (run_lines c [] answers ++ (fate_lines 0 (state c (after_all [] answers)).tasks
         ++ state_line (state_at (state c (after_all [] answers)).rank))) (output c answers) }
 {}
 

@@ -4,7 +4,6 @@ use Rattle.std.specs.Prelude.{All, Some}
 use Rattle.std.proofs.lemmas.List.{append-nil}
 use Rattle.std.proofs.lemmas.List.Elements.{All-nil, All-cons, All-append, All-pop}
 use Rattle.tp_types.specs.declared.configs.Config.{Config}
-use Rattle.tp_types.specs.declared.tasks.Kind.{Kind}
 use Rattle.tp_record.specs.declared.entries.Ask.TheVariants as ask
 use Rattle.tp_record.specs.declared.entries.Did.TheVariants as did
 use Rattle.tp_record.specs.declared.entries.Entry.{Entry}
@@ -16,7 +15,7 @@ use Rattle.tp_locked.specs.Passes.{Adds, entry_of, tidied, ended}
 use Rattle.tp_pool.specs.Closing.{Reports}
 use Rattle.tp_pool.specs.Endings.{AddsAndEnds, IsBarred, IsEnding}
 use Rattle.tp_locked.proofs.Receipts.{adds_both}
-use Rattle.tp_threads.specs.Runs.{AddsEnd, AddsSubmissions, IsClosed, IsEnd, IsRun}
+use Rattle.tp_threads.specs.Runs.{AddsEnd, AddsSubmissions, Asked, IsClosed, IsEnd, IsRun}
 
 two_ended : (by : ℕ) → All (λ e. (e ≡ tidied by) ⊎ (e ≡ ended by)) (tidied by ∷ ended by ∷ [])
 two_ended by =
@@ -65,7 +64,7 @@ closed_by c pass now r end reports =
     }
 
 -- the whole life
-pub run_of : (c : Config) (first mid : PassView) (ks : List Kind) (r : Report) → first.number ≡ 0 → first.receipts ≡ [] → AddsSubmissions c ks first mid → IsClosed c mid r → IsRun c ks r
+pub run_of : (c : Config) (first mid : PassView) (ks : List Asked) (r : Report) → first.number ≡ 0 → first.receipts ≡ [] → AddsSubmissions c ks first mid → IsClosed c mid r → IsRun c ks r
 run_of c first mid ks r zeroth none before closed =
     let number : mid.number ≡ 0 = before.2.number ∙ zeroth in
     let receipts : mid.receipts ≡ before.0 = before.2.receipts ∙ ap (λ rs. rs ++ before.0) none in record {

@@ -1,6 +1,6 @@
 -- How a submission is refused before its first step.
-use Rattle.std.proofs.Common.{◌≡◌, ◌⊎◌, Bool, true, false, List, length, inl, inr, arith}
-use Rattle.std.specs.Prelude.{Ok, Err, None, if◌then◌else◌}
+use Rattle.std.proofs.Common.{ℕ, ◌≡◌, ◌⊎◌, Bool, true, false, List, length, inl, inr, arith}
+use Rattle.std.specs.Prelude.{Ok, Err, None, ⊤, if◌then◌else◌}
 use Rattle.std.proofs.lemmas.List.{get_or_past}
 use Rattle.tp_types.specs.declared.configs.Config.{Config}
 use Rattle.tp_types.specs.declared.refusals.PoolError.{PoolError}
@@ -23,9 +23,9 @@ by_room : (c : Config) (s : State) (b : Bool) (d : Did) (e : PoolError) → ◌�
 by_room c s true d e is = by_test (leaves_room c s d) d BookFull e is
 by_room c s false d e is = grind arith
 
-pub before_first : (c : Config) (history : List Entry) (k : Kind) (e : PoolError) → Refuses c history (ask.Submit k) e → (e ≡ NoMemory) ⊎ (e ≡ BookFull)
-before_first c history k e (inl none) = inl none
-before_first c history k e (inr at) =
+pub before_first : (c : Config) (history : List Entry) (k : Kind) (p : ℕ) (e : PoolError) → Refuses c ⊤ history (ask.Submit k p) e → (e ≡ NoMemory) ⊎ (e ≡ BookFull)
+before_first c history k p e (inl none) = inl none.0
+before_first c history k p e (inr at) =
     let s = state c history in
     elim at.holds [
       | inl refuses ↦ inr (by_room c s _ _ e (refuses (length s.slots) (inl (get_or_past s.slots (length s.slots) None (omega arith)))))

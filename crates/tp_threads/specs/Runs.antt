@@ -1,5 +1,5 @@
 -- What a run of a file of jobs leaves: in its caller's pass, in the record of its pool, and where it is written.
-use Rattle.std.specs.Prelude.{ℕ, ◌≡◌, ◌⊎◌, List, [], ◌∷◌, ◌++◌, All, map, reverse, Option, Ok, Err, if◌then◌else◌}
+use Rattle.std.specs.Prelude.{ℕ, ◌≡◌, ◌⊎◌, List, [], ◌∷◌, ◌++◌, All, map, reverse, Option, unwrap_or, Ok, Err, if◌then◌else◌}
 use Rattle.std.specs.Io.KnownBytes.{Appends}
 use Rattle.tp_types.specs.Config.{IsConfig, checked}
 use Rattle.tp_types.specs.declared.configs.Config.{Config}
@@ -15,6 +15,7 @@ use Rattle.tp_record.specs.Fields.{rank}
 use Rattle.tp_record.specs.Paths.{Admission, IsPath, own}
 use Rattle.tp_record.specs.State.{state, counts}
 use Rattle.tp_record.specs.Step.{Legal}
+use Rattle.tp_record_text.specs.declared.versions.Version.TheVariants as version
 use Rattle.tp_record_text.specs.RecordText.{record_text}
 use Rattle.tp_scenario.specs.Jobs.{IsRead}
 use Rattle.tp_scenario.specs.declared.jobs.JobLine.{JobLine}
@@ -24,33 +25,37 @@ use Rattle.tp_book.specs.declared.book.closing.Report.{Report}
 use Rattle.tp_locked.specs.Passes.{Adds, AddsNone, entry_of, tidied, ended}
 use Rattle.tp_pool.specs.Admissions.{AddsFront, AsksFor}
 
--- the kind of a job's task: a future where it is submitted, a plain task where it is executed
-abbrev pub kind_of : JobLine → Kind
-kind_of job = if job.future then kind.Future else kind.Plain
+-- as what a task is submitted: its kind and its priority
+abbrev pub Asked : Type 0
+Asked = Kind × ℕ
 
-abbrev pub kinds : List JobLine → List Kind
-kinds jobs = map kind_of jobs
+-- a job's task: a future where it is submitted, a plain task where it is executed; its line's priority, or 0
+abbrev pub asked_of : JobLine → Asked
+asked_of job = (if job.future then kind.Future else kind.Plain, unwrap_or job.priority 0)
 
--- the whole path of the submission of a task of this kind
-abbrev pub IsSubmission : Kind → List Entry → Type 0
-IsSubmission k steps = (t : ℕ) × (end : Admission) × IsPath t steps end × AsksFor k steps
+abbrev pub asked : List JobLine → List Asked
+asked jobs = map asked_of jobs
 
--- submissions of tasks of these kinds, in this order, each followed to its end before the next begins
-abbrev pub AreSubmissions : List Kind → List Entry → Type 0
+-- the whole path of the submission of a task as this
+abbrev pub IsSubmission : Asked → List Entry → Type 0
+IsSubmission k steps = (t : ℕ) × (end : Admission) × IsPath t steps end × AsksFor k.0 k.1 steps
+
+-- submissions of tasks as these, in this order, each followed to its end before the next begins
+abbrev pub AreSubmissions : List Asked → List Entry → Type 0
 AreSubmissions [] steps = steps ≡ []
 AreSubmissions (k ∷ ks) steps = (path rest : List Entry) × (steps ≡ path ++ rest) × IsSubmission k path × AreSubmissions ks rest
 
 -- the pass has their receipts
-abbrev pub AddsSubmissions : Config → List Kind → PassView → PassView → Type 0
+abbrev pub AddsSubmissions : Config → List Asked → PassView → PassView → Type 0
 AddsSubmissions c ks old new = (steps : List Entry) × AreSubmissions ks steps × Adds c old steps new
 
--- a submission of a task of this kind is refused: torn off on its path, or before its first step
-abbrev pub IsTorn : Config → Kind → PoolError → PassView → PassView → Type 0
-IsTorn c k e old new = (((e ≡ NoMemory) ⊎ (e ≡ BookFull)) × AddsNone old new) ⊎ ((e ≡ TornRecord) × ((t : TaskId) × AddsFront c k t old new))
+-- a submission of a task as this is refused: torn off on its path, or before its first step
+abbrev pub IsTorn : Config → Asked → PoolError → PassView → PassView → Type 0
+IsTorn c k e old new = (((e ≡ NoMemory) ⊎ (e ≡ BookFull)) × AddsNone old new) ⊎ ((e ≡ TornRecord) × ((t : TaskId) × AddsFront c k.0 k.1 t old new))
 
--- the first of the submissions of these kinds are followed to their end, and the one behind them is refused: it is the last
-abbrev pub BreaksOff : Config → List Kind → PoolError → PassView → PassView → Type 0
-BreaksOff c ks e old new = (before : List Kind) × (k : Kind) × (behind : List Kind) × (mid : PassView) × (ks ≡ before ++ k ∷ behind) × AddsSubmissions c before old mid × IsTorn c k e mid new
+-- the first of these submissions are followed to their end, and the one behind them is refused: it is the last
+abbrev pub BreaksOff : Config → List Asked → PoolError → PassView → PassView → Type 0
+BreaksOff c ks e old new = (before : List Asked) × (k : Asked) × (behind : List Asked) × (mid : PassView) × (ks ≡ before ++ k ∷ behind) × AddsSubmissions c before old mid × IsTorn c k e mid new
 
 -- a shutdown, and steps of the pool's end
 abbrev pub IsEnd : ℕ → List Entry → Type 0
@@ -68,9 +73,9 @@ pub record IsClosed (c : Config) (pass : PassView) (r : Report) : Type 0 where
   pub counts : r.counts ≡ counts (state c (reverse r.entries.items))
   pub receipts : (last : List Entry) × IsEnd pass.number last × (own pass.number r.entries.items ≡ pass.receipts ++ last)
 
--- the report of a pool with these settings that ran jobs of these kinds: its record is legal and ends it, and pass 0 submitted tasks of these
--- kinds in their order, each to the end of its submission, and then shut the pool down
-pub record IsRun (c : Config) (ks : List Kind) (r : Report) : Type 0 where
+-- the report of a pool with these settings that ran jobs of these kinds and priorities: its record is legal and ends it, and pass 0 submitted
+-- such tasks in their order, each to the end of its submission, and then shut the pool down
+pub record IsRun (c : Config) (ks : List Asked) (r : Report) : Type 0 where
   pub good : IsConfig c
   pub legal : Legal c (reverse r.entries.items)
   pub ended : (state c (reverse r.entries.items)).rank ≡ 4
@@ -87,8 +92,8 @@ RefusesRun c e = (checked c ≡ Err e) ⊎ IsShort e
 
 -- the jobs of the text that a reader has were run, and the text of the record was written
 abbrev pub WritesRun : Option (List ℕ) → Option (List ℕ) → Option (List ℕ) → Type 0
-WritesRun input old new = (jobs : Jobs) × (r : Report) × IsRead input (Ok jobs) × IsRun jobs.config (kinds jobs.jobs.items) r
-    × Appends old new (record_text jobs.config r.entries.items)
+WritesRun input old new = (jobs : Jobs) × (r : Report) × IsRead input (Ok jobs) × IsRun jobs.config (asked jobs.jobs.items) r
+    × Appends old new (record_text version.Two jobs.config r.entries.items)
 
 -- the text is refused, or the run of its jobs
 abbrev pub RefusesText : Option (List ℕ) → PoolError → Type 0

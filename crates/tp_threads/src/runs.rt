@@ -1,6 +1,6 @@
 //! A pool's whole life: it runs the jobs of a file.
 ghost use Rattle.std.specs.Prelude.{◌≡◌, [], IfOk, IfErr, OnOk};
-ghost use Rattle.tp_threads.specs.Runs.{AddsEnd, IsClosed, IsRun, IsShort, RefusesRun, kinds};
+ghost use Rattle.tp_threads.specs.Runs.{AddsEnd, IsClosed, IsRun, IsShort, RefusesRun, asked};
 
 use crate::submissions::{Company, submit_all};
 use std::alloc::Global;
@@ -81,7 +81,7 @@ fn life<G: PoolNaming + Send + Sync + 'static, R: Threads + Wait + Copy + Send +
 ) -> Result<Report, PoolError>
     requires named { unopened ≡ record { ledger = G.name; parts = G.parts; table = G.table } }
     requires settings { settings ≡ G.config }
-    ensures run { IfOk result (IsRun settings (kinds jobs.now)) }
+    ensures run { IfOk result (IsRun settings (asked jobs.now)) }
     ensures refused { IfErr result (RefusesRun settings) }
 {
     let mut passes = Vec::new(alloc);
@@ -117,7 +117,7 @@ pub fn run_jobs<R: Threads + Wait + Copy + Send + 'static>(
     jobs: &Jobs,
     kept: &mut Option<Report>,
 ) -> Result<Report, PoolError>
-    ensures run { IfOk result (IsRun jobs.now.config (kinds jobs.now.jobs.items)) }
+    ensures run { IfOk result (IsRun jobs.now.config (asked jobs.now.jobs.items)) }
     ensures refused { IfErr result (RefusesRun jobs.now.config) }
 {
     let unopened = match Unopened::new(alloc) {

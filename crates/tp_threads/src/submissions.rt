@@ -1,7 +1,7 @@
 //! The jobs of a file are submitted, in their order.
 ghost use Rattle.std.specs.Prelude.{◌≡◌, [], ◌∷◌, IfErr, OnOk};
 ghost use Rattle.tp_record.specs.Step.{Legal};
-ghost use Rattle.tp_threads.specs.Runs.{AddsSubmissions, BreaksOff, IsTorn, kind_of, kinds};
+ghost use Rattle.tp_threads.specs.Runs.{AddsSubmissions, BreaksOff, IsTorn, asked, asked_of};
 
 use crate::scripted::Scripted;
 use std::sync::Wait;
@@ -21,15 +21,16 @@ pub type Company<G> = PoolOf<G, Scripted, Defaults>;
 /// that a pool can be ended where it was refused for want of memory.
 const RECEIPTS: usize = 1_024;
 
-// The kind of a job's task.
-fn kind_of(job: &JobLine) -> Kind
-    ensures { result ≡ kind_of job.now }
+// As what a job's task is submitted: its kind and its priority.
+fn asked_of(job: &JobLine) -> (Kind, u32)
+    ensures { result ≡ asked_of job.now }
 {
-    if job.future {
+    let kind = if job.future {
         Kind::Future
     } else {
         Kind::Plain
-    }
+    };
+    (kind, job.priority.unwrap_or(0))
 }
 
 // Submits a job, and follows it to the end of its submission; a rejected one has ended too. NoMemory (4) or
@@ -40,8 +41,8 @@ fn submit<G: PoolNaming + Send + Sync + 'static, R: Threads + Wait + Copy + Send
     job: &JobLine,
     pass: &mut Pass<G>,
 ) -> Result<(), PoolError>
-    ensures whole { OnOk result (AddsSubmissions G.config (kind_of job.now ∷ []) pass.old pass.new) }
-    ensures refused { IfErr result (λ e. IsTorn G.config (kind_of job.now) e pass.old pass.new) }
+    ensures whole { OnOk result (AddsSubmissions G.config (asked_of job.now ∷ []) pass.old pass.new) }
+    ensures refused { IfErr result (λ e. IsTorn G.config (asked_of job.now) e pass.old pass.new) }
 {
     if let Err(error) = pass.reserve(RECEIPTS) {
         return Err(error);
@@ -49,7 +50,8 @@ fn submit<G: PoolNaming + Send + Sync + 'static, R: Threads + Wait + Copy + Send
     let scripted = Scripted {
         outcome: job.outcome,
     };
-    match pool.execute_as(&rt, kind_of(job), scripted, pass) {
+    let (kind, priority) = asked_of(job);
+    match pool.execute_at(&rt, kind, priority, scripted, pass) {
         Ok(_) => Ok(()),
         Err(refused) => match refused.error {
             PoolError::Rejected(_) => Ok(()),
@@ -67,8 +69,8 @@ pub fn submit_all<G: PoolNaming + Send + Sync + 'static, R: Threads + Wait + Cop
     pass: &mut Pass<G>,
 ) -> Result<(), PoolError>
     requires legal { Legal G.config pass.old.front }
-    ensures whole { OnOk result (AddsSubmissions G.config (kinds jobs.now) pass.old pass.new) }
-    ensures refused { IfErr result (λ e. BreaksOff G.config (kinds jobs.now) e pass.old pass.new) }
+    ensures whole { OnOk result (AddsSubmissions G.config (asked jobs.now) pass.old pass.new) }
+    ensures refused { IfErr result (λ e. BreaksOff G.config (asked jobs.now) e pass.old pass.new) }
 {
     for job in jobs {
         if let Err(error) = submit(rt, pool, job, pass) {

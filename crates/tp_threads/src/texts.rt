@@ -29,7 +29,7 @@ pub struct Unfinished {
 // Whether an entry is a submission.
 fn is_submission(entry: &Entry) -> bool {
     match entry.did {
-        Did::Submit(_, _, _) => true,
+        Did::Submit(_, _, _, _) => true,
         _ => false,
     }
 }

@@ -29,7 +29,7 @@ state running
 counts submitted=1 run=0 caller=0 rejected=0 discarded=0 handedback=0 removed=0 cancelled=0 completed=0 queued=0 live=1 largest=1
 ";
 
-const REFUSED_RECORD: &str = "tprecord 1
+const REFUSED_RECORD: &str = "tprecord 2
 pool 1 1 unbounded keep 0 abort
 1 submit t0 plain reserve w0
 2 open w0 live

@@ -31,7 +31,7 @@ const COPIED: [Row; 8] = [
  --> a.txt:1:1
   |
 1 | 1 submit t0 plain reserve w0
-  | ^^^^^^^^^^^^^^^^^^^^^^^^^^^^ write 'tprecord 1' and the pool line before it, as `poolrun steps --record` does
+  | ^^^^^^^^^^^^^^^^^^^^^^^^^^^^ write 'tprecord 2' and the pool line before it, as `poolrun steps --record` does
 ",
     ),
     // What `steps` printed, taken for a scenario.
@@ -100,14 +100,14 @@ const COPIED: [Row; 8] = [
 1 |\u{20}
   | ^ the text ends here
   = form: pool CORE MAX QUEUE keep TICKS POLICY, then maybe coretimeout, then maybe limit ENTRIES
-  = QUEUE is handoff, unbounded or bounded PLACES
+  = QUEUE is handoff, unbounded, bounded PLACES or priority
   = as: pool 1 4 bounded 16 keep 0 abort
 ",
     ),
 ];
 
 /// Pool lines.
-const POOLS: [Row; 5] = [
+const POOLS: [Row; 6] = [
     (
         "steps",
         "submit plain 5\n",
@@ -118,7 +118,7 @@ const POOLS: [Row; 5] = [
 1 | submit plain 5
   | ^^^^^^ the pool line comes first
   = form: pool CORE MAX QUEUE keep TICKS POLICY, then maybe coretimeout, then maybe limit ENTRIES
-  = QUEUE is handoff, unbounded or bounded PLACES
+  = QUEUE is handoff, unbounded, bounded PLACES or priority
   = as: pool 1 4 bounded 16 keep 0 abort
 ",
     ),
@@ -133,7 +133,7 @@ const POOLS: [Row; 5] = [
   |                    ^
   = expected: keep
   = form: pool CORE MAX QUEUE keep TICKS POLICY, then maybe coretimeout, then maybe limit ENTRIES
-  = QUEUE is handoff, unbounded or bounded PLACES
+  = QUEUE is handoff, unbounded, bounded PLACES or priority
   = as: pool 1 4 bounded 16 keep 0 abort
 ",
     ),
@@ -146,9 +146,24 @@ const POOLS: [Row; 5] = [
   |
 1 | pool 1 1 LinkedBlockingQueue keep 0 abort
   |          ^^^^^^^^^^^^^^^^^^^ did you mean 'unbounded'?
-  = expected: handoff, unbounded or bounded
+  = expected: handoff, unbounded, bounded or priority
   = form: pool CORE MAX QUEUE keep TICKS POLICY, then maybe coretimeout, then maybe limit ENTRIES
-  = QUEUE is handoff, unbounded or bounded PLACES
+  = QUEUE is handoff, unbounded, bounded PLACES or priority
+  = as: pool 1 4 bounded 16 keep 0 abort
+",
+    ),
+    (
+        "steps",
+        "pool 1 1 PriorityBlockingQueue keep 0 abort\n",
+        "refused 23 BadLine 1\n",
+        "error: 'PriorityBlockingQueue' may not stand here
+ --> a.txt:1:10
+  |
+1 | pool 1 1 PriorityBlockingQueue keep 0 abort
+  |          ^^^^^^^^^^^^^^^^^^^^^ did you mean 'priority'?
+  = expected: handoff, unbounded, bounded or priority
+  = form: pool CORE MAX QUEUE keep TICKS POLICY, then maybe coretimeout, then maybe limit ENTRIES
+  = QUEUE is handoff, unbounded, bounded PLACES or priority
   = as: pool 1 4 bounded 16 keep 0 abort
 ",
     ),
@@ -164,7 +179,7 @@ const POOLS: [Row; 5] = [
   = expected: TICKS
   = TICKS is a time in ticks, 0 to 18446744073709551615
   = form: pool CORE MAX QUEUE keep TICKS POLICY, then maybe coretimeout, then maybe limit ENTRIES
-  = QUEUE is handoff, unbounded or bounded PLACES
+  = QUEUE is handoff, unbounded, bounded PLACES or priority
   = as: pool 1 4 bounded 16 keep 0 abort
 ",
     ),
@@ -247,12 +262,14 @@ const STEPS: [Row; 6] = [
         "steps",
         "pool 1 1 unbounded keep 0 abort\nsubmit plain 5 # the first\n",
         "refused 23 BadLine 2\n",
-        "error: '#' is one word too many
+        "error: '#' may not stand here
  --> a.txt:2:16
   |
 2 | submit plain 5 # the first
   |                ^ no comment stands behind other words
+  = expected: prio or the end of the line
   = form: submit plain V
+  = form: submit plain V prio N
 ",
     ),
     (
@@ -269,7 +286,7 @@ const STEPS: [Row; 6] = [
 ];
 
 /// Records. Read line by line they are refused with the same words.
-const RECORDS: [Row; 7] = [
+const RECORDS: [Row; 9] = [
     (
         "audit",
         "tprecord 1\npool 1 1 unbounded keep 0 abort\n1 submit t0 plain res",
@@ -334,6 +351,29 @@ const RECORDS: [Row; 7] = [
   |
 4 | 1 shutdown
   | ^^^^^^^^^^ take it out
+",
+    ),
+    // A queue and a priority of the second form, in the first.
+    (
+        "audit",
+        "tprecord 1\npool 1 1 priority keep 0 abort\nend 0\n",
+        "refused 24 BadEntry 2\n",
+        "error: a record that begins with 'tprecord 1' has no priorities
+ --> a.txt:2:10
+  |
+2 | pool 1 1 priority keep 0 abort
+  |          ^^^^^^^^ write 'tprecord 2' in the first line
+",
+    ),
+    (
+        "audit",
+        "tprecord 2\npool 1 1 priority keep 0 abort\n1 submit t0 plain prio 0 queue\nend 1\n",
+        "refused 24 BadEntry 3\n",
+        "error: priority 0 is not written
+ --> a.txt:3:19
+  |
+3 | 1 submit t0 plain prio 0 queue
+  |                   ^^^^^^ take it out
 ",
     ),
     (

@@ -58,7 +58,7 @@ fn tells_why_a_reader_fails(rt: HostRuntime) -> Result<(), Fail> {
 }
 
 /// Texts that no editor writes.
-const HOSTILE: [&[u8]; 9] = [
+const HOSTILE: [&[u8]; 12] = [
     b"\n",
     b"\0",
     b"\xFF\xFE\n",
@@ -66,6 +66,9 @@ const HOSTILE: [&[u8]; 9] = [
     b"pool 1 1 unbounded keep 0 abort\n\xF0\x9F\x92\xA9\n",
     b"pool 1 1 unbounded keep 0 abort\nend 18446744073709551616\n",
     b"tprecord 1\npool 0 0 handoff keep 0 abort\n",
+    b"tprecord 1\npool 0 0 priority keep 0 abort\n",
+    b"tprecord 2\npool 0 0 priority keep 0 abort\n",
+    b"tprecord 2\npool 1 1 priority keep 0 abort\n1 submit t0 plain prio 4294967296 queue\nend 1\n",
     b"tprecord 1\npool 1 1 unbounded keep 0 abort limit 64\n1 open w18446744073709551615 live\nend 1\n",
     b"tprecord 1\npool 1 1 unbounded keep 0 abort limit 64\n1 tick 18446744073709551615\nend 1\nend 1\n",
 ];

@@ -3,6 +3,7 @@ ghost use Rattle.std.specs.Prelude.{◌≡◌, ◌↔◌};
 ghost use Rattle.tp_types.specs.Policy.{policy_name, PoliciesAreDistinct};
 ghost use Rattle.tp_types.specs.Verdict.{verdict_name, VerdictsAreDistinct};
 ghost use Rattle.tp_types.specs.Config.{IsConfig, HasBadSizes, HasBadCapacity, HasBadLimit, HasZeroKeep, HasGoodCapacity, are_good_sizes, is_good_capacity, is_good_limit, is_good_keep, checked};
+ghost use Rattle.tp_types.specs.Queues.{is_ranked, is_open};
 
 use crate::limits::{MAX_CAPACITY, MAX_RECORD_LIMIT, MAX_WORKERS, MIN_RECORD_LIMIT};
 use crate::refusals::PoolError;
@@ -16,6 +17,9 @@ pub enum QueueKind {
     Unbounded,
     /// So many places for tasks, as in an `ArrayBlockingQueue`: 1 to 65,536, else BadCapacity (2).
     Bounded(u32),
+    /// Always room, and the task with the least priority number leaves first, as in a `PriorityBlockingQueue`. Of equal ones
+    /// that leaves first which was offered first.
+    Priority,
 }
 
 /// The rule for tasks that the pool cannot take, as the `RejectedExecutionHandler` given to a
@@ -73,12 +77,26 @@ pub struct Config {
 }
 
 impl QueueKind {
+    /// Whether its tasks leave by their priorities.
+    pub fn is_ranked(self) -> bool
+        ensures { result ≡ is_ranked self }
+    {
+        matches!(self, QueueKind::Priority)
+    }
+
+    /// Whether it always has room, once its places are reserved.
+    pub fn is_open(self) -> bool
+        ensures { result ≡ is_open self }
+    {
+        matches!(self, QueueKind::Unbounded | QueueKind::Priority)
+    }
+
     /// Whether a queue may have so many places: 1 to 65,536 where it is bounded.
     pub fn is_good_capacity(self) -> bool
         ensures { result ≡ is_good_capacity self }
     {
         match self {
-            QueueKind::Handoff | QueueKind::Unbounded => true,
+            QueueKind::Handoff | QueueKind::Unbounded | QueueKind::Priority => true,
             QueueKind::Bounded(places) => 1 <= places && places <= MAX_CAPACITY,
         }
     }

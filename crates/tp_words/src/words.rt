@@ -8,21 +8,22 @@ ghost use Rattle.tp_types.specs.declared.tasks.Fate.{Fate};
 ghost use Rattle.tp_types.specs.declared.tasks.Place.TheVariants as at;
 ghost use Rattle.tp_record.specs.declared.entries.Entry.{Entry};
 ghost use Rattle.tp_record.specs.declared.rows.SlotRow.{SlotRow};
-ghost use Rattle.tp_record.specs.Fields.{submitted, kind, is_cancelled, now, place, outcome, owes_second, retries, queue, is_queued_place, task_row, is_slot, slot_row, is_live, is_live_stage, idling, live, largest};
+ghost use Rattle.tp_record.specs.Fields.{submitted, kind, priority, is_cancelled, now, place, outcome, owes_second, retries, queue, is_queued_place, task_row, is_slot, slot_row, is_live, is_live_stage, idling, live, largest};
 ghost use Rattle.tp_record.specs.State.{state, fate_of, is_fate, counts};
 ghost use Rattle.tp_record.specs.Step.{Legal, done_of};
-ghost use Rattle.tp_record.specs.Words.{submissions, is_submitted, kind_of, was_cancelled, moment, waits_in_queue, in_slot, is_held_in, is_taken_in, is_running_in, with_submitter, is_at_caller, is_gone, waiting_line, slot_for, is_slot_now, is_live_now, is_busy, idle_since, is_dying, is_at_take, live_slots, largest_live, has_fate, begun, is_begun, is_waiting, done_in_group, counters, owes_look, retry_count, body_outcome};
+ghost use Rattle.tp_record.specs.Words.{submissions, is_submitted, kind_of, priority_of, was_cancelled, moment, waits_in_queue, in_slot, is_held_in, is_taken_in, is_running_in, with_submitter, is_at_caller, is_gone, waiting_line, slot_for, is_slot_now, is_live_now, is_busy, idle_since, is_dying, is_at_take, live_slots, largest_live, has_fate, begun, is_begun, is_waiting, done_in_group, counters, owes_look, retry_count, body_outcome};
 ghost use Rattle.tp_model.specs.Seats.{slot_of};
 ghost use Rattle.tp_words.specs.IdleLine.{idle_line};
 ghost use Rattle.tp_words.specs.Agrees.{submitter_of, is_caller_place, is_gone_place, is_running_place, is_waiting_place, is_held_at, is_taken_at, is_running_at, idle_of, is_dying_stage, is_busy_row, is_taking_row};
 
 /// The submissions are counted alike, and the submitted tasks are those with a smaller number. Kinds,
-/// cancels and the moment are read alike.
+/// priority numbers, cancels and the moment are read alike.
 pub fn tasks_agree()
     ensures submissions { (h : List Entry) → submissions h ≡ submitted h }
     ensures submitted { (c : Config) (h : List Entry) (t : ℕ) → Legal c h →
         is_submitted h t ≡ nat_lt t (submitted h) }
     ensures kind { (h : List Entry) (t : ℕ) → kind_of h t ≡ kind h t }
+    ensures priority { (h : List Entry) (t : ℕ) → priority_of h t ≡ priority h t }
     ensures cancelled { (c : Config) (h : List Entry) (t : ℕ) → Legal c h →
         was_cancelled h t ≡ is_cancelled h t }
     ensures moment { (h : List Entry) → moment h ≡ now h }
@@ -76,9 +77,9 @@ pub fn unsubmitted_is_nowhere()
 {}
 
 /// The queue is the line of the tasks that were put in it, in the order of these entries, without
-/// those that a later entry took out.
+/// those that a later entry took out; a priority queue goes by their priority numbers.
 pub fn queue_agrees()
-    ensures { (c : Config) (h : List Entry) → Legal c h → waiting_line h ≡ queue h }
+    ensures { (c : Config) (h : List Entry) → Legal c h → waiting_line c h ≡ queue c h }
 {}
 
 /// The slots are those with a reservation that no later entry freed. A reserved slot is for what its

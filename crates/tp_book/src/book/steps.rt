@@ -2,7 +2,7 @@
 ghost use Rattle.std.specs.Prelude.{◌≡◌, ◌<◌, ◌≤◌, ◌+◌, ◌++◌, [], ◌∷◌, option_map, IfOk, IfErr, OnOk, OnErr};
 ghost use Rattle.tp_machine.specs.Stepped.{IsPaid, did_of};
 ghost use Rattle.tp_glance.specs.Word.{IsFrontOf};
-ghost use Rattle.tp_book.specs.BookView.{Advances, IsAdvanced, IsUnmoved, IsDenied};
+ghost use Rattle.tp_book.specs.BookView.{config, Advances, IsAdvanced, IsUnmoved, IsDenied};
 
 use super::Book;
 use crate::passes::Pass;
@@ -34,10 +34,10 @@ impl<G: Naming, P> Book<G, P> {
         pass: &mut A,
     ) -> Result<S::Answer, (PoolError, S::Load)>
         requires brings { S.brings step load }
-        requires ready { A.ready pass.old }
+        requires ready { A.ready pass.old (S.ask step) }
         ensures answers { IfOk result (λ x. S.answers step x) }
         ensures step { IfOk result (λ x. Advances self.old self.new (A.number pass.old) (S.ask step) (S.did step x) (S.moves step load x)) }
-        ensures says { IfOk result (λ x. S.says step x self.old.history) }
+        ensures says { IfOk result (λ x. S.says step x (config self.old) self.old.history) }
         ensures paid { IfOk result (λ x. A.paid pass.old (record { by = A.number pass.old; ask = S.ask step; did = S.did step x }) pass.new) }
         ensures number { A.number pass.new ≡ A.number pass.old }
         ensures front { A.front pass.new ≡ self.new.history }

@@ -7,6 +7,7 @@ use tp_pool::gates::{Gate, OpenGate, Point};
 use tp_pool::handlers::{OneVerdict, RejectionHandler};
 use tp_pool::hooks::{Hooks, NoHooks};
 use tp_pool::jobs::{Boxed, Job};
+use tp_pool::{Any, Body};
 use tp_types::configs::Verdict;
 use tp_types::ids::{SlotId, TaskId};
 use tp_types::states::RunState;
@@ -69,6 +70,39 @@ fn boxed_job_has_a_turn(rt: HostRuntime) -> Result<(), Fail> {
         let had = turn(job, &flag, &mut Consenting, &mut NoHooks, &OpenGate);
         assert_eq!(rt; had, (true, WIDEST, outcome));
     }
+    Ok(())
+}
+
+// A body that names its priority.
+#[derive(Drop)]
+struct Urgent;
+
+impl Body for Urgent {
+    ghost urgency = { λ _. 3 };
+
+    fn priority(&self) -> u32 {
+        3
+    }
+
+    fn run(&mut self, _cancel: &CancelFlag) -> Outcome {
+        Ok(0)
+    }
+}
+
+fn priority_of<J: Job>(job: &J) -> u32 {
+    job.priority()
+}
+
+#[test]
+fn boxes_and_bodies_keep_their_priorities(rt: HostRuntime) -> Result<(), Fail> {
+    let plain: Box<dyn Job> = Box::new(rt.alloc(), Looking { value: 5 })?;
+    let urgent: Box<dyn Job> = Box::new(rt.alloc(), Any(Urgent))?;
+    let found = (
+        priority_of(&Any(Urgent)),
+        priority_of(&Boxed { job: plain }),
+        priority_of(&Boxed { job: urgent }),
+    );
+    assert_eq!(rt; found, (3, 0, 3));
     Ok(())
 }
 

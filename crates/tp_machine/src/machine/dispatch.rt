@@ -40,10 +40,10 @@ impl<P, R: Recorder> Machine<P, R> {
                 Err(error) => Err((error, None)),
             };
         };
-        let Ask::Submit(kind) = ask else {
+        let Ask::Submit(kind, priority) = ask else {
             unreachable!()
         };
-        match self.submit(by, kind, promise, payload) {
+        match self.submit(by, kind, priority, promise, payload) {
             Ok((t, did)) => Ok(Stepped::Submit(t, did)),
             Err((error, payload)) => Err((error, Some(payload))),
         }
@@ -61,7 +61,7 @@ impl<P, R: Recorder> Machine<P, R> {
         ensures unchanged { OnErr result (self.new ≡ self.old) }
     {
         match ask {
-            Ask::Submit(_) => unreachable!(),
+            Ask::Submit(..) => unreachable!(),
             Ask::Look(_) | Ask::Offer(_) | Ask::Second(_) => self.submitters_step(by, ask),
             Ask::Grow(_) | Ask::Verdict(..) | Ask::CallerEnd(..) => self.submitters_step(by, ask),
             Ask::Open(_) | Ask::Fail(_) | Ask::Take(_) => self.workers_step(by, ask),

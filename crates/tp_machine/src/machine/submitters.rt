@@ -19,26 +19,27 @@ use tp_types::refusals::PoolError;
 use tp_types::tasks::{Kind, Outcome, Promise};
 
 impl<P, R: Recorder> Machine<P, R> {
-    /// Submits a task of this kind, with what its job promises and its payload, and looks at once, as `execute`. BookFull (5), or
+    /// Submits a task of this kind and priority, with what its job promises and its payload, and looks at once, as `execute`. BookFull (5), or
     /// NoMemory (4): the payload comes back, and nothing has changed.
     pub fn submit(
         &mut self,
         by: u32,
         kind: Kind,
+        priority: u32,
         promise: Promise,
         payload: P,
     ) -> Result<(TaskId, Did), (PoolError, P)>
     where
         P: Drop,
-        ensures step { IfOk result (λ r. IsStep R.tells self.old self.new by (Ask.Submit kind) r.1) }
+        ensures step { IfOk result (λ r. IsStep R.tells self.old self.new by (Ask.Submit kind priority) r.1) }
         ensures number { IfOk result (λ r. submits r.1 ≡ Some r.0.0) }
         ensures payloads { IfOk result (λ r. PutsIn self.old.parts.tasks self.new.parts.tasks r.0.0 promise payload) }
-        ensures refused { IfErr result (λ r. IsRefusedBy R.tells self.old (Ask.Submit kind) r.0) }
+        ensures refused { IfErr result (λ r. IsRefusedBy R.tells self.old (Ask.Submit kind priority) r.0) }
         ensures returned { IfErr result (λ r. r.1 ≡ payload) }
         ensures unchanged { OnErr result (Stays R.tells self.old self.new) }
     {
-        match self.make_submit(by, kind, promise, payload) {
-            Ok((t, looked)) => Ok((t, Did::Submit(t, kind, looked))),
+        match self.make_submit(by, kind, priority, promise, payload) {
+            Ok((t, looked)) => Ok((t, Did::Submit(t, kind, priority, looked))),
             Err(refused) => Err(refused),
         }
     }
@@ -49,27 +50,34 @@ impl<P, R: Recorder> Machine<P, R> {
         &mut self,
         by: u32,
         kind: Kind,
+        priority: u32,
         promise: Promise,
         payload: P,
     ) -> Result<(TaskId, Looked), (PoolError, P)>
     where
         P: Drop,
-        ensures step { IfOk result (λ r. IsStep R.tells self.old self.new by (Ask.Submit kind) (Did.Submit r.0 kind r.1)) }
+        ensures step { IfOk result (λ r. IsStep R.tells self.old self.new by (Ask.Submit kind priority) (Did.Submit r.0 kind priority r.1)) }
         ensures payloads { IfOk result (λ r. PutsIn self.old.parts.tasks self.new.parts.tasks r.0.0 promise payload) }
-        ensures refused { IfErr result (λ r. IsRefusedBy R.tells self.old (Ask.Submit kind) r.0) }
+        ensures refused { IfErr result (λ r. IsRefusedBy R.tells self.old (Ask.Submit kind priority) r.0) }
         ensures returned { IfErr result (λ r. r.1 ≡ payload) }
         ensures unchanged { OnErr result (Stays R.tells self.old self.new) }
     {
-        let looked = match submit::answer(&self.parts, kind) {
+        let looked = match submit::answer(&self.parts, kind, priority) {
             Ok(looked) => looked,
             Err(error) => return Err((error, payload)),
         };
         if let Err(error) = submit::prepare(&mut self.parts, kind) {
             return Err((error, payload));
         }
-        let did = Did::Submit(TaskId(self.parts.tasks.submitted()), kind, looked);
-        note(&self.parts, &mut self.noted, by, Ask::Submit(kind), did);
-        let t = submit::apply(&mut self.parts, kind, promise, payload, looked);
+        let did = Did::Submit(TaskId(self.parts.tasks.submitted()), kind, priority, looked);
+        note(
+            &self.parts,
+            &mut self.noted,
+            by,
+            Ask::Submit(kind, priority),
+            did,
+        );
+        let t = submit::apply(&mut self.parts, kind, priority, promise, payload, looked);
         Ok((t, looked))
     }
 

@@ -55,7 +55,7 @@ impl<P: Drop> Step<P> for Asked {
 
     ghost moves = { λ s l x old new. Moves x s.0 l old new };
 
-    ghost says = { λ s x h. IsOrderAt x h };
+    ghost says = { λ s x c h. IsOrderAt x c h };
 
     fn ask(self) -> Ask {
         self.0

@@ -1,11 +1,11 @@
 //! Controllers' steps.
 
-ghost use Rattle.std.specs.Prelude.{length, map, ◌≡◌, ◌<◌, ◌^◌, is_some};
+ghost use Rattle.std.specs.Prelude.{length, map, All, IfSome, ◌≡◌, ◌<◌, ◌^◌, is_some};
 ghost use Rattle.tp_record.specs.declared.entries.Ask.TheVariants as ask;
 ghost use Rattle.tp_record.specs.declared.entries.Did.TheVariants as did;
 ghost use Rattle.tp_record.specs.Fields.{queue};
 ghost use Rattle.tp_parts.specs.Payloads.{Keeps, HandsOut};
-ghost use Rattle.tp_machine.specs.Answers.{IsRemoval, HandsBack};
+ghost use Rattle.tp_machine.specs.Answers.{IsPaidAt, IsRemoval, HandsBack};
 
 use super::Step;
 use crate::machine::Machine;
@@ -224,6 +224,8 @@ impl<P> Step<P> for Remove {
 
     ghost moves = { λ s l x old new. IsRemoval old new s.0 x };
 
+    ghost says = { λ s x c h. IfSome x (IsPaidAt h) };
+
     #[inline(always)]
     fn ask(self) -> Ask {
         Ask::Remove(self.0)
@@ -304,7 +306,7 @@ impl<P> Step<P> for Stop {
 
     ghost answers = { λ s x. length x.items < 2 ^ 32 };
 
-    ghost says = { λ s x h. map (λ y. y.0.0) x.items ≡ queue h };
+    ghost says = { λ s x c h. (map (λ y. y.0.0) x.items ≡ queue c h) × All (IsPaidAt h) x.items };
 
     #[inline(always)]
     fn ask(self) -> Ask {

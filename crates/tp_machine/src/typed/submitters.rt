@@ -186,7 +186,7 @@ impl<P> Step<P> for Judge {
 
     ghost moves = { λ s l x old new. IsJudged old new s.0 x };
 
-    ghost says = { λ s x h. IsReturnedAt s.0 x h };
+    ghost says = { λ s x c h. IsReturnedAt s.0 x h };
 
     #[inline(always)]
     fn ask(self) -> Ask {
@@ -254,11 +254,13 @@ impl<P> Step<P> for CallerEnd {
     }
 }
 
-/// A new task of this kind, whose job promises this; its payload comes with the step.
+/// A new task of this kind and priority, whose job promises this; its payload comes with the step.
 #[derive(Clone, Copy)]
 pub struct Submit {
     /// Its kind.
     pub kind: Kind,
+    /// Its priority: the task with the least number leaves a priority queue first.
+    pub priority: u32,
     /// What its job promises.
     pub promise: Promise,
 }
@@ -268,20 +270,20 @@ impl<P: Drop> Step<P> for Submit {
 
     type Answer = (TaskId, Looked);
 
-    ghost ask = { λ s. ask.Submit s.kind };
+    ghost ask = { λ s. ask.Submit s.kind s.priority };
 
-    ghost did = { λ s x. did.Submit x.0 s.kind x.1 };
+    ghost did = { λ s x. did.Submit x.0 s.kind s.priority x.1 };
 
     ghost moves = { λ s l x old new. PutsIn old new x.0.0 s.promise l };
 
     #[inline(always)]
     fn ask(self) -> Ask {
-        Ask::Submit(self.kind)
+        Ask::Submit(self.kind, self.priority)
     }
 
     #[inline(always)]
     fn did(self, answer: &(TaskId, Looked)) -> Did {
-        Did::Submit(answer.0, self.kind, answer.1)
+        Did::Submit(answer.0, self.kind, self.priority, answer.1)
     }
 
     #[inline(always)]
@@ -291,6 +293,6 @@ impl<P: Drop> Step<P> for Submit {
         load: P,
         machine: &mut Machine<P, R>,
     ) -> Result<(TaskId, Looked), (PoolError, P)> {
-        machine.make_submit(by, self.kind, self.promise, load)
+        machine.make_submit(by, self.kind, self.priority, self.promise, load)
     }
 }

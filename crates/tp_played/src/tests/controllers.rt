@@ -2,8 +2,8 @@
 
 use super::stage::Act::{self, Asks, Fills, Opens, Reads, Tells};
 use super::stage::{
-    BARE, NO_COUNTS, NONE, PAYLOAD_0, PAYLOAD_1, PAYLOAD_2, PAYLOAD_3, Pool, SLOT_0, SLOT_1, SMALL,
-    TASK_0, TASK_1, TASK_2, TASK_3, TASK_4, TASK_9, act_out, does, plays, pool,
+    BARE, NO_COUNTS, NONE, PAYLOAD_0, PAYLOAD_1, PAYLOAD_2, PAYLOAD_3, SLOT_0, SLOT_1, SMALL,
+    TASK_0, TASK_1, TASK_2, TASK_3, TASK_4, TASK_9, act_out, plays, pool, queues, starts,
 };
 use std::alloc::Global;
 use std::process::Abort;
@@ -17,28 +17,13 @@ use tp_types::tasks::{Fate, Kind, Place};
 /// One core worker, one more at need, and a queue without bound.
 const BUSY: Config = Config { core: 1, ..BARE };
 
-/// The pool's one worker runs task 0.
-fn starts(rt: &impl Abort, pool: &mut Pool, kind: Kind) {
-    does(rt, pool, Ask::Submit(kind));
-    does(rt, pool, Ask::Open(SLOT_0));
-    does(rt, pool, Ask::Take(SLOT_0));
-    does(rt, pool, Ask::Begin(SLOT_0));
-}
-
-/// This task waits in the queue.
-fn queues(rt: &impl Abort, pool: &mut Pool, kind: Kind, t: TaskId) {
-    does(rt, pool, Ask::Submit(kind));
-    does(rt, pool, Ask::Offer(t));
-    does(rt, pool, Ask::Second(t));
-}
-
 /// A script of a pool of one live worker, with tasks 0 to 3 of this kind: the worker runs the first, and the others are queued.
 fn plays_busy(rt: &impl Abort, alloc: Global, kind: Kind, acts: &[Act]) {
     let mut pool = pool(rt, alloc, BUSY);
     starts(rt, &mut pool, kind);
-    queues(rt, &mut pool, kind, TASK_1);
-    queues(rt, &mut pool, kind, TASK_2);
-    queues(rt, &mut pool, kind, TASK_3);
+    queues(rt, &mut pool, kind, 0, TASK_1);
+    queues(rt, &mut pool, kind, 0, TASK_2);
+    queues(rt, &mut pool, kind, 0, TASK_3);
     act_out(rt, &mut pool, acts);
 }
 
@@ -223,8 +208,8 @@ const REMOVES_CANCELS_AND_PURGES: [Act; 22] = [
     Asks(Ask::Purge, Ok(Did::Purge(1)), NONE),
     Asks(Ask::Purge, Ok(Did::Purge(0)), NONE),
     Asks(
-        Ask::Submit(Kind::Plain),
-        Ok(Did::Submit(TASK_4, Kind::Plain, Looked::Queue)),
+        Ask::Submit(Kind::Plain, 0),
+        Ok(Did::Submit(TASK_4, Kind::Plain, 0, Looked::Queue)),
         NONE,
     ),
     Asks(Ask::Cancel(TASK_4, true), Err(PoolError::NotFuture), NONE),

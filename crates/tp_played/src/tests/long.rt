@@ -49,8 +49,8 @@ fn kind_of(number: u32) -> Kind {
 /// Submits a task, and goes with it until it has its place or its end.
 fn execute(rt: &impl Abort, pool: &mut Pool, tally: &mut Tally, number: u32) {
     let t = TaskId(number);
-    let (submitted, _) = ask(rt, pool, Ask::Submit(kind_of(number)));
-    if let Ok(Did::Submit(_, _, Looked::Reserve(_))) = submitted {
+    let (submitted, _) = ask(rt, pool, Ask::Submit(kind_of(number), 0));
+    if let Ok(Did::Submit(_, _, _, Looked::Reserve(_))) = submitted {
         return;
     }
     if let (Ok(Did::Offer(_, Offered::Queued)), _) = ask(rt, pool, Ask::Offer(t)) {

@@ -16,7 +16,7 @@ use tp_types::tasks::{Kind, Place};
 
 const TASKS: u32 = 40;
 
-/// Task t waits in the queue.
+/// Task t waits in the queue: four tasks have one priority, and the next four the next.
 fn submit(rt: &impl Abort, pool: &mut Pool, number: u32) {
     let t = TaskId(number);
     let kind = Kind::Group(number % 11);
@@ -25,8 +25,10 @@ fn submit(rt: &impl Abort, pool: &mut Pool, number: u32) {
     } else {
         Seconded::Stay
     };
-    let submitted = Did::Submit(t, kind, Looked::Queue);
-    asks(rt, pool, Ask::Submit(kind), Ok(submitted), NONE);
+    let priority = number / 4;
+    let asked = Ask::Submit(kind, priority);
+    let submitted = Did::Submit(t, kind, priority, Looked::Queue);
+    asks(rt, pool, asked, Ok(submitted), NONE);
     let queued = Did::Offer(t, Offered::Queued);
     asks(rt, pool, Ask::Offer(t), Ok(queued), NONE);
     asks(rt, pool, Ask::Second(t), Ok(Did::Second(t, seconded)), NONE);
@@ -81,7 +83,11 @@ const LARGER: [Act; 3] = [
 /// Tasks of several groups grow the tasks, the groups and the queue, and each more than once; a larger maximum grows the slots.
 #[test]
 fn grows(rt: HostRuntime) {
-    for queue in [QueueKind::Unbounded, QueueKind::Bounded(TASKS)] {
+    for queue in [
+        QueueKind::Unbounded,
+        QueueKind::Priority,
+        QueueKind::Bounded(TASKS),
+    ] {
         let config = Config {
             core: 0,
             queue,

@@ -9,13 +9,13 @@ use std::process::Abort;
 use tp_machine::answers::Begun;
 use tp_machine::machine::Machine;
 use tp_machine::steps::Stepped;
-use tp_record::entries::{Ask, Did, Entry};
+use tp_record::entries::{Ask, Did, Entry, Started, Took};
 use tp_record::recorders::Full;
 use tp_types::configs::{Config, Policy, QueueKind};
 use tp_types::ids::{SlotId, TaskId};
 use tp_types::refusals::PoolError;
 use tp_types::states::{Counts, RunState};
-use tp_types::tasks::{Fate, Place, Promise};
+use tp_types::tasks::{Fate, Kind, Place, Promise};
 
 /// A pool whose payloads are numbers, and which keeps its whole record.
 pub type Pool = Machine<u32, Full>;
@@ -37,6 +37,8 @@ pub enum Act {
     Opens(u32, bool),
     /// The pool's state, moment and counts.
     Reads(RunState, u64, Counts),
+    /// The worker of slot 0 takes these tasks as heads of the queue, one after the other, and runs each.
+    Serves(&'static [TaskId]),
     /// The record is filled up to what is owed.
     Fills,
 }
@@ -50,6 +52,10 @@ pub const TASK_2: TaskId = TaskId(2);
 pub const TASK_3: TaskId = TaskId(3);
 
 pub const TASK_4: TaskId = TaskId(4);
+
+pub const TASK_5: TaskId = TaskId(5);
+
+pub const TASK_6: TaskId = TaskId(6);
 
 /// A task that is not submitted.
 pub const TASK_9: TaskId = TaskId(9);
@@ -196,7 +202,7 @@ fn step(pool: &mut Pool, by: u32, ask: Ask, submitted: Option<(Promise, u32)>) -
 
 /// Asks for a step, with this payload where it is a submission. An outcome that was not promised is no step: it is answered with TornRecord (22).
 fn answer(pool: &mut Pool, by: u32, ask: Ask, payload: u32) -> Answer {
-    if let Ask::Submit(_) = ask {
+    if let Ask::Submit(..) = ask {
         return step(pool, by, ask, Some((ANY, payload)));
     }
     if let Ask::End(w, outcome) = ask {
@@ -227,7 +233,7 @@ fn ask_once(rt: &impl Abort, pool: &mut Pool, ask: Ask) -> (Result<Did, PoolErro
         }
         Err((error, returned)) => {
             let paid = match ask {
-                Ask::Submit(_) => Some(payload),
+                Ask::Submit(..) => Some(payload),
                 _ => None,
             };
             let after = read(pool);
@@ -240,7 +246,7 @@ fn ask_once(rt: &impl Abort, pool: &mut Pool, ask: Ask) -> (Result<Did, PoolErro
 /// Whether the step of an ask takes memory.
 fn takes_memory(ask: Ask) -> bool {
     match ask {
-        Ask::Submit(_) | Ask::Stop | Ask::Maximum(_) => true,
+        Ask::Submit(..) | Ask::Stop | Ask::Maximum(_) => true,
         _ => false,
     }
 }
@@ -272,6 +278,39 @@ pub fn asks(
 pub fn does(rt: &impl Abort, pool: &mut Pool, asked: Ask) {
     let (answer, _) = ask(rt, pool, asked);
     same(rt, 0, &(asked, answer.is_ok()), &(asked, true));
+}
+
+/// The worker of slot 0 runs task 0, of priority 0.
+pub fn starts(rt: &impl Abort, pool: &mut Pool, kind: Kind) {
+    does(rt, pool, Ask::Submit(kind, 0));
+    does(rt, pool, Ask::Open(SLOT_0));
+    does(rt, pool, Ask::Take(SLOT_0));
+    does(rt, pool, Ask::Begin(SLOT_0));
+}
+
+/// A new task, this one, waits in the queue.
+pub fn queues(rt: &impl Abort, pool: &mut Pool, kind: Kind, priority: u32, t: TaskId) {
+    does(rt, pool, Ask::Submit(kind, priority));
+    does(rt, pool, Ask::Offer(t));
+    does(rt, pool, Ask::Second(t));
+}
+
+/// The worker of slot 0 takes this task as the queue's head, and runs it.
+fn serve(rt: &impl Abort, pool: &mut Pool, t: TaskId) {
+    let took = Did::Take(SLOT_0, Took::Head(t));
+    asks(rt, pool, Ask::Take(SLOT_0), Ok(took), NONE);
+    let begun = Did::Begin(SLOT_0, Started::Run(t));
+    let payload = pays(t.0.wrapping_add(10));
+    asks(rt, pool, Ask::Begin(SLOT_0), Ok(begun), payload);
+    let ended = Did::End(SLOT_0, t, Ok(1));
+    asks(rt, pool, Ask::End(SLOT_0, Ok(1)), Ok(ended), NONE);
+}
+
+/// The worker of slot 0 runs these tasks, in this order.
+fn serve_all(rt: &impl Abort, pool: &mut Pool, order: &[TaskId]) {
+    for t in order {
+        serve(rt, pool, *t);
+    }
 }
 
 /// The refusal of the first tick for which the record has no room; none where it is never full.
@@ -364,6 +403,7 @@ fn act_line(rt: &impl Abort, pool: &mut Pool, line: &Act) {
             &(*group, *is_open),
         ),
         Act::Reads(state, moment, counts) => reads(rt, pool, *state, *moment, *counts),
+        Act::Serves(order) => serve_all(rt, pool, order),
         Act::Fills => fill(rt, pool),
     }
 }

@@ -48,8 +48,8 @@ const RETRIED: Config = Config {
 
 const FULL_POOL: [Act; 6] = [
     Asks(
-        Ask::Submit(Kind::Future),
-        Ok(Did::Submit(TASK_0, Kind::Future, Looked::Queue)),
+        Ask::Submit(Kind::Future, 0),
+        Ok(Did::Submit(TASK_0, Kind::Future, 0, Looked::Queue)),
         NONE,
     ),
     Asks(
@@ -63,8 +63,8 @@ const FULL_POOL: [Act; 6] = [
         NONE,
     ),
     Asks(
-        Ask::Submit(Kind::Future),
-        Ok(Did::Submit(TASK_1, Kind::Future, Looked::Queue)),
+        Ask::Submit(Kind::Future, 0),
+        Ok(Did::Submit(TASK_1, Kind::Future, 0, Looked::Queue)),
         NONE,
     ),
     Asks(
@@ -209,23 +209,23 @@ fn judges(rt: HostRuntime) {
 
 const SUBMITS: [Act; 28] = [
     Asks(
-        Ask::Submit(Kind::Plain),
-        Ok(Did::Submit(TASK_0, Kind::Plain, Looked::Reserve(SLOT_0))),
+        Ask::Submit(Kind::Plain, 0),
+        Ok(Did::Submit(TASK_0, Kind::Plain, 0, Looked::Reserve(SLOT_0))),
         NONE,
     ),
     Asks(
-        Ask::Submit(Kind::Plain),
-        Ok(Did::Submit(TASK_1, Kind::Plain, Looked::Queue)),
+        Ask::Submit(Kind::Plain, 0),
+        Ok(Did::Submit(TASK_1, Kind::Plain, 0, Looked::Queue)),
         NONE,
     ),
     Asks(
-        Ask::Submit(Kind::Future),
-        Ok(Did::Submit(TASK_2, Kind::Future, Looked::Queue)),
+        Ask::Submit(Kind::Future, 0),
+        Ok(Did::Submit(TASK_2, Kind::Future, 0, Looked::Queue)),
         NONE,
     ),
     Asks(
-        Ask::Submit(Kind::Group(1)),
-        Ok(Did::Submit(TASK_3, Kind::Group(1), Looked::Queue)),
+        Ask::Submit(Kind::Group(1), 0),
+        Ok(Did::Submit(TASK_3, Kind::Group(1), 0, Looked::Queue)),
         NONE,
     ),
     Asks(
@@ -274,8 +274,8 @@ const SUBMITS: [Act; 28] = [
         NONE,
     ),
     Asks(
-        Ask::Submit(Kind::Future),
-        Ok(Did::Submit(TASK_4, Kind::Future, Looked::Queue)),
+        Ask::Submit(Kind::Future, 0),
+        Ok(Did::Submit(TASK_4, Kind::Future, 0, Looked::Queue)),
         NONE,
     ),
     Asks(
@@ -325,8 +325,12 @@ const SUBMITS: [Act; 28] = [
         },
     ),
     Fills,
-    Asks(Ask::Submit(Kind::Plain), Err(PoolError::BookFull), NONE),
-    Asks(Ask::Submit(Kind::Group(1)), Err(PoolError::BookFull), NONE),
+    Asks(Ask::Submit(Kind::Plain, 0), Err(PoolError::BookFull), NONE),
+    Asks(
+        Ask::Submit(Kind::Group(1), 0),
+        Err(PoolError::BookFull),
+        NONE,
+    ),
 ];
 
 /// A core slot, a place in the queue, a slot up to the maximum, the head's place, and the caller itself.
@@ -344,18 +348,18 @@ const HANDS_TO_THE_LONGEST_IDLE: [Act; 19] = [
     Asks(Ask::Take(SLOT_1), Ok(Did::Take(SLOT_1, Took::Idle)), NONE),
     Asks(Ask::Take(SLOT_0), Ok(Did::Take(SLOT_0, Took::Idle)), NONE),
     Asks(
-        Ask::Submit(Kind::Plain),
-        Ok(Did::Submit(TASK_0, Kind::Plain, Looked::Queue)),
+        Ask::Submit(Kind::Plain, 0),
+        Ok(Did::Submit(TASK_0, Kind::Plain, 0, Looked::Queue)),
         NONE,
     ),
     Asks(
-        Ask::Submit(Kind::Plain),
-        Ok(Did::Submit(TASK_1, Kind::Plain, Looked::Queue)),
+        Ask::Submit(Kind::Plain, 0),
+        Ok(Did::Submit(TASK_1, Kind::Plain, 0, Looked::Queue)),
         NONE,
     ),
     Asks(
-        Ask::Submit(Kind::Plain),
-        Ok(Did::Submit(TASK_2, Kind::Plain, Looked::Queue)),
+        Ask::Submit(Kind::Plain, 0),
+        Ok(Did::Submit(TASK_2, Kind::Plain, 0, Looked::Queue)),
         NONE,
     ),
     Asks(
@@ -406,13 +410,13 @@ fn hands_to_the_longest_idle(rt: HostRuntime) {
 
 const LOOKS_TWICE: [Act; 12] = [
     Asks(
-        Ask::Submit(Kind::Plain),
-        Ok(Did::Submit(TASK_0, Kind::Plain, Looked::Queue)),
+        Ask::Submit(Kind::Plain, 0),
+        Ok(Did::Submit(TASK_0, Kind::Plain, 0, Looked::Queue)),
         NONE,
     ),
     Asks(
-        Ask::Submit(Kind::Plain),
-        Ok(Did::Submit(TASK_1, Kind::Plain, Looked::Queue)),
+        Ask::Submit(Kind::Plain, 0),
+        Ok(Did::Submit(TASK_1, Kind::Plain, 0, Looked::Queue)),
         NONE,
     ),
     Asks(
@@ -442,8 +446,8 @@ const LOOKS_TWICE: [Act; 12] = [
         PAYLOAD_1,
     ),
     Asks(
-        Ask::Submit(Kind::Plain),
-        Ok(Did::Submit(TASK_2, Kind::Plain, Looked::Refuse)),
+        Ask::Submit(Kind::Plain, 0),
+        Ok(Did::Submit(TASK_2, Kind::Plain, 0, Looked::Refuse)),
         NONE,
     ),
     Tells(TASK_0, Place::Queued, None, Err(PoolError::NotFuture)),
@@ -567,8 +571,8 @@ fn refuses_submitters(rt: HostRuntime) {
 
 const RETRIES: [Act; 6] = [
     Asks(
-        Ask::Submit(Kind::Plain),
-        Ok(Did::Submit(TASK_0, Kind::Plain, Looked::Queue)),
+        Ask::Submit(Kind::Plain, 0),
+        Ok(Did::Submit(TASK_0, Kind::Plain, 0, Looked::Queue)),
         NONE,
     ),
     Asks(
@@ -582,8 +586,8 @@ const RETRIES: [Act; 6] = [
         NONE,
     ),
     Asks(
-        Ask::Submit(Kind::Plain),
-        Ok(Did::Submit(TASK_1, Kind::Plain, Looked::Queue)),
+        Ask::Submit(Kind::Plain, 0),
+        Ok(Did::Submit(TASK_1, Kind::Plain, 0, Looked::Queue)),
         NONE,
     ),
     Asks(

@@ -22,8 +22,8 @@ const LARGER: Config = Config {
 const WORKS: [Act; 20] = [
     Unknown(TASK_0),
     Asks(
-        Ask::Submit(Kind::Plain),
-        Ok(Did::Submit(TASK_0, Kind::Plain, Looked::Reserve(SLOT_0))),
+        Ask::Submit(Kind::Plain, 0),
+        Ok(Did::Submit(TASK_0, Kind::Plain, 0, Looked::Reserve(SLOT_0))),
         NONE,
     ),
     Asks(Ask::Open(SLOT_0), Ok(Did::Open(SLOT_0, Opened::Live)), NONE),
@@ -105,8 +105,8 @@ fn refuses_workers(rt: HostRuntime) {
 
 const WORKS_ON_FUTURES: [Act; 16] = [
     Asks(
-        Ask::Submit(Kind::Future),
-        Ok(Did::Submit(TASK_0, Kind::Future, Looked::Queue)),
+        Ask::Submit(Kind::Future, 0),
+        Ok(Did::Submit(TASK_0, Kind::Future, 0, Looked::Queue)),
         NONE,
     ),
     Asks(
@@ -136,8 +136,8 @@ const WORKS_ON_FUTURES: [Act; 16] = [
         NONE,
     ),
     Asks(
-        Ask::Submit(Kind::Future),
-        Ok(Did::Submit(TASK_1, Kind::Future, Looked::Queue)),
+        Ask::Submit(Kind::Future, 0),
+        Ok(Did::Submit(TASK_1, Kind::Future, 0, Looked::Queue)),
         NONE,
     ),
     Asks(
@@ -227,8 +227,8 @@ fn times_out(rt: HostRuntime) {
 
 const FAILS_AND_GIVES_UP: [Act; 20] = [
     Asks(
-        Ask::Submit(Kind::Plain),
-        Ok(Did::Submit(TASK_0, Kind::Plain, Looked::Reserve(SLOT_0))),
+        Ask::Submit(Kind::Plain, 0),
+        Ok(Did::Submit(TASK_0, Kind::Plain, 0, Looked::Reserve(SLOT_0))),
         NONE,
     ),
     Asks(
@@ -247,8 +247,8 @@ const FAILS_AND_GIVES_UP: [Act; 20] = [
         NONE,
     ),
     Asks(
-        Ask::Submit(Kind::Plain),
-        Ok(Did::Submit(TASK_1, Kind::Plain, Looked::Queue)),
+        Ask::Submit(Kind::Plain, 0),
+        Ok(Did::Submit(TASK_1, Kind::Plain, 0, Looked::Queue)),
         NONE,
     ),
     Asks(
@@ -270,8 +270,8 @@ const FAILS_AND_GIVES_UP: [Act; 20] = [
         NONE,
     ),
     Asks(
-        Ask::Submit(Kind::Plain),
-        Ok(Did::Submit(TASK_2, Kind::Plain, Looked::Queue)),
+        Ask::Submit(Kind::Plain, 0),
+        Ok(Did::Submit(TASK_2, Kind::Plain, 0, Looked::Queue)),
         NONE,
     ),
     Asks(

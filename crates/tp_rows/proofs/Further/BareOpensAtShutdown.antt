@@ -65,5 +65,5 @@ next_holds = (refl, refl, (refl, refl, (refl, refl, (refl, refl, (refl, refl, (r
 pub owed : owed_at_fronts config (front 19 row) ≡ 0 ∷ 1 ∷ 3 ∷ 4 ∷ 8 ∷ 9 ∷ 10 ∷ 12 ∷ 13 ∷ 14 ∷ 15 ∷ 16 ∷ 18 ∷ 19 ∷ 23 ∷ 24 ∷ 13 ∷ 14 ∷ 15 ∷ 4 ∷ []
 owed = refl
 
-pub line_last : waiting_line (front 19 row) ≡ queue (front 19 row)
+pub line_last : waiting_line config (front 19 row) ≡ queue config (front 19 row)
 line_last = refl

@@ -18,23 +18,23 @@ config = record { core = 0; maximum = 1; queue = Handoff; keep = 0; core_timeout
 
 abbrev pub row : List Entry
 row =
-    entry (ask.Submit kinds.Future) (did.Submit (task 0) kinds.Future looked.Queue)
+    entry (ask.Submit kinds.Future 0) (did.Submit (task 0) kinds.Future 0 looked.Queue)
     ∷ entry (ask.Offer (task 0)) (did.Offer (task 0) offered.Full)
     ∷ entry (ask.Grow (task 0)) (did.Grow (task 0) (grown.Reserve (slot 0)))
-    ∷ entry (ask.Submit (kinds.Group 2)) (did.Submit (task 1) (kinds.Group 2) looked.Queue)
+    ∷ entry (ask.Submit (kinds.Group 2) 0) (did.Submit (task 1) (kinds.Group 2) 0 looked.Queue)
     ∷ entry (ask.Offer (task 1)) (did.Offer (task 1) offered.Full)
     ∷ entry (ask.Grow (task 1)) (did.Grow (task 1) grown.Refuse)
     ∷ entry (ask.Verdict (task 1) verdict.CallerRuns) (did.Verdict (task 1) verdict.CallerRuns ruled.Caller)
     ∷ entry (ask.Cancel (task 1) false) (did.Cancel (task 1) false true)
     ∷ entry (ask.CallerEnd (task 1) (Ok (pos 2))) (did.CallerEnd (task 1) (Ok (pos 2)))
     ∷ entry (ask.TakeDone 2) (did.TakeDone 2 (task 1))
-    ∷ entry (ask.Submit (kinds.Group 2)) (did.Submit (task 2) (kinds.Group 2) looked.Queue)
+    ∷ entry (ask.Submit (kinds.Group 2) 0) (did.Submit (task 2) (kinds.Group 2) 0 looked.Queue)
     ∷ entry (ask.Offer (task 2)) (did.Offer (task 2) offered.Full)
     ∷ entry (ask.Grow (task 2)) (did.Grow (task 2) grown.Refuse)
     ∷ entry (ask.Verdict (task 2) verdict.CallerRuns) (did.Verdict (task 2) verdict.CallerRuns ruled.Caller)
     ∷ entry (ask.CallerEnd (task 2) (Ok (pos 8))) (did.CallerEnd (task 2) (Ok (pos 8)))
     ∷ entry (ask.TakeDone 2) (did.TakeDone 2 (task 2))
-    ∷ entry (ask.Submit kinds.Plain) (did.Submit (task 3) kinds.Plain looked.Queue)
+    ∷ entry (ask.Submit kinds.Plain 0) (did.Submit (task 3) kinds.Plain 0 looked.Queue)
     ∷ entry (ask.Offer (task 3)) (did.Offer (task 3) offered.Full)
     ∷ entry (ask.Grow (task 3)) (did.Grow (task 3) grown.Refuse)
     ∷ entry (ask.Verdict (task 3) verdict.CallerRuns) (did.Verdict (task 3) verdict.CallerRuns ruled.Caller)
@@ -77,5 +77,5 @@ next_holds = (refl, refl, (refl, refl, (refl, refl, (refl, refl, (refl, refl, (r
 pub owed : owed_at_fronts config (front 21 row) ≡ 13 ∷ 13 ∷ 14 ∷ 21 ∷ 23 ∷ 12 ∷ 12 ∷ 13 ∷ 14 ∷ 21 ∷ 23 ∷ 12 ∷ 12 ∷ 13 ∷ 13 ∷ 14 ∷ 21 ∷ 23 ∷ 12 ∷ 13 ∷ 15 ∷ 4 ∷ []
 owed = refl
 
-pub line_last : waiting_line (front 21 row) ≡ queue (front 21 row)
+pub line_last : waiting_line config (front 21 row) ≡ queue config (front 21 row)
 line_last = refl

@@ -19,8 +19,8 @@ config = record { core = 2; maximum = 2; queue = Unbounded; keep = 5; core_timeo
 
 abbrev pub row : List Entry
 row =
-    entry (ask.Submit (kinds.Group 1)) (did.Submit (task 0) (kinds.Group 1) (looked.Reserve (slot 0)))
-    ∷ entry (ask.Submit (kinds.Group 1)) (did.Submit (task 1) (kinds.Group 1) (looked.Reserve (slot 1)))
+    entry (ask.Submit (kinds.Group 1) 0) (did.Submit (task 0) (kinds.Group 1) 0 (looked.Reserve (slot 0)))
+    ∷ entry (ask.Submit (kinds.Group 1) 0) (did.Submit (task 1) (kinds.Group 1) 0 (looked.Reserve (slot 1)))
     ∷ entry (ask.Open (slot 0)) (did.Open (slot 0) opened.Live)
     ∷ entry (ask.Open (slot 1)) (did.Open (slot 1) opened.Live)
     ∷ entry (ask.Take (slot 0)) (did.Take (slot 0) (took.Held (task 0)))
@@ -32,12 +32,12 @@ row =
     ∷ entry (ask.TakeDone 1) (did.TakeDone 1 (task 0))
     ∷ entry (ask.End (slot 0) (Ok (pos 5))) (did.End (slot 0) (task 0) (Ok (pos 5)))
     ∷ entry (ask.TakeDone 1) (did.TakeDone 1 (task 1))
-    ∷ entry (ask.Submit (kinds.Group 1)) (did.Submit (task 2) (kinds.Group 1) looked.Queue)
+    ∷ entry (ask.Submit (kinds.Group 1) 0) (did.Submit (task 2) (kinds.Group 1) 0 looked.Queue)
     ∷ entry (ask.Offer (task 2)) (did.Offer (task 2) offered.Queued)
     ∷ entry (ask.Second (task 2)) (did.Second (task 2) seconded.Stay)
     ∷ entry (ask.Take (slot 0)) (did.Take (slot 0) (took.Head (task 2)))
     ∷ entry (ask.Begin (slot 0)) (did.Begin (slot 0) (started.Run (task 2)))
-    ∷ entry (ask.Submit (kinds.Group 1)) (did.Submit (task 3) (kinds.Group 1) looked.Queue)
+    ∷ entry (ask.Submit (kinds.Group 1) 0) (did.Submit (task 3) (kinds.Group 1) 0 looked.Queue)
     ∷ entry (ask.Offer (task 3)) (did.Offer (task 3) offered.Queued)
     ∷ entry (ask.Second (task 3)) (did.Second (task 3) seconded.Stay)
     ∷ entry (ask.Take (slot 1)) (did.Take (slot 1) (took.Head (task 3)))
@@ -85,5 +85,5 @@ next_holds = (refl, refl, (refl, refl, (refl, refl, (refl, refl, (refl, refl, (r
 pub owed : owed_at_fronts config (front 28 row) ≡ 8 ∷ 8 ∷ 8 ∷ 11 ∷ 14 ∷ 14 ∷ 15 ∷ 17 ∷ 21 ∷ 22 ∷ 11 ∷ 12 ∷ 14 ∷ 18 ∷ 19 ∷ 8 ∷ 8 ∷ 11 ∷ 11 ∷ 14 ∷ 14 ∷ 15 ∷ 16 ∷ 17 ∷ 18 ∷ 23 ∷ 28 ∷ 16 ∷ 4 ∷ []
 owed = refl
 
-pub line_last : waiting_line (front 28 row) ≡ queue (front 28 row)
+pub line_last : waiting_line config (front 28 row) ≡ queue config (front 28 row)
 line_last = refl

@@ -21,12 +21,12 @@ config = record { core = 1; maximum = 1; queue = Bounded 1; keep = 0; core_timeo
 
 abbrev pub row : List Entry
 row =
-    entry (ask.Submit kinds.Plain) (did.Submit (task 0) kinds.Plain (looked.Reserve (slot 0)))
-    ∷ entry (ask.Submit (kinds.Group 2)) (did.Submit (task 1) (kinds.Group 2) looked.Queue)
+    entry (ask.Submit kinds.Plain 0) (did.Submit (task 0) kinds.Plain 0 (looked.Reserve (slot 0)))
+    ∷ entry (ask.Submit (kinds.Group 2) 0) (did.Submit (task 1) (kinds.Group 2) 0 looked.Queue)
     ∷ entry (ask.Offer (task 1)) (did.Offer (task 1) offered.Queued)
     ∷ entry (ask.Second (task 1)) (did.Second (task 1) seconded.Stay)
     ∷ entry (ask.Cancel (task 1) false) (did.Cancel (task 1) false true)
-    ∷ entry (ask.Submit kinds.Plain) (did.Submit (task 2) kinds.Plain looked.Queue)
+    ∷ entry (ask.Submit kinds.Plain 0) (did.Submit (task 2) kinds.Plain 0 looked.Queue)
     ∷ entry (ask.Offer (task 2)) (did.Offer (task 2) offered.Full)
     ∷ entry (ask.Grow (task 2)) (did.Grow (task 2) grown.Refuse)
     ∷ entry (ask.Verdict (task 2) verdict.DiscardOldest) (did.Verdict (task 2) verdict.DiscardOldest (ruled.RetryDrop (task 1)))
@@ -38,7 +38,7 @@ row =
     ∷ entry (ask.Grow (task 0)) (did.Grow (task 0) (grown.Reserve (slot 0)))
     ∷ entry (ask.Open (slot 0)) (did.Open (slot 0) opened.Live)
     ∷ entry (ask.TakeDone 2) (did.TakeDone 2 (task 1))
-    ∷ entry (ask.Submit kinds.Plain) (did.Submit (task 3) kinds.Plain looked.Queue)
+    ∷ entry (ask.Submit kinds.Plain 0) (did.Submit (task 3) kinds.Plain 0 looked.Queue)
     ∷ []
 
 pub legal : Legal config (front 18 row)
@@ -74,5 +74,5 @@ next_holds = (refl, refl, (refl, refl, (refl, refl, (refl, refl, (refl, refl, (r
 pub owed : owed_at_fronts config (front 18 row) ≡ 28 ∷ 17 ∷ 17 ∷ 18 ∷ 19 ∷ 21 ∷ 22 ∷ 26 ∷ 27 ∷ 29 ∷ 24 ∷ 31 ∷ 33 ∷ 22 ∷ 22 ∷ 26 ∷ 27 ∷ 16 ∷ 4 ∷ []
 owed = refl
 
-pub line_last : waiting_line (front 18 row) ≡ queue (front 18 row)
+pub line_last : waiting_line config (front 18 row) ≡ queue config (front 18 row)
 line_last = refl

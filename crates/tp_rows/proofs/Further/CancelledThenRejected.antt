@@ -18,25 +18,25 @@ config = record { core = 0; maximum = 1; queue = Handoff; keep = 0; core_timeout
 
 abbrev pub row : List Entry
 row =
-    entry (ask.Submit kinds.Plain) (did.Submit (task 0) kinds.Plain looked.Queue)
+    entry (ask.Submit kinds.Plain 0) (did.Submit (task 0) kinds.Plain 0 looked.Queue)
     ∷ entry (ask.Offer (task 0)) (did.Offer (task 0) offered.Full)
     ∷ entry (ask.Grow (task 0)) (did.Grow (task 0) (grown.Reserve (slot 0)))
-    ∷ entry (ask.Submit kinds.Future) (did.Submit (task 1) kinds.Future looked.Queue)
+    ∷ entry (ask.Submit kinds.Future 0) (did.Submit (task 1) kinds.Future 0 looked.Queue)
     ∷ entry (ask.Cancel (task 1) false) (did.Cancel (task 1) false true)
     ∷ entry (ask.Offer (task 1)) (did.Offer (task 1) offered.Full)
     ∷ entry (ask.Grow (task 1)) (did.Grow (task 1) grown.Refuse)
     ∷ entry (ask.Verdict (task 1) verdict.Abort) (did.Verdict (task 1) verdict.Abort ruled.Rejected)
-    ∷ entry (ask.Submit kinds.Future) (did.Submit (task 2) kinds.Future looked.Queue)
+    ∷ entry (ask.Submit kinds.Future 0) (did.Submit (task 2) kinds.Future 0 looked.Queue)
     ∷ entry (ask.Cancel (task 2) false) (did.Cancel (task 2) false true)
     ∷ entry (ask.Offer (task 2)) (did.Offer (task 2) offered.Full)
     ∷ entry (ask.Grow (task 2)) (did.Grow (task 2) grown.Refuse)
     ∷ entry (ask.Verdict (task 2) verdict.CallerRuns) (did.Verdict (task 2) verdict.CallerRuns ruled.Skip)
-    ∷ entry (ask.Submit kinds.Future) (did.Submit (task 3) kinds.Future looked.Queue)
+    ∷ entry (ask.Submit kinds.Future 0) (did.Submit (task 3) kinds.Future 0 looked.Queue)
     ∷ entry (ask.Cancel (task 3) false) (did.Cancel (task 3) false true)
     ∷ entry (ask.Offer (task 3)) (did.Offer (task 3) offered.Full)
     ∷ entry (ask.Grow (task 3)) (did.Grow (task 3) grown.Refuse)
     ∷ entry (ask.Verdict (task 3) verdict.Discard) (did.Verdict (task 3) verdict.Discard ruled.Discarded)
-    ∷ entry (ask.Submit kinds.Future) (did.Submit (task 4) kinds.Future looked.Queue)
+    ∷ entry (ask.Submit kinds.Future 0) (did.Submit (task 4) kinds.Future 0 looked.Queue)
     ∷ entry (ask.Offer (task 4)) (did.Offer (task 4) offered.Full)
     ∷ entry (ask.Grow (task 4)) (did.Grow (task 4) grown.Refuse)
     ∷ entry ask.Shutdown did.Shutdown
@@ -73,5 +73,5 @@ next_holds = (refl, refl, (refl, refl, (refl, refl, (refl, refl, (refl, refl, (r
 pub owed : owed_at_fronts config (front 23 row) ≡ 11 ∷ 13 ∷ 14 ∷ 21 ∷ 23 ∷ 12 ∷ 14 ∷ 21 ∷ 23 ∷ 23 ∷ 12 ∷ 14 ∷ 21 ∷ 23 ∷ 23 ∷ 12 ∷ 14 ∷ 21 ∷ 23 ∷ 23 ∷ 12 ∷ 13 ∷ 15 ∷ 4 ∷ []
 owed = refl
 
-pub line_last : waiting_line (front 23 row) ≡ queue (front 23 row)
+pub line_last : waiting_line config (front 23 row) ≡ queue config (front 23 row)
 line_last = refl

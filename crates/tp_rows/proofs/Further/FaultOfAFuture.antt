@@ -19,13 +19,13 @@ config = record { core = 1; maximum = 1; queue = Unbounded; keep = 5; core_timeo
 
 abbrev pub row : List Entry
 row =
-    entry (ask.Submit kinds.Future) (did.Submit (task 0) kinds.Future (looked.Reserve (slot 0)))
+    entry (ask.Submit kinds.Future 0) (did.Submit (task 0) kinds.Future 0 (looked.Reserve (slot 0)))
     ∷ entry (ask.Open (slot 0)) (did.Open (slot 0) opened.Live)
     ∷ entry (ask.Take (slot 0)) (did.Take (slot 0) (took.Held (task 0)))
     ∷ entry (ask.Begin (slot 0)) (did.Begin (slot 0) (started.Run (task 0)))
     ∷ entry (ask.End (slot 0) (Err 4)) (did.End (slot 0) (task 0) (Err 4))
     ∷ entry (ask.Take (slot 0)) (did.Take (slot 0) took.Idle)
-    ∷ entry (ask.Submit (kinds.Group 7)) (did.Submit (task 1) (kinds.Group 7) looked.Queue)
+    ∷ entry (ask.Submit (kinds.Group 7) 0) (did.Submit (task 1) (kinds.Group 7) 0 looked.Queue)
     ∷ entry (ask.Offer (task 1)) (did.Offer (task 1) offered.Queued)
     ∷ entry (ask.Second (task 1)) (did.Second (task 1) seconded.Stay)
     ∷ entry (ask.Take (slot 0)) (did.Take (slot 0) (took.Head (task 1)))
@@ -71,5 +71,5 @@ next_holds = (refl, refl, (refl, refl, (refl, refl, (refl, refl, (refl, refl, (r
 pub owed : owed_at_fronts config (front 14 row) ≡ 5 ∷ 5 ∷ 6 ∷ 9 ∷ 10 ∷ 11 ∷ 15 ∷ 16 ∷ 5 ∷ 6 ∷ 9 ∷ 10 ∷ 11 ∷ 16 ∷ 4 ∷ []
 owed = refl
 
-pub line_last : waiting_line (front 14 row) ≡ queue (front 14 row)
+pub line_last : waiting_line config (front 14 row) ≡ queue config (front 14 row)
 line_last = refl

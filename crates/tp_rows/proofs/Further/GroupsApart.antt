@@ -19,14 +19,14 @@ config = record { core = 1; maximum = 1; queue = Unbounded; keep = 5; core_timeo
 
 abbrev pub row : List Entry
 row =
-    entry (ask.Submit (kinds.Group 1)) (did.Submit (task 0) (kinds.Group 1) (looked.Reserve (slot 0)))
-    ∷ entry (ask.Submit (kinds.Group 2)) (did.Submit (task 1) (kinds.Group 2) looked.Queue)
+    entry (ask.Submit (kinds.Group 1) 0) (did.Submit (task 0) (kinds.Group 1) 0 (looked.Reserve (slot 0)))
+    ∷ entry (ask.Submit (kinds.Group 2) 0) (did.Submit (task 1) (kinds.Group 2) 0 looked.Queue)
     ∷ entry (ask.Offer (task 1)) (did.Offer (task 1) offered.Queued)
     ∷ entry (ask.Second (task 1)) (did.Second (task 1) seconded.Stay)
-    ∷ entry (ask.Submit (kinds.Group 1)) (did.Submit (task 2) (kinds.Group 1) looked.Queue)
+    ∷ entry (ask.Submit (kinds.Group 1) 0) (did.Submit (task 2) (kinds.Group 1) 0 looked.Queue)
     ∷ entry (ask.Offer (task 2)) (did.Offer (task 2) offered.Queued)
     ∷ entry (ask.Second (task 2)) (did.Second (task 2) seconded.Stay)
-    ∷ entry (ask.Submit (kinds.Group 4)) (did.Submit (task 3) (kinds.Group 4) looked.Queue)
+    ∷ entry (ask.Submit (kinds.Group 4) 0) (did.Submit (task 3) (kinds.Group 4) 0 looked.Queue)
     ∷ entry (ask.Offer (task 3)) (did.Offer (task 3) offered.Queued)
     ∷ entry (ask.Second (task 3)) (did.Second (task 3) seconded.Stay)
     ∷ entry (ask.Open (slot 0)) (did.Open (slot 0) opened.Live)
@@ -89,5 +89,5 @@ next_holds = (refl, refl, (refl, refl, (refl, refl, (refl, refl, (refl, refl, (r
 pub owed : owed_at_fronts config (front 29 row) ≡ 6 ∷ 6 ∷ 6 ∷ 6 ∷ 6 ∷ 6 ∷ 9 ∷ 9 ∷ 10 ∷ 12 ∷ 16 ∷ 16 ∷ 18 ∷ 21 ∷ 22 ∷ 24 ∷ 27 ∷ 28 ∷ 29 ∷ 34 ∷ 38 ∷ 39 ∷ 28 ∷ 32 ∷ 33 ∷ 22 ∷ 26 ∷ 27 ∷ 16 ∷ 4 ∷ []
 owed = refl
 
-pub line_last : waiting_line (front 29 row) ≡ queue (front 29 row)
+pub line_last : waiting_line config (front 29 row) ≡ queue config (front 29 row)
 line_last = refl

@@ -18,9 +18,9 @@ config = record { core = 0; maximum = 1; queue = Handoff; keep = 0; core_timeout
 
 abbrev pub row : List Entry
 row =
-    entry (ask.Submit kinds.Plain) (did.Submit (task 0) kinds.Plain looked.Queue)
+    entry (ask.Submit kinds.Plain 0) (did.Submit (task 0) kinds.Plain 0 looked.Queue)
     ∷ entry (ask.Offer (task 0)) (did.Offer (task 0) offered.Full)
-    ∷ entry (ask.Submit kinds.Plain) (did.Submit (task 1) kinds.Plain looked.Queue)
+    ∷ entry (ask.Submit kinds.Plain 0) (did.Submit (task 1) kinds.Plain 0 looked.Queue)
     ∷ entry (ask.Offer (task 1)) (did.Offer (task 1) offered.Full)
     ∷ entry ask.Shutdown did.Shutdown
     ∷ entry (ask.Grow (task 0)) (did.Grow (task 0) grown.Refuse)
@@ -60,5 +60,5 @@ next_holds = (refl, refl, (refl, refl, (refl, refl, (refl, refl, (refl, refl, (r
 pub owed : owed_at_fronts config (front 10 row) ≡ 2 ∷ 4 ∷ 11 ∷ 12 ∷ 14 ∷ 21 ∷ 22 ∷ 24 ∷ 13 ∷ 15 ∷ 4 ∷ []
 owed = refl
 
-pub line_last : waiting_line (front 10 row) ≡ queue (front 10 row)
+pub line_last : waiting_line config (front 10 row) ≡ queue config (front 10 row)
 line_last = refl

@@ -20,10 +20,10 @@ config = record { core = 0; maximum = 2; queue = Handoff; keep = 10; core_timeou
 
 abbrev pub row : List Entry
 row =
-    entry (ask.Submit kinds.Plain) (did.Submit (task 0) kinds.Plain looked.Queue)
+    entry (ask.Submit kinds.Plain 0) (did.Submit (task 0) kinds.Plain 0 looked.Queue)
     ∷ entry (ask.Offer (task 0)) (did.Offer (task 0) offered.Full)
     ∷ entry (ask.Grow (task 0)) (did.Grow (task 0) (grown.Reserve (slot 0)))
-    ∷ entry (ask.Submit kinds.Plain) (did.Submit (task 1) kinds.Plain looked.Queue)
+    ∷ entry (ask.Submit kinds.Plain 0) (did.Submit (task 1) kinds.Plain 0 looked.Queue)
     ∷ entry (ask.Offer (task 1)) (did.Offer (task 1) offered.Full)
     ∷ entry (ask.Grow (task 1)) (did.Grow (task 1) (grown.Reserve (slot 1)))
     ∷ entry (ask.Open (slot 0)) (did.Open (slot 0) opened.Live)
@@ -37,14 +37,14 @@ row =
     ∷ entry (ask.Take (slot 1)) (did.Take (slot 1) took.Idle)
     ∷ entry (ask.Tick 4) (did.Tick 4)
     ∷ entry (ask.Take (slot 0)) (did.Take (slot 0) took.Idle)
-    ∷ entry (ask.Submit kinds.Plain) (did.Submit (task 2) kinds.Plain looked.Queue)
+    ∷ entry (ask.Submit kinds.Plain 0) (did.Submit (task 2) kinds.Plain 0 looked.Queue)
     ∷ entry (ask.Offer (task 2)) (did.Offer (task 2) (offered.Hand (slot 1)))
     ∷ entry (ask.Take (slot 1)) (did.Take (slot 1) (took.Held (task 2)))
-    ∷ entry (ask.Submit kinds.Plain) (did.Submit (task 3) kinds.Plain looked.Queue)
+    ∷ entry (ask.Submit kinds.Plain 0) (did.Submit (task 3) kinds.Plain 0 looked.Queue)
     ∷ entry (ask.Offer (task 3)) (did.Offer (task 3) (offered.Hand (slot 0)))
     ∷ entry (ask.Second (task 3)) (did.Second (task 3) seconded.Stay)
     ∷ entry (ask.Second (task 2)) (did.Second (task 2) seconded.Stay)
-    ∷ entry (ask.Submit kinds.Plain) (did.Submit (task 4) kinds.Plain looked.Queue)
+    ∷ entry (ask.Submit kinds.Plain 0) (did.Submit (task 4) kinds.Plain 0 looked.Queue)
     ∷ entry (ask.Offer (task 4)) (did.Offer (task 4) offered.Full)
     ∷ entry (ask.Begin (slot 1)) (did.Begin (slot 1) (started.Run (task 2)))
     ∷ entry (ask.End (slot 1) (Ok (pos 3))) (did.End (slot 1) (task 2) (Ok (pos 3)))
@@ -86,5 +86,5 @@ next_holds = (refl, refl, (refl, refl, (refl, refl, (refl, refl, (refl, refl, (r
 pub owed : owed_at_fronts config (front 34 row) ≡ 18 ∷ 19 ∷ 20 ∷ 21 ∷ 21 ∷ 22 ∷ 22 ∷ 25 ∷ 26 ∷ 28 ∷ 17 ∷ 21 ∷ 25 ∷ 26 ∷ 15 ∷ 16 ∷ 17 ∷ 6 ∷ 7 ∷ 7 ∷ 8 ∷ 11 ∷ 14 ∷ 15 ∷ 16 ∷ 17 ∷ 18 ∷ 19 ∷ 20 ∷ 21 ∷ 23 ∷ 12 ∷ 13 ∷ 15 ∷ 4 ∷ []
 owed = refl
 
-pub line_last : waiting_line (front 34 row) ≡ queue (front 34 row)
+pub line_last : waiting_line config (front 34 row) ≡ queue config (front 34 row)
 line_last = refl

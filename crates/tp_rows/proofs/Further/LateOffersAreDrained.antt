@@ -19,9 +19,9 @@ config = record { core = 1; maximum = 1; queue = Unbounded; keep = 0; core_timeo
 
 abbrev pub row : List Entry
 row =
-    entry (ask.Submit kinds.Plain) (did.Submit (task 0) kinds.Plain (looked.Reserve (slot 0)))
-    ∷ entry (ask.Submit kinds.Plain) (did.Submit (task 1) kinds.Plain looked.Queue)
-    ∷ entry (ask.Submit kinds.Plain) (did.Submit (task 2) kinds.Plain looked.Queue)
+    entry (ask.Submit kinds.Plain 0) (did.Submit (task 0) kinds.Plain 0 (looked.Reserve (slot 0)))
+    ∷ entry (ask.Submit kinds.Plain 0) (did.Submit (task 1) kinds.Plain 0 looked.Queue)
+    ∷ entry (ask.Submit kinds.Plain 0) (did.Submit (task 2) kinds.Plain 0 looked.Queue)
     ∷ entry ask.Stop (did.Stop 0)
     ∷ entry (ask.Open (slot 0)) (did.Open (slot 0) (opened.GivenUpRefuse (task 0)))
     ∷ entry ask.Tidy did.Tidy
@@ -38,10 +38,10 @@ row =
 pub legal : Legal config (front 14 row)
 legal = ((refl, tt), ((refl, tt), ((refl, tt), ((refl, tt), ((refl, tt), ((refl, tt), ((refl, tt), ((refl, tt), ((refl, tt), ((refl, tt), ((refl, tt), ((refl, tt), ((refl, tt), ((refl, refl), tt))))))))))))))
 
-pub back_0 : queue (front 7 row) ≡ 1 ∷ []
+pub back_0 : queue config (front 7 row) ≡ 1 ∷ []
 back_0 = refl
 
-pub back_in_words_0 : waiting_line (front 7 row) ≡ 1 ∷ []
+pub back_in_words_0 : waiting_line config (front 7 row) ≡ 1 ∷ []
 back_in_words_0 = refl
 
 pub rank_last : (state config (front 14 row)).rank ≡ 4
@@ -71,5 +71,5 @@ next_holds = (refl, refl, (refl, refl, (refl, refl, (refl, refl, (refl, refl, (r
 pub owed : owed_at_fronts config (front 14 row) ≡ 0 ∷ 2 ∷ 3 ∷ 11 ∷ 12 ∷ 14 ∷ 18 ∷ 24 ∷ 25 ∷ 26 ∷ 36 ∷ 38 ∷ 27 ∷ 16 ∷ 4 ∷ []
 owed = refl
 
-pub line_last : waiting_line (front 14 row) ≡ queue (front 14 row)
+pub line_last : waiting_line config (front 14 row) ≡ queue config (front 14 row)
 line_last = refl

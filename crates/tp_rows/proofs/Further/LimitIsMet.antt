@@ -16,18 +16,18 @@ config = record { core = 1; maximum = 1; queue = Unbounded; keep = 3; core_timeo
 
 abbrev pub row : List Entry
 row =
-    entry (ask.Submit kinds.Plain) (did.Submit (task 0) kinds.Plain (looked.Reserve (slot 0)))
+    entry (ask.Submit kinds.Plain 0) (did.Submit (task 0) kinds.Plain 0 (looked.Reserve (slot 0)))
     ∷ entry ask.Prestart (did.Prestart None)
-    ∷ entry (ask.Submit kinds.Future) (did.Submit (task 1) kinds.Future looked.Queue)
-    ∷ entry (ask.Submit kinds.Future) (did.Submit (task 2) kinds.Future looked.Queue)
+    ∷ entry (ask.Submit kinds.Future 0) (did.Submit (task 1) kinds.Future 0 looked.Queue)
+    ∷ entry (ask.Submit kinds.Future 0) (did.Submit (task 2) kinds.Future 0 looked.Queue)
     ∷ entry (ask.Offer (task 1)) (did.Offer (task 1) offered.Queued)
     ∷ entry (ask.Offer (task 2)) (did.Offer (task 2) offered.Queued)
     ∷ entry (ask.Second (task 1)) (did.Second (task 1) seconded.Stay)
     ∷ entry (ask.Second (task 2)) (did.Second (task 2) seconded.Stay)
     ∷ entry (ask.Cancel (task 1) false) (did.Cancel (task 1) false true)
     ∷ entry (ask.Cancel (task 2) false) (did.Cancel (task 2) false true)
-    ∷ entry (ask.Submit kinds.Plain) (did.Submit (task 3) kinds.Plain looked.Queue)
-    ∷ entry (ask.Submit kinds.Plain) (did.Submit (task 4) kinds.Plain looked.Queue)
+    ∷ entry (ask.Submit kinds.Plain 0) (did.Submit (task 3) kinds.Plain 0 looked.Queue)
+    ∷ entry (ask.Submit kinds.Plain 0) (did.Submit (task 4) kinds.Plain 0 looked.Queue)
     ∷ entry (ask.Tick 1) (did.Tick 1)
     ∷ entry (ask.Tick 2) (did.Tick 2)
     ∷ entry ask.Shutdown did.Shutdown
@@ -42,7 +42,7 @@ row =
 pub legal : Legal config (front 21 row)
 legal = ((refl, tt), ((refl, tt), ((refl, tt), ((refl, tt), ((refl, tt), ((refl, tt), ((refl, tt), ((refl, tt), ((refl, tt), ((refl, tt), ((refl, tt), ((refl, tt), ((refl, tt), ((refl, tt), ((refl, tt), ((refl, tt), ((refl, tt), ((refl, tt), ((refl, tt), ((refl, tt), ((refl, refl), tt)))))))))))))))))))))
 
-pub refused_0 : (w : ℕ) → step config (state config (front 12 row)) w (ask.Submit kinds.Plain) ≡ Err BookFull
+pub refused_0 : (w : ℕ) → step config (state config (front 12 row)) w (ask.Submit kinds.Plain 0) ≡ Err BookFull
 refused_0 w = refl
 
 pub refused_1 : (w : ℕ) → step config (state config (front 14 row)) w (ask.Tick 3) ≡ Err BookFull
@@ -57,10 +57,10 @@ refused_3 w = refl
 pub refused_4 : (w : ℕ) → step config (state config (front 15 row)) w (ask.Shutdown) ≡ Err BookFull
 refused_4 w = refl
 
-pub back_0 : queue (front 15 row) ≡ 1 ∷ 2 ∷ []
+pub back_0 : queue config (front 15 row) ≡ 1 ∷ 2 ∷ []
 back_0 = refl
 
-pub back_in_words_0 : waiting_line (front 15 row) ≡ 1 ∷ 2 ∷ []
+pub back_in_words_0 : waiting_line config (front 15 row) ≡ 1 ∷ 2 ∷ []
 back_in_words_0 = refl
 
 pub rank_last : (state config (front 21 row)).rank ≡ 2
@@ -90,5 +90,5 @@ next_holds = (refl, refl, (refl, refl, (refl, refl, (refl, refl, (refl, refl, (r
 pub owed : owed_at_fronts config (front 21 row) ≡ 36 ∷ 36 ∷ 36 ∷ 36 ∷ 36 ∷ 36 ∷ 49 ∷ 50 ∷ 50 ∷ 50 ∷ 39 ∷ 28 ∷ 28 ∷ 28 ∷ 32 ∷ 36 ∷ 37 ∷ 38 ∷ 27 ∷ 16 ∷ 16 ∷ 4 ∷ []
 owed = refl
 
-pub line_last : waiting_line (front 21 row) ≡ queue (front 21 row)
+pub line_last : waiting_line config (front 21 row) ≡ queue config (front 21 row)
 line_last = refl

@@ -20,8 +20,8 @@ config = record { core = 1; maximum = 1; queue = Handoff; keep = 0; core_timeout
 
 abbrev pub row : List Entry
 row =
-    entry (ask.Submit kinds.Plain) (did.Submit (task 0) kinds.Plain (looked.Reserve (slot 0)))
-    ∷ entry (ask.Submit kinds.Plain) (did.Submit (task 1) kinds.Plain looked.Queue)
+    entry (ask.Submit kinds.Plain 0) (did.Submit (task 0) kinds.Plain 0 (looked.Reserve (slot 0)))
+    ∷ entry (ask.Submit kinds.Plain 0) (did.Submit (task 1) kinds.Plain 0 looked.Queue)
     ∷ entry (ask.Offer (task 1)) (did.Offer (task 1) offered.Full)
     ∷ entry (ask.Grow (task 1)) (did.Grow (task 1) grown.Refuse)
     ∷ entry (ask.Fail (slot 0)) (did.Fail (slot 0) (failed.Offer (task 0)))
@@ -67,5 +67,5 @@ next_holds = (refl, refl, (refl, refl, (refl, refl, (refl, refl, (refl, refl, (r
 pub owed : owed_at_fronts config (front 15 row) ≡ 3 ∷ 5 ∷ 15 ∷ 17 ∷ 28 ∷ 29 ∷ 18 ∷ 25 ∷ 27 ∷ 28 ∷ 17 ∷ 18 ∷ 25 ∷ 27 ∷ 16 ∷ 4 ∷ []
 owed = refl
 
-pub line_last : waiting_line (front 15 row) ≡ queue (front 15 row)
+pub line_last : waiting_line config (front 15 row) ≡ queue config (front 15 row)
 line_last = refl

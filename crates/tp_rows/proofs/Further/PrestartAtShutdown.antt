@@ -22,10 +22,10 @@ config = record { core = 2; maximum = 3; queue = Unbounded; keep = 0; core_timeo
 
 abbrev pub row : List Entry
 row =
-    entry (ask.Submit kinds.Plain) (did.Submit (task 0) kinds.Plain (looked.Reserve (slot 0)))
+    entry (ask.Submit kinds.Plain 0) (did.Submit (task 0) kinds.Plain 0 (looked.Reserve (slot 0)))
     ∷ entry ask.Prestart (did.Prestart (Some (slot 1)))
     ∷ entry ask.Prestart (did.Prestart None)
-    ∷ entry (ask.Submit kinds.Plain) (did.Submit (task 1) kinds.Plain looked.Queue)
+    ∷ entry (ask.Submit kinds.Plain 0) (did.Submit (task 1) kinds.Plain 0 looked.Queue)
     ∷ entry (ask.Offer (task 1)) (did.Offer (task 1) offered.Queued)
     ∷ entry (ask.Second (task 1)) (did.Second (task 1) seconded.Stay)
     ∷ entry (ask.Fail (slot 1)) (did.Fail (slot 1) failed.Nothing)
@@ -70,5 +70,5 @@ next_holds = (refl, refl, (refl, refl, (refl, refl, (refl, refl, (refl, refl, (r
 pub owed : owed_at_fronts config (front 19 row) ≡ 3 ∷ 3 ∷ 4 ∷ 6 ∷ 10 ∷ 11 ∷ 11 ∷ 21 ∷ 21 ∷ 22 ∷ 24 ∷ 21 ∷ 22 ∷ 25 ∷ 29 ∷ 30 ∷ 19 ∷ 19 ∷ 16 ∷ 4 ∷ []
 owed = refl
 
-pub line_last : waiting_line (front 19 row) ≡ queue (front 19 row)
+pub line_last : waiting_line config (front 19 row) ≡ queue config (front 19 row)
 line_last = refl

@@ -19,13 +19,13 @@ config = record { core = 1; maximum = 2; queue = Bounded 2; keep = 0; core_timeo
 
 abbrev pub row : List Entry
 row =
-    entry (ask.Submit kinds.Future) (did.Submit (task 0) kinds.Future (looked.Reserve (slot 0)))
-    ∷ entry (ask.Submit kinds.Future) (did.Submit (task 1) kinds.Future looked.Queue)
+    entry (ask.Submit kinds.Future 0) (did.Submit (task 0) kinds.Future 0 (looked.Reserve (slot 0)))
+    ∷ entry (ask.Submit kinds.Future 0) (did.Submit (task 1) kinds.Future 0 looked.Queue)
     ∷ entry (ask.Offer (task 1)) (did.Offer (task 1) offered.Queued)
     ∷ entry (ask.Second (task 1)) (did.Second (task 1) seconded.Stay)
     ∷ entry (ask.Cancel (task 0) false) (did.Cancel (task 0) false true)
     ∷ entry (ask.Cancel (task 1) false) (did.Cancel (task 1) false true)
-    ∷ entry (ask.Submit kinds.Future) (did.Submit (task 2) kinds.Future looked.Queue)
+    ∷ entry (ask.Submit kinds.Future 0) (did.Submit (task 2) kinds.Future 0 looked.Queue)
     ∷ entry (ask.Offer (task 2)) (did.Offer (task 2) offered.Queued)
     ∷ entry ask.Purge (did.Purge 1)
     ∷ entry (ask.Second (task 2)) (did.Second (task 2) seconded.Stay)
@@ -69,5 +69,5 @@ next_holds = (refl, refl, (refl, refl, (refl, refl, (refl, refl, (refl, refl, (r
 pub owed : owed_at_fronts config (front 18 row) ≡ 6 ∷ 6 ∷ 6 ∷ 12 ∷ 12 ∷ 12 ∷ 16 ∷ 17 ∷ 22 ∷ 26 ∷ 32 ∷ 33 ∷ 22 ∷ 22 ∷ 22 ∷ 26 ∷ 27 ∷ 16 ∷ 4 ∷ []
 owed = refl
 
-pub line_last : waiting_line (front 18 row) ≡ queue (front 18 row)
+pub line_last : waiting_line config (front 18 row) ≡ queue config (front 18 row)
 line_last = refl

@@ -20,7 +20,7 @@ config = record { core = 0; maximum = 1; queue = Unbounded; keep = 0; core_timeo
 abbrev pub row : List Entry
 row =
     start 7 begun.row
-    ++ entry (ask.Submit kinds.Plain) (did.Submit (task 1) kinds.Plain looked.Queue)
+    ++ entry (ask.Submit kinds.Plain 0) (did.Submit (task 1) kinds.Plain 0 looked.Queue)
     ∷ entry (ask.Offer (task 1)) (did.Offer (task 1) offered.Queued)
     ∷ entry (ask.Take (slot 0)) (did.Take (slot 0) (took.Head (task 1)))
     ∷ entry (ask.Second (task 1)) (did.Second (task 1) seconded.Stay)
@@ -56,5 +56,5 @@ next_holds = (refl, refl, (refl, refl, (refl, refl, (refl, refl, (refl, refl, (r
 pub owed : owed_at_fronts config (front 14 row) ≡ 4 ∷ 6 ∷ 9 ∷ 10 ∷ 14 ∷ 16 ∷ 17 ∷ 6 ∷ 9 ∷ 10 ∷ 12 ∷ 13 ∷ 14 ∷ 15 ∷ 4 ∷ []
 owed = refl
 
-pub line_last : waiting_line (front 14 row) ≡ queue (front 14 row)
+pub line_last : waiting_line config (front 14 row) ≡ queue config (front 14 row)
 line_last = refl

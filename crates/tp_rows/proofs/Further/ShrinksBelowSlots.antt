@@ -70,5 +70,5 @@ next_holds = (refl, refl, (refl, refl, (refl, refl, (refl, refl, (refl, refl, (r
 pub owed : owed_at_fronts config (front 15 row) ≡ 5 ∷ 5 ∷ 5 ∷ 5 ∷ 6 ∷ 6 ∷ 8 ∷ 11 ∷ 12 ∷ 13 ∷ 13 ∷ 13 ∷ 10 ∷ 7 ∷ 4 ∷ 4 ∷ []
 owed = refl
 
-pub line_last : waiting_line (front 15 row) ≡ queue (front 15 row)
+pub line_last : waiting_line config (front 15 row) ≡ queue config (front 15 row)
 line_last = refl

@@ -19,7 +19,7 @@ config = record { core = 1; maximum = 1; queue = Unbounded; keep = 5; core_timeo
 
 abbrev pub row : List Entry
 row =
-    entry (ask.Submit kinds.Future) (did.Submit (task 0) kinds.Future (looked.Reserve (slot 0)))
+    entry (ask.Submit kinds.Future 0) (did.Submit (task 0) kinds.Future 0 (looked.Reserve (slot 0)))
     ∷ entry (ask.Open (slot 0)) (did.Open (slot 0) opened.Live)
     ∷ entry (ask.Take (slot 0)) (did.Take (slot 0) (took.Held (task 0)))
     ∷ entry (ask.Begin (slot 0)) (did.Begin (slot 0) (started.Run (task 0)))
@@ -27,7 +27,7 @@ row =
     ∷ entry (ask.Cancel (task 0) false) (did.Cancel (task 0) false false)
     ∷ entry (ask.Take (slot 0)) (did.Take (slot 0) took.Idle)
     ∷ entry (ask.Tick 3) (did.Tick 3)
-    ∷ entry (ask.Submit kinds.Plain) (did.Submit (task 1) kinds.Plain looked.Queue)
+    ∷ entry (ask.Submit kinds.Plain 0) (did.Submit (task 1) kinds.Plain 0 looked.Queue)
     ∷ entry (ask.Offer (task 1)) (did.Offer (task 1) offered.Queued)
     ∷ entry (ask.Second (task 1)) (did.Second (task 1) seconded.Stay)
     ∷ entry ask.Shutdown did.Shutdown
@@ -76,5 +76,5 @@ next_holds = (refl, refl, (refl, refl, (refl, refl, (refl, refl, (refl, refl, (r
 pub owed : owed_at_fronts config (front 19 row) ≡ 0 ∷ 1 ∷ 3 ∷ 4 ∷ 8 ∷ 9 ∷ 10 ∷ 10 ∷ 11 ∷ 15 ∷ 16 ∷ 5 ∷ 5 ∷ 6 ∷ 6 ∷ 9 ∷ 10 ∷ 11 ∷ 16 ∷ 4 ∷ []
 owed = refl
 
-pub line_last : waiting_line (front 19 row) ≡ queue (front 19 row)
+pub line_last : waiting_line config (front 19 row) ≡ queue config (front 19 row)
 line_last = refl

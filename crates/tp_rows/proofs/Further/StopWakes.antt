@@ -26,7 +26,7 @@ row =
     ∷ entry (ask.Open (slot 1)) (did.Open (slot 1) opened.Live)
     ∷ entry (ask.Take (slot 0)) (did.Take (slot 0) took.Idle)
     ∷ entry (ask.Take (slot 1)) (did.Take (slot 1) took.Idle)
-    ∷ entry (ask.Submit kinds.Plain) (did.Submit (task 0) kinds.Plain looked.Queue)
+    ∷ entry (ask.Submit kinds.Plain 0) (did.Submit (task 0) kinds.Plain 0 looked.Queue)
     ∷ entry (ask.Offer (task 0)) (did.Offer (task 0) (offered.Hand (slot 0)))
     ∷ entry ask.Stop (did.Stop 0)
     ∷ entry (ask.Second (task 0)) (did.Second (task 0) seconded.Stay)
@@ -71,5 +71,5 @@ next_holds = (refl, refl, (refl, refl, (refl, refl, (refl, refl, (refl, refl, (r
 pub owed : owed_at_fronts config (front 20 row) ≡ 0 ∷ 0 ∷ 1 ∷ 1 ∷ 2 ∷ 3 ∷ 7 ∷ 8 ∷ 9 ∷ 10 ∷ 14 ∷ 16 ∷ 17 ∷ 6 ∷ 7 ∷ 8 ∷ 9 ∷ 10 ∷ 10 ∷ 7 ∷ 4 ∷ []
 owed = refl
 
-pub line_last : waiting_line (front 20 row) ≡ queue (front 20 row)
+pub line_last : waiting_line config (front 20 row) ≡ queue config (front 20 row)
 line_last = refl

@@ -19,8 +19,8 @@ config = record { core = 1; maximum = 1; queue = Unbounded; keep = 0; core_timeo
 
 abbrev pub row : List Entry
 row =
-    entry (ask.Submit kinds.Plain) (did.Submit (task 0) kinds.Plain (looked.Reserve (slot 0)))
-    ∷ entry (ask.Submit kinds.Plain) (did.Submit (task 1) kinds.Plain looked.Queue)
+    entry (ask.Submit kinds.Plain 0) (did.Submit (task 0) kinds.Plain 0 (looked.Reserve (slot 0)))
+    ∷ entry (ask.Submit kinds.Plain 0) (did.Submit (task 1) kinds.Plain 0 looked.Queue)
     ∷ entry ask.Stop (did.Stop 0)
     ∷ entry (ask.Open (slot 0)) (did.Open (slot 0) (opened.GivenUpRefuse (task 0)))
     ∷ entry (ask.Offer (task 1)) (did.Offer (task 1) offered.Queued)
@@ -58,5 +58,5 @@ next_holds = (refl, refl, (refl, refl, (refl, refl, (refl, refl, (refl, refl, (r
 pub owed : owed_at_fronts config (front 10 row) ≡ 0 ∷ 1 ∷ 3 ∷ 5 ∷ 13 ∷ 14 ∷ 15 ∷ 25 ∷ 27 ∷ 16 ∷ 4 ∷ []
 owed = refl
 
-pub line_last : waiting_line (front 10 row) ≡ queue (front 10 row)
+pub line_last : waiting_line config (front 10 row) ≡ queue config (front 10 row)
 line_last = refl

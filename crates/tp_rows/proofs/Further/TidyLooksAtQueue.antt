@@ -19,13 +19,13 @@ config = record { core = 0; maximum = 1; queue = Unbounded; keep = 0; core_timeo
 
 abbrev pub row : List Entry
 row =
-    entry (ask.Submit kinds.Plain) (did.Submit (task 0) kinds.Plain looked.Queue)
+    entry (ask.Submit kinds.Plain 0) (did.Submit (task 0) kinds.Plain 0 looked.Queue)
     ∷ entry (ask.Offer (task 0)) (did.Offer (task 0) offered.Queued)
     ∷ entry (ask.Second (task 0)) (did.Second (task 0) (seconded.StayReserve (slot 0)))
     ∷ entry (ask.Fail (slot 0)) (did.Fail (slot 0) failed.Nothing)
     ∷ entry ask.Shutdown did.Shutdown
     ∷ entry ask.Prestart (did.Prestart None)
-    ∷ entry (ask.Submit kinds.Plain) (did.Submit (task 1) kinds.Plain looked.Refuse)
+    ∷ entry (ask.Submit kinds.Plain 0) (did.Submit (task 1) kinds.Plain 0 looked.Refuse)
     ∷ entry (ask.Verdict (task 1) verdict.Abort) (did.Verdict (task 1) verdict.Abort ruled.Rejected)
     ∷ entry ask.Stop (did.Stop 1)
     ∷ entry ask.Tidy did.Tidy
@@ -38,10 +38,10 @@ legal = ((refl, tt), ((refl, tt), ((refl, tt), ((refl, tt), ((refl, tt), ((refl,
 pub refused_0 : (w : ℕ) → step config (state config (front 5 row)) w (ask.Tidy) ≡ Err NotThere
 refused_0 w = refl
 
-pub back_0 : queue (front 8 row) ≡ 0 ∷ []
+pub back_0 : queue config (front 8 row) ≡ 0 ∷ []
 back_0 = refl
 
-pub back_in_words_0 : waiting_line (front 8 row) ≡ 0 ∷ []
+pub back_in_words_0 : waiting_line config (front 8 row) ≡ 0 ∷ []
 back_in_words_0 = refl
 
 pub rank_last : (state config (front 11 row)).rank ≡ 4
@@ -68,5 +68,5 @@ next_holds = (refl, refl, (refl, refl, (refl, refl, (refl, refl, (refl, refl, (r
 pub owed : owed_at_fronts config (front 11 row) ≡ 0 ∷ 1 ∷ 2 ∷ 9 ∷ 11 ∷ 9 ∷ 9 ∷ 10 ∷ 13 ∷ 14 ∷ 15 ∷ 4 ∷ []
 owed = refl
 
-pub line_last : waiting_line (front 11 row) ≡ queue (front 11 row)
+pub line_last : waiting_line config (front 11 row) ≡ queue config (front 11 row)
 line_last = refl

@@ -34,5 +34,5 @@ next_holds = tt
 pub owed : owed_at_fronts config (front 0 row) ≡ 4 ∷ []
 owed = refl
 
-pub line_last : waiting_line (front 0 row) ≡ queue (front 0 row)
+pub line_last : waiting_line config (front 0 row) ≡ queue config (front 0 row)
 line_last = refl

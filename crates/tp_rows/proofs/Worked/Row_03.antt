@@ -16,7 +16,7 @@ config = record { core = 0; maximum = 1; queue = Unbounded; keep = 0; core_timeo
 
 abbrev pub row : List Entry
 row =
-    entry (ask.Submit kinds.Plain) (did.Submit (task 0) kinds.Plain looked.Queue)
+    entry (ask.Submit kinds.Plain 0) (did.Submit (task 0) kinds.Plain 0 looked.Queue)
     ∷ entry (ask.Offer (task 0)) (did.Offer (task 0) offered.Queued)
     ∷ entry (ask.Second (task 0)) (did.Second (task 0) (seconded.StayReserve (slot 0)))
     ∷ []
@@ -48,5 +48,5 @@ next_holds = (refl, refl, (refl, refl, (refl, refl, tt)))
 pub owed : owed_at_fronts config (front 3 row) ≡ 13 ∷ 14 ∷ 15 ∷ 4 ∷ []
 owed = refl
 
-pub line_last : waiting_line (front 3 row) ≡ queue (front 3 row)
+pub line_last : waiting_line config (front 3 row) ≡ queue config (front 3 row)
 line_last = refl

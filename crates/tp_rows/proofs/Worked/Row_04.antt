@@ -19,14 +19,14 @@ config = record { core = 1; maximum = 2; queue = Bounded 1; keep = 0; core_timeo
 
 abbrev pub row : List Entry
 row =
-    entry (ask.Submit kinds.Plain) (did.Submit (task 0) kinds.Plain (looked.Reserve (slot 0)))
-    ∷ entry (ask.Submit kinds.Plain) (did.Submit (task 1) kinds.Plain looked.Queue)
+    entry (ask.Submit kinds.Plain 0) (did.Submit (task 0) kinds.Plain 0 (looked.Reserve (slot 0)))
+    ∷ entry (ask.Submit kinds.Plain 0) (did.Submit (task 1) kinds.Plain 0 looked.Queue)
     ∷ entry (ask.Offer (task 1)) (did.Offer (task 1) offered.Queued)
     ∷ entry (ask.Second (task 1)) (did.Second (task 1) seconded.Stay)
-    ∷ entry (ask.Submit kinds.Plain) (did.Submit (task 2) kinds.Plain looked.Queue)
+    ∷ entry (ask.Submit kinds.Plain 0) (did.Submit (task 2) kinds.Plain 0 looked.Queue)
     ∷ entry (ask.Offer (task 2)) (did.Offer (task 2) offered.Full)
     ∷ entry (ask.Grow (task 2)) (did.Grow (task 2) (grown.Reserve (slot 1)))
-    ∷ entry (ask.Submit kinds.Plain) (did.Submit (task 3) kinds.Plain looked.Queue)
+    ∷ entry (ask.Submit kinds.Plain 0) (did.Submit (task 3) kinds.Plain 0 looked.Queue)
     ∷ entry (ask.Offer (task 3)) (did.Offer (task 3) offered.Full)
     ∷ entry (ask.Grow (task 3)) (did.Grow (task 3) grown.Refuse)
     ∷ entry (ask.Verdict (task 3) verdict.Abort) (did.Verdict (task 3) verdict.Abort ruled.Rejected)
@@ -59,5 +59,5 @@ next_holds = (refl, refl, (refl, refl, (refl, refl, (refl, refl, (refl, refl, (r
 pub owed : owed_at_fronts config (front 11 row) ≡ 30 ∷ 32 ∷ 39 ∷ 41 ∷ 30 ∷ 31 ∷ 33 ∷ 22 ∷ 26 ∷ 27 ∷ 16 ∷ 4 ∷ []
 owed = refl
 
-pub line_last : waiting_line (front 11 row) ≡ queue (front 11 row)
+pub line_last : waiting_line config (front 11 row) ≡ queue config (front 11 row)
 line_last = refl

@@ -19,12 +19,12 @@ config = record { core = 1; maximum = 1; queue = Unbounded; keep = 0; core_timeo
 
 abbrev pub row : List Entry
 row =
-    entry (ask.Submit kinds.Plain) (did.Submit (task 0) kinds.Plain (looked.Reserve (slot 0)))
+    entry (ask.Submit kinds.Plain 0) (did.Submit (task 0) kinds.Plain 0 (looked.Reserve (slot 0)))
     ∷ entry (ask.Open (slot 0)) (did.Open (slot 0) opened.Live)
     ∷ entry (ask.Take (slot 0)) (did.Take (slot 0) (took.Held (task 0)))
     ∷ entry (ask.Begin (slot 0)) (did.Begin (slot 0) (started.Run (task 0)))
     ∷ entry (ask.End (slot 0) (Ok (pos 1))) (did.End (slot 0) (task 0) (Ok (pos 1)))
-    ∷ entry (ask.Submit kinds.Plain) (did.Submit (task 1) kinds.Plain looked.Queue)
+    ∷ entry (ask.Submit kinds.Plain 0) (did.Submit (task 1) kinds.Plain 0 looked.Queue)
     ∷ entry ask.Shutdown did.Shutdown
     ∷ entry (ask.Offer (task 1)) (did.Offer (task 1) offered.Queued)
     ∷ entry (ask.Take (slot 0)) (did.Take (slot 0) (took.Head (task 1)))
@@ -60,5 +60,5 @@ next_holds = (refl, refl, (refl, refl, (refl, refl, (refl, refl, (refl, refl, (r
 pub owed : owed_at_fronts config (front 12 row) ≡ 4 ∷ 8 ∷ 9 ∷ 13 ∷ 14 ∷ 15 ∷ 17 ∷ 6 ∷ 9 ∷ 10 ∷ 11 ∷ 16 ∷ 4 ∷ []
 owed = refl
 
-pub line_last : waiting_line (front 12 row) ≡ queue (front 12 row)
+pub line_last : waiting_line config (front 12 row) ≡ queue config (front 12 row)
 line_last = refl

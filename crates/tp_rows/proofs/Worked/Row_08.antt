@@ -55,5 +55,5 @@ next_holds = (refl, refl, (refl, refl, (refl, refl, (refl, refl, (refl, refl, (r
 pub owed : owed_at_fronts config (front 13 row) ≡ 0 ∷ 1 ∷ 2 ∷ 4 ∷ 12 ∷ 13 ∷ 14 ∷ 17 ∷ 6 ∷ 9 ∷ 10 ∷ 11 ∷ 16 ∷ 4 ∷ []
 owed = refl
 
-pub line_last : waiting_line (front 13 row) ≡ queue (front 13 row)
+pub line_last : waiting_line config (front 13 row) ≡ queue config (front 13 row)
 line_last = refl

@@ -17,7 +17,7 @@ config = record { core = 1; maximum = 1; queue = Unbounded; keep = 0; core_timeo
 
 abbrev pub row : List Entry
 row =
-    entry (ask.Submit kinds.Plain) (did.Submit (task 0) kinds.Plain (looked.Reserve (slot 0)))
+    entry (ask.Submit kinds.Plain 0) (did.Submit (task 0) kinds.Plain 0 (looked.Reserve (slot 0)))
     ∷ entry ask.Shutdown did.Shutdown
     ∷ entry (ask.Open (slot 0)) (did.Open (slot 0) (opened.GivenUpRefuse (task 0)))
     ∷ entry (ask.Verdict (task 0) verdict.Abort) (did.Verdict (task 0) verdict.Abort ruled.Rejected)
@@ -51,5 +51,5 @@ next_holds = (refl, refl, (refl, refl, (refl, refl, (refl, refl, (refl, refl, tt
 pub owed : owed_at_fronts config (front 5 row) ≡ 1 ∷ 3 ∷ 5 ∷ 15 ∷ 16 ∷ 4 ∷ []
 owed = refl
 
-pub line_last : waiting_line (front 5 row) ≡ queue (front 5 row)
+pub line_last : waiting_line config (front 5 row) ≡ queue config (front 5 row)
 line_last = refl

@@ -17,7 +17,7 @@ config = record { core = 1; maximum = 1; queue = Unbounded; keep = 0; core_timeo
 
 abbrev pub row : List Entry
 row =
-    entry (ask.Submit kinds.Plain) (did.Submit (task 0) kinds.Plain (looked.Reserve (slot 0)))
+    entry (ask.Submit kinds.Plain 0) (did.Submit (task 0) kinds.Plain 0 (looked.Reserve (slot 0)))
     ∷ entry (ask.Fail (slot 0)) (did.Fail (slot 0) (failed.Offer (task 0)))
     ∷ entry (ask.Offer (task 0)) (did.Offer (task 0) offered.Queued)
     ∷ entry (ask.Second (task 0)) (did.Second (task 0) (seconded.StayReserve (slot 0)))
@@ -51,5 +51,5 @@ next_holds = (refl, refl, (refl, refl, (refl, refl, (refl, refl, (refl, refl, tt
 pub owed : owed_at_fronts config (front 5 row) ≡ 10 ∷ 13 ∷ 14 ∷ 15 ∷ 16 ∷ 4 ∷ []
 owed = refl
 
-pub line_last : waiting_line (front 5 row) ≡ queue (front 5 row)
+pub line_last : waiting_line config (front 5 row) ≡ queue config (front 5 row)
 line_last = refl

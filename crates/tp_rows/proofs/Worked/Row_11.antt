@@ -18,16 +18,16 @@ config = record { core = 0; maximum = 1; queue = Handoff; keep = 0; core_timeout
 
 abbrev pub row : List Entry
 row =
-    entry (ask.Submit kinds.Plain) (did.Submit (task 0) kinds.Plain looked.Queue)
+    entry (ask.Submit kinds.Plain 0) (did.Submit (task 0) kinds.Plain 0 looked.Queue)
     ∷ entry (ask.Offer (task 0)) (did.Offer (task 0) offered.Full)
     ∷ entry (ask.Grow (task 0)) (did.Grow (task 0) (grown.Reserve (slot 0)))
-    ∷ entry (ask.Submit kinds.Plain) (did.Submit (task 1) kinds.Plain looked.Queue)
+    ∷ entry (ask.Submit kinds.Plain 0) (did.Submit (task 1) kinds.Plain 0 looked.Queue)
     ∷ entry (ask.Offer (task 1)) (did.Offer (task 1) offered.Full)
     ∷ entry (ask.Grow (task 1)) (did.Grow (task 1) grown.Refuse)
     ∷ entry (ask.Verdict (task 1) verdict.CallerRuns) (did.Verdict (task 1) verdict.CallerRuns ruled.Caller)
     ∷ entry (ask.CallerEnd (task 1) (Ok (pos 2))) (did.CallerEnd (task 1) (Ok (pos 2)))
     ∷ entry ask.Shutdown did.Shutdown
-    ∷ entry (ask.Submit kinds.Plain) (did.Submit (task 2) kinds.Plain looked.Refuse)
+    ∷ entry (ask.Submit kinds.Plain 0) (did.Submit (task 2) kinds.Plain 0 looked.Refuse)
     ∷ entry (ask.Verdict (task 2) verdict.CallerRuns) (did.Verdict (task 2) verdict.CallerRuns ruled.Discarded)
     ∷ []
 
@@ -58,5 +58,5 @@ next_holds = (refl, refl, (refl, refl, (refl, refl, (refl, refl, (refl, refl, (r
 pub owed : owed_at_fronts config (front 11 row) ≡ 11 ∷ 13 ∷ 11 ∷ 12 ∷ 13 ∷ 14 ∷ 21 ∷ 23 ∷ 12 ∷ 13 ∷ 15 ∷ 4 ∷ []
 owed = refl
 
-pub line_last : waiting_line (front 11 row) ≡ queue (front 11 row)
+pub line_last : waiting_line config (front 11 row) ≡ queue config (front 11 row)
 line_last = refl

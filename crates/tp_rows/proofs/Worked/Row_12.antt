@@ -54,5 +54,5 @@ next_holds = (refl, refl, (refl, refl, (refl, refl, (refl, refl, (refl, refl, (r
 pub owed : owed_at_fronts config (front 11 row) ≡ 22 ∷ 26 ∷ 27 ∷ 29 ∷ 24 ∷ 31 ∷ 33 ∷ 22 ∷ 26 ∷ 27 ∷ 16 ∷ 4 ∷ []
 owed = refl
 
-pub line_last : waiting_line (front 11 row) ≡ queue (front 11 row)
+pub line_last : waiting_line config (front 11 row) ≡ queue config (front 11 row)
 line_last = refl

@@ -19,10 +19,10 @@ config = record { core = 0; maximum = 1; queue = Handoff; keep = 0; core_timeout
 -- the worker of task 0 takes the only place of the pool
 abbrev pub opening : List Entry
 opening =
-    entry (ask.Submit kinds.Plain) (did.Submit (task 0) kinds.Plain looked.Queue)
+    entry (ask.Submit kinds.Plain 0) (did.Submit (task 0) kinds.Plain 0 looked.Queue)
     ∷ entry (ask.Offer (task 0)) (did.Offer (task 0) offered.Full)
     ∷ entry (ask.Grow (task 0)) (did.Grow (task 0) (grown.Reserve (slot 0)))
-    ∷ entry (ask.Submit kinds.Plain) (did.Submit (task 1) kinds.Plain looked.Queue)
+    ∷ entry (ask.Submit kinds.Plain 0) (did.Submit (task 1) kinds.Plain 0 looked.Queue)
     ∷ []
 
 -- task 1 drops nothing, and is offered again
@@ -66,5 +66,5 @@ fates_in_words = (refl, refl, refl, refl, refl, refl, refl, refl, refl, refl, re
 pub owed : owed_at_fronts config (front 263 row) ≡ 12 ∷ 14 ∷ 21 ∷ 23 ∷ 25 ∷ 14 ∷ 21 ∷ 23 ∷ 25 ∷ 14 ∷ 21 ∷ 23 ∷ 25 ∷ 14 ∷ 21 ∷ 23 ∷ 25 ∷ 14 ∷ 21 ∷ 23 ∷ 25 ∷ 14 ∷ 21 ∷ 23 ∷ 25 ∷ 14 ∷ 21 ∷ 23 ∷ 25 ∷ 14 ∷ 21 ∷ 23 ∷ 25 ∷ 14 ∷ 21 ∷ 23 ∷ 25 ∷ 14 ∷ 21 ∷ 23 ∷ 25 ∷ 14 ∷ 21 ∷ 23 ∷ 25 ∷ 14 ∷ 21 ∷ 23 ∷ 25 ∷ 14 ∷ 21 ∷ 23 ∷ 25 ∷ 14 ∷ 21 ∷ 23 ∷ 25 ∷ 14 ∷ 21 ∷ 23 ∷ 25 ∷ 14 ∷ 21 ∷ 23 ∷ 25 ∷ 14 ∷ 21 ∷ 23 ∷ 25 ∷ 14 ∷ 21 ∷ 23 ∷ 25 ∷ 14 ∷ 21 ∷ 23 ∷ 25 ∷ 14 ∷ 21 ∷ 23 ∷ 25 ∷ 14 ∷ 21 ∷ 23 ∷ 25 ∷ 14 ∷ 21 ∷ 23 ∷ 25 ∷ 14 ∷ 21 ∷ 23 ∷ 25 ∷ 14 ∷ 21 ∷ 23 ∷ 25 ∷ 14 ∷ 21 ∷ 23 ∷ 25 ∷ 14 ∷ 21 ∷ 23 ∷ 25 ∷ 14 ∷ 21 ∷ 23 ∷ 25 ∷ 14 ∷ 21 ∷ 23 ∷ 25 ∷ 14 ∷ 21 ∷ 23 ∷ 25 ∷ 14 ∷ 21 ∷ 23 ∷ 25 ∷ 14 ∷ 21 ∷ 23 ∷ 25 ∷ 14 ∷ 21 ∷ 23 ∷ 25 ∷ 14 ∷ 21 ∷ 23 ∷ 25 ∷ 14 ∷ 21 ∷ 23 ∷ 25 ∷ 14 ∷ 21 ∷ 23 ∷ 25 ∷ 14 ∷ 21 ∷ 23 ∷ 25 ∷ 14 ∷ 21 ∷ 23 ∷ 25 ∷ 14 ∷ 21 ∷ 23 ∷ 25 ∷ 14 ∷ 21 ∷ 23 ∷ 25 ∷ 14 ∷ 21 ∷ 23 ∷ 25 ∷ 14 ∷ 21 ∷ 23 ∷ 25 ∷ 14 ∷ 21 ∷ 23 ∷ 25 ∷ 14 ∷ 21 ∷ 23 ∷ 25 ∷ 14 ∷ 21 ∷ 23 ∷ 25 ∷ 14 ∷ 21 ∷ 23 ∷ 25 ∷ 14 ∷ 21 ∷ 23 ∷ 25 ∷ 14 ∷ 21 ∷ 23 ∷ 25 ∷ 14 ∷ 21 ∷ 23 ∷ 25 ∷ 14 ∷ 21 ∷ 23 ∷ 25 ∷ 14 ∷ 21 ∷ 23 ∷ 25 ∷ 14 ∷ 21 ∷ 23 ∷ 25 ∷ 14 ∷ 21 ∷ 23 ∷ 25 ∷ 14 ∷ 21 ∷ 23 ∷ 25 ∷ 14 ∷ 21 ∷ 23 ∷ 25 ∷ 14 ∷ 21 ∷ 23 ∷ 25 ∷ 14 ∷ 21 ∷ 23 ∷ 25 ∷ 14 ∷ 21 ∷ 23 ∷ 25 ∷ 14 ∷ 21 ∷ 23 ∷ 25 ∷ 14 ∷ 21 ∷ 23 ∷ 25 ∷ 14 ∷ 21 ∷ 23 ∷ 25 ∷ 14 ∷ 21 ∷ 23 ∷ 25 ∷ 14 ∷ 21 ∷ 23 ∷ 25 ∷ 14 ∷ 21 ∷ 23 ∷ 25 ∷ 14 ∷ 21 ∷ 23 ∷ 25 ∷ 14 ∷ 21 ∷ 23 ∷ 12 ∷ 13 ∷ 15 ∷ 4 ∷ []
 owed = refl
 
-pub line_last : waiting_line (front 263 row) ≡ queue (front 263 row)
+pub line_last : waiting_line config (front 263 row) ≡ queue config (front 263 row)
 line_last = refl

@@ -19,8 +19,8 @@ config = record { core = 1; maximum = 1; queue = Unbounded; keep = 0; core_timeo
 
 abbrev pub row : List Entry
 row =
-    entry (ask.Submit kinds.Future) (did.Submit (task 0) kinds.Future (looked.Reserve (slot 0)))
-    ∷ entry (ask.Submit kinds.Future) (did.Submit (task 1) kinds.Future looked.Queue)
+    entry (ask.Submit kinds.Future 0) (did.Submit (task 0) kinds.Future 0 (looked.Reserve (slot 0)))
+    ∷ entry (ask.Submit kinds.Future 0) (did.Submit (task 1) kinds.Future 0 looked.Queue)
     ∷ entry (ask.Offer (task 1)) (did.Offer (task 1) offered.Queued)
     ∷ entry (ask.Second (task 1)) (did.Second (task 1) seconded.Stay)
     ∷ entry (ask.Cancel (task 1) false) (did.Cancel (task 1) false true)
@@ -63,5 +63,5 @@ next_holds = (refl, refl, (refl, refl, (refl, refl, (refl, refl, (refl, refl, (r
 pub owed : owed_at_fronts config (front 12 row) ≡ 6 ∷ 10 ∷ 12 ∷ 15 ∷ 16 ∷ 17 ∷ 22 ∷ 22 ∷ 22 ∷ 26 ∷ 27 ∷ 16 ∷ 4 ∷ []
 owed = refl
 
-pub line_last : waiting_line (front 12 row) ≡ queue (front 12 row)
+pub line_last : waiting_line config (front 12 row) ≡ queue config (front 12 row)
 line_last = refl

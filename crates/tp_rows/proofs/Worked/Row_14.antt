@@ -16,11 +16,11 @@ config = record { core = 1; maximum = 1; queue = Unbounded; keep = 0; core_timeo
 
 abbrev pub row : List Entry
 row =
-    entry (ask.Submit kinds.Plain) (did.Submit (task 0) kinds.Plain (looked.Reserve (slot 0)))
-    ∷ entry (ask.Submit kinds.Future) (did.Submit (task 1) kinds.Future looked.Queue)
+    entry (ask.Submit kinds.Plain 0) (did.Submit (task 0) kinds.Plain 0 (looked.Reserve (slot 0)))
+    ∷ entry (ask.Submit kinds.Future 0) (did.Submit (task 1) kinds.Future 0 looked.Queue)
     ∷ entry (ask.Offer (task 1)) (did.Offer (task 1) offered.Queued)
     ∷ entry (ask.Second (task 1)) (did.Second (task 1) seconded.Stay)
-    ∷ entry (ask.Submit kinds.Future) (did.Submit (task 2) kinds.Future looked.Queue)
+    ∷ entry (ask.Submit kinds.Future 0) (did.Submit (task 2) kinds.Future 0 looked.Queue)
     ∷ entry (ask.Offer (task 2)) (did.Offer (task 2) offered.Queued)
     ∷ entry (ask.Second (task 2)) (did.Second (task 2) seconded.Stay)
     ∷ entry (ask.Cancel (task 1) false) (did.Cancel (task 1) false true)
@@ -32,10 +32,10 @@ row =
 pub legal : Legal config (front 11 row)
 legal = ((refl, tt), ((refl, tt), ((refl, tt), ((refl, tt), ((refl, tt), ((refl, tt), ((refl, tt), ((refl, tt), ((refl, tt), ((refl, tt), ((refl, refl), tt)))))))))))
 
-pub back_0 : queue (front 10 row) ≡ 2 ∷ []
+pub back_0 : queue config (front 10 row) ≡ 2 ∷ []
 back_0 = refl
 
-pub back_in_words_0 : waiting_line (front 10 row) ≡ 2 ∷ []
+pub back_in_words_0 : waiting_line config (front 10 row) ≡ 2 ∷ []
 back_in_words_0 = refl
 
 pub rank_last : (state config (front 11 row)).rank ≡ 2
@@ -65,5 +65,5 @@ next_holds = (refl, refl, (refl, refl, (refl, refl, (refl, refl, (refl, refl, (r
 pub owed : owed_at_fronts config (front 11 row) ≡ 14 ∷ 22 ∷ 22 ∷ 28 ∷ 28 ∷ 32 ∷ 33 ∷ 22 ∷ 26 ∷ 27 ∷ 16 ∷ 4 ∷ []
 owed = refl
 
-pub line_last : waiting_line (front 11 row) ≡ queue (front 11 row)
+pub line_last : waiting_line config (front 11 row) ≡ queue config (front 11 row)
 line_last = refl

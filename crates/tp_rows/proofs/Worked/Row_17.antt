@@ -64,5 +64,5 @@ next_holds = (refl, refl, (refl, refl, (refl, refl, (refl, refl, (refl, refl, (r
 pub owed : owed_at_fronts config (front 26 row) ≡ 10 ∷ 12 ∷ 14 ∷ 16 ∷ 16 ∷ 19 ∷ 20 ∷ 21 ∷ 24 ∷ 25 ∷ 26 ∷ 29 ∷ 30 ∷ 31 ∷ 32 ∷ 33 ∷ 38 ∷ 39 ∷ 41 ∷ 30 ∷ 31 ∷ 33 ∷ 22 ∷ 26 ∷ 27 ∷ 16 ∷ 4 ∷ []
 owed = refl
 
-pub line_last : waiting_line (front 26 row) ≡ queue (front 26 row)
+pub line_last : waiting_line config (front 26 row) ≡ queue config (front 26 row)
 line_last = refl

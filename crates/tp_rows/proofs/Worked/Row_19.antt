@@ -17,7 +17,7 @@ config = record { core = 1; maximum = 1; queue = Unbounded; keep = 0; core_timeo
 
 abbrev pub row : List Entry
 row =
-    entry (ask.Submit kinds.Plain) (did.Submit (task 0) kinds.Plain (looked.Reserve (slot 0)))
+    entry (ask.Submit kinds.Plain 0) (did.Submit (task 0) kinds.Plain 0 (looked.Reserve (slot 0)))
     ∷ entry (ask.Open (slot 0)) (did.Open (slot 0) opened.Live)
     ∷ entry (ask.Take (slot 0)) (did.Take (slot 0) (took.Held (task 0)))
     ∷ entry (ask.Begin (slot 0)) (did.Begin (slot 0) (started.Run (task 0)))
@@ -53,5 +53,5 @@ next_holds = (refl, refl, (refl, refl, (refl, refl, (refl, refl, (refl, refl, (r
 pub owed : owed_at_fronts config (front 7 row) ≡ 6 ∷ 7 ∷ 8 ∷ 9 ∷ 10 ∷ 11 ∷ 16 ∷ 4 ∷ []
 owed = refl
 
-pub line_last : waiting_line (front 7 row) ≡ queue (front 7 row)
+pub line_last : waiting_line config (front 7 row) ≡ queue config (front 7 row)
 line_last = refl

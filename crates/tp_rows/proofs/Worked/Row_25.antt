@@ -50,5 +50,5 @@ next_holds = (refl, refl, (refl, refl, (refl, refl, (refl, refl, (refl, refl, (r
 pub owed : owed_at_fronts config (front 12 row) ≡ 12 ∷ 13 ∷ 14 ∷ 21 ∷ 23 ∷ 25 ∷ 14 ∷ 21 ∷ 23 ∷ 12 ∷ 13 ∷ 15 ∷ 4 ∷ []
 owed = refl
 
-pub line_last : waiting_line (front 12 row) ≡ queue (front 12 row)
+pub line_last : waiting_line config (front 12 row) ≡ queue config (front 12 row)
 line_last = refl

@@ -52,5 +52,5 @@ next_holds = (refl, refl, (refl, refl, (refl, refl, (refl, refl, (refl, refl, (r
 pub owed : owed_at_fronts config (front 9 row) ≡ 4 ∷ 6 ∷ 12 ∷ 14 ∷ 21 ∷ 23 ∷ 12 ∷ 13 ∷ 15 ∷ 4 ∷ []
 owed = refl
 
-pub line_last : waiting_line (front 9 row) ≡ queue (front 9 row)
+pub line_last : waiting_line config (front 9 row) ≡ queue config (front 9 row)
 line_last = refl

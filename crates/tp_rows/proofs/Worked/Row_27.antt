@@ -16,10 +16,10 @@ config = record { core = 0; maximum = 3; queue = Unbounded; keep = 0; core_timeo
 
 abbrev pub row : List Entry
 row =
-    entry (ask.Submit kinds.Plain) (did.Submit (task 0) kinds.Plain looked.Queue)
+    entry (ask.Submit kinds.Plain 0) (did.Submit (task 0) kinds.Plain 0 looked.Queue)
     ∷ entry (ask.Offer (task 0)) (did.Offer (task 0) offered.Queued)
     ∷ entry (ask.Second (task 0)) (did.Second (task 0) (seconded.StayReserve (slot 0)))
-    ∷ entry (ask.Submit kinds.Plain) (did.Submit (task 1) kinds.Plain looked.Queue)
+    ∷ entry (ask.Submit kinds.Plain 0) (did.Submit (task 1) kinds.Plain 0 looked.Queue)
     ∷ entry (ask.Offer (task 1)) (did.Offer (task 1) offered.Queued)
     ∷ entry (ask.Second (task 1)) (did.Second (task 1) seconded.Stay)
     ∷ entry (ask.Core 3) (did.Core 3 2)
@@ -77,5 +77,5 @@ next_holds = (refl, refl, (refl, refl, (refl, refl, (refl, refl, (refl, refl, (r
 pub owed : owed_at_fronts config (front 14 row) ≡ 19 ∷ 19 ∷ 25 ∷ 25 ∷ 25 ∷ 25 ∷ 22 ∷ 19 ∷ 19 ∷ 23 ∷ 24 ∷ 13 ∷ 14 ∷ 15 ∷ 4 ∷ []
 owed = refl
 
-pub line_last : waiting_line (front 14 row) ≡ queue (front 14 row)
+pub line_last : waiting_line config (front 14 row) ≡ queue config (front 14 row)
 line_last = refl

@@ -20,7 +20,7 @@ row =
     ∷ entry ask.Shutdown did.Shutdown
     ∷ entry ask.Tidy did.Tidy
     ∷ entry ask.Ended did.Ended
-    ∷ entry (ask.Submit kinds.Plain) (did.Submit (task 0) kinds.Plain looked.Refuse)
+    ∷ entry (ask.Submit kinds.Plain 0) (did.Submit (task 0) kinds.Plain 0 looked.Refuse)
     ∷ entry (ask.Verdict (task 0) verdict.Abort) (did.Verdict (task 0) verdict.Abort ruled.Rejected)
     ∷ []
 
@@ -57,5 +57,5 @@ next_holds = (refl, refl, (refl, refl, (refl, refl, (refl, refl, (refl, refl, (r
 pub owed : owed_at_fronts config (front 6 row) ≡ 0 ∷ 2 ∷ 0 ∷ 1 ∷ 3 ∷ 3 ∷ 4 ∷ []
 owed = refl
 
-pub line_last : waiting_line (front 6 row) ≡ queue (front 6 row)
+pub line_last : waiting_line config (front 6 row) ≡ queue config (front 6 row)
 line_last = refl

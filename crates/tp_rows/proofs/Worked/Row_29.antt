@@ -47,5 +47,5 @@ next_holds = (refl, refl, (refl, refl, (refl, refl, (refl, refl, (refl, refl, (r
 pub owed : owed_at_fronts config (front 8 row) ≡ 2 ∷ 5 ∷ 7 ∷ 4 ∷ 5 ∷ 5 ∷ 6 ∷ 7 ∷ 4 ∷ []
 owed = refl
 
-pub line_last : waiting_line (front 8 row) ≡ queue (front 8 row)
+pub line_last : waiting_line config (front 8 row) ≡ queue config (front 8 row)
 line_last = refl

@@ -23,7 +23,7 @@ config = record { core = 1; maximum = 1; queue = Bounded 2; keep = 0; core_timeo
 abbrev pub row : List Entry
 row =
     start 8 begun.row
-    ++ entry (ask.Submit kinds.Future) (did.Submit (task 3) kinds.Future looked.Queue)
+    ++ entry (ask.Submit kinds.Future 0) (did.Submit (task 3) kinds.Future 0 looked.Queue)
     ∷ entry (ask.Offer (task 3)) (did.Offer (task 3) offered.Full)
     ∷ entry ask.Purge (did.Purge 1)
     ∷ entry ask.Purge (did.Purge 0)
@@ -72,5 +72,5 @@ next_holds = (refl, refl, (refl, refl, (refl, refl, (refl, refl, (refl, refl, (r
 pub owed : owed_at_fronts config (front 22 row) ≡ 6 ∷ 9 ∷ 9 ∷ 10 ∷ 12 ∷ 15 ∷ 16 ∷ 17 ∷ 22 ∷ 24 ∷ 31 ∷ 31 ∷ 37 ∷ 39 ∷ 28 ∷ 28 ∷ 32 ∷ 33 ∷ 22 ∷ 26 ∷ 27 ∷ 16 ∷ 4 ∷ []
 owed = refl
 
-pub line_last : waiting_line (front 22 row) ≡ queue (front 22 row)
+pub line_last : waiting_line config (front 22 row) ≡ queue config (front 22 row)
 line_last = refl

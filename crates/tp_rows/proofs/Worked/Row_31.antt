@@ -18,10 +18,10 @@ config = record { core = 0; maximum = 1; queue = Handoff; keep = 0; core_timeout
 
 abbrev pub row : List Entry
 row =
-    entry (ask.Submit kinds.Plain) (did.Submit (task 0) kinds.Plain looked.Queue)
+    entry (ask.Submit kinds.Plain 0) (did.Submit (task 0) kinds.Plain 0 looked.Queue)
     ∷ entry (ask.Offer (task 0)) (did.Offer (task 0) offered.Full)
     ∷ entry (ask.Grow (task 0)) (did.Grow (task 0) (grown.Reserve (slot 0)))
-    ∷ entry (ask.Submit kinds.Future) (did.Submit (task 1) kinds.Future looked.Queue)
+    ∷ entry (ask.Submit kinds.Future 0) (did.Submit (task 1) kinds.Future 0 looked.Queue)
     ∷ entry (ask.Offer (task 1)) (did.Offer (task 1) offered.Full)
     ∷ entry (ask.Grow (task 1)) (did.Grow (task 1) grown.Refuse)
     ∷ entry (ask.Cancel (task 1) false) (did.Cancel (task 1) false true)
@@ -58,5 +58,5 @@ next_holds = (refl, refl, (refl, refl, (refl, refl, (refl, refl, (refl, refl, (r
 pub owed : owed_at_fronts config (front 8 row) ≡ 12 ∷ 14 ∷ 14 ∷ 21 ∷ 23 ∷ 12 ∷ 13 ∷ 15 ∷ 4 ∷ []
 owed = refl
 
-pub line_last : waiting_line (front 8 row) ≡ queue (front 8 row)
+pub line_last : waiting_line config (front 8 row) ≡ queue config (front 8 row)
 line_last = refl

@@ -18,14 +18,14 @@ config = record { core = 1; maximum = 1; queue = Bounded 3; keep = 0; core_timeo
 
 abbrev pub row : List Entry
 row =
-    entry (ask.Submit kinds.Plain) (did.Submit (task 0) kinds.Plain (looked.Reserve (slot 0)))
-    ∷ entry (ask.Submit kinds.Plain) (did.Submit (task 1) kinds.Plain looked.Queue)
+    entry (ask.Submit kinds.Plain 0) (did.Submit (task 0) kinds.Plain 0 (looked.Reserve (slot 0)))
+    ∷ entry (ask.Submit kinds.Plain 0) (did.Submit (task 1) kinds.Plain 0 looked.Queue)
     ∷ entry (ask.Offer (task 1)) (did.Offer (task 1) offered.Queued)
-    ∷ entry (ask.Submit kinds.Plain) (did.Submit (task 2) kinds.Plain looked.Queue)
+    ∷ entry (ask.Submit kinds.Plain 0) (did.Submit (task 2) kinds.Plain 0 looked.Queue)
     ∷ entry (ask.Offer (task 2)) (did.Offer (task 2) offered.Queued)
-    ∷ entry (ask.Submit kinds.Plain) (did.Submit (task 3) kinds.Plain looked.Queue)
+    ∷ entry (ask.Submit kinds.Plain 0) (did.Submit (task 3) kinds.Plain 0 looked.Queue)
     ∷ entry (ask.Offer (task 3)) (did.Offer (task 3) offered.Queued)
-    ∷ entry (ask.Submit kinds.Plain) (did.Submit (task 4) kinds.Plain looked.Queue)
+    ∷ entry (ask.Submit kinds.Plain 0) (did.Submit (task 4) kinds.Plain 0 looked.Queue)
     ∷ entry (ask.Remove (task 2)) (did.Remove (task 2) true)
     ∷ entry (ask.Offer (task 4)) (did.Offer (task 4) offered.Queued)
     ∷ entry (ask.Open (slot 0)) (did.Open (slot 0) opened.Live)
@@ -62,5 +62,5 @@ next_holds = (refl, refl, (refl, refl, (refl, refl, (refl, refl, (refl, refl, (r
 pub owed : owed_at_fronts config (front 15 row) ≡ 38 ∷ 40 ∷ 43 ∷ 44 ∷ 45 ∷ 50 ∷ 51 ∷ 57 ∷ 46 ∷ 47 ∷ 36 ∷ 37 ∷ 26 ∷ 27 ∷ 16 ∷ 4 ∷ []
 owed = refl
 
-pub line_last : waiting_line (front 15 row) ≡ queue (front 15 row)
+pub line_last : waiting_line config (front 15 row) ≡ queue config (front 15 row)
 line_last = refl

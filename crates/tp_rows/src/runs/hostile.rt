@@ -30,12 +30,28 @@ fn ending_with(alloc: Global, line: &[u8]) -> Result<Result<(), PoolError>, Fail
     Ok(ending_of(alloc, text.as_slice()))
 }
 
-const BAD_LINES: [&[u8]; 28] = [
+const BAD_LINES: [&[u8]; 44] = [
     b"submit plain -0",
     b"submit plain !-1",
     b"submit plain 05",
     b"submit plain",
     b"submit plain 1 ",
+    b"submit plain 1 prio",
+    b"submit plain 1 prio ",
+    b"submit plain 1 prio -1",
+    b"submit plain 1 prio -0",
+    b"submit plain 1 prio +1",
+    b"submit plain 1 prio 00",
+    b"submit plain 1 prio 05",
+    b"submit plain 1 prio 5 ",
+    b"submit plain 1 prio 5 5",
+    b"submit plain 1 prio 5 prio 5",
+    b"submit plain 1  prio 5",
+    b"submit plain 1 Prio 5",
+    b"submit plain 1 priority 5",
+    b"submit plain 1 5",
+    b"submit plain prio 5",
+    b"submit group 3 prio 5",
     b"submit group 1",
     b"submit group -1 5",
     b"Submit plain 1",
@@ -70,7 +86,7 @@ fn refuses_bad_lines(rt: HostRuntime) -> Result<(), Fail> {
     Ok(())
 }
 
-const LAST_AND_PAST: [(&[u8], &[u8]); 9] = [
+const LAST_AND_PAST: [(&[u8], &[u8]); 12] = [
     (
         b"submit plain 9223372036854775807",
         b"submit plain 9223372036854775808",
@@ -80,6 +96,15 @@ const LAST_AND_PAST: [(&[u8], &[u8]); 9] = [
         b"submit plain -9223372036854775809",
     ),
     (b"submit plain !4294967295", b"submit plain !4294967296"),
+    (
+        b"submit plain 0 prio 4294967295",
+        b"submit plain 0 prio 4294967296",
+    ),
+    (
+        b"submit group 4294967295 !4294967295 prio 4294967295",
+        b"submit group 4294967295 !4294967295 prio 18446744073709551616",
+    ),
+    (b"submit future 0 prio 0", b"submit future 0 prio 0prio"),
     (b"submit group 4294967295 0", b"submit group 4294967296 0"),
     (b"offer 4294967295", b"offer 4294967296"),
     (b"take 18446744073709551615", b"take 18446744073709551616"),
@@ -100,13 +125,28 @@ fn reads_numbers_to_the_ends_of_their_types(rt: HostRuntime) -> Result<(), Fail>
     Ok(())
 }
 
-const POOL_LINES: [(&[u8], Result<(), PoolError>); 12] = [
+const POOL_LINES: [(&[u8], Result<(), PoolError>); 18] = [
     (b"pool 0 1 handoff keep 18446744073709551615 own\n", Ok(())),
     (b"pool 1024 1024 bounded 65536 keep 0 discard\n", Ok(())),
     (
         b"pool 1 1 unbounded keep 1 abort coretimeout limit 1048576\n",
         Ok(()),
     ),
+    (b"pool 1024 1024 priority keep 0 discard\n", Ok(())),
+    (
+        b"pool 1 1 priority keep 1 abort coretimeout limit 64\n",
+        Ok(()),
+    ),
+    (b"pool 3 2 priority keep 0 own\n", Err(PoolError::BadSizes)),
+    (
+        b"pool 1 1 priority 8 keep 0 own\n",
+        Err(PoolError::BadLine(1)),
+    ),
+    (
+        b"pool 1 1 Priority keep 0 own\n",
+        Err(PoolError::BadLine(1)),
+    ),
+    (b"pool 1 1 priority\n", Err(PoolError::BadLine(1))),
     (
         b"pool 1 1025 handoff keep 0 own\n",
         Err(PoolError::BadSizes),

@@ -42,6 +42,7 @@ const fn executed(outcome: Outcome) -> JobLine {
     JobLine {
         future: false,
         outcome,
+        priority: None,
     }
 }
 
@@ -49,6 +50,7 @@ const fn submitted(outcome: Outcome) -> JobLine {
     JobLine {
         future: true,
         outcome,
+        priority: None,
     }
 }
 
@@ -113,7 +115,7 @@ fn text_with(alloc: Global, line: &[u8]) -> Result<Vec<u8>, AllocError> {
     Ok(text)
 }
 
-const BAD_LINES: [&[u8]; 34] = [
+const BAD_LINES: [&[u8]; 41] = [
     b"execute",
     b"submit",
     b"execute ",
@@ -121,6 +123,13 @@ const BAD_LINES: [&[u8]; 34] = [
     b"execute  5",
     b"execute 5 ",
     b"execute 5 6",
+    b"execute 5 prio",
+    b"execute 5 prio -1",
+    b"execute 5 prio 05",
+    b"submit 5 prio 5 5",
+    b"submit 5 prio 4294967296",
+    b"submit prio 5",
+    b"submit 5 5 prio",
     b"execute\t5",
     b"execute 5\r",
     b"execute 5\0",
@@ -186,6 +195,29 @@ fn reads_outcomes_to_the_ends_of_their_types(rt: HostRuntime) -> Result<(), Fail
         let bad = refusal_behind(rt.alloc(), past)?;
         let wanted = (true, Some(PoolError::BadLine(2)));
         same(&rt, at, &(is_read, bad), &wanted);
+    }
+    Ok(())
+}
+
+/// Lines with a priority, and what they say. Priority 0 may be written here, and it is none other.
+const RANKED: [(&[u8], bool, Outcome, u32); 4] = [
+    (b"execute 5 prio 0", false, Ok(5), 0),
+    (b"execute -5 prio 7", false, Ok(-5), 7),
+    (b"submit !7 prio 4294967295", true, Err(7), u32::MAX),
+    (b"submit 0 prio 10", true, Ok(0), 10),
+];
+
+#[test]
+fn reads_priorities(rt: HostRuntime) -> Result<(), Fail> {
+    for (at, (line, future, outcome, priority)) in RANKED.iter().enumerate() {
+        let text = text_with(rt.alloc(), line)?;
+        let jobs = read(rt.alloc(), text.as_slice())?;
+        let job = JobLine {
+            future: *future,
+            outcome: *outcome,
+            priority: Some(*priority),
+        };
+        same(&rt, at, &(jobs.jobs.as_slice() == [job].as_slice()), &true);
     }
     Ok(())
 }
@@ -328,6 +360,7 @@ fn is_job(job: &JobLine, number: u32) -> bool {
     *job == JobLine {
         future: number % 2 == 1,
         outcome,
+        priority: None,
     }
 }
 

@@ -13,6 +13,7 @@ use std::test::Fail;
 use tp_auditor::audits::audit;
 use tp_record::entries::{Ask, Did, Entry};
 use tp_record_text::entries::read_entry;
+use tp_record_text::versions::Version;
 use tp_runs::runs::run_asks;
 use tp_scenario::forms::LineRead;
 use tp_scenario::lines::ScenarioLine;
@@ -32,7 +33,7 @@ fn config_of(text: &str) -> Option<Config> {
 fn entries_of(alloc: Global, output: &str) -> Result<Vec<Entry>, AllocError> {
     let mut entries = Vec::new(alloc);
     for line in output.lines() {
-        if let Some((_, entry)) = read_entry(line.as_bytes()) {
+        if let Some((_, entry)) = read_entry(Version::Two, line.as_bytes()) {
             entries.push(entry)?;
         }
     }
@@ -55,7 +56,7 @@ fn asks_of(alloc: Global, config: Config, text: &str) -> Result<Vec<(u32, Ask)>,
 /// Whether an answer is what a line of the output says: an entry, or a refusal.
 fn is_told(alloc: Global, answer: &Result<Did, PoolError>, line: &str) -> Result<bool, AllocError> {
     match answer {
-        Ok(did) => match read_entry(line.as_bytes()) {
+        Ok(did) => match read_entry(Version::Two, line.as_bytes()) {
             Some((_, entry)) => Ok(entry.did == *did),
             None => Ok(false),
         },

@@ -4,7 +4,7 @@ use super::chores::Deed;
 use super::lives::{SETTINGS, lives_twice};
 use super::scripts::{Answer, Control, Deal, LETS_GO, LOOKS, SHUTS_DOWN, Start, Step, View, alone};
 use std::test::Fail;
-use tp_record::entries::{Did, Ruled};
+use tp_record::entries::{Did, Looked, Ruled};
 use tp_stage::findings::Finding;
 use tp_stage::users::{MANNER, Manner, Stance};
 use tp_types::configs::{Config, Policy, QueueKind, Verdict};
@@ -115,6 +115,38 @@ fn third_task_is_rejected(rt: HostRuntime) -> Result<(), Fail> {
         Finding::Told(1, rejected),
         Finding::Run(2),
         Finding::Rejected(1),
+    ];
+    lives_twice(rt, rt.alloc(), settings, manner, alone(&steps), &findings)
+}
+
+fn urgent(priority: u32) -> Step {
+    Step::Hand(Kind::Plain, Deed::Urgent(priority), Answer::Accepted)
+}
+
+fn queued(number: u32, priority: u32) -> Finding {
+    let did = Did::Submit(TaskId(number), Kind::Plain, priority, Looked::Queue);
+    Finding::Told(1, did)
+}
+
+// While the one worker is held, tasks with priorities of their own come: the least is taken first, and of equals
+// the one that came first.
+#[test]
+fn least_priority_is_taken_first(rt: HostRuntime) -> Result<(), Fail> {
+    let settings = Config {
+        queue: QueueKind::Priority,
+        ..ONE
+    };
+    let manner = Manner {
+        stance: Stance::Held,
+        ..MANNER
+    };
+    let steps = [LOOKS, urgent(5), urgent(2), urgent(5), SHUTS_DOWN, LETS_GO];
+    let findings = [
+        queued(1, 5),
+        queued(2, 2),
+        queued(3, 5),
+        Finding::Taken([2, 1, 3]),
+        Finding::Run(4),
     ];
     lives_twice(rt, rt.alloc(), settings, manner, alone(&steps), &findings)
 }

@@ -19,15 +19,16 @@ use tp_pool::hooks::Hooks;
 use tp_pool::jobs::{Boxed, Job};
 use tp_pool::names::PoolNaming;
 use tp_pool::pool::Pool;
+use tp_record::entries::{Did, Looked};
 use tp_stage::boards::{Board, Hook, Signal, shared};
 use tp_stage::findings::{Finding, missing};
 use tp_types::configs::{Config, Policy, QueueKind, Verdict};
 use tp_types::ids::{SlotId, TaskId};
 use tp_types::refusals::PoolError;
 use tp_types::states::RunState;
-use tp_types::tasks::{Outcome, Promise, WIDEST, as_widest};
+use tp_types::tasks::{Kind, Outcome, Promise, WIDEST, as_widest};
 
-// Answers 1 where its flag is set, else 0.
+// Answers 1 where its flag is set, else 0. Its priority is 7.
 #[derive(Drop)]
 struct Looking;
 
@@ -36,8 +37,14 @@ impl Job for Looking {
 
     ghost promised = { λ _. WIDEST };
 
+    ghost urgency = { λ _. 7 };
+
     fn promise(&self) -> Promise {
         WIDEST
+    }
+
+    fn priority(&self) -> u32 {
+        7
     }
 
     fn call(&mut self, cancel: &CancelFlag) -> Outcome {
@@ -152,7 +159,9 @@ fn lived<R: Abort + Threads + Wait + Copy + Send + 'static>(
     let board = Board::new(alloc)?;
     let unopened = Unopened::new(alloc)?;
     let report = life::<Brand, R>(rt, alloc, unopened, settings, &board)?;
+    let submitted = Did::Submit(TaskId(0), Kind::Plain, 7, Looked::Reserve(SlotId(0)));
     let findings = [
+        Finding::Told(1, submitted),
         Finding::Ended(0, Ok(0)),
         Finding::Run(1),
         Finding::Rejected(1),

@@ -19,11 +19,14 @@ pub enum Deed {
     Fault(u32),
     // Waits until the pool was read.
     Talk,
+    // Looks at its flag, and has this priority.
+    Urgent(u32),
 }
 
 #[derive(Drop)]
 pub struct Chore {
     pub deed: Deed,
+    pub priority: u32,
     pub board: Arc<Board>,
 }
 
@@ -31,7 +34,7 @@ impl Chore {
     fn work(&self, cancel: &CancelFlag) -> Result<u8, u32> {
         match self.deed {
             Deed::Meet(number, size) => found(self.board.meet(size), number),
-            Deed::Look => Ok(u8::from(cancel.is_set())),
+            Deed::Look | Deed::Urgent(_) => Ok(u8::from(cancel.is_set())),
             Deed::Wait => {
                 self.board.raise(Signal::Begun);
                 let told = self.board.reaches(Signal::Told, 1);
@@ -55,8 +58,14 @@ impl Job for Chore {
 
     ghost promised = { λ _. WIDEST };
 
+    ghost urgency = { λ c. c.priority };
+
     fn promise(&self) -> Promise {
         WIDEST
+    }
+
+    fn priority(&self) -> u32 {
+        self.priority
     }
 
     fn call(&mut self, cancel: &CancelFlag) -> Outcome {

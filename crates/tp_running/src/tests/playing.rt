@@ -27,7 +27,15 @@ pub fn rest<R: Clock>(rt: &R, micros: u32) {
 
 pub fn chore(board: &Arc<Board>, deed: Deed) -> Result<Chore, PoolError> {
     let board = shared(board)?;
-    Ok(Chore { deed, board })
+    let priority = match deed {
+        Deed::Urgent(number) => number,
+        _ => 0,
+    };
+    Ok(Chore {
+        deed,
+        priority,
+        board,
+    })
 }
 
 // Hands in a job.

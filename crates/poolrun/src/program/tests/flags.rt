@@ -8,7 +8,7 @@ take 3
 open 0
 ";
 
-const REFUSED_RECORD: &str = "tprecord 1
+const REFUSED_RECORD: &str = "tprecord 2
 pool 1 1 unbounded keep 0 abort
 1 submit t0 plain reserve w0
 2 open w0 live

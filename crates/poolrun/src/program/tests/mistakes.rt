@@ -28,7 +28,7 @@ const JOBS: [Row; 4] = [
   = expected: POLICY
   = POLICY is abort, callerruns, discard, discardoldest or own
   = form: pool CORE MAX QUEUE keep TICKS POLICY, then maybe coretimeout, then maybe limit ENTRIES
-  = QUEUE is handoff, unbounded or bounded PLACES
+  = QUEUE is handoff, unbounded, bounded PLACES or priority
   = as: pool 1 4 bounded 16 keep 0 abort
 ",
     ),

@@ -52,7 +52,7 @@ fn runs_jobs_by_threads(rt: HostRuntime) -> Result<(), Fail> {
     let record = ran.printed.as_str();
     assert!(rt;
         record.starts_with(
-            "tprecord 1\npool 1 1 unbounded keep 0 abort\n1 submit t0 plain reserve w0\n"
+            "tprecord 2\npool 1 1 unbounded keep 0 abort\n1 submit t0 plain reserve w0\n"
         ),
         "{record}"
     );
@@ -74,6 +74,32 @@ fn runs_jobs_by_threads(rt: HostRuntime) -> Result<(), Fail> {
 }
 
 #[test]
+fn runs_jobs_by_their_priorities(rt: HostRuntime) -> Result<(), Fail> {
+    let text = "pool 1 1 priority keep 0 abort
+execute 0
+execute 1 prio 5
+submit 2 prio 2
+execute 3 prio 0
+";
+    let ran = run_jobs(&rt, rt.alloc(), text)?;
+    let record = ran.printed.as_str();
+    for words in [
+        "1 submit t0 plain reserve w0",
+        " submit t1 plain prio 5 queue",
+        " submit t2 future prio 2 queue",
+        " submit t3 plain queue",
+    ] {
+        assert!(rt; ends_a_line(record, words), "{words}: {record}");
+    }
+    let judged = ran.judged.as_str();
+    assert!(rt;
+        judged.contains("\nstate terminated\ncounts submitted=4 run=4 "),
+        "{judged}"
+    );
+    Ok(())
+}
+
+#[test]
 fn runs_jobs_under_each_policy(rt: HostRuntime) -> Result<(), Fail> {
     let alloc = rt.alloc();
     for pool in [
@@ -83,6 +109,7 @@ fn runs_jobs_under_each_policy(rt: HostRuntime) -> Result<(), Fail> {
         "1 1 bounded 1 keep 3 discardoldest",
         "3 3 unbounded keep 5 own coretimeout",
         "1 2 handoff keep 1 own",
+        "1 2 priority keep 0 abort",
     ] {
         let mut text = format!(in alloc; "pool {pool}\n")?;
         for number in 0..2 {

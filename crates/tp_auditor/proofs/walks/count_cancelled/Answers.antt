@@ -6,12 +6,13 @@ use Rattle.tp_record.specs.Lists.{is_it}
 use Rattle.tp_record.specs.State.{row_at}
 use Rattle.tp_model.proofs.Queues.{is_among}
 use Rattle.tp_auditor.specs.Orders.{from_on}
+use Rattle.tp_auditor.specs.Queued.{tasks_of}
 use Rattle.tp_auditor.proofs.Walking.{head_is, from_head, from_next, from_cons, length-from, counted_next, next_among}
 use Rattle.tp_auditor.proofs.walks.count_cancelled.Goals as goal
 
 pub loop-next-init : goal.loop-next-init
 loop-next-init c =
-    let q = c.args.queue.now in
+    let q = tasks_of c.args.queue.now in
     let p : ℕ → Bool = λ t. (row_at c.args.tasks.now.items t).cancelled in
     let all = ap (λ o. count_by p (from_on o q)) c.first-next.ensures ∙ ap (count_by p) (from_head q) in
     record {
@@ -21,7 +22,7 @@ loop-next-init c =
 
 pub overflow_add-count : goal.overflow_add-count
 overflow_add-count c =
-    let q = c.args.queue.now in
+    let q = tasks_of c.args.queue.now in
     let w = c.in-Some.t in
     let p : ℕ → Bool = λ t. (row_at c.args.tasks.now.items t).cancelled in
     let there : is_among w q ≡ true = c.loop-next.invariant.there w (ap (λ o. is_it o w) c.in-Some.is ∙ eq-eqb w w refl) in
@@ -33,7 +34,7 @@ overflow_add-count c =
 
 pub loop-next-preserved : goal.loop-next-preserved
 loop-next-preserved c =
-    let q = c.args.queue.now in
+    let q = tasks_of c.args.queue.now in
     let w = c.in-Some.t in
     let p : ℕ → Bool = λ t. (row_at c.args.tasks.now.items t).cancelled in
     let there : is_among w q ≡ true = c.loop-next.invariant.there w (ap (λ o. is_it o w) c.in-Some.is ∙ eq-eqb w w refl) in
@@ -48,7 +49,7 @@ loop-next-preserved c =
 
 pub loop-next-smaller : goal.loop-next-smaller
 loop-next-smaller c =
-    let q = c.args.queue.now in
+    let q = tasks_of c.args.queue.now in
     let w = c.in-Some.t in
     let there : is_among w q ≡ true = c.loop-next.invariant.there w (ap (λ o. is_it o w) c.in-Some.is ∙ eq-eqb w w refl) in
     let less = length-from w q there in

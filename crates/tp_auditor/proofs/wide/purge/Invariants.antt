@@ -4,6 +4,7 @@ use Rattle.tp_record.specs.Lists.{is_it}
 use Rattle.tp_record.specs.State.{row_after, row_at, no_row}
 use Rattle.tp_model.proofs.Queues.{is_among, IsOnce}
 use Rattle.tp_auditor.specs.Orders.{from_on}
+use Rattle.tp_auditor.specs.Queued.{tasks_of, Keeps}
 use Rattle.tp_auditor.proofs.Sweeping.{Swept}
 use Rattle.tp_auditor.proofs.wide.purge.Given as goal
 
@@ -13,12 +14,13 @@ invariant-loop-next l =
       number : vec_len l.tasks < 2 ^ 32;
       few : (t : ℕ) → (row_at l.tasks.items t).retries < 2 ^ 32 - 1;
       cancelled : (t : ℕ) → (row_at l.tasks.items t).cancelled ≡ (row_at l.fn.tasks.items t).cancelled;
-      swept : Swept (row_after l.did) no_row l.fn.tasks.items l.fn.queue (from_on l.next l.queue) l.tasks.items;
-      once : IsOnce l.queue;
-      there : (t : ℕ) → is_it l.next t ≡ true → is_among t l.queue ≡ true;
-      kept : filter (λ t. not (row_at l.fn.tasks.items t).cancelled) l.queue ≡ filter (λ t. not (row_at l.fn.tasks.items t).cancelled) l.fn.queue;
-      past : (t : ℕ) → is_among t l.queue ≡ true → is_among t (from_on l.next l.queue) ≡ false → not (row_at l.fn.tasks.items t).cancelled ≡ true;
+      swept : Swept (row_after l.did) no_row l.fn.tasks.items (tasks_of l.fn.queue) (from_on l.next (tasks_of l.queue)) l.tasks.items;
+      once : IsOnce (tasks_of l.queue);
+      there : (t : ℕ) → is_it l.next t ≡ true → is_among t (tasks_of l.queue) ≡ true;
+      kept : filter (λ t. not (row_at l.fn.tasks.items t).cancelled) (tasks_of l.queue) ≡ filter (λ t. not (row_at l.fn.tasks.items t).cancelled) (tasks_of l.fn.queue);
+      past : (t : ℕ) → is_among t (tasks_of l.queue) ≡ true → is_among t (from_on l.next (tasks_of l.queue)) ≡ false → not (row_at l.fn.tasks.items t).cancelled ≡ true;
+      keeps : Keeps l.fn.queue l.queue;
     }
 
 abbrev pub decreases-loop-next : goal.decreases-loop-next
-decreases-loop-next l = length (from_on l.next l.queue)
+decreases-loop-next l = length (from_on l.next (tasks_of l.queue))

@@ -3,13 +3,10 @@ use Rattle.tp_record.specs.declared.entries.Ask.TheVariants as ask
 use Rattle.tp_record.specs.declared.entries.Did.TheVariants as did
 use Rattle.tp_shapes.proofs.Controllers.Purge.{purge}
 use Rattle.tp_parts.proofs.Ties.{tied_more}
-use Rattle.tp_parts.proofs.Standing.{few_steps, entry_here}
+use Rattle.tp_parts.proofs.Standing.{entry_here}
 use Rattle.tp_parts.proofs.Leading.{leads_by}
 use Rattle.tp_controllers.proofs.Purges.{holds_queued}
 use Rattle.tp_controllers.proofs.purge.apply.Goals as goal
-
-pub purge-requires-clause-few : goal.purge-requires-clause-few
-purge-requires-clause-few g c = let few = few_steps c.args.parts.now c.requires.stands in omega (arith, few)
 
 pub count_entry-requires : goal.count_entry-requires
 count_entry-requires g c =

@@ -1,11 +1,12 @@
-use Rattle.std.proofs.Common.{◌≡◌, ℕ, true, suc, Some, Contains, arith, refl, sym, ap, subst, ◌∙◌}
+use Rattle.std.proofs.Common.{true, suc, Contains, arith, refl, sym, ap, subst, ◌∙◌}
 use Rattle.tp_record.specs.declared.entries.Ask.TheVariants as ask
 use Rattle.tp_record.specs.declared.entries.Did.TheVariants as did
 use Rattle.tp_shapes.proofs.Controllers.Remove.{remove}
 use Rattle.tp_parts.specs.declared.parts.Parts.{Parts}
 use Rattle.tp_parts.specs.Shows.{numbers}
+use Rattle.tp_parts.specs.Tied.{AreKeyed}
 use Rattle.tp_queue.specs.Queues.{waiting_of}
-use Rattle.tp_tasks.specs.Tasks.{row_of, number_of}
+use Rattle.tp_tasks.specs.Tasks.{row_of}
 use Rattle.tp_parts.proofs.Ties.{tied_more}
 use Rattle.tp_parts.proofs.Standing.{entry_here}
 use Rattle.tp_parts.proofs.Leading.{leads_by}
@@ -23,10 +24,9 @@ unqueue-requires g c =
     let stands = c.requires.stands in
     let back = sym c.count_entry.ensures.rest in
     let W : Parts g.row.P.Denot → Type 0 = λ p. Contains (numbers (waiting_of p.queue).items) c.args.t.0 in
-    let N : Parts g.row.P.Denot → Type 0 = λ p. (k : ℕ) → Contains (waiting_of p.queue).items (c.args.t, k) → number_of p.tasks c.args.t.0 ≡ Some k in
     record {
       queued = subst W back (removed_waits c.args.parts.now stands c.args.t c.requires.fits);
-      numbered = subst N back (stands.tied.numbered c.args.t);
+      keyed = subst (λ (p : Parts g.row.P.Denot). AreKeyed p) back stands.tied.keyed;
     }
 
 pub finish_task-requires : goal.finish_task-requires

@@ -1,6 +1,7 @@
 use Rattle.std.proofs.Common.{◌≡◌, ℕ, ◌+◌, ◌-◌, ◌≤◌, ◌⊎◌, max, suc, List, [], arith, sym, subst, inl, inr, ◌∙◌}
 use Rattle.std.specs.Prelude.{◌==◌, if◌then◌else◌, count_by}
 use Rattle.std.proofs.lemmas.Bool.Decides.{nat_tests}
+use Rattle.tp_types.specs.declared.configs.Config.{Config}
 use Rattle.tp_record.specs.declared.entries.Entry.{Entry}
 use Rattle.tp_record.specs.declared.entries.Ask.TheVariants as ask
 use Rattle.tp_record.specs.declared.entries.Did.TheVariants as did
@@ -16,9 +17,9 @@ use Rattle.tp_parts.proofs.Falls.{owed_read, effect_by}
 use Rattle.tp_controllers.proofs.tidy.apply.Goals as goal
 
 -- the run state, which is shutdown or stop
-between : (h : List Entry) → (rank h ≡ 2) ⊎ ((rank h ≡ 1) × (queue h ≡ [])) → (1 ≤ rank h) × (rank h ≤ 2)
-between h (inl two) = (omega arith, omega arith)
-between h (inr one) = let e = one.0 in (omega arith, omega arith)
+between : (c : Config) (h : List Entry) → (rank h ≡ 2) ⊎ ((rank h ≡ 1) × (queue c h ≡ [])) → (1 ≤ rank h) × (rank h ≤ 2)
+between c h (inl two) = (omega arith, omega arith)
+between c h (inr one) = let e = one.0 in (omega arith, omega arith)
 
 -- so no worker that is about to take owes less
 alone : (n k : ℕ) → 1 ≤ n → 3 - n ≡ (if n == 0 then k else 0) + (3 - n)
@@ -31,7 +32,7 @@ count_entry-requires g c =
     let s = state old.config stands.history in
     let given = given_here old stands ask.Tidy did.Tidy c.requires.fits in
     let n = c.owed_until.result in
-    let falls = alone s.rank (count_by is_at_take s.slots) (between stands.history given.1).0 ∙ owed_read old s 3 stands.shows ∙ sym c.owed_until.ensures.falls in
+    let falls = alone s.rank (count_by is_at_take s.slots) (between old.config stands.history given.1).0 ∙ owed_read old s 3 stands.shows ∙ sym c.owed_until.ensures.falls in
     let e = entry_here old stands ask.Tidy did.Tidy _ n 0 n c.requires.fits (λ given. effect_by s did.Tidy _ _ n 0 falls (tidy_effect old.config stands.history stands.legal given)) (omega arith) in
     record { few = e.0; fall = e.1 }
 
@@ -44,7 +45,7 @@ returns-clause-leads g c =
     leads_from old c.reach.new.self ask.Tidy did.Tidy n 0 n c.requires.stands c.requires.fits
     (λ h legal given sh.
     let s = state old.config h in
-    let low = between h given.1 in
+    let low = between old.config h given.1 in
     let V : ℕ → Type 0 = λ m. Views c.reach.new.self (record (view s) { rank = m }) in
     let three : max 3 s.rank ≡ 3 = omega (arith, low.1) in (
       _,

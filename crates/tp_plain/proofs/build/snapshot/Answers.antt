@@ -11,7 +11,7 @@ returns-clause-small c =
       steps = c.requires;
       tasks = rw c.in_ok-tasks.ensures.rows (omega (arith, length-task_rows (reverse es)));
       retries = λ t. rw c.in_ok-tasks.ensures.rows (omega (arith, rows_retries (reverse es) t));
-      queue = rw c.in_ok-queue.ensures.tasks (omega (arith, length-queue (reverse es)));
+      queue = rw c.in_ok-queue.ensures.tasks (omega (arith, length-queue c.args.config.now (reverse es)));
       slots = omega (arith, c.in_ok-slots.field-0.ok.0, c.in_ok-slots.ensures.bound);
       completions = omega (arith, c.completions.ensures.bound);
     }

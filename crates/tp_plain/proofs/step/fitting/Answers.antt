@@ -1,5 +1,4 @@
 use Rattle.std.proofs.Common.{sym, subst}
-use Rattle.tp_record.specs.Step.{fitting}
 use Rattle.tp_plain.specs.Snapshot.{IsAnswer}
 use Rattle.tp_plain.proofs.Answered.{other_fitting}
 use Rattle.tp_plain.proofs.step.fitting.Goals as goal

@@ -8,7 +8,7 @@ use Rattle.tp_pool.proofs.lives.opened.Goals as goal
 pub returns-clause-run : goal.returns-clause-run
 returns-clause-run g c =
     IfOk-weaker c.lived.result _ _
-    (λ r run. subst (λ s. IsRun s g.J.Job.promised c.args.jobs.items r.0.items r.1) (sym c.requires.settings)
+    (λ r run. subst (λ s. IsRun s g.J.Job.promised g.J.Job.urgency c.args.jobs.items r.0.items r.1) (sym c.requires.settings)
     (record { first = c.split_pass.new.pass; opened = subst (λ (p : PassView). p ≡ record { number = 0; amount = 0; front = []; receipts = []; room = p.room }) (sym c.split_pass.ensures.same) c.in-Ok.ensures.pass; new = run.0; other = run.1; answered = run.2; reports = run.3 }))
     c.lived.ensures.run
 

@@ -1,11 +1,14 @@
-use Rattle.std.proofs.Common.{sym, ◌∙◌}
-use Rattle.tp_record_text.proofs.EntryLaws.{read_as, text_of_line, no_text}
+use Rattle.std.proofs.Common.{◌≡◌, true}
+use Rattle.tp_record_text.proofs.OneText.{unsuited_line}
 use Rattle.tp_record_text.proofs.entries.read_entry.Goals as goal
 
-pub returns-in_err-ok : goal.returns-in_err-ok
-returns-in_err-ok c = rw c.from_residual.ensures (no_text c.args.line.now c.from_utf8.result _ c.from_utf8.ensures.cases (sym c.ok.ensures.value ∙ c.in_err-ok.was))
+pub returns-in_err-number : goal.returns-in_err-number
+returns-in_err-number c = rw c.from_residual.ensures (λ p fits. c.in_err-number.ensures p (fits.0, fits.1.0))
 
-pub returns : goal.returns
-returns c =
-    read_as c.in_ok-ok.field-0.now c.args.line.now c.entry_of.result
-    (text_of_line c.args.line.now c.in_ok-ok.field-0 c.from_utf8.result _ c.from_utf8.ensures.cases (sym c.ok.ensures.value ∙ c.in_ok-ok.was)) c.entry_of.ensures
+pub returns-then-suits : goal.returns-then-suits
+returns-then-suits c = ((c.in_ok-number.ensures.0.0, (c.in_ok-number.ensures.0.1, c.suits.ensures.0 c.if-suits.true)), c.in_ok-number.ensures.1)
+
+pub returns-else-suits : goal.returns-else-suits
+returns-else-suits c =
+    unsuited_line c.args.version c.args.line.now c.in_ok-number.number c.in_ok-number.entry c.in_ok-number.ensures.0.0 c.in_ok-number.ensures.0.1 c.in_ok-number.ensures.1
+    (λ suits. let yes : c.suits.result ≡ true = c.suits.ensures.1 suits in let no = c.if-suits.false in cc)

@@ -7,7 +7,7 @@ abbrev pub invariant-loop-line : goal.invariant-loop-line
 invariant-loop-line g l =
     record {
       entries : List Entry;
-      reading : Reading l.body l.rest entries l.count;
+      reading : Reading l.version l.body l.rest entries l.count;
       took : g.T.Taker.took l.taker entries;
       about : g.T.Taker.about l.taker ≡ g.T.Taker.about l.fn.taker;
     }

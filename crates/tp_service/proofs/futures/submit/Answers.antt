@@ -1,11 +1,15 @@
 use Rattle.std.proofs.Common.{sym, subst}
 use Rattle.tp_types.specs.declared.tasks.Kind.TheVariants as kind
 use Rattle.tp_pool.specs.Submissions.{AddsJob}
-use Rattle.tp_pool.proofs.Submissions.{admits}
+use Rattle.tp_pool.proofs.Submissions.{admits_job}
 use Rattle.tp_service.proofs.futures.submit.Goals as goal
 
 pub returns-in-Ok-clause-submitted : goal.returns-in-Ok-clause-submitted
 returns-in-Ok-clause-submitted g c =
     let old = c.args.pass.now in
     let new = c.execute_as.new.pass in
-    subst (λ t. AddsJob g.G.PoolNaming.config kind.Future c.args.job (g.J.Job.promised c.args.job) t old new) (sym c.task_of.ensures) (admits g.G.PoolNaming.config kind.Future c.in-Ok.admitted old new c.in-Ok.ensures.admitted.0, c.in-Ok.ensures.admitted.1)
+    let config = g.G.PoolNaming.config in
+    let job = c.args.job in
+    let promise = g.J.Job.promised job in
+    let urgency = g.J.Job.urgency job in
+    subst (λ t. AddsJob config kind.Future job promise urgency t old new) (sym c.task_of.ensures) (admits_job config kind.Future job promise urgency c.in-Ok.admitted old new c.in-Ok.ensures.admitted)

@@ -12,11 +12,11 @@ pub returns-then-is_err-clause-refused : goal.returns-then-is_err-clause-refused
 returns-then-is_err-clause-refused g c =
     let config = g.G.PoolNaming.config in
     let some : 0 < length c.args.jobs.items = grind (arith, nat_tests, c.args.jobs.ok.0, c.if-is_empty.ensures) in
-    no_value config g.J.Job.promised c.args.jobs.items c.in-Ok.tasks.items c.await_any-answer.result c.args.pass.now c.submit_all.new.pass c.await_any-answer.new.pass some c.in-Ok.ensures.submitted
+    no_value config g.J.Job.promised g.J.Job.urgency c.args.jobs.items c.in-Ok.tasks.items c.await_any-answer.result c.args.pass.now c.submit_all.new.pass c.await_any-answer.new.pass some c.in-Ok.ensures.submitted
     (subst (λ ts. IfErr c.await_any-answer.result (λ e. (told : PassView) × AddsNone c.submit_all.new.pass told × HaveFailed (Task g.row.J.Denot) config ts e told c.await_any-answer.new.pass))
     c.as_slice.ensures.value c.await_any-answer.ensures.failed)
 
 pub returns-in-Err-clause-refused : goal.returns-in-Err-clause-refused
 returns-in-Err-clause-refused g c =
     let some : 0 < length c.args.jobs.items = grind (arith, nat_tests, c.args.jobs.ok.0, c.if-is_empty.ensures) in
-    turned_back g.G.PoolNaming.config g.J.Job.promised c.args.jobs.items c.in-Err.error c.args.pass.now c.submit_all.new.pass some c.in-Err.ensures.refused
+    turned_back g.G.PoolNaming.config g.J.Job.promised g.J.Job.urgency c.args.jobs.items c.in-Err.error c.args.pass.now c.submit_all.new.pass some c.in-Err.ensures.refused

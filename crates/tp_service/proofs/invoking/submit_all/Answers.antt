@@ -11,6 +11,7 @@ pub loop-job-preserved : goal.loop-job-preserved
 loop-job-preserved g c =
     let config = g.G.PoolNaming.config in
     let promised = g.J.Job.promised in
+    let urgency = g.J.Job.urgency in
     let job = c.in-Some.job in
     let jobs = c.loop-job.yielded in
     let tasks = c.loop-job.tasks.items in
@@ -22,8 +23,8 @@ loop-job-preserved g c =
       omega (arith, ap length more, length_push tasks t, length_push jobs job, c.loop-job.invariant.2),
       search rules,
       append_assoc jobs (job ∷ []) c.next.new.self.rest.items ∙ ap (λ xs. jobs ++ xs) (sym next) ∙ c.loop-job.invariant.4,
-      subst (λ ts. AddsSubmissions config promised (jobs ++ job ∷ []) ts c.args.pass.now c.submit.new.pass) (sym more)
-          (both_more (λ j t. AddsJob config kind.Future j (promised j) t) jobs tasks job t c.args.pass.now c.loop-job.pass c.submit.new.pass c.loop-job.invariant.5 c.in-Ok-submit.ensures.submitted),
+      subst (λ ts. AddsSubmissions config promised urgency (jobs ++ job ∷ []) ts c.args.pass.now c.submit.new.pass) (sym more)
+          (both_more (λ j t. AddsJob config kind.Future j (promised j) (urgency j) t) jobs tasks job t c.args.pass.now c.loop-job.pass c.submit.new.pass c.loop-job.invariant.5 c.in-Ok-submit.ensures.submitted),
     )
 
 pub returns-in-Err-clause-refused : goal.returns-in-Err-clause-refused
@@ -49,4 +50,4 @@ returns-clause-submitted g c =
     let rest = c.loop-job.job-iterator.rest in
     let gives : c.into_iter-job-iterator.result.rest.items ≡ c.args.jobs.items = search rules in
     let all = all_passed c.loop-job.yielded rest.items c.args.jobs.items (c.loop-job.invariant.4 ∙ gives) (omega (arith, c.in-None.ensures.steps.0, rest.ok.0)) in
-    subst (λ jobs. AddsSubmissions g.G.PoolNaming.config g.J.Job.promised jobs c.loop-job.tasks.items c.args.pass.now c.loop-job.pass) all c.loop-job.invariant.5
+    subst (λ jobs. AddsSubmissions g.G.PoolNaming.config g.J.Job.promised g.J.Job.urgency jobs c.loop-job.tasks.items c.args.pass.now c.loop-job.pass) all c.loop-job.invariant.5

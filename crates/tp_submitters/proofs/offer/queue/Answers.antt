@@ -1,16 +1,26 @@
-use Rattle.std.proofs.Common.{suc, refl, arith, sym, ap, subst, ◌∙◌}
+use Rattle.std.proofs.Common.{ℕ, suc, Bool, true, Some, refl, arith, sym, ap, subst, ◌∙◌}
 use Rattle.std.specs.List.{Contains}
 use Rattle.tp_record.specs.declared.entries.Ask.TheVariants as ask
 use Rattle.tp_record.specs.declared.entries.Did.TheVariants as did
 use Rattle.tp_record.specs.declared.entries.Offered.TheVariants as offered
+use Rattle.tp_types.specs.declared.tasks.Place.TheVariants as at
+use Rattle.tp_types.specs.Queues.{is_ranked}
+use Rattle.tp_record.specs.Lists.{join_line}
+use Rattle.tp_record.specs.State.{State, state, task_at}
 use Rattle.tp_queue.specs.Queues.{waiting_of}
+use Rattle.tp_shapes.specs.View.{View, view, put}
 use Rattle.tp_shapes.proofs.Submitters.Offer.{offer_queued}
 use Rattle.tp_parts.specs.Offers.{HasRoom}
-use Rattle.tp_parts.specs.Shows.{numbers}
+use Rattle.tp_parts.specs.Shows.{Views, numbers}
+use Rattle.tp_parts.proofs.Ties.{tied_more}
 use Rattle.tp_parts.proofs.Standing.{entry_here, few_steps, given_here}
 use Rattle.tp_parts.proofs.Leading.{leads_from}
 use Rattle.tp_submitters.proofs.Offering.{absent_here, room_here}
 use Rattle.tp_submitters.proofs.offer.queue.Goals as goal
+
+-- what is seen with the task in the queue
+abbrev joined : Bool → State → ℕ → View
+joined b s t = record (view s) { tasks = put t (record (task_at s t) { place = at.Queued; second = true }) (task_at s); queue = join_line b (λ u. (task_at s u).priority) (Some t) s.queue }
 
 pub count_entry-requires : goal.count_entry-requires
 count_entry-requires g c =
@@ -25,6 +35,11 @@ enqueue-requires-clause-absent g c =
     let stands = c.requires.stands in
     let given = given_here old stands (ask.Offer c.args.t) (did.Offer c.args.t offered.Queued) c.requires.fits in
     λ has. absent_here old stands c.args.t given.0 (subst (λ q. Contains (numbers (waiting_of q).items) c.args.t.0) (ap (λ p. p.queue) c.count_entry.ensures.rest) has)
+
+pub enqueue-requires-clause-keyed : goal.enqueue-requires-clause-keyed
+enqueue-requires-clause-keyed g c =
+    let old = c.args.parts.now in
+    (c.count_entry.ensures.tied old.config (suc old.steps) (tied_more old.config old.steps old c.requires.stands.tied)).keyed
 
 pub enqueue-requires-clause-room : goal.enqueue-requires-clause-room
 enqueue-requires-clause-room g c =
@@ -48,7 +63,8 @@ returns-clause-leads g c =
     let m = c.enqueue.ensures in
     let offers = c.requires.stands.tied.offers in
     let same = ap (λ p. (waiting_of p.queue).offers) k.rest in
+    let ranked = ap (λ p. is_ranked (waiting_of p.queue).kind) k.rest ∙ ap is_ranked c.requires.stands.tied.kind in
     leads_from old c.enqueue.new.self (ask.Offer c.args.t) (did.Offer c.args.t offered.Queued) 1 0 1 c.requires.stands c.requires.fits
-    (λ h legal given sh. (_, offer_queued old.config h c.args.t legal given, m.views _ (k.views _ sh.seen)))
+    (λ h legal given sh. (_, offer_queued old.config h c.args.t legal given, subst (λ b. Views c.enqueue.new.self (joined b (state old.config h) c.args.t.0)) ranked (m.views _ (k.views _ sh.seen))))
     refl (ap (λ p. p.config) m.rest ∙ ap (λ p. p.config) k.rest) (ap (λ p. p.steps) m.rest ∙ ap (λ p. p.steps) k.rest) (ap (λ p. p.due) m.rest ∙ ap (λ p. p.due) k.rest)
     (λ tied. m.tied old.config (suc old.steps) (k.tied _ _ tied) (omega (arith, offers, same)))

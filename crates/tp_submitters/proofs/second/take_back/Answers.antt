@@ -25,8 +25,8 @@ unqueue-requires g c =
     let stands = c.requires.stands in
     let given = given_here old stands (ask.Second c.args.t) (did.Second c.args.t seconded.Back) c.requires.fits in
     record {
-      queued = subst (λ xs. Contains xs c.args.t.0) (stands.shows.seen.queued ∙ sym (ap (λ p. numbers (waiting_of p.queue).items) c.count_entry.ensures.rest)) (queued_in stands.history c.args.t.0 given.0.1);
-      numbered = (c.count_entry.ensures.tied old.config (suc old.steps) (tied_more old.config old.steps old stands.tied)).numbered c.args.t;
+      queued = subst (λ xs. Contains xs c.args.t.0) (stands.shows.seen.queued ∙ sym (ap (λ p. numbers (waiting_of p.queue).items) c.count_entry.ensures.rest)) (queued_in old.config stands.history c.args.t.0 given.0.1);
+      keyed = (c.count_entry.ensures.tied old.config (suc old.steps) (tied_more old.config old.steps old stands.tied)).keyed;
     }
 
 pub returns-clause-leads : goal.returns-clause-leads

@@ -17,12 +17,13 @@ pub returns-clause-leads : goal.returns-clause-leads
 returns-clause-leads g c =
     let old = c.args.parts.now in
     let kind = c.args.kind in
+    let priority = c.args.priority in
     let t = c.put_task.result in
     let k = c.count_rising_entry.ensures.rest in
     let m = c.put_task.ensures.rest in
     let number = c.put_task.ensures.number ∙ ap (λ p. submissions p.tasks) k in
     let due = ap (λ p. p.due) m ∙ ap (λ p. p.due) k in
-    leads_by old c.put_task.new.self (ask.Submit kind) (did.Submit t kind looked.Queue) 0 11 (subst (λ n. Fits old (ask.Submit kind) (did.Submit (record { 0 = n }) kind looked.Queue)) (sym number) c.requires.fits)
-    (λ h legal given sh. (_, submit_queue old.config h t kind legal given, c.put_task.ensures.views _ (c.count_rising_entry.ensures.views _ sh.seen)))
+    leads_by old c.put_task.new.self (ask.Submit kind priority) (did.Submit t kind priority looked.Queue) 0 11 (subst (λ n. Fits old (ask.Submit kind priority) (did.Submit (record { 0 = n }) kind priority looked.Queue)) (sym number) c.requires.fits)
+    (λ h legal given sh. (_, submit_queue old.config h t kind priority legal given, c.put_task.ensures.views _ (c.count_rising_entry.ensures.views _ sh.seen)))
     (ap (λ p. p.config) m ∙ ap (λ p. p.config) k) (ap (λ p. p.steps) m ∙ ap (λ p. p.steps) k) (omega (arith, due))
     (c.put_task.ensures.tied old.config (suc old.steps) (c.count_rising_entry.ensures.tied old.config (suc old.steps) (tied_more old.config old.steps old c.requires.stands.tied)))

@@ -24,7 +24,7 @@ pub reserve-requires : goal.reserve-requires
 reserve-requires g c =
     let old = c.args.parts.now in
     let stands = c.requires.stands in
-    let given = given_here old stands (ask.Submit c.args.kind) (did.Submit (record { 0 = submissions old.tasks }) c.args.kind (looked.Reserve c.args.w)) c.requires.fits in
+    let given = given_here old stands (ask.Submit c.args.kind c.args.priority) (did.Submit (record { 0 = submissions old.tasks }) c.args.kind c.args.priority (looked.Reserve c.args.w)) c.requires.fits in
     let below = given.1.1 in
     let core = stands.shows.seen.core_size in
     let sizes = stands.tied.sizes in
@@ -38,6 +38,7 @@ pub returns-clause-leads : goal.returns-clause-leads
 returns-clause-leads g c =
     let old = c.args.parts.now in
     let kind = c.args.kind in
+    let priority = c.args.priority in
     let w = c.args.w in
     let t = c.put_task-t.result in
     let k = c.count_rising_entry.ensures.rest in
@@ -46,12 +47,12 @@ returns-clause-leads g c =
     let number = c.put_task-t.ensures.number ∙ ap (λ p. submissions p.tasks) k in
     let slot = c.reserve.ensures.number ∙ ap (λ p. p.slots.next) m ∙ ap (λ p. p.slots.next) k ∙ sym c.requires.next in
     let due = ap (λ p. p.due) r ∙ ap (λ p. p.due) m ∙ ap (λ p. p.due) k in
-    leads_by old c.reserve.new.self (ask.Submit kind) (did.Submit t kind (looked.Reserve w)) 0 12 (subst (λ n. Fits old (ask.Submit kind) (did.Submit (record { 0 = n }) kind (looked.Reserve w))) (sym number) c.requires.fits)
+    leads_by old c.reserve.new.self (ask.Submit kind priority) (did.Submit t kind priority (looked.Reserve w)) 0 12 (subst (λ n. Fits old (ask.Submit kind priority) (did.Submit (record { 0 = n }) kind priority (looked.Reserve w))) (sym number) c.requires.fits)
     (λ h legal given sh.
     let s = state old.config h in
-    let v = record (view s) { submitted = suc (length s.tasks); tasks = put t.0 (new_row kind (at.Held w)) (task_at s) } in (
+    let v = record (view s) { submitted = suc (length s.tasks); tasks = put t.0 (new_row kind priority (at.Held w)) (task_at s) } in (
       _,
-      submit_reserve old.config h t kind w legal given,
+      submit_reserve old.config h t kind priority w legal given,
       views_numbered c.reserve.new.self v _ _ (Some (for_core t)) (suc (slot_count s)) slot (c.reserve.ensures.views v (c.put_task-t.ensures.views _ (c.count_rising_entry.ensures.views _ sh.seen))),
     ))
     (ap (λ p. p.config) r ∙ ap (λ p. p.config) m ∙ ap (λ p. p.config) k) (ap (λ p. p.steps) r ∙ ap (λ p. p.steps) m ∙ ap (λ p. p.steps) k) (omega (arith, due))

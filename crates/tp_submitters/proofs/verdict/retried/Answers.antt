@@ -14,7 +14,7 @@ pub returns-then-has_room : goal.returns-then-has_room
 returns-then-has_room g c = λ h legal sh.
     let p = c.args.parts.now in
     let e = c.retry_of-ruled.ensures (state p.config h) sh in
-    e ∙ ap (λ b. if b then retry_of (queue h) else ruled.Discarded) (sym c.if-has_room.true)
+    e ∙ ap (λ b. if b then retry_of (queue p.config h) else ruled.Discarded) (sym c.if-has_room.true)
     ∙ retried_by p h sh c.args.t c.args.row c.requires.known legal c.requires.refused (sh.seen.rank ∙ ap state_rank c.in-Running.is) c.if-row-ge-MAX_RETRIES.false c.has_room.result
     (subst (λ n. TellsRoom p 0 n c.has_room.result) (c.rise.ensures.rise ∙ ap retry_rise e) c.has_room.ensures)
 
@@ -22,6 +22,6 @@ pub returns-else-has_room : goal.returns-else-has_room
 returns-else-has_room g c = λ h legal sh.
     let p = c.args.parts.now in
     let e = c.retry_of-ruled.ensures (state p.config h) sh in
-    ap (λ b. if b then retry_of (queue h) else ruled.Discarded) (sym c.if-has_room.false)
+    ap (λ b. if b then retry_of (queue p.config h) else ruled.Discarded) (sym c.if-has_room.false)
     ∙ retried_by p h sh c.args.t c.args.row c.requires.known legal c.requires.refused (sh.seen.rank ∙ ap state_rank c.in-Running.is) c.if-row-ge-MAX_RETRIES.false c.has_room.result
     (subst (λ n. TellsRoom p 0 n c.has_room.result) (c.rise.ensures.rise ∙ ap retry_rise e) c.has_room.ensures)

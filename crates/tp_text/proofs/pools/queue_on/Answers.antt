@@ -9,4 +9,4 @@ pub returns-in_err-capacity-in-bounded : goal.returns-in_err-capacity-in-bounded
 returns-in_err-capacity-in-bounded c = rw c.from_residual-in_err-capacity-in-bounded.ensures (no_queue _ _ _ c.first_word.ensures (no_capacity _ _ c.in_ok-rest.rest.now c.in-bounded.is (rw c.in_ok-rest.was refl) c.in_err-capacity-in-bounded.ensures))
 
 pub returns-in_default : goal.returns-in_default
-returns-in_default c = no_queue _ _ _ c.first_word.ensures (no_queue_word _ _ c.in_default.not-handoff c.in_default.not-unbounded c.in_default.not-bounded)
+returns-in_default c = no_queue _ _ _ c.first_word.ensures (no_queue_word _ _ c.in_default.not-handoff c.in_default.not-unbounded c.in_default.not-bounded c.in_default.not-priority)

@@ -8,22 +8,22 @@ use Rattle.tp_threads.proofs.submissions.submit.Goals as goal
 pub returns-in-Ok-clause-whole : goal.returns-in-Ok-clause-whole
 returns-in-Ok-clause-whole g c =
     let old = c.args.pass.now in
-    let new = c.execute_as.new.pass in
-    subst (λ k. AddsSubmissions g.G.PoolNaming.config (k ∷ []) old new) c.kind_of.ensures
-    (one_submission g.G.PoolNaming.config c.kind_of.result (task_of c.in-Ok.field-0) (end_of c.in-Ok.field-0) old c.reserve.new.self new (reserved old c.reserve.new.self c.reserve.ensures.same) c.in-Ok.ensures.admitted.0)
+    let new = c.execute_at.new.pass in
+    subst (λ k. AddsSubmissions g.G.PoolNaming.config (k ∷ []) old new) c.asked_of-kind.ensures
+    (one_submission g.G.PoolNaming.config c.asked_of-kind.result (task_of c.in-Ok.field-0) (end_of c.in-Ok.field-0) old c.reserve.new.self new (reserved old c.reserve.new.self c.reserve.ensures.same) c.in-Ok.ensures.admitted.0)
 
 pub returns-in-Rejected-clause-whole : goal.returns-in-Rejected-clause-whole
 returns-in-Rejected-clause-whole g c =
     let old = c.args.pass.now in
-    let new = c.execute_as.new.pass in
-    subst (λ k. AddsSubmissions g.G.PoolNaming.config (k ∷ []) old new) c.kind_of.ensures
-    (turned_whole g.G.PoolNaming.config c.kind_of.result _ _ old c.reserve.new.self new c.in-Err-execute_as.refused c.in-Rejected.field-0 c.in-Rejected.is (reserved old c.reserve.new.self c.reserve.ensures.same)
-    c.in-Err-execute_as.ensures.refused)
+    let new = c.execute_at.new.pass in
+    subst (λ k. AddsSubmissions g.G.PoolNaming.config (k ∷ []) old new) c.asked_of-kind.ensures
+    (turned_whole g.G.PoolNaming.config c.asked_of-kind.result.0 c.asked_of-kind.result.1 _ _ old c.reserve.new.self new c.in-Err-execute_at.refused c.in-Rejected.field-0 c.in-Rejected.is (reserved old c.reserve.new.self c.reserve.ensures.same)
+    c.in-Err-execute_at.ensures.refused)
 
 pub returns-in_default-error : goal.returns-in_default-error
 returns-in_default-error g c = record {
   whole = tt;
-  refused = subst (λ k. IsTorn g.G.PoolNaming.config k c.in-Err-execute_as.refused.error c.args.pass.now c.execute_as.new.pass) c.kind_of.ensures
-      (turned_torn g.G.PoolNaming.config c.kind_of.result _ _ c.args.pass.now c.reserve.new.self c.execute_as.new.pass c.in-Err-execute_as.refused c.in_default-error.not-Rejected
-      (reserved c.args.pass.now c.reserve.new.self c.reserve.ensures.same) c.in-Err-execute_as.ensures.refused);
+  refused = subst (λ k. IsTorn g.G.PoolNaming.config k c.in-Err-execute_at.refused.error c.args.pass.now c.execute_at.new.pass) c.asked_of-kind.ensures
+      (turned_torn g.G.PoolNaming.config c.asked_of-kind.result.0 c.asked_of-kind.result.1 _ _ c.args.pass.now c.reserve.new.self c.execute_at.new.pass c.in-Err-execute_at.refused c.in_default-error.not-Rejected
+      (reserved c.args.pass.now c.reserve.new.self c.reserve.ensures.same) c.in-Err-execute_at.ensures.refused);
 }

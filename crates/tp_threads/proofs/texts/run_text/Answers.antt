@@ -1,5 +1,6 @@
 use Rattle.std.proofs.Common.{inl, inr, refl, ap, ◌∙◌, subst}
 use Rattle.std.specs.Io.KnownBytes.{Appends}
+use Rattle.tp_record_text.specs.declared.versions.Version.TheVariants as version
 use Rattle.tp_record_text.specs.RecordText.{record_text as text_of}
 use Rattle.tp_scenario.specs.declared.jobs.Jobs.{Jobs}
 use Rattle.tp_text.proofs.Refusals.{is_outer}
@@ -52,7 +53,7 @@ pub returns-clause-written : goal.returns-clause-written
 returns-clause-written g c =
     let config = c.in-Ok.jobs.config in
     let entries = c.in-Ok-run_jobs.report.entries.items in
-    let text = c.as_slice-2.ensures.value ∙ c.in-Ok-record_text.ensures.text ∙ ap (text_of config) c.as_slice.ensures.value in
+    let text = c.as_slice-2.ensures.value ∙ c.in-Ok-record_text.ensures.text ∙ ap (text_of version.Two config) c.as_slice.ensures.value in
     let input = g.I.Read.remaining c.args.reader.now.inner in
     let old = g.W.Write.contents c.args.writer.now.inner in
     let new = g.W.Write.contents c.write_text.new.writer.inner in

@@ -18,6 +18,9 @@ note-requires-clause-all c = all_shown c.self.inside.config c.self.invariant.0 c
 pub note-requires-clause-sizes : goal.note-requires-clause-sizes
 note-requires-clause-sizes c = few_shown c.self.inside.config c.self.invariant.0 c.self.inside.tables c.self.invariant.1
 
+pub note-requires-clause-ranks : goal.note-requires-clause-ranks
+note-requires-clause-ranks c = c.self.invariant.1.shows.ranks
+
 pub note-requires-clause-due : goal.note-requires-clause-due
 note-requires-clause-due c = due_shown c.self.inside.config c.self.invariant.0 c.self.inside.tables c.self.invariant.1
 
@@ -27,7 +30,7 @@ returns-clause-told c = λ h at.
     let e = c.args.entry.now in
     let there = judged_inside inside.config inside.tables c.args.self.now c.self.view_is h at in
     let gives = gives_inside inside.config inside.tables c.args.self.now c.self.view_is h e.ask e.did ((c.in-Ok-true.ensures.given h at).0 c.in-Ok-true.field-0-test) in
-    stands_next inside.config h inside.tables there e c.note.new.self gives c.in-Ok.ensures.next c.in-Ok.ensures.done c.in-Ok.ensures.due
+    stands_next inside.config h inside.tables there e c.note.new.self gives c.in-Ok.ensures.next c.in-Ok.ensures.done c.in-Ok.ensures.due c.note.ensures.ranks
 
 pub invariant_of-self-2 : goal.invariant_of-self-2
 invariant_of-self-2 c =
@@ -36,4 +39,4 @@ invariant_of-self-2 c =
     let h = c.self.invariant.0 in
     let at = judged_now inside.config inside.tables c.args.self.now c.self.view_is h c.self.invariant.1 in
     let gives = gives_inside inside.config inside.tables c.args.self.now c.self.view_is h e.ask e.did ((c.in-Ok-true.ensures.given h at).0 c.in-Ok-true.field-0-test) in
-    (e ∷ h, stands_next inside.config h inside.tables c.self.invariant.1 e c.note.new.self gives c.in-Ok.ensures.next c.in-Ok.ensures.done c.in-Ok.ensures.due)
+    (e ∷ h, stands_next inside.config h inside.tables c.self.invariant.1 e c.note.new.self gives c.in-Ok.ensures.next c.in-Ok.ensures.done c.in-Ok.ensures.due c.note.ensures.ranks)

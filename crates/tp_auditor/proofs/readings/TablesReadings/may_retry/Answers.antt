@@ -2,6 +2,7 @@ use Rattle.std.proofs.Common.{ap, ◌∙◌}
 use Rattle.tp_types.specs.declared.configs.Verdict.TheVariants as verdict
 use Rattle.tp_record.specs.declared.entries.Did.TheVariants as did
 use Rattle.tp_auditor.specs.Owed.{room_by}
+use Rattle.tp_auditor.specs.Queued.{tasks_of}
 use Rattle.tp_auditor.specs.Tables.{shown}
 use Rattle.tp_auditor.proofs.Standing.{few_shown, due_shown, retry_shown}
 use Rattle.tp_auditor.proofs.readings.TablesReadings.may_retry.Goals as goal
@@ -17,5 +18,5 @@ returns-clause-leaves c =
     let config = c.args.config.now in
     let self = c.args.self.now in
     c.has_room.ensures
-    ∙ ap (λ r. room_by config (did.Verdict c.args.t verdict.DiscardOldest r) (shown self) self.due) (c.retry_of-retry.ensures self.queue c.first.ensures)
+    ∙ ap (λ r. room_by config (did.Verdict c.args.t verdict.DiscardOldest r) (shown self) self.due) (c.retry_of-retry.ensures (tasks_of self.queue) c.first.ensures)
     ∙ retry_shown config c.requires.stands.0 self c.requires.stands.1 c.args.t c.requires.known c.requires.refused c.requires.runs c.requires.few

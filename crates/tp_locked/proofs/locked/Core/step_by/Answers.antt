@@ -1,4 +1,4 @@
-use Rattle.std.proofs.Common.{◌∙◌}
+use Rattle.std.proofs.Common.{subst, ◌∙◌}
 use Rattle.tp_locked.proofs.Adding.{denies}
 use Rattle.tp_locked.proofs.locked.Core.step_by.Goals as goal
 
@@ -14,3 +14,8 @@ returns-in-Err-clause-refused g c = record {
   denied = c.in-Err.ensures.refused;
   shown = c.in-Err.ensures.front ∙ c.in-Err.ensures.unchanged.history;
 }
+
+pub returns-clause-says : goal.returns-clause-says
+returns-clause-says g c =
+    let says = subst (λ k. g.S.Step.says c.args.step c.in-Ok.answer k c.self.inside.book.history) c.self.invariant.0 c.in-Ok.ensures.says in
+    subst (λ v. g.S.Step.says c.args.step c.in-Ok.answer g.G.PoolNaming.config v.book.history) c.self.view_is says

@@ -10,4 +10,4 @@ returns-clause-tied g c = λ config n tied.
     let same : Some c.requires.known.0 ≡ Some c.in-Some.row = sym c.requires.known.1 ∙ there in
     let row : c.requires.known.0 ≡ c.in-Some.row = cc in
     tied_row config n c.args.self.now tied c.set_row.new.self c.args.t.0 c.in-Some.row _ there c.set_row.ensures.set
-    (ap (λ b. b && not c.in-Some.row.cancelled) (sym (ap (λ r. is_before r.place) (sym row) ∙ c.requires.known.2))) refl
+    (ap (λ b. b && not c.in-Some.row.cancelled) (sym (ap (λ r. is_before r.place) (sym row) ∙ c.requires.known.2))) refl refl

@@ -1,10 +1,8 @@
-use Rattle.tp_pool.proofs.Submissions.{admits_behind, refuses_behind}
+use Rattle.std.proofs.lemmas.Result.{IfOk-weaker, IfErr-weaker}
 use Rattle.tp_pool.proofs.pool.PoolOf.execute_as.Goals as goal
 
-pub returns-in-Ok-clause-admitted : goal.returns-in-Ok-clause-admitted
-returns-in-Ok-clause-admitted g c =
-    admits_behind g.G.PoolNaming.config c.args.kind c.args.job (g.J.Job.promised c.args.job) c.args.pass.now c.reserve.new.pass c.submit.new.pass c.submit.result c.reserve.ensures.same c.submit.ensures.admitted
+pub returns-clause-admitted : goal.returns-clause-admitted
+returns-clause-admitted g c = IfOk-weaker c.execute_at.result _ _ (λ a is. (c.priority.result, c.priority.ensures, is)) c.execute_at.ensures.admitted
 
-pub returns-in-Ok-clause-refused : goal.returns-in-Ok-clause-refused
-returns-in-Ok-clause-refused g c =
-    refuses_behind g.G.PoolNaming.config c.args.kind c.args.job (g.J.Job.promised c.args.job) c.args.pass.now c.reserve.new.pass c.submit.new.pass c.submit.result c.reserve.ensures.same c.submit.ensures.refused
+pub returns-clause-refused : goal.returns-clause-refused
+returns-clause-refused g c = IfErr-weaker c.execute_at.result _ _ (λ r is. (c.priority.result, c.priority.ensures, is)) c.execute_at.ensures.refused

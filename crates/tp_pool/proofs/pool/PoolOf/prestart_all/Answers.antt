@@ -1,4 +1,5 @@
-use Rattle.std.proofs.Common.{◌≡◌, ◌+◌, ap, arith, subst}
+use Rattle.std.proofs.Common.{◌≡◌, ◌+◌, ap, arith, subst, inl, sym, true≢false}
+use Rattle.std.proofs.Math.Nat.{lt_of_not-le}
 use Rattle.tp_locked.proofs.Receipts.{looks_none, none_behind, reserved}
 use Rattle.tp_pool.specs.Prestarts.{AddsPrestart, IsRefusedMore}
 use Rattle.tp_pool.proofs.Starts.{Started, none_started, one_more, prestart_asks, starts_all, starts_fail, starts_stop}
@@ -53,3 +54,6 @@ returns-clause-steps g c =
     let all : c.loop-live.live ≡ 1024 = omega arith in
     let started = subst (λ n. Started config c.args.pass.now n c.loop-live.pass) all c.loop-live.invariant.0 in
     starts_all config (IsRefusedMore config) c.args.pass.now c.loop-live.pass 1024 started (started.legal (omega arith))
+
+pub returns-in-Err-clause-refused : goal.returns-in-Err-clause-refused
+returns-in-Err-clause-refused g c = inl (c.in-Err.ensures.refused, lt_of_not-le (λ room. true≢false (sym (c.in-Err.ensures.none_needed room))))

@@ -1,4 +1,5 @@
-use Rattle.std.proofs.Common.{◌≤◌, ◌<◌, arith}
+use Rattle.std.proofs.Common.{◌≤◌, ◌<◌, ◌+◌, ◌*◌, arith, inl, sym, true≢false}
+use Rattle.std.proofs.Math.Nat.{lt_of_not-le}
 use Rattle.tp_locked.proofs.Receipts.{reserved}
 use Rattle.tp_pool.specs.Prestarts.{IsServed}
 use Rattle.tp_pool.proofs.Starts.{core_and_starts}
@@ -18,3 +19,8 @@ returns-clause-steps g c =
       core_and_starts config (IsServed config) c.args.pass.now c.reserve.new.self c.ask.new.pass c.prestart_some.new.pass c.args.core added c.min-starts.result starts.0
           (reserved c.args.pass.now c.reserve.new.self c.reserve.ensures.same) c.in-Ok.ensures.step starts.1,
     )
+
+pub returns-in-Err-clause-refused : goal.returns-in-Err-clause-refused
+returns-in-Err-clause-refused g c =
+    let short : c.args.pass.now.room < 1 + 2 * c.min-most.result = lt_of_not-le (λ room. true≢false (sym (c.in-Err.ensures.none_needed room))) in
+    inl (c.in-Err.ensures.refused, (omega (arith, short), omega (arith, short)))

@@ -1,4 +1,5 @@
-use Rattle.std.proofs.Common.{◌≤◌, subst}
+use Rattle.std.proofs.Common.{◌≤◌, subst, inl, sym, true≢false}
+use Rattle.std.proofs.Math.Nat.{lt_of_not-le}
 use Rattle.std.specs.Prelude.{IfOk}
 use Rattle.tp_record.specs.Fields.{rank}
 use Rattle.tp_record.specs.declared.entries.Ask.TheVariants as ask
@@ -22,3 +23,6 @@ returns-in-Ok-clause-seen g c =
     let ends = step_and_end g.G.PoolNaming.config c.args.pass.now c.reserve.new.self c.ask_left-shut.new.pass c.try_end.new.pass ask.Shutdown did.Shutdown
     (reserved c.args.pass.now c.reserve.new.self c.reserve.ensures.same) step c.try_end.ensures in
     reached g.G.PoolNaming.config c.args.pass.now c.try_end.new.pass _ ends.0 ends.2
+
+pub returns-in-Err-clause-refused : goal.returns-in-Err-clause-refused
+returns-in-Err-clause-refused g c = inl (c.in-Err.ensures.refused, lt_of_not-le (λ room. true≢false (sym (c.in-Err.ensures.none_needed room))))

@@ -1,4 +1,5 @@
-use Rattle.std.proofs.Common.{◌≤◌, length, arith, inl, inr, sym, subst, true≢false}
+use Rattle.std.proofs.Common.{length, inl, inr, sym, subst, true≢false}
+use Rattle.std.proofs.Math.Nat.{lt_of_not-le}
 use Rattle.tp_record.specs.declared.entries.Ask.TheVariants as ask
 use Rattle.tp_record.specs.declared.entries.Did.TheVariants as did
 use Rattle.tp_locked.specs.Steps.{Stops}
@@ -25,10 +26,11 @@ returns-in-Ok-clause-seen g c =
     (reserved c.args.pass.now c.reserve.new.self c.reserve.ensures.same) c.in-Ok.ensures.step c.try_end.ensures in
     reached g.G.PoolNaming.config c.args.pass.now c.try_end.new.pass _ ends.0 ends.2
 
-pub returns-in-Err-clause-memory : goal.returns-in-Err-clause-memory
-returns-in-Err-clause-memory g c = λ _.
-    let short : ¬ (3 ≤ c.args.pass.now.room) = λ enough. true≢false (sym (c.in-Err.ensures.none_needed enough)) in
-    inl (omega (arith, short))
+pub returns-in-Err-clause-refused : goal.returns-in-Err-clause-refused
+returns-in-Err-clause-refused g c = inl (c.in-Err.ensures.refused, inl (lt_of_not-le (λ room. true≢false (sym (c.in-Err.ensures.none_needed room)))))
 
-pub returns-in-Err-stop-clause-memory : goal.returns-in-Err-stop-clause-memory
-returns-in-Err-stop-clause-memory g c = λ wants. inr (c.in-Err-stop.ensures.memory wants)
+pub returns-in-Err-stop-clause-refused : goal.returns-in-Err-stop-clause-refused
+returns-in-Err-stop-clause-refused g c = elim c.in-Err-stop.ensures.refused [
+  | inl want ↦ inl (want.0, inr want.1)
+  | inr refused ↦ inr refused
+]

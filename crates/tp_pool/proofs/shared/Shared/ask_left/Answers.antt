@@ -12,4 +12,4 @@ pub returns-clause-known : goal.returns-clause-known
 returns-clause-known g c =
     let hold = c.ask-answer in
     knows {J = g.row.J.Denot} c.deref_mut.result.now hold.new.self c.args.pass.now hold.new.pass (g.S.Step.ask c.args.step) (λ x. g.S.Step.did c.args.step x) (λ x. g.S.Step.moves c.args.step tt x)
-    (λ x. g.S.Step.says c.args.step x) hold.result hold.ensures.holds hold.ensures.says hold.ensures.front
+    (λ x. g.S.Step.says c.args.step x g.G.PoolNaming.config) hold.result hold.ensures.holds hold.ensures.says hold.ensures.front

@@ -1,4 +1,5 @@
-use Rattle.std.proofs.Common.{inr}
+use Rattle.std.proofs.Common.{inl, inr, sym, true≢false}
+use Rattle.std.proofs.Math.Nat.{lt_of_not-le}
 use Rattle.std.proofs.lemmas.Result.{IfOk-weaker, IfErr-weaker}
 use Rattle.tp_locked.proofs.Receipts.{reserved, step_behind}
 use Rattle.tp_pool.proofs.shared.Shared.control_and_end.Goals as goal
@@ -12,3 +13,6 @@ returns-clause-step g c =
 
 pub returns-clause-refused : goal.returns-clause-refused
 returns-clause-refused g c = IfErr-weaker c.ask_left-answer.result.0 _ _ (λ e is. inr (is c.requires.no_outcome)) c.ask_left-answer.ensures.refused
+
+pub returns-in-Err-clause-refused : goal.returns-in-Err-clause-refused
+returns-in-Err-clause-refused g c = inl (c.in-Err.ensures.refused, lt_of_not-le (λ room. true≢false (sym (c.in-Err.ensures.none_needed room))))

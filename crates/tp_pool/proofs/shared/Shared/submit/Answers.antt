@@ -13,7 +13,7 @@ returns-in-Ok-submitted-clause-makes g c =
     let task : Task g.row.J.Denot = record { job = c.args.job; flag = c.in-Ok.held.1.lent } in (
       task,
       refl,
-      subst (λ p. Makes g.row.J.Denot g.G.PoolNaming.config c.args.pass.now.number c.args.pass.now.front (ask.Submit c.args.kind) (did.Submit x.0 c.args.kind x.1)
+      subst (λ p. Makes g.row.J.Denot g.G.PoolNaming.config c.args.pass.now.number c.args.pass.now.front (ask.Submit c.args.kind c.args.priority) (did.Submit x.0 c.args.kind c.args.priority x.1)
           (λ old new. PutsIn old new x.0.0 p task) c.submit-submitted.new.pass.front) c.promise-promise.ensures c.in-Ok-submitted.ensures.makes,
     )
 
@@ -21,11 +21,11 @@ pub returns-in-Ok-submitted-clause-step : goal.returns-in-Ok-submitted-clause-st
 returns-in-Ok-submitted-clause-step g c =
     let x = c.in-Ok-submitted.submitted in
     let task : Task g.row.J.Denot = record { job = c.args.job; flag = c.in-Ok.held.1.lent } in
-    adds_step g.G.PoolNaming.config c.args.pass.now c.submit-submitted.new.pass (ask.Submit c.args.kind) (did.Submit x.0 c.args.kind x.1)
+    adds_step g.G.PoolNaming.config c.args.pass.now c.submit-submitted.new.pass (ask.Submit c.args.kind c.args.priority) (did.Submit x.0 c.args.kind c.args.priority x.1)
     (λ old new. PutsIn old new x.0.0 c.promise-promise.result task) c.in-Ok-submitted.ensures.makes c.in-Ok-submitted.ensures.paid.0
 
 pub returns-in-Err-submitted-clause-refused : goal.returns-in-Err-submitted-clause-refused
 returns-in-Err-submitted-clause-refused g c = elim c.in-Err-submitted.ensures.refused [
-  | inl want ↦ inl want
-  | inr refused ↦ inr (refusal g.G.PoolNaming.config c.args.pass.now.front (ask.Submit c.args.kind) _ c.submit-submitted.new.pass.front refused tt)
+  | inl want ↦ inl (want, tt)
+  | inr refused ↦ inr (refusal g.G.PoolNaming.config c.args.pass.now.front (ask.Submit c.args.kind c.args.priority) _ c.submit-submitted.new.pass.front refused tt)
 ]

@@ -1,0 +1,321 @@
+//! The two forms of record texts: what each has a line for, texts that are cut or have a wrong byte, and priorities at the ends of
+//! their type.
+
+use crate::compare::same;
+use crate::streams::last_line;
+use std::alloc::{AllocError, Global};
+use std::test::Fail;
+use tp_record::entries::{Ask, Did};
+use tp_record_text::records::{Record, read_record};
+use tp_record_text::versions::Version;
+use tp_record_text::writing::record_text;
+use tp_types::limits::MAX_TEXT_BYTES;
+use tp_types::refusals::PoolError;
+
+/// A priority queue of one worker: of three tasks that wait the least priority leaves first, and of equal ones the earlier.
+const RANKED: &[u8] = b"tprecord 2\n\
+pool 1 1 priority keep 0 abort\n\
+1 submit t0 plain reserve w0\n\
+2 submit t1 plain prio 5 queue\n\
+3 offer t1 queued\n\
+4 second t1 stay\n\
+5 submit t2 plain prio 2 queue\n\
+6 offer t2 queued\n\
+7 second t2 stay\n\
+8 submit t3 plain prio 5 queue\n\
+9 offer t3 queued\n\
+10 second t3 stay\n\
+11 open w0 live\n\
+12 take w0 held t0\n\
+13 begin w0 t0\n\
+14 end w0 t0 value 0\n\
+15 take w0 head t2\n\
+16 begin w0 t2\n\
+17 end w0 t2 value 2\n\
+18 take w0 head t1\n\
+19 begin w0 t1\n\
+20 end w0 t1 value 1\n\
+21 stop drained 1\n\
+end 21\n";
+
+/// Each kind of task with a priority, and each answer behind it.
+const KINDS: &[u8] = b"tprecord 2\n\
+pool 1 1 priority keep 0 abort limit 64\n\
+1 submit t0 plain prio 1 reserve w0\n\
+2 p1 submit t1 future prio 4294967295 queue\n\
+3 submit t2 group 7 prio 10 refuse\n\
+4 submit t3 group 0 queue\n\
+end 4\n";
+
+/// One task of a group, with a priority.
+const LONE: &[u8] = b"tprecord 2\n\
+pool 0 1 priority keep 0 own\n\
+1 submit t0 group 3 prio 5 queue\n\
+end 1\n";
+
+/// The shortest life of a task, in the first form.
+const FIRST: &[u8] = b"tprecord 1\n\
+pool 1 1 unbounded keep 0 abort\n\
+1 submit t0 plain reserve w0\n\
+2 open w0 live\n\
+3 take w0 held t0\n\
+4 begin w0 t0\n\
+5 end w0 t0 value 5\n\
+end 5\n";
+
+/// The same in the second form.
+const SECOND: &[u8] = b"tprecord 2\n\
+pool 1 1 unbounded keep 0 abort\n\
+1 submit t0 plain reserve w0\n\
+2 open w0 live\n\
+3 take w0 held t0\n\
+4 begin w0 t0\n\
+5 end w0 t0 value 5\n\
+end 5\n";
+
+/// What a text says; it is not too long to be read.
+fn read(alloc: Global, text: &[u8]) -> Result<Record, PoolError> {
+    if text.len() > MAX_TEXT_BYTES {
+        return Err(PoolError::ReadFailed);
+    }
+    read_record(alloc, text)
+}
+
+/// The text of a record in the form in which it was read.
+fn written_again(alloc: Global, record: &Record) -> Result<Vec<u8>, PoolError> {
+    let mut text = record_text(alloc, &record.config, record.entries.as_slice())?;
+    if let (Version::One, Some(digit)) = (record.version, text.get_mut(b"tprecord ".len())) {
+        *digit = b'1';
+    }
+    Ok(text)
+}
+
+/// How a text is refused; None where it is read, and is the text of what it says.
+fn refusal_of(alloc: Global, text: &[u8]) -> Result<Option<PoolError>, Fail> {
+    match read(alloc, text) {
+        Ok(record) => {
+            let again = written_again(alloc, &record)?;
+            if again.as_slice() == text {
+                Ok(None)
+            } else {
+                Ok(Some(PoolError::TornRecord))
+            }
+        }
+        Err(refusal) => Ok(Some(refusal)),
+    }
+}
+
+const GOOD: [(&[u8], Version); 5] = [
+    (RANKED, Version::Two),
+    (KINDS, Version::Two),
+    (LONE, Version::Two),
+    (FIRST, Version::One),
+    (SECOND, Version::Two),
+];
+
+#[test]
+fn reads_both_forms_and_writes_them_again(rt: HostRuntime) -> Result<(), Fail> {
+    for (at, (text, version)) in GOOD.iter().enumerate() {
+        same(&rt, at, &refusal_of(rt.alloc(), text)?, &None);
+        same(&rt, at, &read(rt.alloc(), text)?.version, version);
+    }
+    Ok(())
+}
+
+/// The two forms of one record say the same, and it is written in the second.
+#[test]
+fn says_the_same_in_both_forms(rt: HostRuntime) -> Result<(), Fail> {
+    let first = read(rt.alloc(), FIRST)?;
+    let second = read(rt.alloc(), SECOND)?;
+    same(&rt, 0, &(first.config == second.config), &true);
+    same(&rt, 0, &(first.entries == second.entries), &true);
+    let written = record_text(rt.alloc(), &first.config, first.entries.as_slice())?;
+    same(&rt, 0, &written.as_slice(), &SECOND);
+    Ok(())
+}
+
+/// Each cut of a good text is wrong at the line that is cut, or that is missing.
+#[test]
+fn refuses_each_cut_text(rt: HostRuntime) -> Result<(), Fail> {
+    for (text, _) in GOOD {
+        for end in 0..text.len() {
+            let cut = &text[..end];
+            let wanted = Some(PoolError::BadEntry(last_line(cut)));
+            same(&rt, end, &refusal_of(rt.alloc(), cut)?, &wanted);
+        }
+    }
+    Ok(())
+}
+
+/// The text of one task with one byte changed.
+fn changed(alloc: Global, place: usize, byte: u8) -> Result<Vec<u8>, AllocError> {
+    let mut text = Vec::new(alloc);
+    text.extend_from_slice(LONE)?;
+    if let Some(changed) = text.get_mut(place) {
+        *changed = byte;
+    }
+    Ok(text)
+}
+
+/// Whether this is how a text may be refused that was read whole.
+fn refuses_a_text(refusal: PoolError) -> bool {
+    match refusal {
+        PoolError::BadEntry(_)
+        | PoolError::BadSizes
+        | PoolError::BadCapacity
+        | PoolError::BadLimit
+        | PoolError::KeepZero => true,
+        _ => false,
+    }
+}
+
+/// A text with any one byte changed is refused, or it is the text of what it says in the form that it says. A text of the first form
+/// is changed so in the tests of audits.
+#[test]
+fn reads_each_changed_text_as_itself(rt: HostRuntime) -> Result<(), Fail> {
+    for place in 0..LONE.len() {
+        for byte in 0..=255u8 {
+            let text = changed(rt.alloc(), place, byte)?;
+            let refusal = refusal_of(rt.alloc(), text.as_slice())?;
+            let is_so = refusal.is_none_or(refuses_a_text);
+            same(&rt, place, &(byte, is_so), &(byte, true));
+        }
+    }
+    Ok(())
+}
+
+/// The form alone decides: what the first has no line for, and how that is refused.
+const FORMS: [(&[u8], Option<PoolError>); 12] = [
+    (
+        b"tprecord 1\npool 1 1 priority keep 0 abort\nend 0\n",
+        Some(PoolError::BadEntry(2)),
+    ),
+    (b"tprecord 2\npool 1 1 priority keep 0 abort\nend 0\n", None),
+    (
+        b"tprecord 1\npool 3 2 priority keep 0 abort\nend 0\n",
+        Some(PoolError::BadEntry(2)),
+    ),
+    (
+        b"tprecord 2\npool 3 2 priority keep 0 abort\nend 0\n",
+        Some(PoolError::BadSizes),
+    ),
+    (
+        b"tprecord 1\npool 1 1 priority keep 0 abort limit 63\nend 0\n",
+        Some(PoolError::BadEntry(2)),
+    ),
+    (
+        b"tprecord 2\npool 1 1 priority keep 0 abort coretimeout limit 64\nend 0\n",
+        Some(PoolError::KeepZero),
+    ),
+    (
+        b"tprecord 1\npool 1 1 handoff keep 0 abort\n1 submit t0 plain prio 1 reserve w0\nend 1\n",
+        Some(PoolError::BadEntry(3)),
+    ),
+    (
+        b"tprecord 2\npool 1 1 handoff keep 0 abort\n1 submit t0 plain prio 1 reserve w0\nend 1\n",
+        None,
+    ),
+    (
+        b"tprecord 1\npool 1 1 handoff keep 0 abort\n1 shutdown\n2 submit t0 future prio 4294967295 refuse\nend 2\n",
+        Some(PoolError::BadEntry(4)),
+    ),
+    (
+        b"tprecord 3\npool 1 1 handoff keep 0 abort\nend 0\n",
+        Some(PoolError::BadEntry(1)),
+    ),
+    (
+        b"tprecord 02\npool 1 1 handoff keep 0 abort\nend 0\n",
+        Some(PoolError::BadEntry(1)),
+    ),
+    (
+        b"tprecord\npool 1 1 handoff keep 0 abort\nend 0\n",
+        Some(PoolError::BadEntry(1)),
+    ),
+];
+
+#[test]
+fn tells_the_forms_apart(rt: HostRuntime) -> Result<(), Fail> {
+    for (at, (text, wanted)) in FORMS.iter().enumerate() {
+        same(&rt, at, &refusal_of(rt.alloc(), text)?, wanted);
+    }
+    Ok(())
+}
+
+/// The text of a record of one entry, the first behind this header.
+fn text_with(alloc: Global, header: &str, entry: &str) -> Result<String, AllocError> {
+    format!(in alloc; "{header}\npool 1 1 handoff keep 0 abort\n1 {entry}\nend 1\n")
+}
+
+/// Lines of entries, each wrong in both forms.
+const BAD_ENTRIES: [&str; 24] = [
+    "submit t0 plain prio 0 queue",
+    "submit t0 plain prio 00 queue",
+    "submit t0 plain prio 05 queue",
+    "submit t0 plain prio +5 queue",
+    "submit t0 plain prio -5 queue",
+    "submit t0 plain prio -0 queue",
+    "submit t0 plain prio !5 queue",
+    "submit t0 plain prio p5 queue",
+    "submit t0 plain prio 4294967296 queue",
+    "submit t0 plain prio 18446744073709551616 queue",
+    "submit t0 plain prio queue",
+    "submit t0 plain prio 5",
+    "submit t0 plain prio",
+    "submit t0 plain 5 queue",
+    "submit t0 plain Prio 5 queue",
+    "submit t0 plain priority 5 queue",
+    "submit t0 plain prio 5 prio 5 queue",
+    "submit t0 plain prio  5 queue",
+    "submit t0 prio 5 plain queue",
+    "submit t0 plain queue prio 5",
+    "submit t0 group prio 5 queue",
+    "submit t0 group prio 5 3 queue",
+    "look t0 prio 5 queue",
+    "offer t0 prio 5 queued",
+];
+
+#[test]
+fn refuses_bad_priorities(rt: HostRuntime) -> Result<(), Fail> {
+    for (at, entry) in BAD_ENTRIES.iter().enumerate() {
+        for header in ["tprecord 1", "tprecord 2"] {
+            let text = text_with(rt.alloc(), header, entry)?;
+            let given = refusal_of(rt.alloc(), text.as_bytes())?;
+            same(&rt, at, &given, &Some(PoolError::BadEntry(3)));
+        }
+    }
+    Ok(())
+}
+
+/// The priority of a submission, as its answer says it and as its ask does.
+fn priorities(record: &Record) -> Option<(u32, u32)> {
+    match record.entries.first() {
+        Some(entry) => match (entry.did, entry.ask) {
+            (Did::Submit(_, _, did, _), Ask::Submit(_, ask)) => Some((did, ask)),
+            _ => None,
+        },
+        None => None,
+    }
+}
+
+/// A submission without words of a priority has priority 0; the others are read to the end of their type.
+const PRIORITIES: [(&str, u32); 5] = [
+    ("submit t0 plain queue", 0),
+    ("submit t0 plain prio 1 queue", 1),
+    ("submit t0 future prio 10 queue", 10),
+    ("submit t0 group 4294967295 prio 4294967295 queue", u32::MAX),
+    (
+        "submit t0 plain prio 4294967295 reserve w18446744073709551615",
+        u32::MAX,
+    ),
+];
+
+#[test]
+fn reads_priorities_to_the_ends_of_their_type(rt: HostRuntime) -> Result<(), Fail> {
+    for (at, (entry, priority)) in PRIORITIES.iter().enumerate() {
+        let text = text_with(rt.alloc(), "tprecord 2", entry)?;
+        same(&rt, at, &refusal_of(rt.alloc(), text.as_bytes())?, &None);
+        let record = read(rt.alloc(), text.as_bytes())?;
+        same(&rt, at, &priorities(&record), &Some((*priority, *priority)));
+    }
+    Ok(())
+}
