@@ -7,7 +7,7 @@ use Rattle.std.proofs.lemmas.Bool.{cases_lt, le-leb, lt-leb, ne_eqb, eq-eqb, eqb
 use Rattle.std.proofs.lemmas.Option.{same_Some, none-some}
 use Rattle.std.proofs.lemmas.List.{take-append-drop}
 use Rattle.tp_line.specs.declared.items.Ranked.{Ranked}
-use Rattle.tp_line.specs.Line.{Ordered, without_place, from_place}
+use Rattle.tp_line.specs.Line.{Ordered, without_place}
 use Rattle.tp_line.specs.Ranks.{key, enter, number_in, HasNoNumber, AreNumbered}
 use Rattle.tp_line.specs.Ranking.{keyed, NumbersWithin, HasNo, AreOnce, IsRanking}
 
@@ -300,12 +300,6 @@ module _ {T : Type 0} where
       found_low i low [] x next o found = absurd (none-some x found)
       found_low zero low (y ∷ ys) x next o found = let a = o.0 in let e = ap key_of (same_Some y x found) in omega (arith, a, e)
       found_low (suc i) low (y ∷ ys) x next o found = let a = o.0 in let b = found_low i (suc (key_of y)) ys x next o.1 found in omega (arith, a, b)
-
-  -- those from a key on
-  pub keyed-from : (k : ℕ) (xs : List (Ranked T)) → keyed (filter (λ x. nat_le k (key x.rank x.number)) xs) ≡ from_place k (keyed xs)
-  keyed-from k [] = refl
-  keyed-from k (x ∷ xs) = elim (nat_le k (key_of x)) as (λ b. keyed (cond b (x ∷ filter (λ y. nat_le k (key y.rank y.number)) xs) (filter (λ y. nat_le k (key y.rank y.number)) xs)) ≡ cond b ((x.id, key_of x) ∷ from_place k (keyed xs)) (from_place k (keyed xs)))
-      [ true ↦ ap (λ ys. (x.id, key_of x) ∷ ys) (keyed-from k xs) | false ↦ keyed-from k xs ]
 
   -- where the first from a key on has another key, no item has it
   pub absent : (k low : ℕ) (xs : List (Ranked T)) (next : ℕ) → Ordered low (keyed xs) next → ((x : Ranked T) → slice_get (filter (λ y. nat_le k (key y.rank y.number)) xs) 0 ≡ Some x → key_of x ≡ k → ⊥) → keyed xs ≡ without_place k (keyed xs)

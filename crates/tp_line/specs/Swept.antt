@@ -1,4 +1,4 @@
--- A sweep, item by item. No public clause cites this module.
+-- A sweep, item by item.
 use Rattle.std.specs.Prelude.{Bool, not, ◌&&◌, List, [], ◌∷◌, if◌then◌else◌}
 use Rattle.tp_line.specs.declared.items.Item.{Item}
 

@@ -2,7 +2,7 @@
 
 ghost use Rattle.std.specs.Prelude.{ℕ, ◌≡◌, ◌+◌, ◌*◌, ◌-◌, ◌^◌, ◌<◌, ◌≤◌, ◌++◌, ◌∷◌, [], length, drop, slice_get, option_map, IfOk, IfErr, OnOk, OnErr, IsTrue, IsOk, ◌↔◌};
 ghost use Rattle.std.specs.List.{FoldsTo};
-ghost use Rattle.tp_line.specs.Line.{line, without_place, from_place, staying, leaving, ids, Ordered};
+ghost use Rattle.tp_line.specs.Line.{line, without_place, staying, leaving, ids, Ordered};
 ghost use Rattle.tp_line.specs.Ranks.{key, enter, AreNumbered};
 
 use crate::bounds::{behind_rank, first_at};
@@ -153,14 +153,6 @@ impl<T: Copy> Ranking<T> {
                 self.items.remove(at);
             }
         }
-    }
-
-    /// Who comes first of those at this rank and place number or behind them. It compares as often as a binary search does.
-    pub fn first_from(&self, rank: u32, number: u64) -> Option<T>
-        ensures { result ≡ option_map (λ x. x.0) (slice_get (from_place (key rank number) self.now.items) 0) }
-    {
-        let item = self.items.get(first_at(&self.items, rank, number))?;
-        Some(item.id)
     }
 
     /// How many wait that the sweeper would take.

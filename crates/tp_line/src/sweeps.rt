@@ -6,7 +6,9 @@ ghost use Rattle.tp_line.specs.Swept.{taken};
 
 /// Who takes some values out of a line, in one pass over it.
 pub trait Sweeper<T: Copy> {
-    ghost use Rattle.std.specs.Prelude.{◌≡◌, Bool, IsTrue};
+    ghost use Rattle.std.specs.Prelude.{◌≡◌, Bool};
+    ghost use Rattle.std.specs.List.{FoldsTo};
+    ghost use Rattle.tp_line.specs.Swept.{taken};
 
     // which values it takes
     ghost takes: { Self → T → Bool };
@@ -18,10 +20,11 @@ pub trait Sweeper<T: Copy> {
     fn wants(&self, value: T) -> bool
         ensures { result ≡ takes self.now value };
 
-    /// Takes this value, which has left the line. Which values it takes stays as it was.
-    fn take(&mut self, value: T)
-        requires { IsTrue (takes self.old value) }
-        ensures took { took self.old value self.new }
+    /// Takes this value, which then leaves the line, where it wants it, and says whether it did. Which values it wants stays as
+    /// it was.
+    fn take(&mut self, value: T) -> bool
+        ensures answer { result ≡ takes self.old value }
+        ensures took { FoldsTo took self.old (taken (takes self.old) value) self.new }
         ensures same { (x : T) → takes self.new x ≡ takes self.old x };
 }
 
@@ -31,11 +34,7 @@ pub(crate) fn stays<T: Copy, S: Sweeper<T>>(sweeper: &mut S, value: T) -> bool
     ensures took { FoldsTo S.took sweeper.old (taken (S.takes sweeper.old) value) sweeper.new }
     ensures same { (x : T) → S.takes sweeper.new x ≡ S.takes sweeper.old x }
 {
-    if !sweeper.wants(value) {
-        return true;
-    }
-    sweeper.take(value);
-    false
+    !sweeper.take(value)
 }
 
 /// Who takes nothing.
@@ -53,5 +52,7 @@ impl<T: Copy> Sweeper<T> for Nobody {
         false
     }
 
-    fn take(&mut self, _value: T) {}
+    fn take(&mut self, _value: T) -> bool {
+        false
+    }
 }

@@ -63,7 +63,8 @@ fn legal(alloc: Global, entries: u32, auditor: &Auditor) -> Result<Judgment, Poo
 }
 
 impl Body {
-    /// The body behind a pool line with these settings in a text of this form: BadSizes (1), BadCapacity (2), BadLimit (3), KeepZero (11), NoMemory (4).
+    /// The body behind a pool line with these settings in a text of this form: BadSizes (1), BadCapacity (2), BadLimit (3),
+    /// KeepZero (11), NoMemory (4).
     fn new(alloc: Global, version: Version, config: Config) -> Result<Body, PoolError> {
         if let Err(refusal) = config.check() {
             return Err(refusal);

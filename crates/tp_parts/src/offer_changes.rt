@@ -21,8 +21,8 @@ use tp_types::ids::{SlotId, TaskId};
 use tp_types::tasks::Place;
 
 impl<P> Parts<P> {
-    /// Puts a task that waits in the queue: to its end, or in a priority queue behind those whose priority number is not greater. Its
-    /// submitter owes it a second look.
+    /// Puts a task that waits in the queue: to its end, or in a priority queue behind those whose priority number is not
+    /// greater. Its submitter owes it a second look.
     #[inline(always)]
     pub fn enqueue(&mut self, t: TaskId)
         requires known { (r : TaskRow) × (row_of self.old.tasks t.0 ≡ Some r) × (is_before r.place ≡ true) }

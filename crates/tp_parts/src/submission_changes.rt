@@ -20,8 +20,8 @@ use tp_types::refusals::PoolError;
 use tp_types::tasks::{Kind, Place, Promise};
 
 impl<P> Parts<P> {
-    /// Makes memory for one more task of this kind, and for its place in a queue that always has room, so that nothing that becomes of
-    /// the task takes any. Want of memory is NoMemory (4). Either way the same states are shown.
+    /// Makes memory for one more task of this kind, and for its place in a queue that always has room, so that nothing that
+    /// becomes of the task takes any. Want of memory is NoMemory (4). Either way the same states are shown.
     #[inline(always)]
     pub fn make_room(&mut self, kind: Kind) -> Result<(), PoolError>
         ensures memory { OnOk result (HasMemory self.new kind) }

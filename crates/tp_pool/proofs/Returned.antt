@@ -22,13 +22,12 @@ use Rattle.tp_paths.specs.Fronts.{follow_of, goes, is_awaited}
 use Rattle.tp_paths.specs.declared.paths.Next.{Next}
 use Rattle.tp_paths.specs.declared.paths.Next.TheVariants as next
 use Rattle.tp_tasks.specs.declared.tasks.Tasks.{Tasks}
-use Rattle.tp_machine.specs.Answers.{ruled_of, ReturnsAt}
+use Rattle.tp_machine.specs.Answers.{ComesBack, ruled_of, ReturnsAt}
 use Rattle.tp_book.specs.PassView.{PassView}
 use Rattle.tp_locked.specs.CoreView.{CoreView}
 use Rattle.tp_locked.specs.Holds.{Holds}
 use Rattle.tp_locked.specs.Passes.{KnowsStep}
 use Rattle.tp_locked.specs.declared.tasks.Task.{Task}
-use Rattle.tp_pool.specs.Admissions.{ComesBack}
 
 -- a pass that a step was made with knows it, and of the history before it what the answer says
 pub knows : {J A : Type 0} (old new : CoreView J) (before after : PassView) (a : Ask) (did : A → Did) (moves : A → Tasks (Task J) → Tasks (Task J) → Type 0) (says : A → List Entry → Type 0) (r : Result A PoolError) →

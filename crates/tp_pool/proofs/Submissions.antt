@@ -20,7 +20,8 @@ use Rattle.tp_locked.specs.Passes.{Adds, AddsNone, Refuses}
 use Rattle.tp_locked.specs.declared.answers.Admitted.{Admitted}
 use Rattle.tp_locked.specs.declared.answers.Admitted.TheVariants as admitted
 use Rattle.tp_locked.specs.declared.answers.Refused.{Refused}
-use Rattle.tp_pool.specs.Admissions.{AddsPath, AddsFront, AtPriority, ComesBack, IsUndone, GotJob, IsAdmitted, IsTurnedAway, task_of, end_of}
+use Rattle.tp_machine.specs.Answers.{ComesBack}
+use Rattle.tp_pool.specs.Admissions.{AddsPath, AddsFront, AtPriority, IsUndone, GotJob, IsAdmitted, IsTurnedAway, task_of, end_of}
 use Rattle.tp_pool.specs.Submissions.{AddsJob, AddsSubmission}
 use Rattle.tp_locked.proofs.Plain.{submitted_plain}
 use Rattle.tp_locked.proofs.Receipts.{adds_behind, none_behind}

@@ -1,5 +1,5 @@
 -- What submissions come to, and what they add to their caller's pass.
-use Rattle.std.specs.Prelude.{ℕ, Bool, not, ◌≡◌, ◌⊎◌, ◌≤◌, List, [], ◌∷◌, ◌++◌, length, Option, Some, is_some, Result, IfOk, ⊤}
+use Rattle.std.specs.Prelude.{ℕ, Bool, ◌≡◌, ◌⊎◌, ◌≤◌, List, [], ◌∷◌, ◌++◌, length, Some, Result, IfOk, ⊤}
 use Rattle.tp_types.specs.declared.configs.Config.{Config}
 use Rattle.tp_types.specs.declared.configs.Verdict.{Verdict}
 use Rattle.tp_types.specs.declared.ids.TaskId.{TaskId}
@@ -12,12 +12,12 @@ use Rattle.tp_record.specs.declared.entries.Did.{Did}
 use Rattle.tp_record.specs.declared.entries.Did.TheVariants as did
 use Rattle.tp_record.specs.declared.entries.Entry.{Entry}
 use Rattle.tp_record.specs.declared.entries.Looked.{Looked}
-use Rattle.tp_record.specs.Fields.{is_cancelled}
 use Rattle.tp_record.specs.Paths.{Admission, Accepted, RanHere, Discarded, Rejected, Follow, Then, Astray, IsPath}
 use Rattle.tp_parts.specs.Payloads.{PutsIn}
 use Rattle.tp_paths.specs.Fronts.{IsFront, follow_of, goes}
 use Rattle.tp_paths.specs.declared.paths.Next.{Next}
 use Rattle.tp_paths.specs.declared.paths.Next.TheVariants as next
+use Rattle.tp_machine.specs.Answers.{ComesBack}
 use Rattle.tp_glance.specs.Word.{IsFrontOf}
 use Rattle.tp_book.specs.PassView.{PassView}
 use Rattle.tp_locked.specs.Passes.{Adds, AddsNone, Refuses, opening}
@@ -63,10 +63,6 @@ pub record GotJob {J : Type 0} (c : Config) (kind : Kind) (priority : ℕ) (job 
 abbrev pub Awaits : Follow → Type 0
 Awaits (Then fits) = ⊤
 Awaits _ = ⊥
-
--- the job of task t is there just where t was not cancelled at this history
-abbrev pub ComesBack : {A : Type 0} → ℕ → Option A → List Entry → Type 0
-ComesBack t job h = is_some job ≡ not (is_cancelled h t)
 
 -- the pass has the receipts of the whole path of this task, which is of this kind and priority, and the path ends so
 abbrev pub AddsPath : Config → Kind → ℕ → TaskId → Admission → PassView → PassView → Type 0

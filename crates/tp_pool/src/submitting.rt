@@ -10,7 +10,8 @@ ghost use Rattle.tp_locked.specs.Left.{IsLeft};
 ghost use Rattle.tp_locked.specs.Passes.{AddsStep, AddsNone, IsRefusal, LooksOnly, Refuses, opening};
 ghost use Rattle.tp_locked.specs.Steps.{Makes};
 ghost use Rattle.tp_locked.specs.declared.tasks.Task.{Task as TaskOf};
-ghost use Rattle.tp_pool.specs.Admissions.{task_of, end_of, Admits, AtPriority, Awaits, ComesBack, IsAdmitted, IsTurnedAway, IsUndone};
+ghost use Rattle.tp_machine.specs.Answers.{ComesBack};
+ghost use Rattle.tp_pool.specs.Admissions.{task_of, end_of, Admits, AtPriority, Awaits, IsAdmitted, IsTurnedAway, IsUndone};
 ghost use Rattle.tp_pool.specs.Endings.{IsBarred};
 
 use crate::boxes::Boxed;

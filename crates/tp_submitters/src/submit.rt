@@ -19,8 +19,8 @@ use tp_types::ids::{SlotId, TaskId};
 use tp_types::refusals::PoolError;
 use tp_types::tasks::{Kind, Place, Promise};
 
-/// Whether the next task, of this kind and priority, is held by a new core slot, is to be offered, or is refused. BookFull (5) where the record has no
-/// room for it.
+/// Whether the next task, of this kind and priority, is held by a new core slot, is to be offered, or is refused. BookFull (5)
+/// where the record has no room for it.
 #[inline(always)]
 pub fn answer<P>(parts: &Parts<P>, kind: Kind, priority: u32) -> Result<Looked, PoolError>
     requires stands { Stands parts.now }

@@ -63,8 +63,12 @@ impl Sweeper<TaskId> for Odd {
         task.0 % 2 == 1
     }
 
-    fn take(&mut self, _task: TaskId) {
-        self.taken = self.taken.wrapping_add(1);
+    fn take(&mut self, task: TaskId) -> bool {
+        let odd = self.wants(task);
+        if odd {
+            self.taken = self.taken.wrapping_add(1);
+        }
+        odd
     }
 }
 

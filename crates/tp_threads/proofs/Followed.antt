@@ -16,7 +16,8 @@ use Rattle.tp_locked.specs.declared.answers.Refused.{Refused}
 use Rattle.tp_scenario.specs.declared.jobs.JobLine.{JobLine}
 use Rattle.tp_types.specs.declared.tasks.Promise.{Promise}
 use Rattle.tp_record.specs.Step.{Legal}
-use Rattle.tp_pool.specs.Admissions.{AddsPath, AddsFront, ComesBack, GotJob, IsTurnedAway}
+use Rattle.tp_machine.specs.Answers.{ComesBack}
+use Rattle.tp_pool.specs.Admissions.{AddsPath, AddsFront, GotJob, IsTurnedAway}
 use Rattle.tp_locked.proofs.Receipts.{adds_both, adds_behind, looks_adds, none_behind, stands_looking}
 use Rattle.tp_pool.proofs.Submissions.{front_behind}
 use Rattle.tp_threads.specs.Runs.{Asked, AreSubmissions, AddsSubmissions, IsTorn, BreaksOff, asked_of, asked}

@@ -19,8 +19,8 @@ use tp_types::refusals::PoolError;
 use tp_types::tasks::{Kind, Outcome, Promise};
 
 impl<P, R: Recorder> Machine<P, R> {
-    /// Submits a task of this kind and priority, with what its job promises and its payload, and looks at once, as `execute`. BookFull (5), or
-    /// NoMemory (4): the payload comes back, and nothing has changed.
+    /// Submits a task of this kind and priority, with what its job promises and its payload, and looks at once, as `execute`.
+    /// BookFull (5), or NoMemory (4): the payload comes back, and nothing has changed.
     pub fn submit(
         &mut self,
         by: u32,

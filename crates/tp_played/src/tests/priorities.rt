@@ -155,7 +155,8 @@ const WORKED: [Act; 22] = [
     ),
 ];
 
-/// The worked example: of tasks with the priorities 5, 2 and 5 the second leaves first, then the first, and a stop hands the third back.
+/// The worked example: of tasks with the priorities 5, 2 and 5 the second leaves first, then the first, and a stop hands the
+/// third back.
 #[test]
 fn takes_the_least_first(rt: HostRuntime) {
     plays(&rt, rt.alloc(), RANKED, &WORKED);

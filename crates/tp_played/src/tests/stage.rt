@@ -200,7 +200,8 @@ fn step(pool: &mut Pool, by: u32, ask: Ask, submitted: Option<(Promise, u32)>) -
     }
 }
 
-/// Asks for a step, with this payload where it is a submission. An outcome that was not promised is no step: it is answered with TornRecord (22).
+/// Asks for a step, with this payload where it is a submission. An outcome that was not promised is no step: it is answered
+/// with TornRecord (22).
 fn answer(pool: &mut Pool, by: u32, ask: Ask, payload: u32) -> Answer {
     if let Ask::Submit(..) = ask {
         return step(pool, by, ask, Some((ANY, payload)));
