@@ -1,5 +1,6 @@
 mod calls;
 mod closing;
+mod compare;
 mod flags;
 mod helpers;
 mod interfaces;

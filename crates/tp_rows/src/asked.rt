@@ -11,30 +11,34 @@ use tp_types::ids::{SlotId, TaskId};
 use tp_types::refusals::PoolError;
 use tp_types::tasks::Kind;
 
+const SLOT: SlotId = SlotId(0);
+
+const TASK: TaskId = TaskId(0);
+
+const SHORTEST: [(u32, Ask); 6] = [
+    (1, Ask::Take(SLOT)),
+    (0, Ask::Submit(Kind::Plain, 0)),
+    (3, Ask::Open(SLOT)),
+    (1, Ask::Take(SLOT)),
+    (1, Ask::Begin(SLOT)),
+    (1, Ask::End(SLOT, Ok(5))),
+];
+
+const SHORTEST_ANSWERS: [Result<Did, PoolError>; 6] = [
+    Err(PoolError::UnknownSlot),
+    Ok(Did::Submit(TASK, Kind::Plain, 0, Looked::Reserve(SLOT))),
+    Ok(Did::Open(SLOT, Opened::Live)),
+    Ok(Did::Take(SLOT, Took::Held(TASK))),
+    Ok(Did::Begin(SLOT, Started::Run(TASK))),
+    Ok(Did::End(SLOT, TASK, Ok(5))),
+];
+
 /// Row 1, the shortest life of a task, with an ask before it that is refused: the refusal is an answer,
 /// and adds no entry.
 #[test]
 fn runs_the_shortest_life(rt: HostRuntime) -> Result<(), Fail> {
-    let slot = SlotId(0);
-    let task = TaskId(0);
-    let asks = [
-        (1, Ask::Take(slot)),
-        (0, Ask::Submit(Kind::Plain, 0)),
-        (3, Ask::Open(slot)),
-        (1, Ask::Take(slot)),
-        (1, Ask::Begin(slot)),
-        (1, Ask::End(slot, Ok(5))),
-    ];
-    let run = run_asks(rt.alloc(), LONE, &asks)?;
-    let answers = [
-        Err(PoolError::UnknownSlot),
-        Ok(Did::Submit(task, Kind::Plain, 0, Looked::Reserve(slot))),
-        Ok(Did::Open(slot, Opened::Live)),
-        Ok(Did::Take(slot, Took::Held(task))),
-        Ok(Did::Begin(slot, Started::Run(task))),
-        Ok(Did::End(slot, task, Ok(5))),
-    ];
-    let is_answered = run.answers.as_slice() == answers.as_slice();
+    let run = run_asks(rt.alloc(), LONE, &SHORTEST)?;
+    let is_answered = run.answers.as_slice() == SHORTEST_ANSWERS.as_slice();
     let counts = plain_counts(rt.alloc(), &run.entries)?;
     same(&rt, 0, &(is_answered, counts.run), &(true, 1));
     Ok(())
@@ -60,18 +64,19 @@ fn goes_on(alloc: Global, asks: usize, run: &Run) -> bool {
         && is_judged
 }
 
+const GROWING: [(u32, Ask); 5] = [
+    (0, Ask::Submit(Kind::Plain, 0)),
+    (1, Ask::Submit(Kind::Future, 0)),
+    (2, Ask::Maximum(3)),
+    (2, Ask::Stop),
+    (2, Ask::Tick(5)),
+];
+
 /// Where any one allocation fails, the run is refused with 4, or it goes on.
 #[test]
 fn run_goes_on_where_memory_is_wanted(rt: HostRuntime) {
-    let asks = [
-        (0, Ask::Submit(Kind::Plain, 0)),
-        (1, Ask::Submit(Kind::Future, 0)),
-        (2, Ask::Maximum(3)),
-        (2, Ask::Stop),
-        (2, Ask::Tick(5)),
-    ];
-    let is_right = match run_asks(rt.alloc(), LONE, &asks) {
-        Ok(run) => goes_on(rt.alloc(), asks.len(), &run),
+    let is_right = match run_asks(rt.alloc(), LONE, &GROWING) {
+        Ok(run) => goes_on(rt.alloc(), GROWING.len(), &run),
         Err(error) => error == PoolError::NoMemory,
     };
     same(&rt, 0, &is_right, &true);

@@ -157,7 +157,7 @@ fn refuses<R: Read>(
 }
 
 /// A text, what is written of it, and whether it is legal.
-const JUDGED: [(&[u8], &[u8], bool); 8] = [
+static JUDGED: [(&[u8], &[u8], bool); 8] = [
     (ROW_21, b"flaw 2\n", false),
     (LEGAL, LEGAL_OUTPUT, true),
     (ROW_35, ROW_35_OUTPUT, true),
@@ -179,7 +179,7 @@ fn judges_worked_rows(rt: HostRuntime) {
 }
 
 /// Row 32, and what else is no record's text, with the number of its first wrong line.
-const WRONG_LINES: [(&[u8], u32); 19] = [
+static WRONG_LINES: [(&[u8], u32); 19] = [
     (
         b"tprecord 1\npool 1 1 unbounded keep 0 abort\n1 submit t0 plain reserve w0\n2 take w0 held t0\n",
         5,
@@ -244,7 +244,7 @@ fn tells_the_first_wrong_line(rt: HostRuntime) {
 }
 
 /// A refused configuration comes before the lines behind it, and behind a wrong header.
-const REFUSED_POOLS: [(&[u8], PoolError); 6] = [
+static REFUSED_POOLS: [(&[u8], PoolError); 6] = [
     (
         b"tprecord 1\npool 3 2 unbounded keep 0 abort\nnonsense\n",
         PoolError::BadSizes,
@@ -371,24 +371,29 @@ fn reads_another_value(rt: HostRuntime) -> Result<(), Fail> {
     Ok(())
 }
 
+static TEXTS: [&[u8]; 3] = [
+    LEGAL,
+    b"nonsense\n",
+    b"tprecord 1\npool 3 2 unbounded keep 0 abort\n",
+];
+
+/// A text is refused where its reader fails once, before any of its bytes and behind the last.
+fn refuses_failing(rt: &impl Abort, alloc: Global, rest: &'static [u8]) {
+    for before in 0..rest.len() + 1 {
+        let mut reader = FailsOnce {
+            rest,
+            before,
+            error: io::ErrorKind::Other,
+        };
+        refuses(rt, before, alloc, &mut reader, PoolError::ReadFailed);
+    }
+}
+
 /// A reader that fails comes before all that its text says.
 #[test]
 fn refuses_a_reader_that_fails(rt: HostRuntime) {
-    let texts: [&'static [u8]; 3] = [
-        LEGAL,
-        b"nonsense\n",
-        b"tprecord 1\npool 3 2 unbounded keep 0 abort\n",
-    ];
-    for rest in texts {
-        for before in 0..rest.len() + 1 {
-            let mut reader = FailsOnce {
-                rest,
-                before,
-                error: io::ErrorKind::Other,
-            };
-            let failed = PoolError::ReadFailed;
-            refuses(&rt, before, rt.alloc(), &mut reader, failed);
-        }
+    for rest in &TEXTS {
+        refuses_failing(&rt, rt.alloc(), rest);
     }
 }
 
@@ -402,13 +407,15 @@ fn feeds(end: usize) -> Long {
     }
 }
 
+const LONG: [(usize, PoolError); 3] = [
+    (MAX_TEXT_BYTES, PoolError::BadEntry(1)),
+    (MAX_TEXT_BYTES + 1, PoolError::ReadFailed),
+    (usize::MAX, PoolError::ReadFailed),
+];
+
 #[test]
 fn reads_a_long_text_and_no_longer_one(rt: HostRuntime) {
-    for (end, refusal) in [
-        (MAX_TEXT_BYTES, PoolError::BadEntry(1)),
-        (MAX_TEXT_BYTES + 1, PoolError::ReadFailed),
-        (usize::MAX, PoolError::ReadFailed),
-    ] {
+    for (end, refusal) in LONG {
         refuses(&rt, end, rt.alloc(), &mut feeds(end), refusal);
     }
 }

@@ -105,7 +105,7 @@ fn refusal_of(alloc: Global, text: &[u8]) -> Result<Option<PoolError>, Fail> {
     }
 }
 
-const GOOD: [(&[u8], Version); 5] = [
+static GOOD: [(&[u8], Version); 5] = [
     (RANKED, Version::Two),
     (KINDS, Version::Two),
     (LONE, Version::Two),
@@ -137,7 +137,7 @@ fn says_the_same_in_both_forms(rt: HostRuntime) -> Result<(), Fail> {
 /// Each cut of a good text is wrong at the line that is cut, or that is missing.
 #[test]
 fn refuses_each_cut_text(rt: HostRuntime) -> Result<(), Fail> {
-    for (text, _) in GOOD {
+    for (text, _) in &GOOD {
         for end in 0..text.len() {
             let cut = &text[..end];
             let wanted = Some(PoolError::BadEntry(last_line(cut)));
@@ -185,7 +185,7 @@ fn reads_each_changed_text_as_itself(rt: HostRuntime) -> Result<(), Fail> {
 }
 
 /// The form alone decides: what the first has no line for, and how that is refused.
-const FORMS: [(&[u8], Option<PoolError>); 12] = [
+static FORMS: [(&[u8], Option<PoolError>); 12] = [
     (
         b"tprecord 1\npool 1 1 priority keep 0 abort\nend 0\n",
         Some(PoolError::BadEntry(2)),
@@ -247,7 +247,7 @@ fn text_with(alloc: Global, header: &str, entry: &str) -> Result<String, AllocEr
 }
 
 /// Lines of entries, each wrong in both forms.
-const BAD_ENTRIES: [&str; 24] = [
+static BAD_ENTRIES: [&str; 24] = [
     "submit t0 plain prio 0 queue",
     "submit t0 plain prio 00 queue",
     "submit t0 plain prio 05 queue",
@@ -298,7 +298,7 @@ fn priorities(record: &Record) -> Option<(u32, u32)> {
 }
 
 /// A submission without words of a priority has priority 0; the others are read to the end of their type.
-const PRIORITIES: [(&str, u32); 5] = [
+static PRIORITIES: [(&str, u32); 5] = [
     ("submit t0 plain queue", 0),
     ("submit t0 plain prio 1 queue", 1),
     ("submit t0 future prio 10 queue", 10),

@@ -3,6 +3,7 @@ ghost use Rattle.tp_types.specs.Config.{IsConfig};
 
 use crate::compare::same;
 use std::alloc::Global;
+use std::process::Abort;
 use tp_audit::plain::audit_plain;
 use tp_audit::summary::{Flaw, Summary};
 use tp_auditor::audits::audit;
@@ -23,37 +24,81 @@ pub const LONE: Config = Config {
     record_limit: 4096,
 };
 
-/// Row 1: the shortest life of a task, in the slot of this number.
-fn shortest_life(slot: usize) -> [Entry; 5] {
-    let slot = SlotId(slot);
-    let task = TaskId(0);
-    [
-        Entry {
-            by: 0,
-            ask: Ask::Submit(Kind::Plain, 0),
-            did: Did::Submit(task, Kind::Plain, 0, Looked::Reserve(slot)),
+const SLOT: SlotId = SlotId(0);
+
+const TASK: TaskId = TaskId(0);
+
+const SUBMIT: Entry = Entry {
+    by: 0,
+    ask: Ask::Submit(Kind::Plain, 0),
+    did: Did::Submit(TASK, Kind::Plain, 0, Looked::Reserve(SLOT)),
+};
+
+const OPEN: Entry = Entry {
+    by: 3,
+    ask: Ask::Open(SLOT),
+    did: Did::Open(SLOT, Opened::Live),
+};
+
+const TAKE: Entry = Entry {
+    by: 1,
+    ask: Ask::Take(SLOT),
+    did: Did::Take(SLOT, Took::Held(TASK)),
+};
+
+const BEGIN: Entry = Entry {
+    by: 1,
+    ask: Ask::Begin(SLOT),
+    did: Did::Begin(SLOT, Started::Run(TASK)),
+};
+
+const END: Entry = Entry {
+    by: 1,
+    ask: Ask::End(SLOT, Ok(5)),
+    did: Did::End(SLOT, TASK, Ok(5)),
+};
+
+/// Row 1: the shortest life of a task.
+const LIFE: [Entry; 5] = [SUBMIT, OPEN, TAKE, BEGIN, END];
+
+/// The entry with this slot in place of the life's.
+fn moved(entry: Entry, w: SlotId) -> Entry {
+    match entry.did {
+        Did::Submit(t, kind, priority, _) => Entry {
+            did: Did::Submit(t, kind, priority, Looked::Reserve(w)),
+            ..entry
         },
-        Entry {
-            by: 3,
-            ask: Ask::Open(slot),
-            did: Did::Open(slot, Opened::Live),
+        Did::Open(_, opened) => Entry {
+            ask: Ask::Open(w),
+            did: Did::Open(w, opened),
+            ..entry
         },
-        Entry {
-            by: 1,
-            ask: Ask::Take(slot),
-            did: Did::Take(slot, Took::Held(task)),
+        Did::Take(_, took) => Entry {
+            ask: Ask::Take(w),
+            did: Did::Take(w, took),
+            ..entry
         },
-        Entry {
-            by: 1,
-            ask: Ask::Begin(slot),
-            did: Did::Begin(slot, Started::Run(task)),
+        Did::Begin(_, started) => Entry {
+            ask: Ask::Begin(w),
+            did: Did::Begin(w, started),
+            ..entry
         },
-        Entry {
-            by: 1,
-            ask: Ask::End(slot, Ok(5)),
-            did: Did::End(slot, task, Ok(5)),
+        Did::End(_, t, outcome) => Entry {
+            ask: Ask::End(w, outcome),
+            did: Did::End(w, t, outcome),
+            ..entry
         },
-    ]
+        _ => entry,
+    }
+}
+
+/// The life in the slot of this number.
+fn life_in(slot: usize) -> [Entry; 5] {
+    let mut life = LIFE;
+    for entry in life.iter_mut() {
+        *entry = moved(*entry, SlotId(slot));
+    }
+    life
 }
 
 /// The judgment of both auditors; none where they differ.
@@ -89,75 +134,119 @@ fn is_judged_so(
     }
 }
 
+const NONE: Counts = Counts {
+    submitted: 0,
+    run: 0,
+    caller: 0,
+    rejected: 0,
+    discarded: 0,
+    handedback: 0,
+    removed: 0,
+    cancelled: 0,
+    completed: 0,
+    queued: 0,
+    live: 0,
+    largest: 0,
+};
+
+const SUBMITTED: Counts = Counts {
+    submitted: 2,
+    ..NONE
+};
+
+const LIVED: Counts = Counts {
+    submitted: 1,
+    run: 1,
+    completed: 1,
+    live: 1,
+    largest: 1,
+    ..NONE
+};
+
 /// The slot of a reserved worker may have any number that is free.
 #[test]
 fn judges_the_shortest_life(rt: HostRuntime) {
-    let counts = Counts {
-        submitted: 1,
-        run: 1,
-        completed: 1,
-        live: 1,
-        largest: 1,
-        ..Counts::default()
-    };
     for slot in [0, 1, 7, 1_000] {
-        let told = Ok((counts, [Some(Fate::Run)].as_slice()));
-        let life = shortest_life(slot);
-        let so = is_judged_so(rt.alloc(), &LONE, &life, told);
+        let told = Ok((LIVED, [Some(Fate::Run)].as_slice()));
+        let so = is_judged_so(rt.alloc(), &LONE, &life_in(slot), told);
         same(&rt, slot, &so, &true);
     }
 }
 
-/// Nothing at all, and submissions that reserve slots of two numbers, and of one.
-#[test]
-fn judges_records_with_nothing_begun(rt: HostRuntime) {
-    let submit = |task, slot| Entry {
-        by: 0,
-        ask: Ask::Submit(Kind::Plain, 0),
-        did: Did::Submit(TaskId(task), Kind::Plain, 0, Looked::Reserve(SlotId(slot))),
-    };
-    let two = Config {
-        core: 2,
-        maximum: 2,
-        ..LONE
-    };
-    let counts = Counts {
-        submitted: 2,
-        ..Counts::default()
-    };
-    let open = [None, None];
-    let none = Ok((Counts::default(), &open[..0]));
-    let records: [(Config, &[Entry], Result<(Counts, &[Option<Fate>]), Flaw>); 3] = [
-        (LONE, &[], none),
-        (two, &[submit(0, 4), submit(1, 0)], Ok((counts, &open))),
-        (two, &[submit(0, 4), submit(1, 4)], Err(Flaw::At(2))),
-    ];
+/// A submission that reserves the slot of this number.
+const FIRST_IN_4: Entry = Entry {
+    by: 0,
+    ask: Ask::Submit(Kind::Plain, 0),
+    did: Did::Submit(TASK, Kind::Plain, 0, Looked::Reserve(SlotId(4))),
+};
+
+const SECOND_IN_0: Entry = Entry {
+    by: 0,
+    ask: Ask::Submit(Kind::Plain, 0),
+    did: Did::Submit(TaskId(1), Kind::Plain, 0, Looked::Reserve(SLOT)),
+};
+
+const SECOND_IN_4: Entry = Entry {
+    by: 0,
+    ask: Ask::Submit(Kind::Plain, 0),
+    did: Did::Submit(TaskId(1), Kind::Plain, 0, Looked::Reserve(SlotId(4))),
+};
+
+/// An answer to another ask than the entry's.
+const OTHER: Entry = Entry {
+    by: 3,
+    ask: Ask::Fail(SLOT),
+    did: Did::Open(SLOT, Opened::Live),
+};
+
+const TWO: Config = Config {
+    core: 2,
+    maximum: 2,
+    ..LONE
+};
+
+/// A configuration, a record, and how it is judged.
+type Judged = (
+    Config,
+    &'static [Entry],
+    Result<(Counts, &'static [Option<Fate>]), Flaw>,
+);
+
+/// Each of these records is judged so by both auditors.
+fn each_is_judged(rt: &impl Abort, alloc: Global, records: &[Judged]) {
     for (at, (config, entries, told)) in records.iter().enumerate() {
-        let so = is_judged_so(rt.alloc(), config, entries, *told);
-        same(&rt, at, &so, &true);
+        let so = is_judged_so(alloc, config, entries, *told);
+        same(rt, at, &so, &true);
     }
 }
 
+/// Nothing at all, and submissions that reserve slots of two numbers, and of one.
+static UNBEGUN: [Judged; 3] = [
+    (LONE, &[], Ok((NONE, &[]))),
+    (
+        TWO,
+        &[FIRST_IN_4, SECOND_IN_0],
+        Ok((SUBMITTED, &[None, None])),
+    ),
+    (TWO, &[FIRST_IN_4, SECOND_IN_4], Err(Flaw::At(2))),
+];
+
+#[test]
+fn judges_records_with_nothing_begun(rt: HostRuntime) {
+    each_is_judged(&rt, rt.alloc(), &UNBEGUN);
+}
+
+static FLAWED: [Judged; 4] = [
+    // Row 21: the worker takes before it is opened.
+    (LONE, &[SUBMIT, TAKE], Err(Flaw::At(2))),
+    (LONE, &[OPEN, TAKE, BEGIN, END], Err(Flaw::At(1))),
+    (LONE, &[SUBMIT, OPEN, OPEN, OPEN], Err(Flaw::At(3))),
+    (LONE, &[SUBMIT, OTHER], Err(Flaw::At(2))),
+];
+
 #[test]
 fn tells_the_first_flaw(rt: HostRuntime) {
-    let life = shortest_life(0);
-    // An answer to another ask than the entry's.
-    let other = Entry {
-        ask: Ask::Fail(SlotId(0)),
-        ..life[1]
-    };
-    let flawed: [(&[Entry], usize); 4] = [
-        // Row 21: the worker takes before it is opened.
-        (&[life[0], life[2]], 2),
-        (&life[1..], 1),
-        (&[life[0], life[1], life[1], life[1]], 3),
-        (&[life[0], other], 2),
-    ];
-    for (entries, at) in flawed {
-        let first = Err(Flaw::At(at));
-        let so = is_judged_so(rt.alloc(), &LONE, entries, first);
-        same(&rt, at, &so, &true);
-    }
+    each_is_judged(&rt, rt.alloc(), &FLAWED);
 }
 
 /// The counters of a record of one worker, as the plain auditor tells them.
@@ -168,8 +257,7 @@ pub fn plain_counts(alloc: Global, entries: &[Entry]) -> Result<Counts, Flaw> {
 /// Where any one allocation fails, the answer is want of memory; with ample memory it is right.
 #[test]
 fn want_of_memory_is_told(rt: HostRuntime) {
-    let life = shortest_life(0);
-    let is_told = match plain_counts(rt.alloc(), &life[..2]) {
+    let is_told = match plain_counts(rt.alloc(), &LIFE[..2]) {
         Ok(counts) => counts.submitted == 1,
         Err(flaw) => flaw == Flaw::NoMemory,
     };

@@ -36,7 +36,7 @@ fn entry(by: u32, did: Did) -> Entry {
     }
 }
 
-const SUBMISSIONS_AND_LOOKS: [(usize, Did, &str); 10] = [
+static SUBMISSIONS_AND_LOOKS: [(usize, Did, &str); 10] = [
     (
         1,
         Did::Submit(TASK_0, Kind::Plain, 0, Looked::Reserve(SLOT_0)),
@@ -81,7 +81,7 @@ const SUBMISSIONS_AND_LOOKS: [(usize, Did, &str); 10] = [
     (9, Did::Look(TASK_2, Looked::Refuse), "9 look t2 refuse\n"),
 ];
 
-const OFFERS_AND_GROWTH: [(usize, Did, &str); 8] = [
+static OFFERS_AND_GROWTH: [(usize, Did, &str); 8] = [
     (
         3,
         Did::Offer(TASK_1, Offered::Queued),
@@ -108,7 +108,7 @@ const OFFERS_AND_GROWTH: [(usize, Did, &str); 8] = [
     (7, Did::Grow(TASK_2, Grown::Refuse), "7 grow t2 refuse\n"),
 ];
 
-const VERDICTS: [(usize, Did, &str); 8] = [
+static VERDICTS: [(usize, Did, &str); 8] = [
     (
         6,
         Did::Verdict(TASK_1, Verdict::Abort, Ruled::Rejected),
@@ -147,7 +147,7 @@ const VERDICTS: [(usize, Did, &str); 8] = [
     ),
 ];
 
-const SLOTS: [(usize, Did, &str); 17] = [
+static SLOTS: [(usize, Did, &str); 17] = [
     (2, Did::Open(SLOT_0, Opened::Live), "2 open w0 live\n"),
     (8, Did::Open(SLOT_0, Opened::GivenUp), "8 open w0 givenup\n"),
     (
@@ -203,7 +203,7 @@ const SLOTS: [(usize, Did, &str); 17] = [
     ),
 ];
 
-const POOLS: [(usize, Did, &str); 20] = [
+static POOLS: [(usize, Did, &str); 20] = [
     (3, Did::Shutdown, "3 shutdown\n"),
     (7, Did::Stop(0), "7 stop drained 0\n"),
     (12, Did::Tidy, "12 tidy\n"),
@@ -234,7 +234,7 @@ const POOLS: [(usize, Did, &str); 20] = [
     (10, Did::Prestart(None), "10 prestart none\n"),
 ];
 
-const REFUSALS: [(PoolError, &str); 5] = [
+static REFUSALS: [(PoolError, &str); 5] = [
     (PoolError::NotThere, "refused 8 NotThere\n"),
     (PoolError::ClockBack, "refused 10 ClockBack\n"),
     (PoolError::BadLine(10), "refused 23 BadLine 10\n"),
@@ -242,7 +242,7 @@ const REFUSALS: [(PoolError, &str); 5] = [
     (PoolError::Faulted(7), "refused 14 Faulted\n"),
 ];
 
-const FATES: [(TaskId, Option<Fate>, &str); 5] = [
+static FATES: [(TaskId, Option<Fate>, &str); 5] = [
     (TASK_0, Some(Fate::Run), "t0 run\n"),
     (TASK_1, Some(Fate::RunByCaller), "t1 caller\n"),
     (TASK_2, Some(Fate::Cancelled), "t2 cancelled\n"),
@@ -337,7 +337,7 @@ fn refusals_and_fates(rt: HostRuntime) -> Result<(), Fail> {
 }
 
 /// Lines one behind another. A pass stands before the words, and a stop names the tasks that it hands back.
-const LINES: [(&[Said], &str); 3] = [
+static LINES: [(&[Said], &str); 3] = [
     (
         &[
             Said::Entry(2, 0, Did::Open(SLOT_0, Opened::Live)),

@@ -181,37 +181,70 @@ pub fn neighbours_agree(alloc: Global, config: &Config, asks: &[(u32, Ask)]) -> 
     Ok(true)
 }
 
+const PURGED: [(u32, Ask); 20] = [
+    (0, Ask::Submit(Kind::Plain, 0)),
+    (1, Ask::Open(SlotId(0))),
+    (0, Ask::Submit(Kind::Future, 0)),
+    (0, Ask::Offer(TaskId(1))),
+    (0, Ask::Second(TaskId(1))),
+    (0, Ask::Submit(Kind::Future, 0)),
+    (0, Ask::Offer(TaskId(2))),
+    (0, Ask::Second(TaskId(2))),
+    (2, Ask::Cancel(TaskId(1), true)),
+    (2, Ask::Purge),
+    (1, Ask::Take(SlotId(0))),
+    (1, Ask::Begin(SlotId(0))),
+    (1, Ask::End(SlotId(0), Ok(5))),
+    (1, Ask::Take(SlotId(0))),
+    (1, Ask::Begin(SlotId(0))),
+    (1, Ask::End(SlotId(0), Ok(6))),
+    (2, Ask::Shutdown),
+    (1, Ask::Take(SlotId(0))),
+    (2, Ask::Tidy),
+    (2, Ask::Ended),
+];
+
 /// One worker; a cancelled task is purged, another runs, and the pool ends.
 #[test]
 fn a_purge_and_a_shutdown(rt: HostRuntime) -> Result<(), Fail> {
-    let slot = SlotId(0);
-    let asks = [
-        (0, Ask::Submit(Kind::Plain, 0)),
-        (1, Ask::Open(slot)),
-        (0, Ask::Submit(Kind::Future, 0)),
-        (0, Ask::Offer(TaskId(1))),
-        (0, Ask::Second(TaskId(1))),
-        (0, Ask::Submit(Kind::Future, 0)),
-        (0, Ask::Offer(TaskId(2))),
-        (0, Ask::Second(TaskId(2))),
-        (2, Ask::Cancel(TaskId(1), true)),
-        (2, Ask::Purge),
-        (1, Ask::Take(slot)),
-        (1, Ask::Begin(slot)),
-        (1, Ask::End(slot, Ok(5))),
-        (1, Ask::Take(slot)),
-        (1, Ask::Begin(slot)),
-        (1, Ask::End(slot, Ok(6))),
-        (2, Ask::Shutdown),
-        (1, Ask::Take(slot)),
-        (2, Ask::Tidy),
-        (2, Ask::Ended),
-    ];
     let config = Config { keep: 9, ..LONE };
-    let agree = neighbours_agree(rt.alloc(), &config, &asks)?;
+    let agree = neighbours_agree(rt.alloc(), &config, &PURGED)?;
     same(&rt, 0, &agree, &true);
     Ok(())
 }
+
+const DROPPED: [(u32, Ask); 30] = [
+    (0, Ask::Submit(Kind::Group(3), 0)),
+    (1, Ask::Open(SlotId(0))),
+    (0, Ask::Submit(Kind::Plain, 0)),
+    (0, Ask::Offer(TaskId(1))),
+    (0, Ask::Second(TaskId(1))),
+    (0, Ask::Submit(Kind::Plain, 0)),
+    (0, Ask::Offer(TaskId(2))),
+    (0, Ask::Grow(TaskId(2))),
+    (2, Ask::Open(SlotId(1))),
+    (0, Ask::Submit(Kind::Group(3), 0)),
+    (0, Ask::Offer(TaskId(3))),
+    (0, Ask::Grow(TaskId(3))),
+    (0, Ask::Verdict(TaskId(3), Verdict::DiscardOldest)),
+    (0, Ask::Look(TaskId(3))),
+    (0, Ask::Offer(TaskId(3))),
+    (0, Ask::Second(TaskId(3))),
+    (1, Ask::Take(SlotId(0))),
+    (1, Ask::Begin(SlotId(0))),
+    (1, Ask::End(SlotId(0), Ok(5))),
+    (3, Ask::TakeDone(3)),
+    (2, Ask::Take(SlotId(1))),
+    (2, Ask::Begin(SlotId(1))),
+    (2, Ask::End(SlotId(1), Err(7))),
+    (2, Ask::Leave(SlotId(1))),
+    (3, Ask::Cancel(TaskId(3), false)),
+    (3, Ask::Stop),
+    (1, Ask::Take(SlotId(0))),
+    (3, Ask::Fail(SlotId(1))),
+    (3, Ask::Tidy),
+    (3, Ask::Ended),
+];
 
 /// Two workers and a queue of one place; the oldest is dropped, groups complete, a worker faults, and the pool is stopped.
 #[test]
@@ -223,39 +256,7 @@ fn a_drop_and_a_stop(rt: HostRuntime) -> Result<(), Fail> {
         policy: Policy::DiscardOldest,
         ..LONE
     };
-    let asks = [
-        (0, Ask::Submit(Kind::Group(3), 0)),
-        (1, Ask::Open(SlotId(0))),
-        (0, Ask::Submit(Kind::Plain, 0)),
-        (0, Ask::Offer(TaskId(1))),
-        (0, Ask::Second(TaskId(1))),
-        (0, Ask::Submit(Kind::Plain, 0)),
-        (0, Ask::Offer(TaskId(2))),
-        (0, Ask::Grow(TaskId(2))),
-        (2, Ask::Open(SlotId(1))),
-        (0, Ask::Submit(Kind::Group(3), 0)),
-        (0, Ask::Offer(TaskId(3))),
-        (0, Ask::Grow(TaskId(3))),
-        (0, Ask::Verdict(TaskId(3), Verdict::DiscardOldest)),
-        (0, Ask::Look(TaskId(3))),
-        (0, Ask::Offer(TaskId(3))),
-        (0, Ask::Second(TaskId(3))),
-        (1, Ask::Take(SlotId(0))),
-        (1, Ask::Begin(SlotId(0))),
-        (1, Ask::End(SlotId(0), Ok(5))),
-        (3, Ask::TakeDone(3)),
-        (2, Ask::Take(SlotId(1))),
-        (2, Ask::Begin(SlotId(1))),
-        (2, Ask::End(SlotId(1), Err(7))),
-        (2, Ask::Leave(SlotId(1))),
-        (3, Ask::Cancel(TaskId(3), false)),
-        (3, Ask::Stop),
-        (1, Ask::Take(SlotId(0))),
-        (3, Ask::Fail(SlotId(1))),
-        (3, Ask::Tidy),
-        (3, Ask::Ended),
-    ];
-    let agree = neighbours_agree(rt.alloc(), &config, &asks)?;
+    let agree = neighbours_agree(rt.alloc(), &config, &DROPPED)?;
     same(&rt, 0, &agree, &true);
     Ok(())
 }

@@ -122,7 +122,7 @@ fn plays_each(rt: &impl Abort, alloc: Global, rows: &[(&[u8], &[u8])]) {
 }
 
 /// The last is refused for its pool, before the bad line behind it.
-const ROWS: [(&[u8], &[u8], Result<(), PoolError>); 8] = [
+static ROWS: [(&[u8], &[u8], Result<(), PoolError>); 8] = [
     (ROW_01, ROW_01_OUTPUT, Ok(())),
     (ROW_18, ROW_18_OUTPUT, Err(PoolError::BadLine(10))),
     (ROW_22A, b"", Err(PoolError::BadSizes)),
@@ -166,9 +166,11 @@ fn refusal_of(
     (written.len(), ending.err(), kind_of(reader.failure()))
 }
 
+const ERRORS: [io::ErrorKind; 2] = [io::ErrorKind::Other, io::ErrorKind::Interrupted];
+
 #[test]
 fn refuses_a_reader_that_fails(rt: HostRuntime) {
-    for error in [io::ErrorKind::Other, io::ErrorKind::Interrupted] {
+    for error in ERRORS {
         for before in 0..ROW_01.len() + 1 {
             let seen = refusal_of(rt.alloc(), before, error);
             let wanted = (0, Some(PoolError::ReadFailed), Some(error));
@@ -187,16 +189,17 @@ fn comments(end: usize) -> Long {
     }
 }
 
+const LONG: [(usize, PoolError); 3] = [
+    (MAX_TEXT_BYTES - 1, PoolError::BadLine(524_273)),
+    (MAX_TEXT_BYTES + 1, PoolError::ReadFailed),
+    (usize::MAX, PoolError::ReadFailed),
+];
+
 #[test]
 fn reads_a_long_text_and_no_longer_one(rt: HostRuntime) {
     let mut longest = comments(MAX_TEXT_BYTES);
     runs(&rt, 0, rt.alloc(), &mut longest, EMPTY_OUTPUT, Ok(()));
-    let refused = [
-        (MAX_TEXT_BYTES - 1, PoolError::BadLine(524_273)),
-        (MAX_TEXT_BYTES + 1, PoolError::ReadFailed),
-        (usize::MAX, PoolError::ReadFailed),
-    ];
-    for (end, refusal) in refused {
+    for (end, refusal) in LONG {
         refuses(&rt, end, rt.alloc(), &mut comments(end), refusal);
     }
 }

@@ -233,7 +233,7 @@ const NONE: Counts = Counts {
     largest: 0,
 };
 
-const ENDS: [End; 2] = [
+static ENDS: [End; 2] = [
     End {
         record: &REJECTED,
         config: GROWING,
@@ -415,7 +415,7 @@ fn first_answered_otherwise(
     Ok(None)
 }
 
-const RECORDS: [(Config, &[(Ask, Did)]); 3] = [
+static RECORDS: [(Config, &[(Ask, Did)]); 3] = [
     (GROWING, &REJECTED),
     (GROWING, &FUTURES),
     (OLDEST, &DROPPED),

@@ -1,6 +1,7 @@
 mod admissions;
 mod boxes;
 mod chores;
+mod compare;
 mod dealing;
 mod ends;
 mod faults;

@@ -1,7 +1,9 @@
 //! What is told of a record's flaw; and records that are read line by line.
 
+use crate::compare::same;
 use std::alloc::Global;
 use std::io::Read;
+use std::process::Abort;
 use std::test::Fail;
 use tp_audit_text::audits::audit_text;
 use tp_long::audits::audit_lines;
@@ -16,7 +18,7 @@ pool 1 2 bounded 1 keep 0 abort
 ";
 
 /// What stands behind these three entries, the number of the flaw, and why it is one.
-const FLAWS: [(&str, usize, &str); 9] = [
+static FLAWS: [(&str, usize, &str); 9] = [
     (
         "4 begin w1 t0\nend 4\n",
         4,
@@ -64,19 +66,34 @@ const FLAWS: [(&str, usize, &str); 9] = [
     ),
 ];
 
+/// The number of a text's flaw, and why it is one; none where it is judged otherwise.
+fn flaw_of(alloc: Global, text: &[u8]) -> Option<(usize, String)> {
+    let mut reader = text;
+    match audit_lines(alloc, &mut reader) {
+        Ok(Judgment::Flawed(flaw, told)) => Some((flaw, told)),
+        _ => None,
+    }
+}
+
+/// The flaw of what stands behind the three entries is this one.
+fn is_flawed_so(
+    rt: &impl Abort,
+    alloc: Global,
+    rest: &str,
+    number: usize,
+    why: &str,
+) -> Result<(), Fail> {
+    let text = format!(in alloc; "{HEAD}{rest}")?;
+    let flaw = flaw_of(alloc, text.as_bytes());
+    let told = flaw.as_ref().map(|(number, why)| (*number, why.as_str()));
+    same(rt, number, &told, &Some((number, why)));
+    Ok(())
+}
+
 #[test]
 fn tells_why_an_entry_is_a_flaw(rt: HostRuntime) -> Result<(), Fail> {
-    let alloc = rt.alloc();
-    for (rest, number, why) in FLAWS {
-        let text = format!(in alloc; "{HEAD}{rest}")?;
-        let mut reader = text.as_bytes();
-        match audit_lines(alloc, &mut reader) {
-            Ok(Judgment::Flawed(flaw, told)) => {
-                assert_eq!(rt; told.as_str(), why);
-                assert_eq!(rt; flaw, number, "{rest}");
-            }
-            other => assert!(rt; false, "{rest}: {other:?}"),
-        }
+    for (rest, number, why) in &FLAWS {
+        is_flawed_so(&rt, rt.alloc(), rest, *number, why)?;
     }
     Ok(())
 }
@@ -115,29 +132,45 @@ fn are_same(alloc: Global, text: &[u8]) -> bool {
     }
 }
 
-#[test]
-fn reads_line_by_line_as_whole(rt: HostRuntime) -> Result<(), Fail> {
-    let alloc = rt.alloc();
+/// Whether the record is legal where a reader gives it byte by byte.
+fn is_legal_by_bytes(alloc: Global) -> bool {
     let mut drops = Drops { rest: RECORD };
     match audit_lines(alloc, &mut drops) {
-        Ok(Judgment::Legal(lines)) => assert!(rt;
-            lines
-                .as_str()
-                .starts_with("legal 5\nstate running\ncounts submitted=1 run=1 ")
-        ),
-        other => assert!(rt; false, "{other:?}"),
+        Ok(Judgment::Legal(lines)) => lines
+            .as_str()
+            .starts_with("legal 5\nstate running\ncounts submitted=1 run=1 "),
+        _ => false,
     }
+}
+
+/// What one byte is changed to.
+const OTHERS: [u8; 6] = [b' ', b'\n', b'9', b'x', 0, 200];
+
+/// Whether both audits say the same of the record with one byte changed.
+fn are_same_with(alloc: Global, place: usize, other: u8) -> Result<bool, Fail> {
+    let mut text = Vec::new(alloc);
+    text.extend_from_slice(RECORD)?;
+    if let Some(byte) = text.get_mut(place) {
+        *byte = other;
+    }
+    Ok(are_same(alloc, text.as_slice()))
+}
+
+/// Both audits say the same of each text that is cut.
+fn cut_texts_are_same(rt: &impl Abort, alloc: Global) {
     for end in 0..RECORD.len() {
-        assert!(rt; are_same(alloc, &RECORD[..end]), "{end} bytes");
+        same(rt, end, &are_same(alloc, &RECORD[..end]), &true);
     }
+}
+
+#[test]
+fn reads_line_by_line_as_whole(rt: HostRuntime) -> Result<(), Fail> {
+    same(&rt, 0, &is_legal_by_bytes(rt.alloc()), &true);
+    cut_texts_are_same(&rt, rt.alloc());
     for place in 0..RECORD.len() {
-        for other in [b' ', b'\n', b'9', b'x', 0, 200] {
-            let mut text = Vec::new(alloc);
-            text.extend_from_slice(RECORD)?;
-            if let Some(byte) = text.get_mut(place) {
-                *byte = other;
-            }
-            assert!(rt; are_same(alloc, text.as_slice()), "byte {place} as {other}");
+        for other in OTHERS {
+            let seen = (other, are_same_with(rt.alloc(), place, other)?);
+            same(&rt, place, &seen, &(other, true));
         }
     }
     Ok(())

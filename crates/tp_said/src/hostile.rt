@@ -1,7 +1,9 @@
 //! Texts that are cut off, or have one byte changed: what is told of each is told of the line that its reader names.
 
+use crate::compare::same;
 use crate::reasons::refusal_of;
 use std::alloc::Global;
+use std::process::Abort;
 use std::test::Fail;
 use tp_reasons::mistakes::{Kind, Mistake};
 use tp_reasons::reasons::reason;
@@ -51,34 +53,54 @@ fn is_told(alloc: Global, kind: Kind, text: &[u8]) -> Result<bool, Fail> {
     Ok(is_known && is_there)
 }
 
+/// Of each text that is cut off it is told so.
+fn tells_of_cuts(rt: &impl Abort, alloc: Global, kind: Kind, whole: &[u8]) -> Result<(), Fail> {
+    for end in 0..whole.len() {
+        let is_told = is_told(alloc, kind, &whole[..end])?;
+        same(rt, end, &is_told, &true);
+    }
+    Ok(())
+}
+
+/// Whether it is told so of the text with one byte changed.
+fn is_told_with(
+    alloc: Global,
+    kind: Kind,
+    whole: &[u8],
+    place: usize,
+    other: u8,
+) -> Result<bool, Fail> {
+    let mut text = Vec::new(alloc);
+    text.extend_from_slice(whole)?;
+    if let Some(byte) = text.get_mut(place) {
+        *byte = other;
+    }
+    is_told(alloc, kind, text.as_slice())
+}
+
+/// Of each text with one byte changed it is told so.
+fn tells_of_changes(rt: &impl Abort, alloc: Global, kind: Kind, whole: &[u8]) -> Result<(), Fail> {
+    for place in 0..whole.len() {
+        for other in OTHERS {
+            let seen = (other, is_told_with(alloc, kind, whole, place, other)?);
+            same(rt, place, &seen, &(other, true));
+        }
+    }
+    Ok(())
+}
+
+static TEXTS: [(Kind, &[u8]); 4] = [
+    (Kind::Scenario, SCENARIO),
+    (Kind::Record, RECORD),
+    (Kind::Record, RANKED),
+    (Kind::Jobs, JOBS),
+];
+
 #[test]
 fn tells_of_the_line_that_is_refused(rt: HostRuntime) -> Result<(), Fail> {
-    let alloc = rt.alloc();
-    for (kind, whole) in [
-        (Kind::Scenario, SCENARIO),
-        (Kind::Record, RECORD),
-        (Kind::Record, RANKED),
-        (Kind::Jobs, JOBS),
-    ] {
-        for end in 0..whole.len() {
-            assert!(rt;
-                is_told(alloc, kind, &whole[..end])?,
-                "{kind:?}: {end} bytes"
-            );
-        }
-        for place in 0..whole.len() {
-            for other in OTHERS {
-                let mut text = Vec::new(alloc);
-                text.extend_from_slice(whole)?;
-                if let Some(byte) = text.get_mut(place) {
-                    *byte = other;
-                }
-                assert!(rt;
-                    is_told(alloc, kind, text.as_slice())?,
-                    "{kind:?}: byte {place} as {other}"
-                );
-            }
-        }
+    for (kind, whole) in &TEXTS {
+        tells_of_cuts(&rt, rt.alloc(), *kind, whole)?;
+        tells_of_changes(&rt, rt.alloc(), *kind, whole)?;
     }
     Ok(())
 }

@@ -1,5 +1,6 @@
 //! Mistakes, and what is told of each. The sentences are written by hand, from what its user has to know to mend it.
 
+use crate::compare::same;
 use std::alloc::Global;
 use std::process::Abort;
 use std::test::Fail;
@@ -37,20 +38,34 @@ fn message_of(alloc: Global, kind: Kind, text: &[u8]) -> Result<Vec<u8>, Fail> {
     Ok(message)
 }
 
+/// What a message lacks of what its row says.
+fn lacks(alloc: Global, message: &str, row: &Row) -> Result<Option<&'static str>, Fail> {
+    let (_, place, sentence, advice) = row;
+    let place = format!(in alloc; "--> FILE:{place}\n")?;
+    let sentence = format!(in alloc; "error: {sentence}\n")?;
+    Ok(if !message.contains(place.as_str()) {
+        Some("place")
+    } else if !message.starts_with(sentence.as_str()) {
+        Some("sentence")
+    } else if !message.contains(*advice) {
+        Some("advice")
+    } else {
+        None
+    })
+}
+
+/// The messages of the texts of a table, of this kind, say what it says.
 fn tells(rt: &impl Abort, alloc: Global, kind: Kind, rows: &[Row]) -> Result<(), Fail> {
-    for (text, place, sentence, advice) in rows {
-        let message = message_of(alloc, kind, text)?;
-        let message = str::from_utf8(message.as_slice()).unwrap_or("");
-        let place = format!(in alloc; "--> FILE:{place}\n")?;
-        let sentence = format!(in alloc; "error: {sentence}\n")?;
-        assert!(rt; message.contains(place.as_str()), "{message}");
-        assert!(rt; message.starts_with(sentence.as_str()), "{message}");
-        assert!(rt; message.contains(*advice), "{message}");
+    for (at, row) in rows.iter().enumerate() {
+        let message = message_of(alloc, kind, row.0)?;
+        let text = str::from_utf8(message.as_slice()).unwrap_or("");
+        let lacking = lacks(alloc, text, row)?;
+        same(rt, at, &lacking, &None);
     }
     Ok(())
 }
 
-const WORDS: [Row; 25] = [
+static WORDS: [Row; 25] = [
     (
         b"pool 1 1 unbounded keep 0 abort\nsubmitt plain 5\n",
         "2:1",
@@ -203,7 +218,7 @@ const WORDS: [Row; 25] = [
     ),
 ];
 
-const BYTES: [Row; 12] = [
+static BYTES: [Row; 12] = [
     (
         b"",
         "1:1",
@@ -278,7 +293,7 @@ const BYTES: [Row; 12] = [
     ),
 ];
 
-const SETTINGS: [Row; 6] = [
+static SETTINGS: [Row; 6] = [
     (
         b"pool 3 2 unbounded keep 0 abort\n",
         "1:6",
@@ -317,7 +332,7 @@ const SETTINGS: [Row; 6] = [
     ),
 ];
 
-const RECORDS: [Row; 21] = [
+static RECORDS: [Row; 21] = [
     (
         b"pool 1 1 unbounded keep 0 abort\nstop\n",
         "1:1",
@@ -446,7 +461,7 @@ const RECORDS: [Row; 21] = [
     ),
 ];
 
-const JOBS: [Row; 5] = [
+static JOBS: [Row; 5] = [
     (
         b"pool 1 1 unbounded keep 0 abort\nexecute\n",
         "2:9",

@@ -1,7 +1,10 @@
 //! What is told of refused steps; and the record of a scenario.
 
+use crate::compare::same;
+use std::alloc::Global;
+use std::process::Abort;
 use std::test::Fail;
-use tp_replay::plays::play_text;
+use tp_replay::plays::{Play, play_text};
 use tp_text::watched::WatchedWriter;
 
 const REFUSED: &[u8] = b"pool 1 1 unbounded keep 5 abort limit 64
@@ -53,28 +56,33 @@ pool 1 1 unbounded keep 5 abort limit 64
 end 7
 ";
 
+/// What a scenario's play tells of its refused steps, as a text.
+fn told(alloc: Global, play: &Play) -> Option<Vec<u8>> {
+    let mut told = Vec::new(alloc);
+    play.explain(alloc, REFUSED, &mut told).ok()?;
+    Some(told)
+}
+
+/// The text of its record.
+fn record(alloc: Global, play: &Play) -> Option<Vec<u8>> {
+    let mut record = Vec::new(alloc);
+    let mut out = WatchedWriter::new(&mut record);
+    play.write_record(alloc, &mut out).ok()?;
+    Some(record)
+}
+
+/// This was written, if anything was.
+fn is_written(rt: &impl Abort, line: usize, written: Option<Vec<u8>>, wanted: &[u8]) {
+    let bytes = written.as_ref().map(|bytes| bytes.as_slice());
+    let text = str::from_utf8(bytes.unwrap_or(b"nothing")).unwrap_or("");
+    same(rt, line, &text, &str::from_utf8(wanted).unwrap_or("?"));
+}
+
 #[test]
 fn tells_why_steps_are_refused(rt: HostRuntime) -> Result<(), Fail> {
-    let play = match play_text(rt.alloc(), REFUSED) {
-        Ok(play) => play,
-        Err(refusal) => {
-            assert!(rt; false, "{refusal}");
-            return Ok(());
-        }
-    };
-    assert_eq!(rt; play.refused(), 12);
-    let mut told = Vec::new(rt.alloc());
-    assert!(rt; play.explain(rt.alloc(), REFUSED, &mut told).is_ok());
-    assert_eq!(rt;
-        str::from_utf8(told.as_slice()).unwrap_or(""),
-        str::from_utf8(TOLD).unwrap_or("?")
-    );
-    let mut record = Vec::new(rt.alloc());
-    let mut out = WatchedWriter::new(&mut record);
-    assert!(rt; play.write_record(rt.alloc(), &mut out).is_ok());
-    assert_eq!(rt;
-        str::from_utf8(record.as_slice()).unwrap_or(""),
-        str::from_utf8(RECORD).unwrap_or("?")
-    );
+    let play = play_text(rt.alloc(), REFUSED)?;
+    same(&rt, 0, &play.refused(), &12);
+    is_written(&rt, 1, told(rt.alloc(), &play), TOLD);
+    is_written(&rt, 2, record(rt.alloc(), &play), RECORD);
     Ok(())
 }

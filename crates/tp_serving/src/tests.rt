@@ -1,6 +1,7 @@
 mod answers;
 mod cancels;
 mod chores;
+mod compare;
 mod lives;
 mod playing;
 mod refusals;

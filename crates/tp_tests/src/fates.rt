@@ -3,7 +3,7 @@
 use crate::compare::same;
 use tp_types::tasks::{Fate, Outcome, Promise};
 
-const FATES: [(Fate, &str); 7] = [
+static FATES: [(Fate, &str); 7] = [
     (Fate::Run, "run"),
     (Fate::RunByCaller, "caller"),
     (Fate::Rejected, "rejected"),

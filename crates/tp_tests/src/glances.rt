@@ -1,12 +1,12 @@
 //! What each seat sees of the published state.
 
-ghost use Rattle.std.specs.Prelude.{◌≡◌};
+ghost use Rattle.std.specs.Prelude.{◌≡◌, []};
 
 use crate::compare::same;
 use std::marker::Brand;
 use std::process::Abort;
 use std::test::Fail;
-use tp_glance::glance::{BlankGlance, Naming};
+use tp_glance::glance::{BlankGlance, BookSeat, Glance, Naming, PassSeat};
 use tp_record::entries::{Ask, Did, Entry};
 use tp_types::states::RunState;
 
@@ -22,16 +22,47 @@ const TIDY: Entry = Entry {
     did: Did::Tidy,
 };
 
-// The state that each of these looks sees.
-const SEEN: [RunState; 7] = [
-    RunState::Running,
-    RunState::Running,
-    RunState::Shutdown,
-    RunState::Shutdown,
-    RunState::Tidying,
-    RunState::Tidying,
-    RunState::Tidying,
-];
+// What a seat sees.
+fn sees<G: Naming>(
+    rt: &impl Abort,
+    line: usize,
+    glance: &Glance<G>,
+    seat: &mut PassSeat<G>,
+    wanted: RunState,
+) {
+    same(rt, line, &glance.glance(seat), &wanted);
+}
+
+// Raises the state twice for the owner of a seat, which sees each raise, and notes an entry that raises nothing.
+fn raise_twice<G: Naming>(
+    rt: &impl Abort,
+    glance: &Glance<G>,
+    book: &mut BookSeat<G>,
+    seat: &mut PassSeat<G>,
+)
+    requires { book.old ≡ [] }
+{
+    let before = glance.raise(book, seat, &SHUTDOWN, RunState::Shutdown);
+    same(rt, 1, &before, &RunState::Running);
+    sees(rt, 2, glance, seat, RunState::Shutdown);
+    let before = glance.raise(book, seat, &TIDY, RunState::Tidying);
+    same(rt, 3, &before, &RunState::Shutdown);
+    glance.note(book, seat, &SHUTDOWN);
+    sees(rt, 4, glance, seat, RunState::Tidying);
+}
+
+// What another seat sees then, and the book's own.
+fn look_on<G: Naming>(
+    rt: &impl Abort,
+    glance: &Glance<G>,
+    book: &mut BookSeat<G>,
+    seat: &mut PassSeat<G>,
+) {
+    sees(rt, 5, glance, seat, RunState::Tidying);
+    glance.show(book, seat);
+    glance.is_front(book, seat);
+    same(rt, 6, &glance.published(book), &RunState::Tidying);
+}
 
 // What other seats see of a raise, and when.
 fn look_at_raises<G: Naming, R: Abort>(rt: &R, blank: BlankGlance)
@@ -40,20 +71,9 @@ fn look_at_raises<G: Naming, R: Abort>(rt: &R, blank: BlankGlance)
     let (glance, mut book) = blank.open::<G>();
     let mut first = glance.split_book(&mut book);
     let mut second = glance.split(&mut first);
-    let mut seen = [RunState::Terminated; 7];
-    seen[0] = glance.glance(&mut first);
-    seen[1] = glance.raise(&mut book, &mut first, &SHUTDOWN, RunState::Shutdown);
-    seen[2] = glance.glance(&mut first);
-    seen[3] = glance.raise(&mut book, &mut first, &TIDY, RunState::Tidying);
-    glance.note(&mut book, &mut first, &SHUTDOWN);
-    seen[4] = glance.glance(&mut first);
-    seen[5] = glance.glance(&mut second);
-    glance.show(&mut book, &mut second);
-    glance.is_front(&mut book, &mut second);
-    seen[6] = glance.published(&mut book);
-    for (at, (seen, wanted)) in seen.iter().zip(&SEEN).enumerate() {
-        same(rt, at, seen, wanted);
-    }
+    sees(rt, 0, &glance, &mut first, RunState::Running);
+    raise_twice(rt, &glance, &mut book, &mut first);
+    look_on(rt, &glance, &mut book, &mut second);
 }
 
 #[test]

@@ -2,8 +2,8 @@
 
 ghost use Rattle.std.specs.Prelude.{◌≤◌};
 
-use crate::compare::same;
-use Answer::{Count, Done, First, Head, Holds, Placed, Refused};
+use crate::compare::Answer::{self, Count, Done, First, Holds, Number, Placed, Refused};
+use crate::compare::{Tested, asks, play};
 use std::alloc::{AllocError, Global};
 use std::process::Abort;
 use std::test::Fail;
@@ -18,22 +18,11 @@ enum Call {
     Head,
     TakeHead,
     Len,
+    /// Whether there is room for so many.
+    HasRoom(usize),
     IsEmpty,
     IsFull,
     Reserve(usize),
-}
-
-/// What a call answers.
-#[derive(Clone, Copy, Debug, PartialEq)]
-enum Answer {
-    Done,
-    Placed(Result<u64, u64>),
-    First(Option<(u64, u64)>),
-    Head(Option<u64>),
-    Count(usize),
-    Holds(bool),
-    /// The memory was wanting.
-    Refused,
 }
 
 /// A line, with a bound on the offers made to it.
@@ -52,26 +41,6 @@ impl Values {
         })
     }
 
-    fn call(&mut self, call: Call) -> Answer {
-        match call {
-            Call::Offer(value) => self.offer(value),
-            Call::Remove(number) => {
-                self.line.remove(number);
-                Done
-            }
-            Call::FirstFrom(number) => First(self.line.first_from(number)),
-            Call::Head => Head(self.line.head()),
-            Call::TakeHead => Head(self.line.take_head()),
-            Call::Len => Count(self.line.len()),
-            Call::IsEmpty => Holds(self.line.is_empty()),
-            Call::IsFull => Holds(self.line.is_full()),
-            Call::Reserve(capacity) => match self.line.reserve(capacity) {
-                Ok(()) => Done,
-                Err(_) => Refused,
-            },
-        }
-    }
-
     fn offer(&mut self, value: u64) -> Answer {
         let Some(offers) = self.offers.checked_add(1) else {
             return Refused;
@@ -82,16 +51,49 @@ impl Values {
     }
 }
 
-/// Makes a call, and compares what it answers.
-fn asks(rt: &impl Abort, line: usize, values: &mut Values, call: Call, want: Answer) {
-    same(rt, line, &values.call(call), &want);
+impl Tested for Values {
+    type Call = Call;
+
+    fn answer(&mut self, call: Call) -> Answer {
+        match call {
+            Call::Offer(value) => self.offer(value),
+            Call::Remove(number) => {
+                self.line.remove(number);
+                Done
+            }
+            Call::FirstFrom(number) => First(self.line.first_from(number)),
+            Call::Head => Number(self.line.head()),
+            Call::TakeHead => Number(self.line.take_head()),
+            Call::Len => Count(self.line.len()),
+            Call::HasRoom(places) => Holds(places <= self.line.capacity()),
+            Call::IsEmpty => Holds(self.line.is_empty()),
+            Call::IsFull => Holds(self.line.is_full()),
+            Call::Reserve(capacity) => match self.line.reserve(capacity) {
+                Ok(()) => Done,
+                Err(_) => Refused,
+            },
+        }
+    }
 }
 
-/// Makes each call in turn, and compares what it answers.
-fn play(rt: &impl Abort, values: &mut Values, calls: &[(Call, Answer)]) {
-    for (at, (call, want)) in calls.iter().enumerate() {
-        asks(rt, at, values, *call, *want);
+/// Plays these calls on a new line.
+fn plays(
+    rt: &impl Abort,
+    alloc: Global,
+    capacity: usize,
+    calls: &[(Call, Answer)],
+) -> Result<(), AllocError> {
+    play(rt, &mut Values::new(alloc, capacity)?, calls);
+    Ok(())
+}
+
+/// Fills a line of this capacity with the values below it.
+fn fill(rt: &impl Abort, values: &mut Values, capacity: u64) {
+    asks(rt, 0, values, Call::IsEmpty, Holds(true));
+    for id in 0..capacity {
+        asks(rt, 1, values, Call::Offer(id), Placed(Ok(id)));
     }
+    asks(rt, 2, values, Call::IsFull, Holds(true));
 }
 
 /// Takes out the value behind the head and offers a new one, until this one was offered. A line of
@@ -119,35 +121,36 @@ fn churn(rt: &impl Abort, values: &mut Values, capacity: u64, to: u64) {
 /// Takes out each value from this one up to another, which are all that wait.
 fn take_all(rt: &impl Abort, values: &mut Values, from: u64, to: u64) {
     for id in from..to {
-        let head = Head(Some(id));
+        let head = Number(Some(id));
         asks(rt, 0, values, Call::Head, head);
         asks(rt, 1, values, Call::TakeHead, head);
     }
-    asks(rt, 2, values, Call::TakeHead, Head(None));
+    asks(rt, 2, values, Call::TakeHead, Number(None));
+}
+
+/// What is left of a churned line: the head, and the values that were offered last.
+fn empty(rt: &impl Abort, values: &mut Values, capacity: u64, end: u64) {
+    asks(rt, 0, values, Call::Len, Count(capacity as usize));
+    let kept_head = u64::from(capacity != 1);
+    if capacity != 1 {
+        asks(rt, 1, values, Call::TakeHead, Number(Some(0)));
+    }
+    let first = end.saturating_sub(capacity).saturating_add(kept_head);
+    take_all(rt, values, first, end);
 }
 
 #[test]
 fn gives_up_its_dead(rt: HostRuntime) -> Result<(), Fail> {
     for (capacity, end) in [(1u64, 9u64), (2, 18), (3, 27), (64, 576)] {
         let mut values = Values::new(rt.alloc(), capacity as usize)?;
-        asks(&rt, 0, &mut values, Call::IsEmpty, Holds(true));
-        for id in 0..capacity {
-            asks(&rt, 1, &mut values, Call::Offer(id), Placed(Ok(id)));
-        }
-        asks(&rt, 2, &mut values, Call::IsFull, Holds(true));
+        fill(&rt, &mut values, capacity);
         churn(&rt, &mut values, capacity, end);
-        let count = Count(capacity as usize);
-        asks(&rt, 3, &mut values, Call::Len, count);
-        let kept_head = u64::from(capacity != 1);
-        if capacity != 1 {
-            let head = Head(Some(0));
-            asks(&rt, 4, &mut values, Call::TakeHead, head);
-        }
-        let first = (end - capacity).wrapping_add(kept_head);
-        take_all(&rt, &mut values, first, end);
+        empty(&rt, &mut values, capacity, end);
     }
     Ok(())
 }
+
+const NO_PLACE: [(Call, Answer); 1] = [(Call::Offer(7), Placed(Err(7)))];
 
 const NO_ROOM: [(Call, Answer); 5] = [
     (Call::Offer(7), Placed(Ok(0))),
@@ -159,25 +162,38 @@ const NO_ROOM: [(Call, Answer); 5] = [
 
 #[test]
 fn gives_back_what_has_no_room(rt: HostRuntime) -> Result<(), Fail> {
-    let mut none = Values::new(rt.alloc(), 0)?;
-    asks(&rt, 0, &mut none, Call::Offer(7), Placed(Err(7)));
-    play(&rt, &mut Values::new(rt.alloc(), 1)?, &NO_ROOM);
+    plays(&rt, rt.alloc(), 0, &NO_PLACE)?;
+    plays(&rt, rt.alloc(), 1, &NO_ROOM)?;
     Ok(())
 }
+
+/// Offers the values below 100, each after room is made for it.
+fn grow(rt: &impl Abort, values: &mut Values) {
+    for id in 0..100u64 {
+        asks(rt, 0, values, Call::Reserve(id as usize + 1), Done);
+        asks(rt, 1, values, Call::Offer(id), Placed(Ok(id)));
+    }
+}
+
+// No memory is so large as the three that are refused.
+const GROWN: [(Call, Answer); 11] = [
+    (Call::Reserve(3), Done),
+    (Call::HasRoom(100), Holds(true)),
+    (Call::Reserve(usize::MAX), Refused),
+    (Call::Head, Number(Some(0))),
+    (Call::Len, Count(100)),
+    (Call::Reserve(usize::MAX / 2), Refused),
+    (Call::Head, Number(Some(0))),
+    (Call::Len, Count(100)),
+    (Call::Reserve(1 << 60), Refused),
+    (Call::Head, Number(Some(0))),
+    (Call::Len, Count(100)),
+];
 
 #[test]
 fn grows(rt: HostRuntime) -> Result<(), Fail> {
     let mut values = Values::new(rt.alloc(), 0)?;
-    for id in 0..100u64 {
-        asks(&rt, 0, &mut values, Call::Reserve(id as usize + 1), Done);
-        asks(&rt, 1, &mut values, Call::Offer(id), Placed(Ok(id)));
-    }
-    asks(&rt, 2, &mut values, Call::Reserve(3), Done);
-    same(&rt, 3, &(100 <= values.line.capacity()), &true);
-    for refused in [usize::MAX, usize::MAX / 2, 1 << 60] {
-        asks(&rt, 4, &mut values, Call::Reserve(refused), Refused);
-        asks(&rt, 5, &mut values, Call::Head, Head(Some(0)));
-        asks(&rt, 6, &mut values, Call::Len, Count(100));
-    }
+    grow(&rt, &mut values);
+    play(&rt, &mut values, &GROWN);
     Ok(())
 }

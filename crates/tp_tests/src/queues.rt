@@ -2,8 +2,8 @@
 
 ghost use Rattle.std.specs.Prelude.{◌≤◌};
 
-use crate::compare::same;
-use Answer::{Count, Done, Head, Holds, Placed, Refused, Swept};
+use crate::compare::Answer::{self, Count, Done, Holds, Placed, Refused, Swept, Task};
+use crate::compare::{Tested, asks, play, same};
 use std::alloc::{AllocError, Global};
 use std::process::Abort;
 use std::test::Fail;
@@ -30,20 +30,6 @@ enum Call {
     Len,
     IsFull,
     Reserve(usize),
-}
-
-/// What a call answers.
-#[derive(Clone, Copy, Debug, PartialEq)]
-enum Answer {
-    Done,
-    Placed(Result<u64, TaskId>),
-    Head(Option<TaskId>),
-    Count(usize),
-    Holds(bool),
-    /// How many were counted, and how many were taken out.
-    Swept(usize, u32),
-    /// The memory was wanting.
-    Refused,
 }
 
 /// Takes the tasks of odd numbers.
@@ -81,33 +67,16 @@ struct Tasks<Q: WorkQueue> {
 }
 
 impl<Q: WorkQueue> Tasks<Q> {
-    fn call(&mut self, call: Call) -> Answer {
-        match call {
-            Call::Offer(number) => self.offer(TaskId(number), 0),
-            Call::OfferAt(number, priority) => self.offer(TaskId(number), priority),
-            Call::Remove(priority, place) => {
-                self.queue.remove(priority, place);
-                Done
-            }
-            Call::SweepOdd => self.sweep_odd(),
-            Call::Head => Head(self.queue.head()),
-            Call::TakeHead => Head(self.queue.take_head()),
-            Call::Len => Count(self.queue.len()),
-            Call::IsFull => Holds(self.queue.is_full()),
-            Call::Reserve(places) => match self.queue.reserve(places) {
-                Ok(()) => Done,
-                Err(_) => Refused,
-            },
-        }
-    }
-
     fn offer(&mut self, task: TaskId, priority: u32) -> Answer {
         let Some(offers) = self.offers.checked_add(1) else {
             return Refused;
         };
         let placed = self.queue.offer(task, priority);
         self.offers = offers;
-        Placed(placed)
+        Placed(match placed {
+            Ok(place) => Ok(place),
+            Err(task) => Err(u64::from(task.0)),
+        })
     }
 
     fn sweep_odd(&mut self) -> Answer {
@@ -125,21 +94,27 @@ impl<Q: WorkQueue> Tasks<Q> {
     }
 }
 
-/// Makes a call, and compares what it answers.
-fn asks<Q: WorkQueue>(
-    rt: &impl Abort,
-    line: usize,
-    tasks: &mut Tasks<Q>,
-    call: Call,
-    want: Answer,
-) {
-    same(rt, line, &tasks.call(call), &want);
-}
+impl<Q: WorkQueue> Tested for Tasks<Q> {
+    type Call = Call;
 
-/// Makes each call in turn, and compares what it answers.
-fn play<Q: WorkQueue>(rt: &impl Abort, tasks: &mut Tasks<Q>, calls: &[(Call, Answer)]) {
-    for (at, (call, want)) in calls.iter().enumerate() {
-        asks(rt, at, tasks, *call, *want);
+    fn answer(&mut self, call: Call) -> Answer {
+        match call {
+            Call::Offer(number) => self.offer(TaskId(number), 0),
+            Call::OfferAt(number, priority) => self.offer(TaskId(number), priority),
+            Call::Remove(priority, place) => {
+                self.queue.remove(priority, place);
+                Done
+            }
+            Call::SweepOdd => self.sweep_odd(),
+            Call::Head => Task(self.queue.head()),
+            Call::TakeHead => Task(self.queue.take_head()),
+            Call::Len => Count(self.queue.len()),
+            Call::IsFull => Holds(self.queue.is_full()),
+            Call::Reserve(places) => match self.queue.reserve(places) {
+                Ok(()) => Done,
+                Err(_) => Refused,
+            },
+        }
     }
 }
 
@@ -167,7 +142,7 @@ fn drain<Q: WorkQueue>(
     }
     same(rt, 0, &next, &to);
     asks(rt, 1, tasks, Call::Len, Count(0));
-    asks(rt, 2, tasks, Call::Head, Head(None));
+    asks(rt, 2, tasks, Call::Head, Task(None));
     Ok(())
 }
 
@@ -176,7 +151,7 @@ fn drain<Q: WorkQueue>(
 fn churn<Q: WorkQueue>(rt: &impl Abort, tasks: &mut Tasks<Q>, capacity: u32, to: u32) {
     fill(rt, tasks, 0, capacity);
     asks(rt, 0, tasks, Call::IsFull, Holds(true));
-    let refused = Placed(Err(TaskId(9_999)));
+    let refused = Placed(Err(9_999));
     asks(rt, 1, tasks, Call::Offer(9_999), refused);
     let behind_head = u32::from(capacity != 1);
     for new in capacity..to {
@@ -197,7 +172,7 @@ fn empty<Q: WorkQueue>(
     capacity: u32,
     to: u32,
 ) -> Result<(), AllocError> {
-    let head = Head(Some(TaskId(if capacity == 1 { 9 } else { 0 })));
+    let head = Task(Some(TaskId(if capacity == 1 { 9 } else { 0 })));
     asks(rt, 0, tasks, Call::Len, Count(capacity as usize));
     asks(rt, 1, tasks, Call::Head, head);
     asks(rt, 2, tasks, Call::TakeHead, head);
@@ -205,44 +180,81 @@ fn empty<Q: WorkQueue>(
     drain(rt, alloc, tasks, left, to)
 }
 
+/// A full queue of this capacity is churned, and then emptied.
+fn gives_up<Q: WorkQueue>(
+    rt: &impl Abort,
+    alloc: Global,
+    tasks: &mut Tasks<Q>,
+    capacity: u32,
+    to: u32,
+) -> Result<(), AllocError> {
+    churn(rt, tasks, capacity, to);
+    empty(rt, alloc, tasks, capacity, to)
+}
+
+/// A queue of this kind.
+fn queue(alloc: Global, kind: QueueKind) -> Result<Tasks<Queue>, AllocError> {
+    Ok(Tasks {
+        queue: Queue::new(alloc, kind)?,
+        offers: 0,
+    })
+}
+
+/// A bounded queue, in its own type.
+fn bounded_gives_up(
+    rt: &impl Abort,
+    alloc: Global,
+    capacity: u32,
+    to: u32,
+) -> Result<(), AllocError> {
+    let mut exact = Tasks {
+        queue: Bounded::new(alloc, capacity)?,
+        offers: 0,
+    };
+    gives_up(rt, alloc, &mut exact, capacity, to)
+}
+
+/// The same among all kinds.
+fn any_gives_up(rt: &impl Abort, alloc: Global, capacity: u32, to: u32) -> Result<(), AllocError> {
+    let mut any = queue(alloc, QueueKind::Bounded(capacity))?;
+    asks(rt, 0, &mut any, Call::Reserve(1_000), Done);
+    gives_up(rt, alloc, &mut any, capacity, to)
+}
+
 #[test]
 fn bounded_queue_gives_up_its_dead(rt: HostRuntime) -> Result<(), Fail> {
-    let alloc = rt.alloc();
     for (capacity, to) in [(1, 10), (2, 20), (3, 30), (64, 640)] {
-        let mut exact = Tasks {
-            queue: Bounded::new(alloc, capacity)?,
-            offers: 0,
-        };
-        churn(&rt, &mut exact, capacity, to);
-        empty(&rt, alloc, &mut exact, capacity, to)?;
-        let mut any = Tasks {
-            queue: Queue::new(alloc, QueueKind::Bounded(capacity))?,
-            offers: 0,
-        };
-        asks(&rt, 0, &mut any, Call::Reserve(1_000), Done);
-        churn(&rt, &mut any, capacity, to);
-        empty(&rt, alloc, &mut any, capacity, to)?;
+        bounded_gives_up(&rt, rt.alloc(), capacity, to)?;
+        any_gives_up(&rt, rt.alloc(), capacity, to)?;
     }
     Ok(())
 }
 
-#[test]
-fn unbounded_queue_has_what_was_reserved(rt: HostRuntime) -> Result<(), Fail> {
-    let mut any = Tasks {
-        queue: Queue::new(rt.alloc(), QueueKind::Unbounded)?,
-        offers: 0,
-    };
-    asks(&rt, 0, &mut any, Call::Offer(5), Placed(Err(TaskId(5))));
+const UNRESERVED: [(Call, Answer); 1] = [(Call::Offer(5), Placed(Err(5)))];
+
+/// Offers the tasks below 100, each after a place is reserved for it.
+fn grow(rt: &impl Abort, tasks: &mut Tasks<Queue>) {
     for number in 0..100u32 {
         let places = Call::Reserve(number as usize + 1);
-        asks(&rt, 1, &mut any, places, Done);
+        asks(rt, 0, tasks, places, Done);
         let placed = Placed(Ok(u64::from(number)));
-        asks(&rt, 2, &mut any, Call::Offer(number), placed);
+        asks(rt, 1, tasks, Call::Offer(number), placed);
     }
+}
+
+const GROWN: [(Call, Answer); 3] = [
     // No memory is that large.
-    asks(&rt, 3, &mut any, Call::Reserve(1 << 60), Refused);
-    asks(&rt, 4, &mut any, Call::Head, Head(Some(TaskId(0))));
-    asks(&rt, 5, &mut any, Call::Len, Count(100));
+    (Call::Reserve(1 << 60), Refused),
+    (Call::Head, Task(Some(TaskId(0)))),
+    (Call::Len, Count(100)),
+];
+
+#[test]
+fn unbounded_queue_has_what_was_reserved(rt: HostRuntime) -> Result<(), Fail> {
+    let mut any = queue(rt.alloc(), QueueKind::Unbounded)?;
+    play(&rt, &mut any, &UNRESERVED);
+    grow(&rt, &mut any);
+    play(&rt, &mut any, &GROWN);
     drain(&rt, rt.alloc(), &mut any, 0, 100)?;
     Ok(())
 }
@@ -254,13 +266,23 @@ fn exact_unbounded_queue_gives_up_its_dead(rt: HostRuntime) -> Result<(), Fail> 
         offers: 0,
     };
     asks(&rt, 0, &mut exact, Call::Reserve(64), Done);
-    churn(&rt, &mut exact, 64, 640);
-    empty(&rt, rt.alloc(), &mut exact, 64, 640)?;
+    gives_up(&rt, rt.alloc(), &mut exact, 64, 640)?;
+    Ok(())
+}
+
+/// Plays these calls on a new queue of this kind.
+fn plays(
+    rt: &impl Abort,
+    alloc: Global,
+    kind: QueueKind,
+    calls: &[(Call, Answer)],
+) -> Result<(), AllocError> {
+    play(rt, &mut queue(alloc, kind)?, calls);
     Ok(())
 }
 
 const RANKED: [(Call, Answer); 18] = [
-    (Call::OfferAt(0, 5), Placed(Err(TaskId(0)))),
+    (Call::OfferAt(0, 5), Placed(Err(0))),
     (Call::Reserve(9), Done),
     (Call::OfferAt(0, 5), Placed(Ok(0))),
     (Call::OfferAt(1, u32::MAX), Placed(Ok(1))),
@@ -271,24 +293,20 @@ const RANKED: [(Call, Answer); 18] = [
     // They wait as 2 4 5 0 3 1.
     (Call::Remove(5, 3), Done),
     (Call::Remove(4, 0), Done),
-    (Call::TakeHead, Head(Some(TaskId(2)))),
+    (Call::TakeHead, Task(Some(TaskId(2)))),
     (Call::OfferAt(6, 0), Placed(Ok(6))),
     // They wait as 4 6 5 0 1.
     (Call::SweepOdd, Swept(2, 2)),
     (Call::Len, Count(3)),
-    (Call::TakeHead, Head(Some(TaskId(4)))),
-    (Call::TakeHead, Head(Some(TaskId(6)))),
-    (Call::TakeHead, Head(Some(TaskId(0)))),
-    (Call::TakeHead, Head(None)),
+    (Call::TakeHead, Task(Some(TaskId(4)))),
+    (Call::TakeHead, Task(Some(TaskId(6)))),
+    (Call::TakeHead, Task(Some(TaskId(0)))),
+    (Call::TakeHead, Task(None)),
 ];
 
 #[test]
 fn priority_queue_goes_by_priority_and_then_by_offer(rt: HostRuntime) -> Result<(), Fail> {
-    let mut tasks = Tasks {
-        queue: Queue::new(rt.alloc(), QueueKind::Priority)?,
-        offers: 0,
-    };
-    play(&rt, &mut tasks, &RANKED);
+    plays(&rt, rt.alloc(), QueueKind::Priority, &RANKED)?;
     Ok(())
 }
 
@@ -299,38 +317,30 @@ const UNRANKED: [(Call, Answer); 9] = [
     (Call::OfferAt(2, 7), Placed(Ok(2))),
     (Call::OfferAt(3, 6), Placed(Ok(3))),
     (Call::SweepOdd, Swept(2, 2)),
-    (Call::TakeHead, Head(Some(TaskId(0)))),
-    (Call::TakeHead, Head(Some(TaskId(2)))),
-    (Call::TakeHead, Head(None)),
+    (Call::TakeHead, Task(Some(TaskId(0)))),
+    (Call::TakeHead, Task(Some(TaskId(2)))),
+    (Call::TakeHead, Task(None)),
 ];
 
 #[test]
 fn other_queues_go_by_offer(rt: HostRuntime) -> Result<(), Fail> {
-    for kind in [QueueKind::Unbounded, QueueKind::Bounded(4)] {
-        let mut tasks = Tasks {
-            queue: Queue::new(rt.alloc(), kind)?,
-            offers: 0,
-        };
-        play(&rt, &mut tasks, &UNRANKED);
-    }
+    plays(&rt, rt.alloc(), QueueKind::Unbounded, &UNRANKED)?;
+    plays(&rt, rt.alloc(), QueueKind::Bounded(4), &UNRANKED)?;
     Ok(())
 }
 
 const HANDOFF: [(Call, Answer); 6] = [
     (Call::Reserve(1 << 60), Done),
     (Call::IsFull, Holds(true)),
-    (Call::Offer(5), Placed(Err(TaskId(5)))),
+    (Call::Offer(5), Placed(Err(5))),
     (Call::Remove(0, 0), Done),
     (Call::SweepOdd, Swept(0, 0)),
-    (Call::TakeHead, Head(None)),
+    (Call::TakeHead, Task(None)),
 ];
 
 #[test]
 fn handoff_queue_keeps_nothing(rt: HostRuntime) -> Result<(), Fail> {
-    let mut tasks = Tasks {
-        queue: Queue::new(rt.alloc(), QueueKind::Handoff)?,
-        offers: 0,
-    };
+    let mut tasks = queue(rt.alloc(), QueueKind::Handoff)?;
     play(&rt, &mut tasks, &HANDOFF);
     drain(&rt, rt.alloc(), &mut tasks, 0, 0)?;
     Ok(())
@@ -340,12 +350,20 @@ fn handoff_queue_keeps_nothing(rt: HostRuntime) -> Result<(), Fail> {
 fn reserve_and_fill(rt: &impl Abort, tasks: &mut Tasks<Queue>, from: u32, to: u32) {
     let reserve = Call::Reserve(to as usize);
     let head = if from == 0 { None } else { Some(TaskId(0)) };
-    if tasks.call(reserve) == Refused {
+    if tasks.answer(reserve) == Refused {
         asks(rt, 0, tasks, Call::Len, Count(from as usize));
-        asks(rt, 1, tasks, Call::Head, Head(head));
+        asks(rt, 1, tasks, Call::Head, Task(head));
         asks(rt, 2, tasks, reserve, Done);
     }
     fill(rt, tasks, from, to);
+}
+
+/// A queue of this kind grows twice, unless it can't be made.
+fn grows_or_refuses(rt: &impl Abort, alloc: Global, kind: QueueKind) {
+    if let Ok(mut tasks) = queue(alloc, kind) {
+        reserve_and_fill(rt, &mut tasks, 0, 20);
+        reserve_and_fill(rt, &mut tasks, 20, 60);
+    }
 }
 
 /// Any one allocation may fail: a maker then answers so, and a failed `reserve` changes nothing and works when it is called
@@ -355,12 +373,6 @@ fn want_of_memory_changes_nothing(rt: HostRuntime) {
     if let Ok(queue) = Queue::new(rt.alloc(), QueueKind::Bounded(3)) {
         same(&rt, 0, &queue.is_full(), &false);
     }
-    for kind in [QueueKind::Unbounded, QueueKind::Priority] {
-        let Ok(queue) = Queue::new(rt.alloc(), kind) else {
-            return;
-        };
-        let mut tasks = Tasks { queue, offers: 0 };
-        reserve_and_fill(&rt, &mut tasks, 0, 20);
-        reserve_and_fill(&rt, &mut tasks, 20, 60);
-    }
+    grows_or_refuses(&rt, rt.alloc(), QueueKind::Unbounded);
+    grows_or_refuses(&rt, rt.alloc(), QueueKind::Priority);
 }

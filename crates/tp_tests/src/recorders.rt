@@ -1,6 +1,7 @@
 //! A recorder that keeps its entries.
 
 use crate::compare::same;
+use std::process::Abort;
 use std::test::Fail;
 use tp_record::entries::{Ask, Did, Entry};
 use tp_record::recorders::{Full, Recorder};
@@ -22,6 +23,12 @@ fn note(record: &mut Full, moment: u64) -> bool {
     true
 }
 
+/// These are the 64 ticks: so many, and the first and the last of them.
+fn has_ticks(rt: &impl Abort, entries: &[Entry]) {
+    let ends = (entries.len(), entries.first(), entries.last());
+    same(rt, 64, &ends, &(64, Some(&tick(0)), Some(&tick(63))));
+}
+
 #[test]
 fn notes_in_order(rt: HostRuntime) -> Result<(), Fail> {
     let mut record = Full::new(rt.alloc(), 64)?;
@@ -30,10 +37,7 @@ fn notes_in_order(rt: HostRuntime) -> Result<(), Fail> {
         same(&rt, moment as usize, &note(&mut record, moment), &true);
     }
     same(&rt, 64, &(record.len(), record.room()), &(64, 0));
-    same(&rt, 64, &record.entries().len(), &64);
-    same(&rt, 0, &record.entries().first(), &Some(&tick(0)));
-    let entries = record.into_entries();
-    same(&rt, 64, &entries.len(), &64);
-    same(&rt, 63, &entries.last(), &Some(&tick(63)));
+    has_ticks(&rt, record.entries());
+    has_ticks(&rt, &record.into_entries());
     Ok(())
 }

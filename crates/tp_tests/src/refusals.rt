@@ -12,7 +12,7 @@ fn printed(alloc: Global, refusal: &PoolError) -> Result<String, AllocError> {
     format!(in alloc; "{refusal}")
 }
 
-const TEXTS: [(PoolError, &str); 27] = [
+static TEXTS: [(PoolError, &str); 27] = [
     (PoolError::BadSizes, "refused 1 BadSizes"),
     (PoolError::BadCapacity, "refused 2 BadCapacity"),
     (PoolError::BadLimit, "refused 3 BadLimit"),

@@ -1,14 +1,14 @@
 //! The sleepers with ample memory: each call, and in which order they are woken, which no contract promises.
 
-use crate::compare::same;
-use Answer::{Count, Done, Holds, Rests, Slot};
+use crate::compare::Answer::{self, Count, Done, Holds, Rests, Slot};
+use crate::compare::{Tested, asks, play, same};
 use std::process::Abort;
 use tp_sleepers::sleepers::{Rest, Sleepers};
 use tp_types::ids::SlotId;
 
 /// A call of the sleepers, with the slot that it names.
 #[derive(Clone, Copy)]
-enum Call {
+pub enum Call {
     List(usize),
     Wake(usize),
     WakeOne,
@@ -19,40 +19,21 @@ enum Call {
     Searching,
 }
 
-/// What a call answers.
-#[derive(Clone, Copy, Debug, PartialEq)]
-enum Answer {
-    Done,
-    Slot(Option<SlotId>),
-    Rests(Rest),
-    Count(usize),
-    Holds(bool),
-}
+impl Tested for Sleepers {
+    type Call = Call;
 
-/// Makes one call.
-fn perform(sleepers: &mut Sleepers, call: Call) -> Answer {
-    match call {
-        Call::List(w) => sleepers.list(SlotId(w)),
-        Call::Wake(w) => return Holds(sleepers.call(SlotId(w))),
-        Call::WakeOne => return Slot(sleepers.call_one()),
-        Call::WakeAll => sleepers.call_all(),
-        Call::Settle(waits) => return Slot(sleepers.settle(waits)),
-        Call::EndSearch(w) => sleepers.end_search(SlotId(w)),
-        Call::Rest(w) => return Rests(sleepers.rest(SlotId(w))),
-        Call::Searching => return Count(sleepers.searching()),
-    }
-    Done
-}
-
-/// Makes a call, and compares what it answers.
-fn asks(rt: &impl Abort, line: usize, sleepers: &mut Sleepers, call: Call, want: Answer) {
-    same(rt, line, &perform(sleepers, call), &want);
-}
-
-/// Makes each call in turn, and compares what it answers.
-fn play(rt: &impl Abort, sleepers: &mut Sleepers, calls: &[(Call, Answer)]) {
-    for (at, (call, want)) in calls.iter().enumerate() {
-        asks(rt, at, sleepers, *call, *want);
+    fn answer(&mut self, call: Call) -> Answer {
+        match call {
+            Call::List(w) => self.list(SlotId(w)),
+            Call::Wake(w) => return Holds(self.call(SlotId(w))),
+            Call::WakeOne => return Slot(self.call_one()),
+            Call::WakeAll => self.call_all(),
+            Call::Settle(waits) => return Slot(self.settle(waits)),
+            Call::EndSearch(w) => self.end_search(SlotId(w)),
+            Call::Rest(w) => return Rests(self.rest(SlotId(w))),
+            Call::Searching => return Count(self.searching()),
+        }
+        Done
     }
 }
 
@@ -99,7 +80,7 @@ fn wakes_out_of_the_middle(rt: HostRuntime) {
     list_all(&rt, &mut sleepers, 6, 2);
     play(&rt, &mut sleepers, &OUT_OF_THE_MIDDLE);
     for nth in 0..3 {
-        let woken = perform(&mut sleepers, Call::WakeOne);
+        let woken = sleepers.answer(Call::WakeOne);
         same(&rt, nth, &(woken == Slot(None)), &false);
     }
     asks(&rt, 3, &mut sleepers, Call::WakeOne, Slot(None));

@@ -2,8 +2,8 @@
 
 ghost use Rattle.std.specs.Prelude.{◌≤◌};
 
-use crate::compare::same;
-use Answer::{Count, Done, Refused, Row, Slot};
+use crate::compare::Answer::{self, Count, Done, Refused, Seat, Slot};
+use crate::compare::{Tested, asks, play, same};
 use std::alloc::{AllocError, Global};
 use std::process::Abort;
 use tp_record::rows::{SlotRow, Stage};
@@ -38,17 +38,6 @@ enum Call {
     Places,
 }
 
-/// What a call answers.
-#[derive(Clone, Copy, Debug, PartialEq)]
-enum Answer {
-    Done,
-    Slot(Option<SlotId>),
-    Row(Option<SlotRow>),
-    Count(usize),
-    /// The table is not as the call requires it, or memory was wanting.
-    Refused,
-}
-
 /// A table, with how often a worker became idle in it.
 #[derive(Drop)]
 struct Table {
@@ -63,32 +52,6 @@ impl Table {
             slots: Slots::new(alloc, places)?,
             idlings: 0,
         })
-    }
-
-    fn call(&mut self, call: Call) -> Answer {
-        match call {
-            Call::Reserve(stage, task) => self.reserve(stage, task),
-            Call::Open(w) => self.open(SlotId(w)),
-            Call::GiveUp(w) => self.give_up(SlotId(w)),
-            Call::Set(w, row) => self.set(SlotId(w), row),
-            Call::Idle(w, moment) => self.idle(SlotId(w), moment),
-            Call::Wake(w, task) => self.wake(SlotId(w), task),
-            Call::WakeAll => {
-                self.slots.wake_all();
-                Done
-            }
-            Call::Free(w) => self.free(SlotId(w)),
-            Call::Grow(places) => match self.slots.grow_to(places) {
-                Ok(()) => Done,
-                Err(_) => Refused,
-            },
-            Call::Next => Slot(Some(self.slots.next_number())),
-            Call::Get(w) => Row(self.slots.get(SlotId(w))),
-            Call::LongestIdle => Slot(self.slots.longest_idle()),
-            Call::Live => Count(self.slots.live()),
-            Call::Len => Count(self.slots.len()),
-            Call::Places => Count(self.slots.places()),
-        }
     }
 
     fn reserve(&mut self, stage: Stage, task: Option<TaskId>) -> Answer {
@@ -123,7 +86,7 @@ impl Table {
                     stage: Stage::ReservedCore,
                     task: _,
                 },
-            ) => Row(Some(self.slots.give_up(w))),
+            ) => Seat(Some(self.slots.give_up(w))),
             _ => Refused,
         }
     }
@@ -181,27 +144,45 @@ impl Table {
                     stage: Stage::Idle(_) | Stage::Working,
                     task: _,
                 },
-            ) => Row(Some(self.slots.free(w))),
+            ) => Seat(Some(self.slots.free(w))),
             _ => Refused,
         }
     }
 }
 
-/// Makes a call, and compares what it answers.
-fn asks(rt: &impl Abort, line: usize, table: &mut Table, call: Call, want: Answer) {
-    same(rt, line, &table.call(call), &want);
-}
+impl Tested for Table {
+    type Call = Call;
 
-/// Makes each call in turn, and compares what it answers.
-fn play(rt: &impl Abort, table: &mut Table, calls: &[(Call, Answer)]) {
-    for (at, (call, want)) in calls.iter().enumerate() {
-        asks(rt, at, table, *call, *want);
+    fn answer(&mut self, call: Call) -> Answer {
+        match call {
+            Call::Reserve(stage, task) => self.reserve(stage, task),
+            Call::Open(w) => self.open(SlotId(w)),
+            Call::GiveUp(w) => self.give_up(SlotId(w)),
+            Call::Set(w, row) => self.set(SlotId(w), row),
+            Call::Idle(w, moment) => self.idle(SlotId(w), moment),
+            Call::Wake(w, task) => self.wake(SlotId(w), task),
+            Call::WakeAll => {
+                self.slots.wake_all();
+                Done
+            }
+            Call::Free(w) => self.free(SlotId(w)),
+            Call::Grow(places) => match self.slots.grow_to(places) {
+                Ok(()) => Done,
+                Err(_) => Refused,
+            },
+            Call::Next => Slot(Some(self.slots.next_number())),
+            Call::Get(w) => Seat(self.slots.get(SlotId(w))),
+            Call::LongestIdle => Slot(self.slots.longest_idle()),
+            Call::Live => Count(self.slots.live()),
+            Call::Len => Count(self.slots.len()),
+            Call::Places => Count(self.slots.places()),
+        }
     }
 }
 
 /// A worker works with this task.
 fn working(task: Option<TaskId>) -> Answer {
-    Row(Some(SlotRow {
+    Seat(Some(SlotRow {
         stage: Stage::Working,
         task,
     }))
@@ -225,6 +206,28 @@ fn idle_workers(rt: &(impl Abort + AllocGlobal), places: usize) -> Table {
     table
 }
 
+/// Wakes each of this many idle workers for a task, the longest idle first.
+fn wake_each(rt: &impl Abort, table: &mut Table, places: usize, task: Option<TaskId>) {
+    for w in 0..places {
+        let first = Slot(Some(SlotId(w)));
+        asks(rt, w, table, Call::LongestIdle, first);
+        asks(rt, w, table, Call::Wake(w, task), Done);
+        asks(rt, w, table, Call::Get(w), working(task));
+    }
+    asks(rt, places, table, Call::LongestIdle, Slot(None));
+}
+
+/// Frees each of this many workers with their task.
+fn free_each(rt: &impl Abort, table: &mut Table, places: usize, task: Option<TaskId>) {
+    for w in 0..places {
+        asks(rt, w, table, Call::Free(w), working(task));
+        asks(rt, w, table, Call::Get(w), Seat(None));
+        let left = Count(places - w - 1);
+        asks(rt, w, table, Call::Live, left);
+    }
+    asks(rt, places, table, Call::Len, Count(0));
+}
+
 #[test]
 fn fills_and_empties(rt: HostRuntime) {
     let task = Some(TaskId(7));
@@ -233,26 +236,14 @@ fn fills_and_empties(rt: HostRuntime) {
         asks(&rt, 0, &mut table, Call::Places, Count(places));
         asks(&rt, 0, &mut table, Call::Len, Count(places));
         asks(&rt, 0, &mut table, Call::Live, Count(places));
-        for w in 0..places {
-            let first = Slot(Some(SlotId(w)));
-            asks(&rt, w, &mut table, Call::LongestIdle, first);
-            asks(&rt, w, &mut table, Call::Wake(w, task), Done);
-            asks(&rt, w, &mut table, Call::Get(w), working(task));
-        }
-        asks(&rt, places, &mut table, Call::LongestIdle, Slot(None));
-        for w in 0..places {
-            asks(&rt, w, &mut table, Call::Free(w), working(task));
-            asks(&rt, w, &mut table, Call::Get(w), Row(None));
-            let left = Count(places - w - 1);
-            asks(&rt, w, &mut table, Call::Live, left);
-        }
-        asks(&rt, places, &mut table, Call::Len, Count(0));
+        wake_each(&rt, &mut table, places, task);
+        free_each(&rt, &mut table, places, task);
     }
 }
 
 const OUT_OF_THE_MIDDLE: [(Call, Answer); 9] = [
     (Call::Wake(1, None), Done),
-    (Call::Get(1), Row(Some(AT_WORK))),
+    (Call::Get(1), Seat(Some(AT_WORK))),
     (Call::LongestIdle, Slot(Some(SlotId(0)))),
     (Call::Wake(0, None), Done),
     (Call::LongestIdle, Slot(Some(SlotId(2)))),
@@ -260,7 +251,7 @@ const OUT_OF_THE_MIDDLE: [(Call, Answer); 9] = [
     (Call::LongestIdle, Slot(Some(SlotId(2)))),
     (
         Call::Free(2),
-        Row(Some(SlotRow {
+        Seat(Some(SlotRow {
             stage: Stage::Idle(2),
             task: None,
         })),
@@ -314,16 +305,16 @@ const RESERVED_AND_FREED: [(Call, Answer); 17] = [
     (Call::Open(2), Done),
     (Call::Len, Count(3)),
     (Call::Live, Count(1)),
-    (Call::Get(0), Row(Some(CORE))),
-    (Call::GiveUp(0), Row(Some(CORE))),
-    (Call::Free(2), Row(Some(AT_WORK))),
+    (Call::Get(0), Seat(Some(CORE))),
+    (Call::GiveUp(0), Seat(Some(CORE))),
+    (Call::Free(2), Seat(Some(AT_WORK))),
     (Call::Len, Count(1)),
     (Call::Live, Count(0)),
     (Call::Next, Slot(Some(SlotId(2)))),
     (BARE, Slot(Some(SlotId(2)))),
     (Call::Next, Slot(Some(SlotId(0)))),
     (BARE, Slot(Some(SlotId(0)))),
-    (Call::Get(1), Row(Some(MAXIMUM))),
+    (Call::Get(1), Seat(Some(MAXIMUM))),
 ];
 
 #[test]
@@ -346,10 +337,10 @@ const SET: [(Call, Answer); 8] = [
     (BARE, Slot(Some(SlotId(0)))),
     (Call::Open(0), Done),
     (Call::Set(0, BUSY), Done),
-    (Call::Get(0), Row(Some(BUSY))),
+    (Call::Get(0), Seat(Some(BUSY))),
     (Call::Live, Count(1)),
     (Call::Set(0, DYING), Done),
-    (Call::Get(0), Row(Some(DYING))),
+    (Call::Get(0), Seat(Some(DYING))),
     (Call::Live, Count(1)),
 ];
 
@@ -403,7 +394,7 @@ const UNCHANGED: [(Call, Answer); 5] = [
     (Call::Places, Count(1)),
     (Call::Len, Count(1)),
     (Call::Live, Count(1)),
-    (Call::Get(0), Row(Some(AT_WORK))),
+    (Call::Get(0), Seat(Some(AT_WORK))),
     (Call::Grow(64), Done),
 ];
 
@@ -415,7 +406,7 @@ fn want_of_memory_changes_nothing(rt: HostRuntime) {
         return;
     };
     open_to(&rt, &mut table, 0, 1);
-    if table.call(Call::Grow(64)) == Refused {
+    if table.answer(Call::Grow(64)) == Refused {
         play(&rt, &mut table, &UNCHANGED);
     }
     asks(&rt, 0, &mut table, Call::Places, Count(64));

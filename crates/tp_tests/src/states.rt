@@ -4,7 +4,7 @@ use crate::compare::same;
 use std::cmp::Ordering;
 use tp_types::states::{RunState, ranks_keep_order};
 
-const STATES: [(RunState, u8, &str); 5] = [
+static STATES: [(RunState, u8, &str); 5] = [
     (RunState::Running, 0, "running"),
     (RunState::Shutdown, 1, "shutdown"),
     (RunState::Stop, 2, "stop"),

@@ -3,8 +3,11 @@
 ghost use Rattle.std.specs.Prelude.{◌≡◌, Some};
 ghost use Rattle.tp_tasks.specs.Tasks.{row_of};
 
+use crate::compare::Answer::{
+    self, Count, Done, Ended, Fated, Holds, Number, Promised, Refused, Row, Task,
+};
 use crate::compare::same;
-use Answer::{Count, Done, Ended, Fated, Holds, Number, Promised, Refused, Row, Task};
+use std::alloc::Global;
 use std::process::Abort;
 use tp_record::rows::TaskRow;
 use tp_tasks::tasks::Tasks;
@@ -46,38 +49,37 @@ enum Call {
     TakeDone(u32),
 }
 
-/// What a call answers.
-#[derive(Clone, Copy, Debug, PartialEq)]
-enum Answer {
-    Done,
-    Task(Option<TaskId>),
-    Row(Option<TaskRow>),
-    Fated(Option<Fate>),
-    Ended(Option<Result<i64, PoolError>>),
-    Promised(Option<Promise>),
-    Number(Option<u64>),
-    Count(u32),
-    Holds(bool),
-    /// The task is not as the call requires it.
-    Refused,
+/// What a call reads of the tasks.
+fn read(tasks: &Tasks<u64>, call: Call) -> Answer {
+    match call {
+        Call::Submitted => Count(tasks.submitted() as usize),
+        Call::Row(t) => Row(tasks.row(TaskId(t))),
+        Call::Promise(t) => Promised(tasks.promise(TaskId(t))),
+        Call::PlaceNumber(t) => Number(tasks.place_number(TaskId(t))),
+        Call::Fated(fate) => Count(tasks.fated(fate) as usize),
+        Call::IsOpen(g) => Holds(tasks.is_open(g)),
+        Call::HasDone(g) => Holds(tasks.has_done(g)),
+        Call::FirstDone(g) => Task(tasks.first_done(g)),
+        _ => Refused,
+    }
+}
+
+/// What a call reads of the row of a task that there is.
+fn read_row(tasks: &Tasks<u64>, t: TaskId, call: Call) -> Answer {
+    match (tasks.row(t), call) {
+        (Some(row), Call::Fate(_)) => Fated(row.fate()),
+        (Some(row), Call::Result(_)) => Ended(row.result()),
+        _ => Refused,
+    }
 }
 
 /// Makes one call.
 fn perform(rt: &impl Abort, tasks: &mut Tasks<u64>, call: Call) -> Answer {
     match call {
         Call::Submit(kind, payload) => submit(rt, tasks, kind, payload),
-        Call::Submitted => Count(tasks.submitted()),
-        Call::Row(t) => Row(tasks.row(TaskId(t))),
-        Call::Fate(t) => Fated(tasks.row(TaskId(t)).expect(rt, "a row").fate()),
-        Call::Result(t) => Ended(tasks.row(TaskId(t)).expect(rt, "a row").result()),
-        Call::Promise(t) => Promised(tasks.promise(TaskId(t))),
-        Call::PlaceNumber(t) => Number(tasks.place_number(TaskId(t))),
         Call::TakePayload(t) => Number(tasks.take_payload(TaskId(t))),
-        Call::Fated(fate) => Count(tasks.fated(fate)),
-        Call::IsOpen(g) => Holds(tasks.is_open(g)),
-        Call::HasDone(g) => Holds(tasks.has_done(g)),
-        Call::FirstDone(g) => Task(tasks.first_done(g)),
         Call::TakeDone(g) => Task(tasks.take_done(g)),
+        Call::Fate(t) | Call::Result(t) => read_row(tasks, TaskId(t), call),
         Call::SetPlaceNumber(t, _)
         | Call::Place(t, _, _)
         | Call::Run(t, _)
@@ -86,6 +88,7 @@ fn perform(rt: &impl Abort, tasks: &mut Tasks<u64>, call: Call) -> Answer {
             Some(row) => change(tasks, TaskId(t), row, call),
             None => Refused,
         },
+        _ => read(tasks, call),
     }
 }
 
@@ -134,10 +137,11 @@ fn asks(rt: &impl Abort, line: usize, tasks: &mut Tasks<u64>, call: Call, want: 
     same(rt, line, &perform(rt, tasks, call), &want);
 }
 
-/// Makes each call in turn, and compares what it answers.
-fn play(rt: &impl Abort, tasks: &mut Tasks<u64>, calls: &[(Call, Answer)]) {
+/// Makes each call in turn on a new table of tasks, and compares what it answers.
+fn plays(rt: &impl Abort, alloc: Global, calls: &[(Call, Answer)]) {
+    let mut tasks = Tasks::new(alloc);
     for (at, (call, want)) in calls.iter().enumerate() {
-        asks(rt, at, tasks, *call, *want);
+        asks(rt, at, &mut tasks, *call, *want);
     }
 }
 
@@ -195,7 +199,7 @@ const KEPT: [(Call, Answer); 22] = [
 
 #[test]
 fn keeps_a_task(rt: HostRuntime) {
-    play(&rt, &mut Tasks::new(rt.alloc()), &KEPT);
+    plays(&rt, rt.alloc(), &KEPT);
 }
 
 const COMPLETED: [(Call, Answer); 19] = [
@@ -223,7 +227,7 @@ const COMPLETED: [(Call, Answer); 19] = [
 /// A cancelled task has its place among the completed ones from its cancel.
 #[test]
 fn completes_in_order(rt: HostRuntime) {
-    play(&rt, &mut Tasks::new(rt.alloc()), &COMPLETED);
+    plays(&rt, rt.alloc(), &COMPLETED);
 }
 
 const CANCELLED: [(Call, Answer); 18] = [
@@ -250,33 +254,47 @@ const CANCELLED: [(Call, Answer); 18] = [
 /// A cancelled task keeps its fate, and leaves its group's completions as they are, however it goes.
 #[test]
 fn gives_no_second_fate(rt: HostRuntime) {
-    play(&rt, &mut Tasks::new(rt.alloc()), &CANCELLED);
+    plays(&rt, rt.alloc(), &CANCELLED);
+}
+
+/// Submits 4,000 tasks of seven groups.
+fn submit_thousands(rt: &impl Abort, tasks: &mut Tasks<u64>) {
+    for t in 0..4000u32 {
+        let submit = Call::Submit(Kind::Group(t % 7), u64::from(t) + 10);
+        asks(rt, 0, tasks, submit, Task(Some(TaskId(t))));
+    }
+}
+
+/// Runs each of them, the last first.
+fn run_thousands(rt: &impl Abort, tasks: &mut Tasks<u64>) {
+    for i in 0..4000u32 {
+        let t = 3999 - i;
+        let payload = Number(Some(u64::from(t) + 10));
+        asks(rt, 1, tasks, Call::TakePayload(t), payload);
+        asks(rt, 2, tasks, Call::IsOpen(t % 7), Holds(true));
+        asks(rt, 3, tasks, Call::Run(t, Ok(i64::from(t))), Done);
+    }
+    asks(rt, 4, tasks, Call::Fated(Fate::Run), Count(4000));
+}
+
+/// Takes each of them out of its group, in the order of their ends, and then none is left.
+fn take_thousands(rt: &impl Abort, tasks: &mut Tasks<u64>) {
+    for i in 0..4000u32 {
+        let t = 3999 - i;
+        let first = Task(Some(TaskId(t)));
+        asks(rt, 5, tasks, Call::TakeDone(t % 7), first);
+    }
+    for group in 0..7 {
+        asks(rt, 6, tasks, Call::IsOpen(group), Holds(false));
+        asks(rt, 7, tasks, Call::HasDone(group), Holds(false));
+    }
 }
 
 /// 4,000 tasks of seven groups, which complete with the last first.
 #[test]
 fn keeps_thousands_of_tasks(rt: HostRuntime) {
     let mut tasks = Tasks::new(rt.alloc());
-    for t in 0..4000u32 {
-        let submit = Call::Submit(Kind::Group(t % 7), u64::from(t) + 10);
-        asks(&rt, 0, &mut tasks, submit, Task(Some(TaskId(t))));
-    }
-    for i in 0..4000u32 {
-        let t = 3999 - i;
-        let payload = Number(Some(u64::from(t) + 10));
-        asks(&rt, 1, &mut tasks, Call::TakePayload(t), payload);
-        asks(&rt, 2, &mut tasks, Call::IsOpen(t % 7), Holds(true));
-        let run = Call::Run(t, Ok(i64::from(t)));
-        asks(&rt, 3, &mut tasks, run, Done);
-    }
-    asks(&rt, 4, &mut tasks, Call::Fated(Fate::Run), Count(4000));
-    for i in 0..4000u32 {
-        let t = 3999 - i;
-        let first = Task(Some(TaskId(t)));
-        asks(&rt, 5, &mut tasks, Call::TakeDone(t % 7), first);
-    }
-    for group in 0..7 {
-        asks(&rt, 6, &mut tasks, Call::IsOpen(group), Holds(false));
-        asks(&rt, 7, &mut tasks, Call::HasDone(group), Holds(false));
-    }
+    submit_thousands(&rt, &mut tasks);
+    run_thousands(&rt, &mut tasks);
+    take_thousands(&rt, &mut tasks);
 }

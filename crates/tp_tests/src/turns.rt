@@ -207,23 +207,25 @@ fn play<R: Abort + Wait>(
     Ok(())
 }
 
+const RUNS: Script = Script::Runs(false, Ended::Live, Departed::Refused);
+
+const DIES: Script = Script::Runs(true, Ended::Dying, Departed::Replaced(SlotId(2)));
+
+const DIED: Closing = Closing::Died(Departed::Replaced(SlotId(2)));
+
+static TURNS: [(Script, Turn, &[Deed]); 6] = [
+    (Script::Leaves, Turn::Left, &LEAVING),
+    (Script::NoSlot, Turn::Refused, &NO_SLOT),
+    (Script::NoTask, Turn::Unbegun, &NO_TASK),
+    (Script::Cancelled, Turn::Skipped(TASK), &SKIP),
+    (RUNS, Turn::Ran(TASK, Ok(5), Closing::Live), &RUN),
+    (DIES, Turn::Ran(TASK, Err(9), DIED), &DEATH),
+];
+
 #[test]
 fn turns_are_in_order(rt: HostRuntime) -> Result<(), Fail> {
-    let alloc = rt.alloc();
-    let runs = Script::Runs(false, Ended::Live, Departed::Refused);
-    let dies = Script::Runs(true, Ended::Dying, Departed::Replaced(SlotId(2)));
-    let died = Closing::Died(Departed::Replaced(SlotId(2)));
-    play(&rt, alloc, Script::Leaves, Turn::Left, &LEAVING)?;
-    play(&rt, alloc, Script::NoSlot, Turn::Refused, &NO_SLOT)?;
-    play(&rt, alloc, Script::NoTask, Turn::Unbegun, &NO_TASK)?;
-    play(&rt, alloc, Script::Cancelled, Turn::Skipped(TASK), &SKIP)?;
-    play(
-        &rt,
-        alloc,
-        runs,
-        Turn::Ran(TASK, Ok(5), Closing::Live),
-        &RUN,
-    )?;
-    play(&rt, alloc, dies, Turn::Ran(TASK, Err(9), died), &DEATH)?;
+    for (script, turn, deeds) in &TURNS {
+        play(&rt, rt.alloc(), *script, *turn, deeds)?;
+    }
     Ok(())
 }

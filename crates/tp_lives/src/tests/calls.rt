@@ -1,5 +1,6 @@
 // What callers ask of a pool without tasks, as scripts say it.
 
+use super::compare::same;
 use std::process::Abort;
 use std::sync::Wait;
 use std::thread::Threads;
@@ -10,9 +11,10 @@ use tp_pool::names::PoolNaming;
 use tp_pool::pool::{Pool, PoolOf};
 use tp_types::ids::TaskId;
 use tp_types::refusals::PoolError;
+use tp_types::states::{Counts, RunState};
 
 // A call that may make a step.
-#[derive(Clone, Copy, Debug)]
+#[derive(Clone, Copy)]
 pub enum Call {
     Core(u32),
     Maximum(u32),
@@ -30,17 +32,39 @@ pub enum Call {
     Result(TaskId),
     AwaitResult(TaskId, u64),
     WaitStep(u64),
+    // The run state, the moment and the counters are these; the state that is published is this one or a later one.
+    Is(RunState),
+    Now(u64),
+    CountsNothing,
+    Sees(RunState),
 }
 
 // Which of the callers asks it, and what the pool answers.
 pub type Line = (usize, Call, Result<(), PoolError>);
 
-// Whether the record is longer than this.
-fn long_enough(steps: u64, seen: u64) -> Result<(), PoolError> {
-    if steps > seen {
+// What is answered where something is read, and is to be so.
+fn holds(is_so: bool) -> Result<(), PoolError> {
+    if is_so {
         Ok(())
     } else {
         Err(PoolError::TornRecord)
+    }
+}
+
+// Makes the call that reads the pool, or waits for a step.
+fn read<G: PoolNaming, J: Job, E: Edge, R: Wait>(
+    rt: &R,
+    pool: &PoolOf<G, J, E>,
+    call: Call,
+    pass: &mut Pass<G>,
+) -> bool {
+    match call {
+        Call::WaitStep(seen) => pool.wait_step(rt, seen) > seen,
+        Call::Is(state) => pool.state(rt) == state,
+        Call::Now(moment) => pool.now(rt) == moment,
+        Call::CountsNothing => pool.counts(rt) == Counts::default(),
+        Call::Sees(state) => pool.glance(pass).rank() >= state.rank(),
+        _ => false,
     }
 }
 
@@ -65,10 +89,23 @@ pub fn make<
         Call::AwaitDone(group) => pool.await_done(rt, group, pass).map(|_| ()),
         Call::Result(t) => pool.result(rt, t).map(|_| ()),
         Call::AwaitResult(t, deadline) => pool.await_result(rt, t, Some(deadline)).map(|_| ()),
-        Call::WaitStep(seen) => long_enough(pool.wait_step(rt, seen), seen),
         Call::Stop => pool.shutdown_now(rt, pass).map(|_| ()),
         Call::Await(deadline) => pool.await_termination(rt, deadline, pass),
+        Call::WaitStep(_) | Call::Is(_) | Call::Now(_) | Call::CountsNothing | Call::Sees(_) => {
+            holds(read(rt, pool, call, pass))
+        }
     }
+}
+
+// Makes the call with the pass of its caller; none where there is no such caller.
+fn asked<G: PoolNaming + Send + Sync + 'static, R: Threads + Wait + Copy + Send + 'static>(
+    rt: &R,
+    pool: &Pool<G>,
+    caller: usize,
+    call: Call,
+    passes: &mut Vec<Pass<G>>,
+) -> Option<Result<(), PoolError>> {
+    Some(make(rt, pool, call, passes.get_mut(caller)?))
 }
 
 // Makes the calls, each with the pass of its caller.
@@ -76,10 +113,12 @@ pub fn play<
     G: PoolNaming + Send + Sync + 'static,
     R: Abort + Threads + Wait + Copy + Send + 'static,
 >(rt: &R, pool: &Pool<G>, lines: &[Line], passes: &mut Vec<Pass<G>>) {
-    for &(caller, call, answer) in lines {
-        let Some(pass) = passes.get_mut(caller) else {
-            panic!(rt; "no caller {caller}");
-        };
-        assert_eq!(rt; make(rt, pool, call, pass), answer, "at {call:?}");
+    for (at, &(caller, call, answer)) in lines.iter().enumerate() {
+        same(
+            rt,
+            at,
+            &asked(rt, pool, caller, call, passes),
+            &Some(answer),
+        );
     }
 }

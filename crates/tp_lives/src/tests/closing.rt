@@ -1,20 +1,16 @@
 // Who closes a pool, and with which passes.
 
-use super::calls::{Call, Line, play};
-use super::helpers::{Life, Row, closes, end_of_two, last, lives, pair, refused};
-use std::alloc::Global;
-use std::process::Abort;
+use super::calls::{Call, Line};
+use super::compare::same;
+use super::helpers::{Beginning, Ending, Life, Refusal, Row, lives};
+use std::sync::Arc;
 use std::sync::atomic::{AtomicU64, Ordering};
-use std::sync::{Arc, Wait};
 use std::test::Fail;
-use std::thread::Threads;
-use tp_book::passes::Pass;
 use tp_pool::hooks::{Hooks, NoHooks};
-use tp_pool::names::PoolNaming;
-use tp_pool::pool::Pool;
 use tp_record::entries::{Ask, Did};
 use tp_types::ids::{SlotId, TaskId};
 use tp_types::refusals::PoolError;
+use tp_types::states::RunState;
 use tp_types::tasks::Outcome;
 
 // Counts how often the pool ended.
@@ -39,18 +35,45 @@ const BEGINNING: [Line; 3] = [
     (0, Call::Await(5), Err(PoolError::TimedOut)),
 ];
 
-// Two callers in one thread.
-pub fn two_callers<
-    G: PoolNaming + Send + Sync + 'static,
-    R: Abort + Threads + Wait + Copy + Send + 'static,
->(rt: R, alloc: Global, pool: Pool<G>, first: Pass<G>) -> Result<(), PoolError> {
-    let mut first = first;
-    let second = pool.split_pass(&rt, &mut first)?;
-    assert_eq!(rt; (first.number(), second.number()), (0, 1));
-    let mut passes = pair(alloc, first, second)?;
-    play(&rt, &pool, &BEGINNING, &mut passes);
-    end_of_two(&rt, pool, passes)
-}
+const SHUT_DOWN: [Line; 3] = [
+    (0, Call::Shutdown, Ok(())),
+    (0, Call::Sees(RunState::Shutdown), Ok(())),
+    (1, Call::Sees(RunState::Shutdown), Ok(())),
+];
+
+const AWAITED: [Line; 2] = [
+    (0, Call::Await(0), Ok(())),
+    (0, Call::Is(RunState::Terminated), Ok(())),
+];
+
+const RECORD_OF_TWO: [Row; 5] = [
+    (0, Ask::Tick(5), Did::Tick(5)),
+    (1, Ask::Keep(7), Did::Keep(7)),
+    (0, Ask::Shutdown, Did::Shutdown),
+    (0, Ask::Tidy, Did::Tidy),
+    (0, Ask::Ended, Did::Ended),
+];
+
+// Two callers in one thread, who close too early, then with one pass of two, and then with both.
+static TWO_CALLERS: Life = Life {
+    callers: 2,
+    begins: Beginning::Plays(&BEGINNING),
+    refusals: &[
+        Refusal {
+            withholds: false,
+            error: PoolError::NotTerminated,
+            then: &SHUT_DOWN,
+            exchanged: false,
+        },
+        Refusal {
+            withholds: true,
+            error: PoolError::MissingPass,
+            then: &AWAITED,
+            exchanged: false,
+        },
+    ],
+    ends: Ending::Leaves(&RECORD_OF_TWO),
+};
 
 #[test]
 fn closes_with_both_passes(rt: HostRuntime) -> Result<(), Fail> {
@@ -59,8 +82,8 @@ fn closes_with_both_passes(rt: HostRuntime) -> Result<(), Fail> {
     let ends = Ends {
         count: Arc::try_clone(&count)?,
     };
-    lives(rt, alloc, Box::new(alloc, ends)?, Life::TwoCallers)?;
-    assert_eq!(rt; count.load(Ordering::SeqCst), 1);
+    lives(rt, alloc, Box::new(alloc, ends)?, &TWO_CALLERS)?;
+    same(&rt, 0, &count.load(Ordering::SeqCst), &1);
     Ok(())
 }
 
@@ -73,23 +96,17 @@ const RECORD_OF_THREE: [Row; 3] = [
 ];
 
 // Three callers, of whom one is late.
-pub fn three_callers<
-    G: PoolNaming + Send + Sync + 'static,
-    R: Abort + Threads + Wait + Copy + Send + 'static,
->(rt: R, alloc: Global, pool: Pool<G>, first: Pass<G>) -> Result<(), PoolError> {
-    let mut first = first;
-    let mut second = pool.split_pass(&rt, &mut first)?;
-    let third = pool.split_pass(&rt, &mut second)?;
-    assert_eq!(rt; third.number(), 2);
-    let mut passes = pair(alloc, first, second)?;
-    play(&rt, &pool, &SHUTDOWN, &mut passes);
-    let (pool, mut passes) = refused(&rt, pool.close(&rt, passes), PoolError::MissingPass);
-    let second = last(&rt, &mut passes);
-    let _ = passes.push(third);
-    let _ = passes.push(second);
-    closes(&rt, pool, passes, &RECORD_OF_THREE);
-    Ok(())
-}
+static THREE_CALLERS: Life = Life {
+    callers: 3,
+    begins: Beginning::Plays(&SHUTDOWN),
+    refusals: &[Refusal {
+        withholds: true,
+        error: PoolError::MissingPass,
+        then: &[],
+        exchanged: true,
+    }],
+    ends: Ending::Leaves(&RECORD_OF_THREE),
+};
 
 #[test]
 fn closes_with_three_passes(rt: HostRuntime) -> Result<(), Fail> {
@@ -97,6 +114,6 @@ fn closes_with_three_passes(rt: HostRuntime) -> Result<(), Fail> {
         rt,
         rt.alloc(),
         Box::new(rt.alloc(), NoHooks)?,
-        Life::ThreeCallers,
+        &THREE_CALLERS,
     )
 }

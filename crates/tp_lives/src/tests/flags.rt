@@ -1,5 +1,6 @@
 //! A cancel flag that several hold.
 
+use super::compare::same;
 use std::test::Fail;
 use tp_callbacks::flags::{CancelFlag, FlagPair};
 
@@ -8,10 +9,11 @@ fn all_holds_see_a_flag_set(rt: HostRuntime) -> Result<(), Fail> {
     let flag = CancelFlag::new(rt.alloc())?;
     let held = flag.share()?;
     let other = CancelFlag::new(rt.alloc())?;
-    assert!(rt; !flag.is_set() && !held.is_set());
+    let before = (flag.is_set(), held.is_set());
     flag.set();
-    assert!(rt; flag.is_set() && held.is_set());
-    assert!(rt; !other.is_set());
+    let after = (flag.is_set(), held.is_set());
+    let seen = (before, after, other.is_set());
+    same(&rt, 0, &seen, &((false, false), (true, true), false));
     Ok(())
 }
 
@@ -27,6 +29,7 @@ fn flag_serves_again_where_nobody_else_has_it_and_it_is_not_set(
     drop(third);
     let alone = pair.serves_again();
     pair.kept.set();
-    assert!(rt; fresh && !shared && alone && !pair.serves_again());
+    let seen = (fresh, shared, alone, pair.serves_again());
+    same(&rt, 0, &seen, &(true, false, true, false));
     Ok(())
 }

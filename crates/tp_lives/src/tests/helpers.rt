@@ -2,10 +2,9 @@
 ghost use Rattle.std.specs.Prelude.{◌≡◌};
 
 use super::calls::{Call, Line, play};
-use super::closing::{three_callers, two_callers};
-use super::memory::each_call;
-use super::settings::settings_change;
-use super::waits::waits_for;
+use super::compare::same;
+use super::memory::make_all;
+use super::waits::wait_for;
 use std::alloc::Global;
 use std::marker::Brand;
 use std::process::Abort;
@@ -25,10 +24,10 @@ use tp_pool::hooks::Hooks;
 use tp_pool::jobs::Boxed;
 use tp_pool::names::PoolNaming;
 use tp_pool::pool::Pool;
-use tp_record::entries::{Ask, Did, Entry};
+use tp_record::entries::{Ask, Did};
 use tp_types::configs::{Config, Policy, QueueKind, Verdict};
 use tp_types::refusals::PoolError;
-use tp_types::states::{Counts, RunState};
+use tp_types::states::Counts;
 
 const SETTINGS: Config = Config {
     core: 1,
@@ -47,29 +46,135 @@ const ABORT: OneVerdict = OneVerdict {
 // An entry: by which pass, what was asked, and what was done.
 pub type Row = (u32, Ask, Did);
 
-// What becomes of a new pool.
+// What a pool goes through until it is closed.
 #[derive(Clone, Copy)]
-pub enum Life {
-    TwoCallers,
-    ThreeCallers,
-    Settings,
-    EachCall,
-    Waiting(Call, Call, Result<(), PoolError>),
+pub struct Life {
+    pub callers: usize,
+    pub begins: Beginning,
+    pub refusals: &'static [Refusal],
+    pub ends: Ending,
+}
+
+#[derive(Clone, Copy)]
+pub enum Beginning {
+    // These calls are made.
+    Plays(&'static [Line]),
+    // The first caller makes each call, also where memory is wanting.
+    MakesEach,
+    // The first caller makes the call that waits, the second one that which wakes it; what the wait answers.
+    Waits(Call, Call, Result<(), PoolError>),
+}
+
+// A close that is refused so, with all passes or without the last one; and the calls that are made then. The pass that was withheld
+// comes back behind the others, or before the last of them.
+#[derive(Clone, Copy)]
+pub struct Refusal {
+    pub withholds: bool,
+    pub error: PoolError,
+    pub then: &'static [Line],
+    pub exchanged: bool,
+}
+
+#[derive(Clone, Copy)]
+pub enum Ending {
+    // The pool is not closed, closed, or closed with this record.
+    Open,
+    Closed,
+    Leaves(&'static [Row]),
+}
+
+// One more pass, split from the last one.
+fn split_last<G: PoolNaming, R: Wait>(
+    rt: &R,
+    pool: &Pool<G>,
+    passes: &mut Vec<Pass<G>>,
+) -> Result<Pass<G>, PoolError> {
+    match passes.last_mut() {
+        Some(last) => pool.split_pass(rt, last),
+        None => Err(PoolError::MissingPass),
+    }
+}
+
+// The passes of so many callers, in the order of their numbers.
+fn passes_of<G: PoolNaming, R: Abort + Wait>(
+    rt: &R,
+    alloc: Global,
+    pool: &Pool<G>,
+    first: Pass<G>,
+    callers: usize,
+) -> Result<Vec<Pass<G>>, PoolError> {
+    let mut passes = listed(alloc, first)?;
+    for at in 1..callers {
+        let pass = split_last(rt, pool, &mut passes)?;
+        same(rt, at, &(pass.number() as usize), &at);
+        let _ = passes.push(pass);
+    }
+    Ok(passes)
+}
+
+fn begin<
+    G: PoolNaming + Send + Sync + 'static,
+    R: Abort + Threads + Wait + Copy + Send + Sync + 'static,
+>(rt: R, pool: &Pool<G>, passes: &mut Vec<Pass<G>>, begins: &Beginning) {
+    match begins {
+        Beginning::Plays(lines) => play(&rt, pool, lines, passes),
+        Beginning::MakesEach => make_all(&rt, pool, passes),
+        Beginning::Waits(waiting, waker, answer) => {
+            wait_for(rt, pool, passes, *waiting, *waker, *answer)
+        }
+    }
+}
+
+// Puts a pass back that was withheld.
+fn put_back<G: PoolNaming>(passes: &mut Vec<Pass<G>>, withheld: Option<Pass<G>>, exchanged: bool) {
+    let last = if exchanged { passes.pop() } else { None };
+    for pass in [withheld, last] {
+        if let Some(pass) = pass {
+            let _ = passes.push(pass);
+        }
+    }
+}
+
+// Closes the pool, which is refused: it comes back, with its passes.
+fn refuse<G: PoolNaming + Send + Sync + 'static, R: Abort + Threads + Wait + Copy + Send + 'static>(
+    rt: &R,
+    pool: Pool<G>,
+    passes: Vec<Pass<G>>,
+    refusal: &Refusal,
+) -> (Pool<G>, Vec<Pass<G>>) {
+    let mut passes = passes;
+    let withheld = if refusal.withholds {
+        passes.pop()
+    } else {
+        None
+    };
+    let (pool, mut passes) = refused(rt, pool.close(rt, passes), refusal.error);
+    play(rt, &pool, refusal.then, &mut passes);
+    put_back(&mut passes, withheld, refusal.exchanged);
+    (pool, passes)
+}
+
+fn end<G: PoolNaming, R: Abort + Wait>(rt: &R, pool: Pool<G>, passes: Vec<Pass<G>>, ends: &Ending) {
+    match ends {
+        Ending::Open => {}
+        Ending::Closed => same(rt, 0, &pool.close(rt, passes).is_ok(), &true),
+        Ending::Leaves(rows) => match pool.close(rt, passes) {
+            Ok(report) => leaves(rt, &report, rows),
+            Err(_) => rt.panic("not closed"),
+        },
+    }
 }
 
 fn live<
     G: PoolNaming + Send + Sync + 'static,
     R: Abort + Threads + Wait + Copy + Send + Sync + 'static,
->(rt: R, alloc: Global, pool: Pool<G>, first: Pass<G>, life: Life) -> Result<(), PoolError> {
-    match life {
-        Life::TwoCallers => two_callers(rt, alloc, pool, first),
-        Life::ThreeCallers => three_callers(rt, alloc, pool, first),
-        Life::Settings => settings_change(rt, alloc, pool, first),
-        Life::EachCall => each_call(rt, pool, first),
-        Life::Waiting(waiting, waker, answer) => {
-            waits_for(rt, alloc, pool, first, waiting, waker, answer)
-        }
+>(rt: R, pool: Pool<G>, passes: Vec<Pass<G>>, life: &Life) {
+    let (mut pool, mut passes) = (pool, passes);
+    begin(rt, &pool, &mut passes, &life.begins);
+    for refusal in life.refusals {
+        (pool, passes) = refuse(&rt, pool, passes, refusal);
     }
+    end(&rt, pool, passes, &life.ends);
 }
 
 // Opens a pool under its name.
@@ -82,7 +187,7 @@ fn open<
     unopened: Unopened,
     settings: Config,
     hooks: Box<dyn Hooks>,
-    life: Life,
+    life: &Life,
 ) -> Result<(), Fail>
     requires named { unopened ≡ record { ledger = G.name; parts = G.parts; table = G.table } }
     requires settings { settings ≡ G.config }
@@ -91,7 +196,8 @@ fn open<
     let handler = Box::new(alloc, ABORT)?;
     let gate = Box::new(alloc, OpenGate)?;
     let (pool, first) = Pool::<G>::new(alloc, unopened, settings, factory, handler, hooks, gate)?;
-    live(rt, alloc, pool, first, life)?;
+    let passes = passes_of(&rt, alloc, &pool, first, life.callers)?;
+    live(rt, pool, passes, life);
     Ok(())
 }
 
@@ -100,111 +206,55 @@ pub fn lives<R: Abort + Threads + Wait + Copy + Send + Sync + 'static>(
     rt: R,
     alloc: Global,
     hooks: Box<dyn Hooks>,
-    life: Life,
+    life: &Life,
 ) -> Result<(), Fail> {
     let unopened = Unopened::new(alloc)?;
     open::<Brand, R>(rt, alloc, unopened, SETTINGS, hooks, life)
 }
 
 // The pool and the passes of a close that is refused so.
-pub fn refused<G: PoolNaming, R: Abort>(
+fn refused<G: PoolNaming, R: Abort>(
     rt: &R,
     closed: Result<Report, CloseFault<G, Boxed, Boxes>>,
     error: PoolError,
 ) -> (Pool<G>, Vec<Pass<G>>) {
-    let Err(fault) = closed else {
-        panic!(rt; "closed in place of {error}");
-    };
-    let CloseFault {
-        error: found,
-        pool,
-        passes,
-    } = fault;
-    assert_eq!(rt; found, error);
-    (pool, passes)
-}
-
-// Closes the pool, which leaves this record.
-pub fn closes<G: PoolNaming, R: Abort + Wait>(
-    rt: &R,
-    pool: Pool<G>,
-    passes: Vec<Pass<G>>,
-    rows: &[Row],
-) {
-    let Ok(report) = pool.close(rt, passes) else {
-        panic!(rt; "not closed");
-    };
-    assert_eq!(rt; report.counts, Counts::default());
-    assert_eq!(rt; report.entries.len(), rows.len());
-    for (&Entry { by, ask, did }, &row) in report.entries.iter().zip(rows) {
-        assert_eq!(rt; (by, ask, did), row);
+    match closed {
+        Ok(_) => rt.panic("closed in place of a refusal"),
+        Err(
+            CloseFault {
+                error: found,
+                pool,
+                passes,
+            },
+        ) => {
+            same(rt, 0, &found, &error);
+            (pool, passes)
+        }
     }
 }
 
-// The last of the passes that were handed back.
+// No task was counted, and this is the record.
+fn leaves<R: Abort>(rt: &R, report: &Report, rows: &[Row]) {
+    same(rt, 0, &report.counts, &Counts::default());
+    same(rt, 0, &report.entries.len(), &rows.len());
+    for (at, (entry, row)) in report.entries.iter().zip(rows).enumerate() {
+        same(rt, at, &(entry.by, entry.ask, entry.did), row);
+    }
+}
+
+// The last pass.
 pub fn last<G: PoolNaming, R: Abort>(rt: &R, passes: &mut Vec<Pass<G>>) -> Pass<G> {
-    let Some(pass) = passes.pop() else {
-        panic!(rt; "a pass was not handed back");
-    };
-    pass
+    passes.pop().expect(rt, "no such pass")
 }
 
-// The passes of two callers.
-pub fn pair<G: PoolNaming>(
-    alloc: Global,
-    first: Pass<G>,
-    second: Pass<G>,
-) -> Result<Vec<Pass<G>>, PoolError> {
-    listed(alloc, first, Some(second))
-}
-
-// A list of one or two passes, with room for three.
-pub fn listed<G: PoolNaming>(
-    alloc: Global,
-    first: Pass<G>,
-    second: Option<Pass<G>>,
-) -> Result<Vec<Pass<G>>, PoolError> {
+// A list of one pass, with room for three.
+fn listed<G: PoolNaming>(alloc: Global, first: Pass<G>) -> Result<Vec<Pass<G>>, PoolError> {
     let mut passes = Vec::new(alloc);
     if passes.reserve(3).is_err() {
         return Err(PoolError::NoMemory);
     }
     passes.push_reserved(first);
-    if let Some(second) = second {
-        let _ = passes.push(second);
-    }
     Ok(passes)
-}
-
-const SHUTDOWN: [Line; 1] = [(0, Call::Shutdown, Ok(()))];
-
-const AWAIT: [Line; 1] = [(0, Call::Await(0), Ok(()))];
-
-const RECORD_OF_TWO: [Row; 5] = [
-    (0, Ask::Tick(5), Did::Tick(5)),
-    (1, Ask::Keep(7), Did::Keep(7)),
-    (0, Ask::Shutdown, Did::Shutdown),
-    (0, Ask::Tidy, Did::Tidy),
-    (0, Ask::Ended, Did::Ended),
-];
-
-// Ends a pool with the first of two passes, after a tick by the first and a new keep-alive by the
-// second, and closes it with both.
-pub fn end_of_two<
-    G: PoolNaming + Send + Sync + 'static,
-    R: Abort + Threads + Wait + Copy + Send + 'static,
->(rt: &R, pool: Pool<G>, passes: Vec<Pass<G>>) -> Result<(), PoolError> {
-    let (pool, mut passes) = refused(rt, pool.close(rt, passes), PoolError::NotTerminated);
-    play(rt, &pool, &SHUTDOWN, &mut passes);
-    for pass in passes.iter_mut() {
-        assert!(rt; pool.glance(pass).rank() >= 1);
-    }
-    let second = last(rt, &mut passes);
-    let (pool, mut passes) = refused(rt, pool.close(rt, passes), PoolError::MissingPass);
-    play(rt, &pool, &AWAIT, &mut passes);
-    assert_eq!(rt; pool.state(rt), RunState::Terminated);
-    let _ = passes.push(second);
-    closes(rt, pool, passes, &RECORD_OF_TWO);
-    Ok(())
 }
 
 // Yields until the other thread has come to this stage, or for long.

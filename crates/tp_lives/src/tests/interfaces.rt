@@ -1,5 +1,7 @@
 // What users write, called through its interfaces.
 
+use super::compare::same;
+use std::process::Abort;
 use std::test::Fail;
 use tp_callbacks::flags::CancelFlag;
 use tp_pool::factories::{Consenting, ThreadFactory};
@@ -58,19 +60,25 @@ fn turn<J: Job, F: ThreadFactory, H: Hooks, P: Gate>(
     (allowed, promise, outcome)
 }
 
+// A boxed job that looks at this flag ends so.
+fn has_a_turn(
+    rt: &(impl Abort + AllocGlobal),
+    flag: &CancelFlag,
+    outcome: Outcome,
+) -> Result<(), Fail> {
+    let job: Box<dyn Job> = Box::new(rt.alloc(), Looking { value: 5 })?;
+    let job = Boxed { job };
+    let had = turn(job, flag, &mut Consenting, &mut NoHooks, &OpenGate);
+    same(rt, 0, &had, &(true, WIDEST, outcome));
+    Ok(())
+}
+
 #[test]
 fn boxed_job_has_a_turn(rt: HostRuntime) -> Result<(), Fail> {
     let flag = CancelFlag::new(rt.alloc())?;
-    for (set, outcome) in [(false, Ok(5)), (true, Err(9))] {
-        if set {
-            flag.set();
-        }
-        let job: Box<dyn Job> = Box::new(rt.alloc(), Looking { value: 5 })?;
-        let job = Boxed { job };
-        let had = turn(job, &flag, &mut Consenting, &mut NoHooks, &OpenGate);
-        assert_eq!(rt; had, (true, WIDEST, outcome));
-    }
-    Ok(())
+    has_a_turn(&rt, &flag, Ok(5))?;
+    flag.set();
+    has_a_turn(&rt, &flag, Err(9))
 }
 
 // A body that names its priority.
@@ -102,7 +110,7 @@ fn boxes_and_bodies_keep_their_priorities(rt: HostRuntime) -> Result<(), Fail> {
         priority_of(&Boxed { job: plain }),
         priority_of(&Boxed { job: urgent }),
     );
-    assert_eq!(rt; found, (3, 0, 3));
+    same(&rt, 0, &found, &(3, 0, 3));
     Ok(())
 }
 
@@ -110,14 +118,17 @@ fn ruled<H: RejectionHandler>(mut handler: H) -> Verdict {
     handler.verdict(TaskId(0), RunState::Shutdown)
 }
 
+const VERDICTS: [Verdict; 4] = [
+    Verdict::Abort,
+    Verdict::CallerRuns,
+    Verdict::Discard,
+    Verdict::DiscardOldest,
+];
+
 #[test]
 fn one_verdict_for_all(rt: HostRuntime) {
-    for verdict in [
-        Verdict::Abort,
-        Verdict::CallerRuns,
-        Verdict::Discard,
-        Verdict::DiscardOldest,
-    ] {
-        assert_eq!(rt; ruled(OneVerdict { verdict }), verdict);
+    for (at, verdict) in VERDICTS.iter().enumerate() {
+        let verdict = *verdict;
+        same(&rt, at, &ruled(OneVerdict { verdict }), &verdict);
     }
 }

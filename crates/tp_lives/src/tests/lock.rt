@@ -1,5 +1,6 @@
 // The lock, as holds take it.
 
+use super::compare::same;
 use std::sync::{Mutex, Wait};
 use std::test::Fail;
 use std::thread;
@@ -17,6 +18,6 @@ fn add<R: Wait>(rt: &R, lock: &Mutex<u64>, times: u32) {
 fn two_threads_take_turns(rt: HostRuntime) -> Result<(), Fail> {
     let lock = Mutex::new(0);
     thread::join(&rt, || add(&rt, &lock, 1000), || add(&rt, &lock, 1000));
-    assert_eq!(rt; lock.into_inner(), 2000);
+    same(&rt, 0, &lock.into_inner(), &2000);
     Ok(())
 }

@@ -1,7 +1,8 @@
 // Each call of a pool without tasks, with ample memory and where one allocation fails.
 
 use super::calls::{Call, make};
-use super::helpers::{Life, lives};
+use super::compare::same;
+use super::helpers::{Beginning, Ending, Life, last, lives};
 use std::process::Abort;
 use std::sync::Wait;
 use std::test::Fail;
@@ -12,11 +13,11 @@ use tp_pool::names::PoolNaming;
 use tp_pool::pool::Pool;
 use tp_types::ids::TaskId;
 use tp_types::refusals::PoolError;
-use tp_types::states::RunState;
+use tp_types::states::{Counts, RunState};
 
 // Each call, what it answers with ample memory on a pool without tasks, and how many receipts it adds
 // then.
-const CALLS: [(Call, Result<(), PoolError>, usize); 16] = [
+const CALLS: [(Call, Result<(), PoolError>, usize); 18] = [
     (Call::Core(2), Ok(()), 1),
     (Call::Maximum(64), Ok(()), 1),
     (Call::Keep(8), Ok(()), 1),
@@ -37,7 +38,18 @@ const CALLS: [(Call, Result<(), PoolError>, usize); 16] = [
     (Call::Shutdown, Ok(()), 3),
     (Call::Stop, Ok(()), 1),
     (Call::Await(0), Ok(()), 0),
+    (Call::Now(3), Ok(()), 0),
+    (Call::Sees(RunState::Terminated), Ok(()), 0),
 ];
+
+// The pool's state and counters, and how many receipts the pass has.
+fn read<G: PoolNaming, R: Wait>(
+    rt: &R,
+    pool: &Pool<G>,
+    pass: &Pass<G>,
+) -> (RunState, Counts, usize) {
+    (pool.state(rt), pool.counts(rt), pass.receipts().len())
+}
 
 // Makes the call. Where it wants memory it has changed nothing, and is made once more.
 fn made<G: PoolNaming + Send + Sync + 'static, R: Abort + Threads + Wait + Copy + Send + 'static>(
@@ -46,42 +58,42 @@ fn made<G: PoolNaming + Send + Sync + 'static, R: Abort + Threads + Wait + Copy 
     call: Call,
     pass: &mut Pass<G>,
 ) -> Result<(), PoolError> {
-    let before = (pool.state(rt), pool.counts(rt), pass.receipts().len());
+    let before = read(rt, pool, pass);
     let answer = make(rt, pool, call, pass);
     if answer != Err(PoolError::NoMemory) {
         return answer;
     }
-    let after = (pool.state(rt), pool.counts(rt), pass.receipts().len());
-    assert_eq!(rt; after, before);
+    same(rt, 0, &read(rt, pool, pass), &before);
     make(rt, pool, call, pass)
 }
 
-// One caller, who makes each call.
-pub fn each_call<
+// The first caller makes each call in turn; how many receipts its pass has then, and steps the pool has made, is as the table says.
+pub fn make_all<
     G: PoolNaming + Send + Sync + 'static,
     R: Abort + Threads + Wait + Copy + Send + 'static,
->(rt: R, pool: Pool<G>, first: Pass<G>) -> Result<(), PoolError> {
-    let mut pass = first;
+>(rt: &R, pool: &Pool<G>, passes: &mut Vec<Pass<G>>) {
+    let mut pass = last(rt, passes);
     let mut receipts = 0usize;
-    for (call, answer, added) in CALLS {
-        assert_eq!(rt; made(&rt, &pool, call, &mut pass), answer, "at {call:?}");
-        receipts = receipts.saturating_add(added);
-        assert_eq!(rt; pass.receipts().len(), receipts);
-        assert_eq!(rt; pool.steps(&rt), receipts as u64);
+    for (at, (call, answer, added)) in CALLS.iter().enumerate() {
+        same(rt, at, &made(rt, pool, *call, &mut pass), answer);
+        receipts = receipts.saturating_add(*added);
+        let seen = (pass.receipts().len(), pool.steps(rt));
+        same(rt, at, &seen, &(receipts, receipts as u64));
     }
-    assert_eq!(rt; pool.now(&rt), 3);
-    assert_eq!(rt; pool.glance(&mut pass), RunState::Terminated);
-    Ok(())
+    let _ = passes.push(pass);
 }
+
+// The pool stays open: its close takes memory too.
+static EACH_CALL: Life = Life {
+    callers: 1,
+    begins: Beginning::MakesEach,
+    refusals: &[],
+    ends: Ending::Open,
+};
 
 /// With ample memory each call succeeds; where any one allocation of a call fails, it answers 4, has
 /// changed nothing, and succeeds when it is called again.
 #[test]
 fn ample_memory_succeeds(rt: HostRuntime) -> Result<(), Fail> {
-    lives(
-        rt,
-        rt.alloc(),
-        Box::new(rt.alloc(), NoHooks)?,
-        Life::EachCall,
-    )
+    lives(rt, rt.alloc(), Box::new(rt.alloc(), NoHooks)?, &EACH_CALL)
 }

@@ -1,23 +1,15 @@
 // The settings of a pool, and its stop.
 
-use super::calls::{Call, Line, play};
-use super::helpers::{Life, Row, closes, listed, lives};
-use std::alloc::Global;
-use std::process::Abort;
-use std::sync::Wait;
+use super::calls::{Call, Line};
+use super::helpers::{Beginning, Ending, Life, Row, lives};
 use std::test::Fail;
-use std::thread::Threads;
-use tp_book::passes::Pass;
 use tp_pool::hooks::NoHooks;
-use tp_pool::names::PoolNaming;
-use tp_pool::pool::Pool;
 use tp_record::entries::{Ask, Did};
 use tp_types::ids::TaskId;
 use tp_types::refusals::PoolError;
-use tp_types::states::Counts;
 
 // Each setting once, what no pool can do, and what no pool without tasks can.
-const LINES: [Line; 9] = [
+const LINES: [Line; 11] = [
     (0, Call::Core(2), Ok(())),
     (0, Call::Maximum(3), Ok(())),
     (0, Call::CoreTimeout(true), Ok(())),
@@ -27,9 +19,9 @@ const LINES: [Line; 9] = [
     (0, Call::Keep(0), Err(PoolError::KeepZero)),
     (0, Call::Cancel(TaskId(0)), Err(PoolError::UnknownTask)),
     (0, Call::Remove(TaskId(0)), Err(PoolError::UnknownTask)),
+    (0, Call::CountsNothing, Ok(())),
+    (0, Call::Stop, Ok(())),
 ];
-
-const STOP: [Line; 1] = [(0, Call::Stop, Ok(()))];
 
 const RECORD: [Row; 7] = [
     (0, Ask::Core(2), Did::Core(2, 0)),
@@ -42,17 +34,12 @@ const RECORD: [Row; 7] = [
 ];
 
 // One caller, who changes the settings and stops the pool.
-pub fn settings_change<
-    G: PoolNaming + Send + Sync + 'static,
-    R: Abort + Threads + Wait + Copy + Send + 'static,
->(rt: R, alloc: Global, pool: Pool<G>, first: Pass<G>) -> Result<(), PoolError> {
-    let mut passes = listed(alloc, first, None)?;
-    play(&rt, &pool, &LINES, &mut passes);
-    assert_eq!(rt; pool.counts(&rt), Counts::default());
-    play(&rt, &pool, &STOP, &mut passes);
-    closes(&rt, pool, passes, &RECORD);
-    Ok(())
-}
+static SETTINGS_CHANGE: Life = Life {
+    callers: 1,
+    begins: Beginning::Plays(&LINES),
+    refusals: &[],
+    ends: Ending::Leaves(&RECORD),
+};
 
 #[test]
 fn changes_settings(rt: HostRuntime) -> Result<(), Fail> {
@@ -60,6 +47,6 @@ fn changes_settings(rt: HostRuntime) -> Result<(), Fail> {
         rt,
         rt.alloc(),
         Box::new(rt.alloc(), NoHooks)?,
-        Life::Settings,
+        &SETTINGS_CHANGE,
     )
 }

@@ -1,6 +1,7 @@
 // A job that shares its flag, and keeps it after its end.
 ghost use Rattle.std.specs.Prelude.{◌≡◌};
 
+use super::compare::same;
 use std::alloc::Global;
 use std::marker::Brand;
 use std::sync::{Arc, Mutex};
@@ -60,12 +61,31 @@ fn share<G: PoolName, R: Runtime>(
     Ok(cancelled)
 }
 
-fn shut<G: PoolName, R: Runtime>(
+// Does this until the pool has ended.
+fn share_and_end<G: PoolName, R: Runtime>(
     rt: &R,
     pool: &Lender<G, R>,
+    kept: Kept,
+    board: Arc<Board>,
     pass: &mut Pass<G>,
-) -> Result<(), PoolError> {
-    pool.shutdown(rt, pass)
+) -> Result<bool, PoolError> {
+    let cancelled = share(rt, pool, kept, board, pass)?;
+    pool.shutdown(rt, pass)?;
+    pool.await_end(rt, None, pass)?;
+    Ok(cancelled)
+}
+
+// The pool is closed then. Early returns are dear beside what is owned, so there are two here.
+fn share_and_close<G: PoolName, R: Runtime>(
+    rt: &R,
+    pool: Lender<G, R>,
+    kept: Kept,
+    board: Arc<Board>,
+    pass: Pass<G>,
+) -> Result<(bool, Report), PoolError> {
+    let mut pass = pass;
+    let cancelled = share_and_end(rt, &pool, kept, board, &mut pass)?;
+    Ok((cancelled, pool.close_one(rt, pass)?))
 }
 
 fn life<G: PoolNaming + Send + Sync + 'static, R: Runtime>(
@@ -78,11 +98,14 @@ fn life<G: PoolNaming + Send + Sync + 'static, R: Runtime>(
     requires named { unopened ≡ record { ledger = G.name; parts = G.parts; table = G.table } }
     requires settings { settings ≡ G.config }
 {
-    let (pool, mut pass) = Lender::<G, R>::over(alloc, unopened, settings, Defaults)?;
-    let cancelled = share(rt, &pool, kept, Board::new(alloc)?, &mut pass)?;
-    shut(rt, &pool, &mut pass)?;
-    pool.await_end(rt, None, &mut pass)?;
-    Ok((cancelled, pool.close_one(rt, pass)?))
+    let board = Board::new(alloc)?;
+    let (pool, pass) = Lender::<G, R>::over(alloc, unopened, settings, Defaults)?;
+    share_and_close(rt, pool, kept, board, pass)
+}
+
+// Whether the flag that was kept is set.
+fn is_set<R: Runtime>(rt: &R, kept: &Kept) -> Option<bool> {
+    Some(kept.lock(rt).as_ref()?.is_set())
 }
 
 // The second job hears of its cancel, and who has the first one's flag does not.
@@ -99,12 +122,8 @@ fn shared_flag_hears_no_other_cancel(rt: HostRuntime) -> Result<(), Fail> {
         Config::fixed(1),
         shared,
     )?;
-    assert!(rt; cancelled);
-    assert_eq!(rt; outcome_of(&report, TaskId(1)), Some(Ok(1)));
-    let is_set = match &*kept.lock(&rt) {
-        Some(flag) => flag.is_set(),
-        None => true,
-    };
-    assert!(rt; !is_set);
+    let heard = (cancelled, outcome_of(&report, TaskId(1)));
+    same(&rt, 0, &heard, &(true, Some(Ok(1))));
+    same(&rt, 1, &is_set(&rt, &kept), &Some(false));
     Ok(())
 }

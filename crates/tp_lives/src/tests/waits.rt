@@ -1,8 +1,8 @@
 // One caller waits in a thread of its own, and the step of another ends the wait.
 
 use super::calls::{Call, Line, make, play};
-use super::helpers::{Life, await_stage, linger, lives, pair};
-use std::alloc::Global;
+use super::compare::same;
+use super::helpers::{Beginning, Ending, Life, await_stage, last, linger, lives};
 use std::process::Abort;
 use std::sync::Wait;
 use std::sync::atomic::{AtomicU64, Ordering};
@@ -71,18 +71,33 @@ fn wakes<
     (stepped, pass)
 }
 
-// Who waits, the step that wakes it, and what the wait answers then.
-const WAITS: [(Call, Call, Result<(), PoolError>); 5] = [
-    (Call::Await(9), Call::Tick(9), Err(PoolError::TimedOut)),
-    (Call::Await(9), Call::Shutdown, Ok(())),
-    (Call::Await(9), Call::Stop, Ok(())),
-    (Call::WaitStep(0), Call::Purge, Ok(())),
-    (Call::WaitStep(0), Call::Tick(1), Ok(())),
-];
+// What a caller does: it waits by this call, or wakes the other by this one.
+#[derive(Clone, Copy)]
+enum Part {
+    Waits(Call),
+    Wakes(Call),
+}
 
-const END: [Line; 2] = [(1, Call::Shutdown, Ok(())), (0, Call::Await(0), Ok(()))];
+// Makes the call of this part.
+fn takes_part<
+    G: PoolNaming + Send + Sync + 'static,
+    J: Job + 'static,
+    E: Edge + Send + Sync + 'static,
+    R: Threads + Wait + Copy + Send + 'static,
+>(
+    rt: &R,
+    pool: &PoolOf<G, J, E>,
+    part: Part,
+    stage: &AtomicU64,
+    pass: Pass<G>,
+) -> (Result<(), PoolError>, Pass<G>) {
+    match part {
+        Part::Waits(call) => awaits(rt, pool, call, stage, pass),
+        Part::Wakes(call) => wakes(rt, pool, call, stage, pass),
+    }
+}
 
-// One waits for the end, and the other makes the step: by itself, and for all jobs and edges, since the check shows
+// Both share one closure, since each is proved anew. One waits for the end, and the other makes the step: by itself, and for all jobs and edges, since the check shows
 // here that the pool may be shared, and boxes are much to look through.
 fn beside<
     G: PoolNaming + Send + Sync + 'static,
@@ -102,47 +117,59 @@ fn beside<
 ) {
     let word = AtomicU64::new(0);
     let stage = &word;
-    in_two(
-        &rt,
-        pool,
-        first,
-        second,
-        &move |pool: &PoolOf<G, J, E>, pass: Pass<G>| { awaits(&rt, pool, waiting, stage, pass) },
-        &move |pool: &PoolOf<G, J, E>, pass: Pass<G>| { wakes(&rt, pool, waker, stage, pass) },
-    )
+    let act = move |pool: &PoolOf<G, J, E>, (part, pass): (Part, Pass<G>)| {
+        takes_part(&rt, pool, part, stage, pass)
+    };
+    let (one, two) = ((Part::Waits(waiting), first), (Part::Wakes(waker), second));
+    in_two(&rt, pool, one, two, &act, &act)
 }
 
-pub fn waits_for<
+const END: [Line; 2] = [(1, Call::Shutdown, Ok(())), (0, Call::Await(0), Ok(()))];
+
+// The first caller waits in a thread of its own, and the second one wakes it; then the pool is shut down.
+pub fn wait_for<
     G: PoolNaming + Send + Sync + 'static,
     R: Abort + Threads + Wait + Copy + Send + Sync + 'static,
 >(
     rt: R,
-    alloc: Global,
-    pool: Pool<G>,
-    first: Pass<G>,
+    pool: &Pool<G>,
+    passes: &mut Vec<Pass<G>>,
     waiting: Call,
     waker: Call,
     answer: Result<(), PoolError>,
-) -> Result<(), PoolError> {
-    let mut first = first;
-    let second = pool.split_pass(&rt, &mut first)?;
-    let ((awaited, first), (stepped, second)) = beside(rt, &pool, waiting, waker, first, second);
-    assert_eq!(rt;
-        (awaited, stepped),
-        (answer, Ok(())),
-        "{waiting:?} at {waker:?}"
-    );
-    let mut passes = pair(alloc, first, second)?;
-    play(&rt, &pool, &END, &mut passes);
-    assert!(rt; pool.close(&rt, passes).is_ok());
-    Ok(())
+) {
+    let second = last(&rt, passes);
+    let first = last(&rt, passes);
+    let ((awaited, first), (stepped, second)) = beside(rt, pool, waiting, waker, first, second);
+    same(&rt, 0, &(awaited, stepped), &(answer, Ok(())));
+    let _ = passes.push(first);
+    let _ = passes.push(second);
+    play(&rt, pool, &END, passes);
 }
+
+// The first caller waits so, and the second one wakes it so; what the wait answers then.
+fn waits(waiting: Call, waker: Call, answer: Result<(), PoolError>) -> Life {
+    Life {
+        callers: 2,
+        begins: Beginning::Waits(waiting, waker, answer),
+        refusals: &[],
+        ends: Ending::Closed,
+    }
+}
+
+const WAITS: [(Call, Call, Result<(), PoolError>); 5] = [
+    (Call::Await(9), Call::Tick(9), Err(PoolError::TimedOut)),
+    (Call::Await(9), Call::Shutdown, Ok(())),
+    (Call::Await(9), Call::Stop, Ok(())),
+    (Call::WaitStep(0), Call::Purge, Ok(())),
+    (Call::WaitStep(0), Call::Tick(1), Ok(())),
+];
 
 #[test]
 fn wakes_who_waits(rt: HostRuntime) -> Result<(), Fail> {
     for (waiting, waker, answer) in WAITS {
         let hooks = Box::new(rt.alloc(), Lingering)?;
-        lives(rt, rt.alloc(), hooks, Life::Waiting(waiting, waker, answer))?;
+        lives(rt, rt.alloc(), hooks, &waits(waiting, waker, answer))?;
     }
     Ok(())
 }

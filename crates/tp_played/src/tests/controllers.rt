@@ -1,15 +1,12 @@
 //! Controllers' asks.
 
-use super::stage::Act::{self, Asks, Fills, Opens, Reads, Tells};
+use super::stage::Act::{self, Asks, Fills, Opens, Queues, Reads, Starts, Tells};
 use super::stage::{
     BARE, NO_COUNTS, NONE, PAYLOAD_0, PAYLOAD_1, PAYLOAD_2, PAYLOAD_3, SLOT_0, SLOT_1, SMALL,
-    TASK_0, TASK_1, TASK_2, TASK_3, TASK_4, TASK_9, act_out, plays, pool, queues, starts,
+    TASK_0, TASK_1, TASK_2, TASK_3, TASK_4, TASK_9, plays,
 };
-use std::alloc::Global;
-use std::process::Abort;
 use tp_record::entries::{Ask, Did, Looked, Opened, Started, Took};
 use tp_types::configs::{Config, Verdict};
-use tp_types::ids::TaskId;
 use tp_types::refusals::PoolError;
 use tp_types::states::{Counts, RunState};
 use tp_types::tasks::{Fate, Kind, Place};
@@ -17,17 +14,11 @@ use tp_types::tasks::{Fate, Kind, Place};
 /// One core worker, one more at need, and a queue without bound.
 const BUSY: Config = Config { core: 1, ..BARE };
 
-/// A script of a pool of one live worker, with tasks 0 to 3 of this kind: the worker runs the first, and the others are queued.
-fn plays_busy(rt: &impl Abort, alloc: Global, kind: Kind, acts: &[Act]) {
-    let mut pool = pool(rt, alloc, BUSY);
-    starts(rt, &mut pool, kind);
-    queues(rt, &mut pool, kind, 0, TASK_1);
-    queues(rt, &mut pool, kind, 0, TASK_2);
-    queues(rt, &mut pool, kind, 0, TASK_3);
-    act_out(rt, &mut pool, acts);
-}
-
-const SHUTS_DOWN: [Act; 21] = [
+static SHUTS_DOWN: [Act; 25] = [
+    Starts(Kind::Plain),
+    Queues(TASK_1, Kind::Plain, 0),
+    Queues(TASK_2, Kind::Plain, 0),
+    Queues(TASK_3, Kind::Plain, 0),
     Reads(
         RunState::Running,
         0,
@@ -121,10 +112,14 @@ const SHUTS_DOWN: [Act; 21] = [
 /// From running to terminated, each rank in its turn.
 #[test]
 fn shuts_down(rt: HostRuntime) {
-    plays_busy(&rt, rt.alloc(), Kind::Plain, &SHUTS_DOWN);
+    plays(&rt, rt.alloc(), BUSY, &SHUTS_DOWN);
 }
 
-const STOPS: [Act; 15] = [
+static STOPS: [Act; 19] = [
+    Starts(Kind::Future),
+    Queues(TASK_1, Kind::Future, 0),
+    Queues(TASK_2, Kind::Future, 0),
+    Queues(TASK_3, Kind::Future, 0),
     Asks(
         Ask::Cancel(TASK_2, false),
         Ok(Did::Cancel(TASK_2, false, true)),
@@ -168,10 +163,14 @@ const STOPS: [Act; 15] = [
 /// A stop hands back the queue in its order, a cancelled task without its payload, and a second stop nothing.
 #[test]
 fn stops(rt: HostRuntime) {
-    plays_busy(&rt, rt.alloc(), Kind::Future, &STOPS);
+    plays(&rt, rt.alloc(), BUSY, &STOPS);
 }
 
-const REMOVES_CANCELS_AND_PURGES: [Act; 22] = [
+static REMOVES_CANCELS_AND_PURGES: [Act; 26] = [
+    Starts(Kind::Future),
+    Queues(TASK_1, Kind::Future, 0),
+    Queues(TASK_2, Kind::Future, 0),
+    Queues(TASK_3, Kind::Future, 0),
     Asks(
         Ask::Cancel(TASK_0, true),
         Ok(Did::Cancel(TASK_0, true, true)),
@@ -238,10 +237,14 @@ const REMOVES_CANCELS_AND_PURGES: [Act; 22] = [
 /// A cancel has effect until the task's end, and takes its payload until its begin; a removed task is cancelled no more.
 #[test]
 fn removes_cancels_and_purges(rt: HostRuntime) {
-    plays_busy(&rt, rt.alloc(), Kind::Future, &REMOVES_CANCELS_AND_PURGES);
+    plays(&rt, rt.alloc(), BUSY, &REMOVES_CANCELS_AND_PURGES);
 }
 
-const TAKES_DONE_TASKS: [Act; 12] = [
+static TAKES_DONE_TASKS: [Act; 16] = [
+    Starts(Kind::Group(4)),
+    Queues(TASK_1, Kind::Group(4), 0),
+    Queues(TASK_2, Kind::Group(4), 0),
+    Queues(TASK_3, Kind::Group(4), 0),
     Opens(4, true),
     Opens(5, false),
     Asks(Ask::TakeDone(4), Err(PoolError::NotThere), NONE),
@@ -267,10 +270,10 @@ const TAKES_DONE_TASKS: [Act; 12] = [
 /// The tasks of a group are handed out in the order in which they were completed, and none that was handed back.
 #[test]
 fn takes_done_tasks(rt: HostRuntime) {
-    plays_busy(&rt, rt.alloc(), Kind::Group(4), &TAKES_DONE_TASKS);
+    plays(&rt, rt.alloc(), BUSY, &TAKES_DONE_TASKS);
 }
 
-const SETS: [Act; 30] = [
+static SETS: [Act; 30] = [
     Asks(Ask::Core(3), Err(PoolError::BadSizes), NONE),
     Asks(Ask::Maximum(0), Err(PoolError::BadSizes), NONE),
     Asks(Ask::Maximum(1025), Err(PoolError::BadSizes), NONE),

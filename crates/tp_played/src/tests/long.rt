@@ -1,7 +1,7 @@
 //! Thousands of tasks through a bounded queue and four workers: what the pool counts is what its callers count.
 
 use super::compare::same;
-use super::stage::{NO_COUNTS, Pool, ask, asks, counts, does, has_fate, pays, pool, task_in};
+use super::stage::{Act, NO_COUNTS, Pool, ask, asks, counts, does, has_fate, pays, plays, task_in};
 use std::process::Abort;
 use tp_record::entries::{Ask, Did, Grown, Looked, Offered, Ruled, Started};
 use tp_types::configs::{Config, Policy, QueueKind, Verdict};
@@ -187,13 +187,19 @@ fn hands_out(rt: &impl Abort, pool: &mut Pool) {
     }
 }
 
-#[test]
-fn counts_what_is_done(rt: HostRuntime) {
-    let mut pool = pool(&rt, rt.alloc(), BOUNDED);
+/// Thousands of tasks go through the pool until it is terminated: what it counts is what its callers count.
+pub fn counts_what_is_done(rt: &impl Abort, pool: &mut Pool) {
     let mut tally = Tally::default();
-    submit_all(&rt, &mut pool, &mut tally);
-    terminate(&rt, &mut pool, &mut tally);
-    adds_up(&rt, &tally);
-    counts_the_same(&rt, &pool, &tally);
-    hands_out(&rt, &mut pool);
+    submit_all(rt, pool, &mut tally);
+    terminate(rt, pool, &mut tally);
+    adds_up(rt, &tally);
+    counts_the_same(rt, pool, &tally);
+    hands_out(rt, pool);
+}
+
+static WORKS: [Act; 1] = [Act::Counts];
+
+#[test]
+fn works_for_thousands_of_tasks(rt: HostRuntime) {
+    plays(&rt, rt.alloc(), BOUNDED, &WORKS);
 }

@@ -2,9 +2,9 @@
 //! where the Nth allocation fails, as under `rt try --test --fail-alloc N`.
 
 use super::compare::same;
-use super::stage::Act::{self, Asks};
+use super::stage::Act::{self, Asks, Unknown, Waiting};
 use super::stage::{
-    NO_COUNTS, NONE, Pool, SLOT_0, SMALL, act_out, asks, pool, read, reads, tells, tells_nothing,
+    NO_COUNTS, NONE, Pool, SLOT_0, SMALL, Wait, asks, plays, read, reads, tells, tells_nothing,
 };
 use std::process::Abort;
 use tp_record::entries::{Ask, Did, Looked, Offered, Seconded};
@@ -34,8 +34,15 @@ fn submit(rt: &impl Abort, pool: &mut Pool, number: u32) {
     asks(rt, pool, Ask::Second(t), Ok(Did::Second(t, seconded)), NONE);
 }
 
+/// Submits the tasks.
+fn submit_all(rt: &impl Abort, pool: &mut Pool) {
+    for number in 0..TASKS {
+        submit(rt, pool, number);
+    }
+}
+
 /// The pool runs, and each task waits in its queue.
-fn waits(rt: &impl Abort, pool: &Pool) {
+fn keeps(rt: &impl Abort, pool: &Pool) {
     for number in 0..TASKS {
         tells(rt, pool, TaskId(number), Place::Queued, None, Ok(None));
     }
@@ -61,7 +68,7 @@ fn stop(rt: &impl Abort, pool: &mut Pool) {
         Err(error) => {
             let wanted = (PoolError::NoMemory, before);
             same(rt, 0, &(error, read(pool)), &wanted);
-            waits(rt, pool);
+            keeps(rt, pool);
             stop_once(pool).expect(rt, "memory at the second try")
         }
     };
@@ -73,35 +80,43 @@ fn stop(rt: &impl Abort, pool: &mut Pool) {
     }
 }
 
-/// The maximum is set, and then the core size.
-const LARGER: [Act; 3] = [
+/// What becomes of the tasks that wait.
+pub fn waits(rt: &impl Abort, pool: &mut Pool, wait: Wait) {
+    match wait {
+        Wait::Submitted => submit_all(rt, pool),
+        Wait::Kept => keeps(rt, pool),
+        Wait::Stopped => stop(rt, pool),
+    }
+}
+
+/// Where all tasks wait, the maximum is set, and then the core size.
+static GROWS: [Act; 8] = [
+    Waiting(Wait::Submitted),
+    Waiting(Wait::Kept),
     Asks(Ask::Core(3), Err(PoolError::BadSizes), NONE),
     Asks(Ask::Maximum(200), Ok(Did::Maximum(200)), NONE),
     Asks(Ask::Core(3), Ok(Did::Core(3, 3)), NONE),
+    Waiting(Wait::Kept),
+    Waiting(Wait::Stopped),
+    Unknown(TaskId(TASKS)),
+];
+
+const QUEUES: [QueueKind; 3] = [
+    QueueKind::Unbounded,
+    QueueKind::Priority,
+    QueueKind::Bounded(TASKS),
 ];
 
 /// Tasks of several groups grow the tasks, the groups and the queue, and each more than once; a larger maximum grows the slots.
 #[test]
 fn grows(rt: HostRuntime) {
-    for queue in [
-        QueueKind::Unbounded,
-        QueueKind::Priority,
-        QueueKind::Bounded(TASKS),
-    ] {
+    for queue in QUEUES {
         let config = Config {
             core: 0,
             queue,
             record_limit: 512,
             ..SMALL
         };
-        let mut pool = pool(&rt, rt.alloc(), config);
-        for number in 0..TASKS {
-            submit(&rt, &mut pool, number);
-        }
-        waits(&rt, &pool);
-        act_out(&rt, &mut pool, &LARGER);
-        waits(&rt, &pool);
-        stop(&rt, &mut pool);
-        tells_nothing(&rt, &pool, TaskId(TASKS));
+        plays(&rt, rt.alloc(), config, &GROWS);
     }
 }

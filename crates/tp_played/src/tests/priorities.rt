@@ -1,15 +1,12 @@
 //! Priorities: in which order tasks leave a priority queue, and that other queues ask nothing of them.
 
-use super::stage::Act::{self, Asks, Reads, Serves, Tells};
+use super::stage::Act::{self, Asks, Queues, Reads, Serves, Starts, Tells};
 use super::stage::{
-    BARE, NO_COUNTS, NONE, SLOT_0, TASK_0, TASK_1, TASK_2, TASK_3, TASK_4, TASK_5, TASK_6, act_out,
-    counts, plays, pool, queues, starts,
+    BARE, NO_COUNTS, NONE, SLOT_0, TASK_0, TASK_1, TASK_2, TASK_3, TASK_4, TASK_5, TASK_6, plays,
+    plays_all,
 };
-use std::alloc::Global;
-use std::process::Abort;
 use tp_record::entries::{Ask, Did, Looked, Offered, Opened, Ruled, Seconded, Started, Took};
 use tp_types::configs::{Config, Policy, QueueKind, Verdict};
-use tp_types::ids::TaskId;
 use tp_types::refusals::PoolError;
 use tp_types::states::{Counts, RunState};
 use tp_types::tasks::{Fate, Kind, Place};
@@ -24,25 +21,7 @@ const RANKED: Config = Config {
     ..BARE
 };
 
-/// A script of a pool whose one worker runs task 0, while tasks of these priorities are queued.
-fn plays_queued(
-    rt: &impl Abort,
-    alloc: Global,
-    config: Config,
-    kind: Kind,
-    priorities: &[u32],
-    acts: &[Act],
-) {
-    let mut pool = pool(rt, alloc, config);
-    starts(rt, &mut pool, kind);
-    for priority in priorities {
-        let t = TaskId(counts(&pool).submitted);
-        queues(rt, &mut pool, kind, *priority, t);
-    }
-    act_out(rt, &mut pool, acts);
-}
-
-const WORKED: [Act; 22] = [
+static WORKED: [Act; 22] = [
     Asks(
         Ask::Submit(Kind::Plain, 0),
         Ok(Did::Submit(TASK_0, Kind::Plain, 0, Looked::Reserve(SLOT_0))),
@@ -162,7 +141,14 @@ fn takes_the_least_first(rt: HostRuntime) {
     plays(&rt, rt.alloc(), RANKED, &WORKED);
 }
 
-const BOTH_ENDS: [Act; 5] = [
+static BOTH_ENDS: [Act; 12] = [
+    Starts(Kind::Plain),
+    Queues(TASK_1, Kind::Plain, u32::MAX),
+    Queues(TASK_2, Kind::Plain, 0),
+    Queues(TASK_3, Kind::Plain, u32::MAX - 1),
+    Queues(TASK_4, Kind::Plain, 1),
+    Queues(TASK_5, Kind::Plain, u32::MAX),
+    Queues(TASK_6, Kind::Plain, 0),
     Reads(
         RunState::Running,
         0,
@@ -198,20 +184,13 @@ const BOTH_ENDS: [Act; 5] = [
 /// The least and the greatest priorities that there are, and their neighbours.
 #[test]
 fn goes_up_to_the_greatest(rt: HostRuntime) {
-    plays_queued(
-        &rt,
-        rt.alloc(),
-        RANKED,
-        Kind::Plain,
-        &[u32::MAX, 0, u32::MAX - 1, 1, u32::MAX, 0],
-        &BOTH_ENDS,
-    );
+    plays(&rt, rt.alloc(), RANKED, &BOTH_ENDS);
 }
 
 /// Kinds of queues from which tasks leave in the order of their offers, whatever their priorities.
 const UNRANKED: [QueueKind; 2] = [QueueKind::Unbounded, QueueKind::Bounded(4)];
 
-const IN_TURN: [Act; 3] = [
+static IN_TURN: [Act; 3] = [
     Asks(
         Ask::End(SLOT_0, Ok(1)),
         Ok(Did::End(SLOT_0, TASK_0, Ok(1))),
@@ -232,31 +211,37 @@ const IN_TURN: [Act; 3] = [
     ),
 ];
 
+static EQUALS: [Act; 5] = [
+    Starts(Kind::Plain),
+    Queues(TASK_1, Kind::Plain, 7),
+    Queues(TASK_2, Kind::Plain, 7),
+    Queues(TASK_3, Kind::Plain, 7),
+    Queues(TASK_4, Kind::Plain, 7),
+];
+
+static UNEQUALS: [Act; 5] = [
+    Starts(Kind::Plain),
+    Queues(TASK_1, Kind::Plain, 5),
+    Queues(TASK_2, Kind::Plain, 2),
+    Queues(TASK_3, Kind::Plain, u32::MAX),
+    Queues(TASK_4, Kind::Plain, 0),
+];
+
 /// Tasks of one priority leave in the order of their offers, and so do all from a queue of another kind.
 #[test]
 fn keeps_the_order_of_offers(rt: HostRuntime) {
-    plays_queued(
-        &rt,
-        rt.alloc(),
-        RANKED,
-        Kind::Plain,
-        &[7, 7, 7, 7],
-        &IN_TURN,
-    );
+    plays_all(&rt, rt.alloc(), RANKED, &[&EQUALS, &IN_TURN]);
     for queue in UNRANKED {
         let config = Config { queue, ..RANKED };
-        plays_queued(
-            &rt,
-            rt.alloc(),
-            config,
-            Kind::Plain,
-            &[5, 2, u32::MAX, 0],
-            &IN_TURN,
-        );
+        plays_all(&rt, rt.alloc(), config, &[&UNEQUALS, &IN_TURN]);
     }
 }
 
-const LATE_COMERS: [Act; 10] = [
+static LATE_COMERS: [Act; 14] = [
+    Starts(Kind::Plain),
+    Queues(TASK_1, Kind::Plain, 4),
+    Queues(TASK_2, Kind::Plain, 6),
+    Queues(TASK_3, Kind::Plain, 4),
     Asks(
         Ask::End(SLOT_0, Ok(1)),
         Ok(Did::End(SLOT_0, TASK_0, Ok(1))),
@@ -311,17 +296,17 @@ const LATE_COMERS: [Act; 10] = [
 /// A task that comes later goes before those of greater numbers, and behind its equals.
 #[test]
 fn puts_late_comers_in(rt: HostRuntime) {
-    plays_queued(
-        &rt,
-        rt.alloc(),
-        RANKED,
-        Kind::Plain,
-        &[4, 6, 4],
-        &LATE_COMERS,
-    );
+    plays(&rt, rt.alloc(), RANKED, &LATE_COMERS);
 }
 
-const TAKEN_OUT: [Act; 11] = [
+static TAKEN_OUT: [Act; 18] = [
+    Starts(Kind::Future),
+    Queues(TASK_1, Kind::Future, 4),
+    Queues(TASK_2, Kind::Future, 1),
+    Queues(TASK_3, Kind::Future, 3),
+    Queues(TASK_4, Kind::Future, 1),
+    Queues(TASK_5, Kind::Future, 2),
+    Queues(TASK_6, Kind::Future, 3),
     Asks(
         Ask::Cancel(TASK_4, false),
         Ok(Did::Cancel(TASK_4, false, true)),
@@ -379,17 +364,14 @@ const TAKEN_OUT: [Act; 11] = [
 /// Where tasks are removed, or cancelled and purged, the others keep their order.
 #[test]
 fn takes_tasks_out(rt: HostRuntime) {
-    plays_queued(
-        &rt,
-        rt.alloc(),
-        RANKED,
-        Kind::Future,
-        &[4, 1, 3, 1, 2, 3],
-        &TAKEN_OUT,
-    );
+    plays(&rt, rt.alloc(), RANKED, &TAKEN_OUT);
 }
 
-const SKIPPED: [Act; 6] = [
+static SKIPPED: [Act; 10] = [
+    Starts(Kind::Future),
+    Queues(TASK_1, Kind::Future, 2),
+    Queues(TASK_2, Kind::Future, 1),
+    Queues(TASK_3, Kind::Future, 2),
     Asks(
         Ask::Cancel(TASK_2, false),
         Ok(Did::Cancel(TASK_2, false, true)),
@@ -429,10 +411,15 @@ const SKIPPED: [Act; 6] = [
 /// A cancelled task keeps its place, and is skipped where it is the head.
 #[test]
 fn skips_a_cancelled_head(rt: HostRuntime) {
-    plays_queued(&rt, rt.alloc(), RANKED, Kind::Future, &[2, 1, 2], &SKIPPED);
+    plays(&rt, rt.alloc(), RANKED, &SKIPPED);
 }
 
-const STOPPED: [Act; 7] = [
+static STOPPED: [Act; 12] = [
+    Starts(Kind::Future),
+    Queues(TASK_1, Kind::Future, 4),
+    Queues(TASK_2, Kind::Future, 1),
+    Queues(TASK_3, Kind::Future, 3),
+    Queues(TASK_4, Kind::Future, 1),
     Asks(
         Ask::Cancel(TASK_4, false),
         Ok(Did::Cancel(TASK_4, false, true)),
@@ -480,17 +467,13 @@ const STOPPED: [Act; 7] = [
 /// A stop hands the tasks back in the order in which they would have left.
 #[test]
 fn hands_back_by_priority(rt: HostRuntime) {
-    plays_queued(
-        &rt,
-        rt.alloc(),
-        RANKED,
-        Kind::Future,
-        &[4, 1, 3, 1],
-        &STOPPED,
-    );
+    plays(&rt, rt.alloc(), RANKED, &STOPPED);
 }
 
-const TAKEN_BACK: [Act; 14] = [
+static TAKEN_BACK: [Act; 17] = [
+    Starts(Kind::Plain),
+    Queues(TASK_1, Kind::Plain, 4),
+    Queues(TASK_2, Kind::Plain, 2),
     Asks(
         Ask::Submit(Kind::Plain, 3),
         Ok(Did::Submit(TASK_3, Kind::Plain, 3, Looked::Queue)),
@@ -568,7 +551,7 @@ const TAKEN_BACK: [Act; 14] = [
 /// A second look after a shutdown takes its task out from among the others.
 #[test]
 fn takes_back_by_second_looks(rt: HostRuntime) {
-    plays_queued(&rt, rt.alloc(), RANKED, Kind::Plain, &[4, 2], &TAKEN_BACK);
+    plays(&rt, rt.alloc(), RANKED, &TAKEN_BACK);
 }
 
 /// The policy that discards the oldest of a full queue.
@@ -577,7 +560,10 @@ const DISCARDS: Config = Config {
     ..RANKED
 };
 
-const DISCARDED: [Act; 8] = [
+static DISCARDED: [Act; 11] = [
+    Starts(Kind::Plain),
+    Queues(TASK_1, Kind::Plain, 4),
+    Queues(TASK_2, Kind::Plain, 2),
     Asks(
         Ask::Submit(Kind::Plain, 0),
         Ok(Did::Submit(TASK_3, Kind::Plain, 0, Looked::Queue)),
@@ -623,5 +609,5 @@ const DISCARDED: [Act; 8] = [
 /// A priority queue is never full: a refused task is discarded itself, and not the head.
 #[test]
 fn discards_no_head(rt: HostRuntime) {
-    plays_queued(&rt, rt.alloc(), DISCARDS, Kind::Plain, &[4, 2], &DISCARDED);
+    plays(&rt, rt.alloc(), DISCARDS, &DISCARDED);
 }

@@ -4,14 +4,16 @@
 ghost use Rattle.tp_machine.specs.Stepped.{IsPaid, FitsOutcome};
 
 use super::compare::same;
+use super::long::counts_what_is_done;
+use super::memory::waits;
 use std::alloc::Global;
 use std::process::Abort;
 use tp_machine::answers::Begun;
 use tp_machine::machine::Machine;
 use tp_machine::steps::Stepped;
-use tp_record::entries::{Ask, Did, Entry, Started, Took};
+use tp_record::entries::{Ask, Did, Entry, Grown, Looked, Offered, Ruled, Started, Took};
 use tp_record::recorders::Full;
-use tp_types::configs::{Config, Policy, QueueKind};
+use tp_types::configs::{Config, Policy, QueueKind, Verdict};
 use tp_types::ids::{SlotId, TaskId};
 use tp_types::refusals::PoolError;
 use tp_types::states::{Counts, RunState};
@@ -37,10 +39,28 @@ pub enum Act {
     Opens(u32, bool),
     /// The pool's state, moment and counts.
     Reads(RunState, u64, Counts),
+    /// The worker of slot 0 runs task 0, of this kind and priority 0.
+    Starts(Kind),
+    /// A new task, this one, of this kind and priority waits in the queue.
+    Queues(TaskId, Kind, u32),
     /// The worker of slot 0 takes these tasks as heads of the queue, one after the other, and runs each.
     Serves(&'static [TaskId]),
+    /// The refused task 1 is tried again as it is, so often, and refused each time.
+    Retries(u32),
     /// The record is filled up to what is owed.
     Fills,
+    /// Thousands of tasks are done, and counted.
+    Counts,
+    /// Tasks of several groups are submitted, and wait in the queue; they wait there; a stop hands them back.
+    Waiting(Wait),
+}
+
+/// What becomes of many tasks that wait.
+#[derive(Clone, Copy)]
+pub enum Wait {
+    Submitted,
+    Kept,
+    Stopped,
 }
 
 pub const TASK_0: TaskId = TaskId(0);
@@ -149,7 +169,7 @@ pub fn read(pool: &Pool) -> Reading {
 }
 
 /// A new pool. A want of memory is tried once more.
-pub fn pool(rt: &impl Abort, alloc: Global, config: Config) -> Pool {
+fn pool(rt: &impl Abort, alloc: Global, config: Config) -> Pool {
     match Machine::new(alloc, config) {
         Ok(pool) => pool,
         Err(error) => {
@@ -282,7 +302,7 @@ pub fn does(rt: &impl Abort, pool: &mut Pool, asked: Ask) {
 }
 
 /// The worker of slot 0 runs task 0, of priority 0.
-pub fn starts(rt: &impl Abort, pool: &mut Pool, kind: Kind) {
+fn starts(rt: &impl Abort, pool: &mut Pool, kind: Kind) {
     does(rt, pool, Ask::Submit(kind, 0));
     does(rt, pool, Ask::Open(SLOT_0));
     does(rt, pool, Ask::Take(SLOT_0));
@@ -290,10 +310,30 @@ pub fn starts(rt: &impl Abort, pool: &mut Pool, kind: Kind) {
 }
 
 /// A new task, this one, waits in the queue.
-pub fn queues(rt: &impl Abort, pool: &mut Pool, kind: Kind, priority: u32, t: TaskId) {
+fn queues(rt: &impl Abort, pool: &mut Pool, kind: Kind, priority: u32, t: TaskId) {
     does(rt, pool, Ask::Submit(kind, priority));
     does(rt, pool, Ask::Offer(t));
     does(rt, pool, Ask::Second(t));
+}
+
+/// The verdict that tries the refused task 1 again, which is refused once more.
+fn retry(rt: &impl Abort, pool: &mut Pool) {
+    let verdict = Verdict::DiscardOldest;
+    let ruled = Did::Verdict(TASK_1, verdict, Ruled::Retry);
+    asks(rt, pool, Ask::Verdict(TASK_1, verdict), Ok(ruled), NONE);
+    let looked = Did::Look(TASK_1, Looked::Queue);
+    asks(rt, pool, Ask::Look(TASK_1), Ok(looked), NONE);
+    let offered = Did::Offer(TASK_1, Offered::Full);
+    asks(rt, pool, Ask::Offer(TASK_1), Ok(offered), NONE);
+    let grown = Did::Grow(TASK_1, Grown::Refuse);
+    asks(rt, pool, Ask::Grow(TASK_1), Ok(grown), NONE);
+}
+
+/// The refused task 1 is tried again so often.
+fn retry_often(rt: &impl Abort, pool: &mut Pool, times: u32) {
+    for _ in 0..times {
+        retry(rt, pool);
+    }
 }
 
 /// The worker of slot 0 takes this task as the queue's head, and runs it.
@@ -390,10 +430,9 @@ pub fn tells_nothing(rt: &impl Abort, pool: &Pool, t: TaskId) {
     same(rt, 0, &(t, told(pool, t)), &(t, wanted));
 }
 
-/// Acts a line of a script out.
-fn act_line(rt: &impl Abort, pool: &mut Pool, line: &Act) {
+/// Compares what is read of the pool.
+fn read_line(rt: &impl Abort, pool: &Pool, line: &Act) {
     match line {
-        Act::Asks(asked, answer, paid) => asks(rt, pool, *asked, *answer, *paid),
         Act::Tells(t, place, fate, future) => tells(rt, pool, *t, *place, *fate, *future),
         Act::Unknown(t) => tells_nothing(rt, pool, *t),
         Act::Holds(w, t) => same(rt, w.0, &task_in(pool, *w), t),
@@ -404,22 +443,44 @@ fn act_line(rt: &impl Abort, pool: &mut Pool, line: &Act) {
             &(*group, *is_open),
         ),
         Act::Reads(state, moment, counts) => reads(rt, pool, *state, *moment, *counts),
+        _ => {}
+    }
+}
+
+/// Acts a line of a script out.
+fn act_line(rt: &impl Abort, pool: &mut Pool, line: &Act) {
+    match line {
+        Act::Asks(asked, answer, paid) => asks(rt, pool, *asked, *answer, *paid),
+        Act::Starts(kind) => starts(rt, pool, *kind),
+        Act::Queues(t, kind, priority) => queues(rt, pool, *kind, *priority, *t),
         Act::Serves(order) => serve_all(rt, pool, order),
+        Act::Retries(times) => retry_often(rt, pool, *times),
         Act::Fills => fill(rt, pool),
+        Act::Counts => counts_what_is_done(rt, pool),
+        Act::Waiting(wait) => waits(rt, pool, *wait),
+        _ => read_line(rt, pool, line),
     }
 }
 
 /// Acts a script out.
-pub fn act_out(rt: &impl Abort, pool: &mut Pool, script: &[Act]) {
+fn act_out(rt: &impl Abort, pool: &mut Pool, script: &[Act]) {
     for line in script {
         act_line(rt, pool, line);
     }
 }
 
+/// Acts scripts out in a new pool, one behind the other. This is the only function that has a pool of its own: what owns one is
+/// dear to prove.
+pub fn plays_all(rt: &impl Abort, alloc: Global, config: Config, scripts: &[&[Act]]) {
+    let mut pool = pool(rt, alloc, config);
+    for script in scripts {
+        act_out(rt, &mut pool, script);
+    }
+}
+
 /// Acts a script out in a new pool.
 pub fn plays(rt: &impl Abort, alloc: Global, config: Config, script: &[Act]) {
-    let mut pool = pool(rt, alloc, config);
-    act_out(rt, &mut pool, script);
+    plays_all(rt, alloc, config, &[script]);
 }
 
 /// The task in this slot.

@@ -1,9 +1,9 @@
 //! Submitters' asks.
 
-use super::stage::Act::{self, Asks, Fills, Reads, Tells};
+use super::stage::Act::{self, Asks, Fills, Reads, Retries, Tells};
 use super::stage::{
     BARE, Handed, NO_COUNTS, NONE, PAYLOAD_0, PAYLOAD_1, PAYLOAD_4, SLOT_0, SLOT_1, SMALL, TASK_0,
-    TASK_1, TASK_2, TASK_3, TASK_4, TASK_9, act_out, plays, pool,
+    TASK_1, TASK_2, TASK_3, TASK_4, TASK_9, plays, plays_all,
 };
 use std::alloc::Global;
 use std::process::Abort;
@@ -46,7 +46,7 @@ const RETRIED: Config = Config {
     ..FULL
 };
 
-const FULL_POOL: [Act; 6] = [
+static FULL_POOL: [Act; 6] = [
     Asks(
         Ask::Submit(Kind::Future, 0),
         Ok(Did::Submit(TASK_0, Kind::Future, 0, Looked::Queue)),
@@ -82,16 +82,14 @@ const FULL_POOL: [Act; 6] = [
 /// A script of a pool of futures, without workers, whose next task is refused: its one place is taken by task 0.
 fn plays_full(rt: &impl Abort, alloc: Global, policy: Policy, acts: &[Act]) {
     let config = Config { policy, ..FULL };
-    let mut pool = pool(rt, alloc, config);
-    act_out(rt, &mut pool, &FULL_POOL);
-    act_out(rt, &mut pool, acts);
+    plays_all(rt, alloc, config, &[&FULL_POOL, acts]);
 }
 
 /// A policy, what a verdict on task 1 does and hands out, where the task is then, and its fate.
-const JUDGES: [(Policy, [Act; 2]); 8] = [
+static JUDGES: [(Policy, &[Act]); 8] = [
     (
         Policy::Abort,
-        [
+        &[
             Asks(
                 Ask::Verdict(TASK_1, Verdict::Abort),
                 Ok(Did::Verdict(TASK_1, Verdict::Abort, Ruled::Rejected)),
@@ -107,7 +105,7 @@ const JUDGES: [(Policy, [Act; 2]); 8] = [
     ),
     (
         Policy::Own,
-        [
+        &[
             Asks(
                 Ask::Verdict(TASK_1, Verdict::Abort),
                 Ok(Did::Verdict(TASK_1, Verdict::Abort, Ruled::Rejected)),
@@ -123,7 +121,7 @@ const JUDGES: [(Policy, [Act; 2]); 8] = [
     ),
     (
         Policy::Discard,
-        [
+        &[
             Asks(
                 Ask::Verdict(TASK_1, Verdict::Discard),
                 Ok(Did::Verdict(TASK_1, Verdict::Discard, Ruled::Discarded)),
@@ -139,7 +137,7 @@ const JUDGES: [(Policy, [Act; 2]); 8] = [
     ),
     (
         Policy::Own,
-        [
+        &[
             Asks(
                 Ask::Verdict(TASK_1, Verdict::Discard),
                 Ok(Did::Verdict(TASK_1, Verdict::Discard, Ruled::Discarded)),
@@ -155,7 +153,7 @@ const JUDGES: [(Policy, [Act; 2]); 8] = [
     ),
     (
         Policy::CallerRuns,
-        [
+        &[
             Asks(
                 Ask::Verdict(TASK_1, Verdict::CallerRuns),
                 Ok(Did::Verdict(TASK_1, Verdict::CallerRuns, Ruled::Caller)),
@@ -166,7 +164,7 @@ const JUDGES: [(Policy, [Act; 2]); 8] = [
     ),
     (
         Policy::Own,
-        [
+        &[
             Asks(
                 Ask::Verdict(TASK_1, Verdict::CallerRuns),
                 Ok(Did::Verdict(TASK_1, Verdict::CallerRuns, Ruled::Caller)),
@@ -177,7 +175,7 @@ const JUDGES: [(Policy, [Act; 2]); 8] = [
     ),
     (
         Policy::DiscardOldest,
-        [
+        &[
             Asks(
                 Ask::Verdict(TASK_1, Verdict::DiscardOldest),
                 Ok(Did::Verdict(TASK_1, Verdict::DiscardOldest, Ruled::RetryDrop(TASK_0))),
@@ -188,7 +186,7 @@ const JUDGES: [(Policy, [Act; 2]); 8] = [
     ),
     (
         Policy::Own,
-        [
+        &[
             Asks(
                 Ask::Verdict(TASK_1, Verdict::DiscardOldest),
                 Ok(Did::Verdict(TASK_1, Verdict::DiscardOldest, Ruled::RetryDrop(TASK_0))),
@@ -207,7 +205,7 @@ fn judges(rt: HostRuntime) {
     }
 }
 
-const SUBMITS: [Act; 28] = [
+static SUBMITS: [Act; 28] = [
     Asks(
         Ask::Submit(Kind::Plain, 0),
         Ok(Did::Submit(TASK_0, Kind::Plain, 0, Looked::Reserve(SLOT_0))),
@@ -339,7 +337,7 @@ fn submits(rt: HostRuntime) {
     plays(&rt, rt.alloc(), OWN, &SUBMITS);
 }
 
-const HANDS_TO_THE_LONGEST_IDLE: [Act; 19] = [
+static HANDS_TO_THE_LONGEST_IDLE: [Act; 19] = [
     Asks(Ask::Prestart, Ok(Did::Prestart(Some(SLOT_0))), NONE),
     Asks(Ask::Prestart, Ok(Did::Prestart(Some(SLOT_1))), NONE),
     Asks(Ask::Prestart, Ok(Did::Prestart(None)), NONE),
@@ -408,7 +406,7 @@ fn hands_to_the_longest_idle(rt: HostRuntime) {
     plays(&rt, rt.alloc(), HANDOFF, &HANDS_TO_THE_LONGEST_IDLE);
 }
 
-const LOOKS_TWICE: [Act; 12] = [
+static LOOKS_TWICE: [Act; 12] = [
     Asks(
         Ask::Submit(Kind::Plain, 0),
         Ok(Did::Submit(TASK_0, Kind::Plain, 0, Looked::Queue)),
@@ -466,7 +464,7 @@ fn looks_twice(rt: HostRuntime) {
     plays(&rt, rt.alloc(), BARE, &LOOKS_TWICE);
 }
 
-const JUDGES_LATE: [Act; 7] = [
+static JUDGES_LATE: [Act; 7] = [
     Asks(
         Ask::Cancel(TASK_0, false),
         Ok(Did::Cancel(TASK_0, false, true)),
@@ -508,7 +506,7 @@ fn judges_late(rt: HostRuntime) {
     plays_full(&rt, rt.alloc(), Policy::Own, &JUDGES_LATE);
 }
 
-const SKIPS: [Act; 2] = [
+static SKIPS: [Act; 2] = [
     Asks(
         Ask::Cancel(TASK_1, true),
         Ok(Did::Cancel(TASK_1, true, true)),
@@ -527,7 +525,7 @@ fn skips(rt: HostRuntime) {
     plays_full(&rt, rt.alloc(), Policy::CallerRuns, &SKIPS);
 }
 
-const REFUSES_SUBMITTERS: [Act; 13] = [
+static REFUSES_SUBMITTERS: [Act; 13] = [
     Asks(Ask::Look(TASK_9), Err(PoolError::UnknownTask), NONE),
     Asks(Ask::Offer(TASK_9), Err(PoolError::UnknownTask), NONE),
     Asks(Ask::Second(TASK_9), Err(PoolError::UnknownTask), NONE),
@@ -569,7 +567,7 @@ fn refuses_submitters(rt: HostRuntime) {
     plays_full(&rt, rt.alloc(), Policy::Abort, &REFUSES_SUBMITTERS);
 }
 
-const RETRIES: [Act; 6] = [
+static RETRIES: [Act; 8] = [
     Asks(
         Ask::Submit(Kind::Plain, 0),
         Ok(Did::Submit(TASK_0, Kind::Plain, 0, Looked::Queue)),
@@ -600,44 +598,16 @@ const RETRIES: [Act; 6] = [
         Ok(Did::Grow(TASK_1, Grown::Refuse)),
         NONE,
     ),
-];
-
-const RETRIED_ONCE: [Act; 4] = [
+    Retries(64),
     Asks(
         Ask::Verdict(TASK_1, Verdict::DiscardOldest),
-        Ok(Did::Verdict(TASK_1, Verdict::DiscardOldest, Ruled::Retry)),
-        NONE,
-    ),
-    Asks(
-        Ask::Look(TASK_1),
-        Ok(Did::Look(TASK_1, Looked::Queue)),
-        NONE,
-    ),
-    Asks(
-        Ask::Offer(TASK_1),
-        Ok(Did::Offer(TASK_1, Offered::Full)),
-        NONE,
-    ),
-    Asks(
-        Ask::Grow(TASK_1),
-        Ok(Did::Grow(TASK_1, Grown::Refuse)),
-        NONE,
+        Ok(Did::Verdict(TASK_1, Verdict::DiscardOldest, Ruled::Discarded)),
+        PAYLOAD_1,
     ),
 ];
-
-const RETRIED_NO_MORE: [Act; 1] = [Asks(
-    Ask::Verdict(TASK_1, Verdict::DiscardOldest),
-    Ok(Did::Verdict(TASK_1, Verdict::DiscardOldest, Ruled::Discarded)),
-    PAYLOAD_1,
-)];
 
 /// A handoff has no head: its refused task is tried again as it is, and after 64 retries it is discarded.
 #[test]
 fn retries(rt: HostRuntime) {
-    let mut pool = pool(&rt, rt.alloc(), RETRIED);
-    act_out(&rt, &mut pool, &RETRIES);
-    for _ in 0..64 {
-        act_out(&rt, &mut pool, &RETRIED_ONCE);
-    }
-    act_out(&rt, &mut pool, &RETRIED_NO_MORE);
+    plays(&rt, rt.alloc(), RETRIED, &RETRIES);
 }

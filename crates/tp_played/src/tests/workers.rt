@@ -19,7 +19,7 @@ const LARGER: Config = Config {
     ..SMALL
 };
 
-const WORKS: [Act; 20] = [
+static WORKS: [Act; 20] = [
     Unknown(TASK_0),
     Asks(
         Ask::Submit(Kind::Plain, 0),
@@ -87,7 +87,7 @@ fn works(rt: HostRuntime) {
     plays(&rt, rt.alloc(), SMALL, &WORKS);
 }
 
-const REFUSES_WORKERS: [Act; 7] = [
+static REFUSES_WORKERS: [Act; 7] = [
     Asks(Ask::Open(SLOT_9), Err(PoolError::UnknownSlot), NONE),
     Asks(Ask::Fail(SLOT_9), Err(PoolError::UnknownSlot), NONE),
     Asks(Ask::Take(SLOT_9), Err(PoolError::UnknownSlot), NONE),
@@ -103,7 +103,7 @@ fn refuses_workers(rt: HostRuntime) {
     plays(&rt, rt.alloc(), SMALL, &REFUSES_WORKERS);
 }
 
-const WORKS_ON_FUTURES: [Act; 16] = [
+static WORKS_ON_FUTURES: [Act; 16] = [
     Asks(
         Ask::Submit(Kind::Future, 0),
         Ok(Did::Submit(TASK_0, Kind::Future, 0, Looked::Queue)),
@@ -198,7 +198,7 @@ fn works_on_futures(rt: HostRuntime) {
     plays(&rt, rt.alloc(), BARE, &WORKS_ON_FUTURES);
 }
 
-const TIMES_OUT: [Act; 11] = [
+static TIMES_OUT: [Act; 11] = [
     Asks(Ask::CoreTimeout(true), Ok(Did::CoreTimeout(true)), NONE),
     Asks(Ask::Prestart, Ok(Did::Prestart(Some(SLOT_0))), NONE),
     Asks(Ask::Open(SLOT_0), Ok(Did::Open(SLOT_0, Opened::Live)), NONE),
@@ -225,7 +225,7 @@ fn times_out(rt: HostRuntime) {
     plays(&rt, rt.alloc(), SMALL, &TIMES_OUT);
 }
 
-const FAILS_AND_GIVES_UP: [Act; 20] = [
+static FAILS_AND_GIVES_UP: [Act; 20] = [
     Asks(
         Ask::Submit(Kind::Plain, 0),
         Ok(Did::Submit(TASK_0, Kind::Plain, 0, Looked::Reserve(SLOT_0))),

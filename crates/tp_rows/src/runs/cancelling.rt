@@ -213,7 +213,7 @@ t4 open\n\
 state running\n\
 counts submitted=5 run=1 caller=0 rejected=0 discarded=0 handedback=0 removed=1 cancelled=0 completed=1 queued=2 live=1 largest=1\n";
 
-pub(super) const ROWS: [(&[u8], &[u8]); 6] = [
+pub(super) static ROWS: [(&[u8], &[u8]); 6] = [
     (ROW_13, ROW_13_OUTPUT),
     (ROW_14, ROW_14_OUTPUT),
     (ROW_20, ROW_20_OUTPUT),

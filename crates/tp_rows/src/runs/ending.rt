@@ -144,7 +144,7 @@ const ROW_29_OUTPUT: &[u8] = b"1 prestart reserve w0\n\
 state stop\n\
 counts submitted=0 run=0 caller=0 rejected=0 discarded=0 handedback=0 removed=0 cancelled=0 completed=0 queued=0 live=0 largest=1\n";
 
-pub(super) const ROWS: [(&[u8], &[u8]); 6] = [
+pub(super) static ROWS: [(&[u8], &[u8]); 6] = [
     (ROW_06, ROW_06_OUTPUT),
     (ROW_07, ROW_07_OUTPUT),
     (ROW_08, ROW_08_OUTPUT),

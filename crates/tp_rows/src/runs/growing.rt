@@ -246,7 +246,7 @@ t3 run\n\
 state running\n\
 counts submitted=4 run=4 caller=0 rejected=0 discarded=0 handedback=0 removed=0 cancelled=0 completed=4 queued=0 live=1 largest=1\n";
 
-pub(super) const ROWS: [(&[u8], &[u8]); 8] = [
+pub(super) static ROWS: [(&[u8], &[u8]); 8] = [
     (ROW_02, ROW_02_OUTPUT),
     (ROW_03, ROW_03_OUTPUT),
     (ROW_04, ROW_04_OUTPUT),

@@ -30,7 +30,7 @@ fn ending_with(alloc: Global, line: &[u8]) -> Result<Result<(), PoolError>, Fail
     Ok(ending_of(alloc, text.as_slice()))
 }
 
-const BAD_LINES: [&[u8]; 44] = [
+static BAD_LINES: [&[u8]; 44] = [
     b"submit plain -0",
     b"submit plain !-1",
     b"submit plain 05",
@@ -86,7 +86,7 @@ fn refuses_bad_lines(rt: HostRuntime) -> Result<(), Fail> {
     Ok(())
 }
 
-const LAST_AND_PAST: [(&[u8], &[u8]); 12] = [
+static LAST_AND_PAST: [(&[u8], &[u8]); 12] = [
     (
         b"submit plain 9223372036854775807",
         b"submit plain 9223372036854775808",
@@ -125,7 +125,7 @@ fn reads_numbers_to_the_ends_of_their_types(rt: HostRuntime) -> Result<(), Fail>
     Ok(())
 }
 
-const POOL_LINES: [(&[u8], Result<(), PoolError>); 18] = [
+static POOL_LINES: [(&[u8], Result<(), PoolError>); 18] = [
     (b"pool 0 1 handoff keep 18446744073709551615 own\n", Ok(())),
     (b"pool 1024 1024 bounded 65536 keep 0 discard\n", Ok(())),
     (

@@ -1,6 +1,6 @@
 //! Files of jobs, read from bytes: worked and hostile texts, and readers that fail.
 
-use super::comments;
+use super::{ERRORS, comments};
 use crate::compare::same;
 use crate::streams::{FailsOnce, last_line};
 use std::alloc::{AllocError, Global};
@@ -38,21 +38,34 @@ const WORKED_CONFIG: Config = Config {
     record_limit: 1_048_576,
 };
 
-const fn executed(outcome: Outcome) -> JobLine {
-    JobLine {
-        future: false,
-        outcome,
-        priority: None,
-    }
-}
+const EXECUTED: JobLine = JobLine {
+    future: false,
+    outcome: Ok(5),
+    priority: None,
+};
 
-const fn submitted(outcome: Outcome) -> JobLine {
+const SUBMITTED: JobLine = JobLine {
+    future: true,
+    outcome: Ok(6),
+    priority: None,
+};
+
+const WORKED_JOBS: [JobLine; 5] = [
+    EXECUTED,
+    SUBMITTED,
     JobLine {
-        future: true,
-        outcome,
-        priority: None,
-    }
-}
+        outcome: Err(7),
+        ..EXECUTED
+    },
+    JobLine {
+        outcome: Err(0),
+        ..SUBMITTED
+    },
+    JobLine {
+        outcome: Ok(i64::MIN),
+        ..SUBMITTED
+    },
+];
 
 /// What is read of what a reader gives.
 fn read_from<R: Read>(alloc: Global, reader: &mut R) -> Result<Jobs, PoolError> {
@@ -72,14 +85,7 @@ fn refusal_of(alloc: Global, text: &[u8]) -> Option<PoolError> {
 
 /// Whether these are the jobs of the worked file.
 fn is_worked(jobs: &Jobs) -> bool {
-    let expected = [
-        executed(Ok(5)),
-        submitted(Ok(6)),
-        executed(Err(7)),
-        submitted(Err(0)),
-        submitted(Ok(i64::MIN)),
-    ];
-    jobs.config == WORKED_CONFIG && jobs.jobs.as_slice() == expected.as_slice()
+    jobs.config == WORKED_CONFIG && jobs.jobs.as_slice() == WORKED_JOBS.as_slice()
 }
 
 #[test]
@@ -90,9 +96,11 @@ fn reads_a_worked_file(rt: HostRuntime) -> Result<(), Fail> {
 }
 
 /// A pool with no jobs, and one whose last line is a comment.
+static WITHOUT_JOBS: [&[u8]; 2] = [POOL, b"pool 1 1 unbounded keep 0 abort\n\n# none\n"];
+
 #[test]
 fn reads_files_without_jobs(rt: HostRuntime) -> Result<(), Fail> {
-    for text in [POOL, b"pool 1 1 unbounded keep 0 abort\n\n# none\n"] {
+    for text in &WITHOUT_JOBS {
         let jobs = read(rt.alloc(), text)?;
         let seen = (jobs.jobs.len(), jobs.config.record_limit);
         same(&rt, text.len(), &seen, &(0, 4_096));
@@ -115,7 +123,14 @@ fn text_with(alloc: Global, line: &[u8]) -> Result<Vec<u8>, AllocError> {
     Ok(text)
 }
 
-const BAD_LINES: [&[u8]; 41] = [
+/// Whether a text of this one line behind the pool line is read as this job.
+fn is_read_as(alloc: Global, line: &[u8], job: JobLine) -> Result<bool, Fail> {
+    let text = text_with(alloc, line)?;
+    let jobs = read(alloc, text.as_slice())?;
+    Ok(jobs.jobs.as_slice() == [job].as_slice())
+}
+
+static BAD_LINES: [&[u8]; 41] = [
     b"execute",
     b"submit",
     b"execute ",
@@ -168,7 +183,7 @@ fn refuses_bad_lines(rt: HostRuntime) -> Result<(), Fail> {
     Ok(())
 }
 
-const LAST_AND_PAST: [(&[u8], Outcome, &[u8]); 3] = [
+static LAST_AND_PAST: [(&[u8], Outcome, &[u8]); 3] = [
     (
         b"execute 9223372036854775807",
         Ok(i64::MAX),
@@ -189,9 +204,11 @@ const LAST_AND_PAST: [(&[u8], Outcome, &[u8]); 3] = [
 #[test]
 fn reads_outcomes_to_the_ends_of_their_types(rt: HostRuntime) -> Result<(), Fail> {
     for (at, (last, outcome, past)) in LAST_AND_PAST.iter().enumerate() {
-        let good = text_with(rt.alloc(), last)?;
-        let jobs = read(rt.alloc(), good.as_slice())?;
-        let is_read = jobs.jobs.as_slice() == [executed(*outcome)].as_slice();
+        let job = JobLine {
+            outcome: *outcome,
+            ..EXECUTED
+        };
+        let is_read = is_read_as(rt.alloc(), last, job)?;
         let bad = refusal_behind(rt.alloc(), past)?;
         let wanted = (true, Some(PoolError::BadLine(2)));
         same(&rt, at, &(is_read, bad), &wanted);
@@ -200,7 +217,7 @@ fn reads_outcomes_to_the_ends_of_their_types(rt: HostRuntime) -> Result<(), Fail
 }
 
 /// Lines with a priority, and what they say. Priority 0 may be written here, and it is none other.
-const RANKED: [(&[u8], bool, Outcome, u32); 4] = [
+static RANKED: [(&[u8], bool, Outcome, u32); 4] = [
     (b"execute 5 prio 0", false, Ok(5), 0),
     (b"execute -5 prio 7", false, Ok(-5), 7),
     (b"submit !7 prio 4294967295", true, Err(7), u32::MAX),
@@ -210,14 +227,12 @@ const RANKED: [(&[u8], bool, Outcome, u32); 4] = [
 #[test]
 fn reads_priorities(rt: HostRuntime) -> Result<(), Fail> {
     for (at, (line, future, outcome, priority)) in RANKED.iter().enumerate() {
-        let text = text_with(rt.alloc(), line)?;
-        let jobs = read(rt.alloc(), text.as_slice())?;
         let job = JobLine {
             future: *future,
             outcome: *outcome,
             priority: Some(*priority),
         };
-        same(&rt, at, &(jobs.jobs.as_slice() == [job].as_slice()), &true);
+        same(&rt, at, &is_read_as(rt.alloc(), line, job)?, &true);
     }
     Ok(())
 }
@@ -235,7 +250,7 @@ fn reads_lines_of_200_bytes(rt: HostRuntime) -> Result<(), Fail> {
 
 /// Which refusal comes first: a bad line up to the pool line, then a pool that can't be, then a bad line
 /// behind it.
-const REFUSED: [(&[u8], PoolError); 12] = [
+static REFUSED: [(&[u8], PoolError); 12] = [
     (b"", PoolError::BadLine(1)),
     (b"\n# no pool\n\n", PoolError::BadLine(4)),
     (b"# no end", PoolError::BadLine(1)),
@@ -301,7 +316,7 @@ fn cut_files_end_at_the_cut_line(rt: HostRuntime) {
 
 #[test]
 fn refuses_a_reader_that_fails(rt: HostRuntime) {
-    for error in [io::ErrorKind::Other, io::ErrorKind::Interrupted] {
+    for error in ERRORS {
         for before in 0..WORKED.len() + 1 {
             let mut reader = FailsOnce {
                 rest: WORKED,
@@ -327,14 +342,16 @@ fn reads_byte_by_byte(rt: HostRuntime) -> Result<(), Fail> {
     Ok(())
 }
 
+const LONG: [(usize, Option<PoolError>); 4] = [
+    (MAX_TEXT_BYTES, None),
+    (MAX_TEXT_BYTES - 1, Some(PoolError::BadLine(524_273))),
+    (MAX_TEXT_BYTES + 1, Some(PoolError::ReadFailed)),
+    (usize::MAX, Some(PoolError::ReadFailed)),
+];
+
 #[test]
 fn reads_a_long_file_and_no_longer_one(rt: HostRuntime) {
-    for (end, answer) in [
-        (MAX_TEXT_BYTES, None),
-        (MAX_TEXT_BYTES - 1, Some(PoolError::BadLine(524_273))),
-        (MAX_TEXT_BYTES + 1, Some(PoolError::ReadFailed)),
-        (usize::MAX, Some(PoolError::ReadFailed)),
-    ] {
+    for (end, answer) in LONG {
         let given = read_from(rt.alloc(), &mut comments(end)).err();
         same(&rt, end, &given, &answer);
     }

@@ -125,7 +125,7 @@ fn judges_each(rt: &impl Abort, alloc: Global, rows: &[(&[u8], &[u8])]) -> Resul
     Ok(())
 }
 
-const FIRST_ROWS: [(&[u8], &[u8]); 2] = [(ROW_01, ROW_01_OUTPUT), (ROW_18, ROW_18_OUTPUT)];
+static FIRST_ROWS: [(&[u8], &[u8]); 2] = [(ROW_01, ROW_01_OUTPUT), (ROW_18, ROW_18_OUTPUT)];
 
 #[test]
 fn judges_the_first_rows(rt: HostRuntime) -> Result<(), Fail> {

@@ -244,7 +244,7 @@ t1 caller\n\
 state running\n\
 counts submitted=2 run=0 caller=1 rejected=0 discarded=0 handedback=0 removed=0 cancelled=0 completed=0 queued=0 live=0 largest=0\n";
 
-pub(super) const ROWS: [(&[u8], &[u8]); 6] = [
+pub(super) static ROWS: [(&[u8], &[u8]); 6] = [
     (ROW_11, ROW_11_OUTPUT),
     (ROW_12, ROW_12_OUTPUT),
     (ROW_25, ROW_25_OUTPUT),

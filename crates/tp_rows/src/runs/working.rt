@@ -162,7 +162,7 @@ t1 removed\n\
 state running\n\
 counts submitted=2 run=0 caller=0 rejected=0 discarded=0 handedback=0 removed=1 cancelled=0 completed=0 queued=1 live=0 largest=0\n";
 
-pub(super) const ROWS: [(&[u8], &[u8]); 4] = [
+pub(super) static ROWS: [(&[u8], &[u8]); 4] = [
     (ROW_15, ROW_15_OUTPUT),
     (ROW_17, ROW_17_OUTPUT),
     (ROW_19, ROW_19_OUTPUT),

@@ -11,16 +11,25 @@ use tp_types::configs::{Config, Policy, QueueKind, Verdict};
 use tp_types::ids::TaskId;
 use tp_types::tasks::Kind;
 
+const PRESTARTS: [Step; 4] = [
+    Step::Start(Start::All(2)),
+    Step::Start(Start::One(false)),
+    Step::View(View::IsLive(2)),
+    SHUTS_DOWN,
+];
+
+const PRESTARTED: [Finding; 1] = [Finding::Largest(2)];
+
 #[test]
 fn prestarts_two(rt: HostRuntime) -> Result<(), Fail> {
-    let steps = [
-        Step::Start(Start::All(2)),
-        Step::Start(Start::One(false)),
-        Step::View(View::IsLive(2)),
-        SHUTS_DOWN,
-    ];
-    let findings = [Finding::Largest(2)];
-    lives_twice(rt, rt.alloc(), SETTINGS, MANNER, alone(&steps), &findings)
+    lives_twice(
+        rt,
+        rt.alloc(),
+        SETTINGS,
+        MANNER,
+        alone(&PRESTARTS),
+        &PRESTARTED,
+    )
 }
 
 fn looks(answer: Answer) -> Step {
@@ -76,14 +85,22 @@ const UNSTAFFED: [Step; 3] = [
     Step::Control(Control::Stop(0, 1)),
 ];
 
+const LEFT_UNSTAFFED: [Finding; 2] = [Finding::Unstaffed, Finding::HandedBack(1)];
+
 #[test]
 fn factory_that_refuses_keeps_tasks_queued(rt: HostRuntime) -> Result<(), Fail> {
     let manner = Manner {
         consents: 0,
         ..MANNER
     };
-    let findings = [Finding::Unstaffed, Finding::HandedBack(1)];
-    lives_twice(rt, rt.alloc(), ONE, manner, alone(&UNSTAFFED), &findings)
+    lives_twice(
+        rt,
+        rt.alloc(),
+        ONE,
+        manner,
+        alone(&UNSTAFFED),
+        &LEFT_UNSTAFFED,
+    )
 }
 
 #[test]
@@ -92,8 +109,14 @@ fn thread_that_cannot_be_made_is_a_worker_that_is_not(rt: HostRuntime) -> Result
         stack: usize::MAX,
         ..MANNER
     };
-    let findings = [Finding::Unstaffed, Finding::HandedBack(1)];
-    lives_twice(rt, rt.alloc(), ONE, manner, alone(&UNSTAFFED), &findings)
+    lives_twice(
+        rt,
+        rt.alloc(),
+        ONE,
+        manner,
+        alone(&UNSTAFFED),
+        &LEFT_UNSTAFFED,
+    )
 }
 
 #[test]

@@ -1,6 +1,7 @@
 // A pool of boxes: a caller's boxed jobs, factory, handler, hooks and gate.
 ghost use Rattle.std.specs.Prelude.{◌≡◌};
 
+use super::compare::same;
 use super::lives::SETTINGS;
 use std::alloc::Global;
 use std::marker::Brand;
@@ -9,6 +10,7 @@ use std::sync::{Arc, Wait};
 use std::test::Fail;
 use std::thread::Threads;
 use tp_book::opening::Unopened;
+use tp_book::passes::Pass;
 use tp_callbacks::flags::CancelFlag;
 use tp_pool::answers::{Admitted, Refused};
 use tp_pool::closing::Report;
@@ -21,6 +23,7 @@ use tp_pool::names::PoolNaming;
 use tp_pool::pool::Pool;
 use tp_record::entries::{Did, Looked};
 use tp_stage::boards::{Board, Hook, Signal, shared};
+use tp_stage::endings::closed;
 use tp_stage::findings::{Finding, missing};
 use tp_types::configs::{Config, Policy, QueueKind, Verdict};
 use tp_types::ids::{SlotId, TaskId};
@@ -109,7 +112,41 @@ fn is_answer(answer: &Result<Admitted, Refused<Boxed>>, number: u32) -> bool {
     }
 }
 
-// One worker, which is held before its body, meanwhile a second job, and the end.
+// Hands in a boxed job, and is answered as is right for the first one or the second.
+fn hands<G: PoolNaming + Send + Sync + 'static, R: Abort + Threads + Wait + Copy + Send + 'static>(
+    rt: &R,
+    alloc: Global,
+    pool: &Pool<G>,
+    number: u32,
+    pass: &mut Pass<G>,
+) -> Result<(), PoolError> {
+    let job = Box::new(alloc, Looking).or(Err(PoolError::NoMemory))?;
+    let answer = pool.execute(rt, job, pass);
+    same(
+        rt,
+        0,
+        &(number, is_answer(&answer, number)),
+        &(number, true),
+    );
+    Ok(())
+}
+
+// One worker, which is held before its body, meanwhile a second job, and the shutdown.
+fn work<G: PoolNaming + Send + Sync + 'static, R: Abort + Threads + Wait + Copy + Send + 'static>(
+    rt: &R,
+    alloc: Global,
+    pool: &Pool<G>,
+    board: &Board,
+    pass: &mut Pass<G>,
+) -> Result<(), PoolError> {
+    hands(rt, alloc, pool, 0, pass)?;
+    hands(rt, alloc, pool, 1, pass)?;
+    pool.shutdown(rt, pass)?;
+    board.put(Signal::Open, 1);
+    Ok(())
+}
+
+// Opens a pool of boxes, and has it work until it is closed.
 fn life<G: PoolNaming + Send + Sync + 'static, R: Abort + Threads + Wait + Copy + Send + 'static>(
     rt: R,
     alloc: Global,
@@ -127,20 +164,8 @@ fn life<G: PoolNaming + Send + Sync + 'static, R: Abort + Threads + Wait + Copy 
     let (pool, mut pass) = Pool::<G>::new(
         alloc, unopened, settings, factory, handler, hooks, gate,
     )?;
-    for number in 0..2 {
-        let job = Box::new(alloc, Looking).or(Err(PoolError::NoMemory))?;
-        let answer = pool.execute(&rt, job, &mut pass);
-        assert!(&rt; is_answer(&answer, number), "job {number}");
-    }
-    pool.shutdown(&rt, &mut pass)?;
-    board.put(Signal::Open, 1);
-    pool.await_termination(&rt, 1, &mut pass)?;
-    let mut passes = Vec::new(alloc);
-    passes.push(pass).or(Err(PoolError::NoMemory))?;
-    match pool.close(&rt, passes) {
-        Ok(report) => Ok(report),
-        Err(fault) => Err(fault.error),
-    }
+    work(&rt, alloc, &pool, board, &mut pass)?;
+    closed(&rt, alloc, pool, pass, None)
 }
 
 const SETTINGS_OF_ONE: Config = Config {
@@ -151,6 +176,21 @@ const SETTINGS_OF_ONE: Config = Config {
     ..SETTINGS
 };
 
+const FOUND: [Finding; 9] = [
+    Finding::Told(
+        1,
+        Did::Submit(TaskId(0), Kind::Plain, 7, Looked::Reserve(SlotId(0))),
+    ),
+    Finding::Ended(0, Ok(0)),
+    Finding::Run(1),
+    Finding::Rejected(1),
+    Finding::Noted(Signal::Wanted, 1),
+    Finding::Noted(Signal::Asked, 1),
+    Finding::Noted(Signal::Hooked(Hook::Before, TaskId(0)), 1),
+    Finding::Noted(Signal::Hooked(Hook::Ran, TaskId(0)), 1),
+    Finding::Noted(Signal::Ends, 1),
+];
+
 fn lived<R: Abort + Threads + Wait + Copy + Send + 'static>(
     rt: R,
     alloc: Global,
@@ -159,19 +199,7 @@ fn lived<R: Abort + Threads + Wait + Copy + Send + 'static>(
     let board = Board::new(alloc)?;
     let unopened = Unopened::new(alloc)?;
     let report = life::<Brand, R>(rt, alloc, unopened, settings, &board)?;
-    let submitted = Did::Submit(TaskId(0), Kind::Plain, 7, Looked::Reserve(SlotId(0)));
-    let findings = [
-        Finding::Told(1, submitted),
-        Finding::Ended(0, Ok(0)),
-        Finding::Run(1),
-        Finding::Rejected(1),
-        Finding::Noted(Signal::Wanted, 1),
-        Finding::Noted(Signal::Asked, 1),
-        Finding::Noted(Signal::Hooked(Hook::Before, TaskId(0)), 1),
-        Finding::Noted(Signal::Hooked(Hook::Ran, TaskId(0)), 1),
-        Finding::Noted(Signal::Ends, 1),
-    ];
-    assert_eq!(&rt; missing(&report, &board, &findings), None);
+    same(&rt, 0, &missing(&report, &board, &FOUND), &None);
     Ok(())
 }
 

@@ -22,15 +22,16 @@ const AWAITS: [Step; 3] = [
     Step::View(View::IsState(RunState::Terminated)),
 ];
 
+const ENDED_BY_A_WORKER: [Finding; 3] = [
+    Finding::Noted(Signal::Ends, 1),
+    Finding::Told(1, Did::Ended),
+    Finding::Run(1),
+];
+
 // A worker ends the pool, whose task goes on when who waits for the end has had some time to fall asleep, and so
 // wakes who waits.
 #[test]
 fn worker_that_ends_the_pool_wakes_who_waits(rt: HostRuntime) -> Result<(), Fail> {
-    let findings = [
-        Finding::Noted(Signal::Ends, 1),
-        Finding::Told(1, Did::Ended),
-        Finding::Run(1),
-    ];
     for round in 0..50u32 {
         let manner = Manner {
             yields: round % 2 == 0,
@@ -45,7 +46,7 @@ fn worker_that_ends_the_pool_wakes_who_waits(rt: HostRuntime) -> Result<(), Fail
             TELLS,
         ];
         let script = both(&shuts, &AWAITS);
-        lives(rt, rt.alloc(), SETTINGS, manner, script, &findings)?;
+        lives(rt, rt.alloc(), SETTINGS, manner, script, &ENDED_BY_A_WORKER)?;
     }
     Ok(())
 }

@@ -23,6 +23,8 @@ const GIVES_MEETING: Step = Step::Deal(Deal::Give(Deed::Meet(0, 2)));
 
 const ALL_DONE: Step = Step::View(View::AllCompleted);
 
+const GIVEN: [Finding; 3] = [Finding::Run(500), Finding::Largest(1), Finding::ByHand(499)];
+
 // One task after the other is given to the one worker by hand, once it is idle: all but the first.
 #[test]
 fn idle_worker_is_given_tasks(rt: HostRuntime) -> Result<(), Fail> {
@@ -37,9 +39,10 @@ fn idle_worker_is_given_tasks(rt: HostRuntime) -> Result<(), Fail> {
         last: &[SHUTS_DOWN],
         beside: &[],
     };
-    let findings = [Finding::Run(500), Finding::Largest(1), Finding::ByHand(499)];
-    lives_twice(rt, rt.alloc(), settings, MANNER, script, &findings)
+    lives_twice(rt, rt.alloc(), settings, MANNER, script, &GIVEN)
 }
+
+const LEFT_BESIDE: [Finding; 2] = [Finding::Run(60), Finding::NotedSome(Signal::Telling)];
 
 // In each round two workers are idle beyond their keep-alive at a tick, and at once one of them may get a task by
 // hand, before it leaves: the other leaves all the same.
@@ -61,6 +64,5 @@ fn idle_worker_leaves_beside_one_that_is_given_a_task(rt: HostRuntime) -> Result
         last: &[SHUTS_DOWN],
         beside: &[],
     };
-    let findings = [Finding::Run(60), Finding::NotedSome(Signal::Telling)];
-    lives_twice(rt, rt.alloc(), ROOMY, MANNER, script, &findings)
+    lives_twice(rt, rt.alloc(), ROOMY, MANNER, script, &LEFT_BESIDE)
 }

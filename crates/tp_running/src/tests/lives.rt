@@ -2,6 +2,7 @@
 ghost use Rattle.std.specs.Prelude.{◌≡◌};
 
 use super::chores::Chore;
+use super::compare::same;
 use super::playing::{Tested, play, play_all};
 use super::scripts::Script;
 use std::alloc::Global;
@@ -34,27 +35,28 @@ pub const SETTINGS: Config = Config {
     record_limit: 4096,
 };
 
-// The first caller's lines, in a thread that gives back its pass.
-fn plays_first<
+// A caller's lines, the first one's or the second one's, in a thread that gives back its pass.
+fn plays<
     G: PoolNaming + Send + Sync + 'static,
     R: Abort + Threads + Wait + Clock + Copy + Send + 'static,
->(rt: R, pool: &Tested<G>, board: &Arc<Board>, script: Script<'_>, pass: Pass<G>) -> Pass<G> {
+>(
+    rt: R,
+    pool: &Tested<G>,
+    board: &Arc<Board>,
+    script: Script<'_>,
+    is_first: bool,
+    pass: Pass<G>,
+) -> Pass<G> {
     let mut pass = pass;
-    play_all(rt, pool, board, script, &mut pass);
+    if is_first {
+        play_all(rt, pool, board, script, &mut pass);
+    } else {
+        play(rt, pool, board, script.beside, &mut pass);
+    }
     pass
 }
 
-// The second caller's.
-fn plays_second<
-    G: PoolNaming + Send + Sync + 'static,
-    R: Abort + Threads + Wait + Clock + Copy + Send + 'static,
->(rt: R, pool: &Tested<G>, board: &Arc<Board>, script: Script<'_>, pass: Pass<G>) -> Pass<G> {
-    let mut pass = pass;
-    play(rt, pool, board, script.beside, &mut pass);
-    pass
-}
-
-// Two callers play, each in a thread of its own.
+// Two callers play, each in a thread of its own. They share one closure: each is proved anew.
 fn plays_both<
     G: PoolNaming + Send + Sync + 'static,
     R: Abort + Threads + Wait + Clock + Copy + Send + Sync + 'static,
@@ -67,14 +69,10 @@ fn plays_both<
 ) -> Result<(Pass<G>, Pass<G>), PoolError> {
     let mut first = first;
     let second = pool.split_pass(&rt, &mut first)?;
-    Ok(in_two(
-        &rt,
-        pool,
-        first,
-        second,
-        &move |pool: &Tested<G>, pass: Pass<G>| { plays_first(rt, pool, board, script, pass) },
-        &move |pool: &Tested<G>, pass: Pass<G>| { plays_second(rt, pool, board, script, pass) },
-    ))
+    let act = move |pool: &Tested<G>, (is_first, pass): (bool, Pass<G>)| {
+        plays(rt, pool, board, script, is_first, pass)
+    };
+    Ok(in_two(&rt, pool, (true, first), (false, second), &act, &act))
 }
 
 fn live<
@@ -89,7 +87,7 @@ fn live<
     first: Pass<G>,
 ) -> Result<Report, PoolError> {
     if script.beside.is_empty() {
-        let first = plays_first(rt, &pool, board, script, first);
+        let first = plays(rt, &pool, board, script, true, first);
         return closed(&rt, alloc, pool, first, None);
     }
     let (first, second) = plays_both(rt, &pool, board, script, first)?;
@@ -129,7 +127,7 @@ pub fn lived<R: Abort + Threads + Wait + Clock + Copy + Send + Sync + 'static>(
     let users = Users::new(manner, &board)?;
     let unopened = Unopened::new(alloc)?;
     let report = open::<Brand, R>(rt, alloc, unopened, settings, users, &board, script)?;
-    assert_eq!(&rt; missing(&report, &board, findings), None);
+    same(&rt, 0, &missing(&report, &board, findings), &None);
     Ok(())
 }
 

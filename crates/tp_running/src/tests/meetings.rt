@@ -50,6 +50,15 @@ fn bodies_run_at_once(rt: HostRuntime) -> Result<(), Fail> {
     lives_twice(rt, rt.alloc(), four, MANNER, alone(&steps), &findings)
 }
 
+const OUTCOMES: [Finding; 6] = [
+    Finding::Ended(0, Ok(5)),
+    Finding::Ended(1, Ok(3)),
+    Finding::Ended(2, Err(7)),
+    Finding::Ended(3, Ok(4)),
+    Finding::Ended(4, Ok(9)),
+    Finding::Run(5),
+];
+
 // The closed record gives each task the answer of the job that was handed in with its number, though two run at once.
 #[test]
 fn outcome_is_the_jobs(rt: HostRuntime) -> Result<(), Fail> {
@@ -61,13 +70,5 @@ fn outcome_is_the_jobs(rt: HostRuntime) -> Result<(), Fail> {
         meets(9, 2),
         SHUTS_DOWN,
     ];
-    let findings = [
-        Finding::Ended(0, Ok(5)),
-        Finding::Ended(1, Ok(3)),
-        Finding::Ended(2, Err(7)),
-        Finding::Ended(3, Ok(4)),
-        Finding::Ended(4, Ok(9)),
-        Finding::Run(5),
-    ];
-    lives_twice(rt, rt.alloc(), SETTINGS, MANNER, alone(&steps), &findings)
+    lives_twice(rt, rt.alloc(), SETTINGS, MANNER, alone(&steps), &OUTCOMES)
 }

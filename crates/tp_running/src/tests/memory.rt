@@ -46,6 +46,8 @@ fn lives_again<R: Abort + Threads + Wait + Clock + Copy + Send + Sync + 'static>
     Ok(())
 }
 
+const BOTH_RAN: [Finding; 2] = [Finding::Submitted(2), Finding::Run(2)];
+
 // With ample memory each call succeeds. Where any one allocation of a call fails, it answers 4, with the job and
 // with nothing changed, or it says by the step `fail` that a worker was not made.
 #[test]
@@ -60,9 +62,10 @@ fn ample_memory_succeeds(rt: HostRuntime) -> Result<(), Fail> {
         Step::Control(Control::Maximum(3)),
         SHUTS_DOWN,
     ];
-    let findings = [Finding::Submitted(2), Finding::Run(2)];
-    lives_again(rt, rt.alloc(), 3, &steps, &findings)
+    lives_again(rt, rt.alloc(), 3, &steps, &BOTH_RAN)
 }
+
+const ONE_RAN: [Finding; 2] = [Finding::Run(1), Finding::Largest(3)];
 
 // The same of prestarts.
 #[test]
@@ -75,6 +78,5 @@ fn want_of_memory_makes_no_worker(rt: HostRuntime) -> Result<(), Fail> {
         TASK,
         SHUTS_DOWN,
     ];
-    let findings = [Finding::Run(1), Finding::Largest(3)];
-    lives_again(rt, rt.alloc(), 1, &steps, &findings)
+    lives_again(rt, rt.alloc(), 1, &steps, &ONE_RAN)
 }

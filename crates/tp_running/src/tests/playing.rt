@@ -1,6 +1,7 @@
 // How a caller's lines are played.
 
 use super::chores::{Chore, Deed};
+use super::compare::same;
 use super::dealing::deals;
 use super::scripts::{Answer, Control, Cue, Script, Start, Step, View};
 use std::process::Abort;
@@ -261,8 +262,7 @@ pub fn play<
     R: Abort + Threads + Wait + Clock + Copy + Send + 'static,
 >(rt: R, pool: &Tested<G>, board: &Arc<Board>, steps: &[Step], pass: &mut Pass<G>) {
     for (line, step) in steps.iter().enumerate() {
-        let made = makes(rt, pool, board, *step, pass);
-        assert!(&rt; made, "line {line} of {}", steps.len());
+        same(&rt, line, &makes(rt, pool, board, *step, pass), &true);
     }
 }
 

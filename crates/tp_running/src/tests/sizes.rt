@@ -18,6 +18,15 @@ fn meets(number: u8) -> Step {
     Step::Hand(Kind::Plain, Deed::Meet(number, 3), Answer::Accepted)
 }
 
+const STARTED: [Finding; 6] = [
+    Finding::Ended(0, Ok(0)),
+    Finding::Ended(1, Ok(1)),
+    Finding::Ended(2, Ok(2)),
+    Finding::Told(1, Did::Core(3, 2)),
+    Finding::Run(3),
+    Finding::Largest(3),
+];
+
 // The one worker waits for two others, which a larger core size starts for the tasks that are queued.
 #[test]
 fn larger_core_starts_workers(rt: HostRuntime) -> Result<(), Fail> {
@@ -36,15 +45,7 @@ fn larger_core_starts_workers(rt: HostRuntime) -> Result<(), Fail> {
         Step::View(View::IsLive(3)),
         SHUTS_DOWN,
     ];
-    let findings = [
-        Finding::Ended(0, Ok(0)),
-        Finding::Ended(1, Ok(1)),
-        Finding::Ended(2, Ok(2)),
-        Finding::Told(1, Did::Core(3, 2)),
-        Finding::Run(3),
-        Finding::Largest(3),
-    ];
-    lives_twice(rt, rt.alloc(), settings, MANNER, alone(&steps), &findings)
+    lives_twice(rt, rt.alloc(), settings, MANNER, alone(&steps), &STARTED)
 }
 
 const NOBODY_LEAVES: [Step; 2] = [Step::Cue(Cue::Rest(5000)), Step::View(View::IsLive(3))];

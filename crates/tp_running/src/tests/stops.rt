@@ -19,13 +19,29 @@ const HELD: Manner = Manner {
 
 const STOPS: Step = Step::Control(Control::Stop(0, 0));
 
+const STOPPED: [Step; 3] = [LOOKS, STOPS, LETS_GO];
+
+const FLAGGED: [Finding; 2] = [Finding::Ended(0, Ok(1)), Finding::Run(1)];
+
 // A job that is held before its body finds its flag set, once the pool is stopped.
 #[test]
 fn stopped_job_sees_its_flag(rt: HostRuntime) -> Result<(), Fail> {
-    let steps = [LOOKS, STOPS, LETS_GO];
-    let findings = [Finding::Ended(0, Ok(1)), Finding::Run(1)];
-    lives_twice(rt, rt.alloc(), SETTINGS, HELD, alone(&steps), &findings)
+    lives_twice(rt, rt.alloc(), SETTINGS, HELD, alone(&STOPPED), &FLAGGED)
 }
+
+const OTHER_STOPS: [Step; 4] = [
+    Step::Cue(Cue::Reaches(Signal::Begun, 1)),
+    STOPS,
+    TELLS,
+    IS_OVER,
+];
+
+const SPARED: [Finding; 4] = [
+    Finding::Ended(0, Ok(1)),
+    Finding::Told(1, Did::CallerEnd(TaskId(1), Ok(0))),
+    Finding::Run(1),
+    Finding::Caller(1),
+];
 
 // A stop reaches the task in the worker's slot, and not the one that its submitter runs meanwhile.
 #[test]
@@ -44,18 +60,6 @@ fn stop_spares_the_submitters_own_run(rt: HostRuntime) -> Result<(), Fail> {
         Step::Cue(Cue::Reaches(Signal::Over, 1)),
         LETS_GO,
     ];
-    let stops = [
-        Step::Cue(Cue::Reaches(Signal::Begun, 1)),
-        STOPS,
-        TELLS,
-        IS_OVER,
-    ];
-    let findings = [
-        Finding::Ended(0, Ok(1)),
-        Finding::Told(1, Did::CallerEnd(TaskId(1), Ok(0))),
-        Finding::Run(1),
-        Finding::Caller(1),
-    ];
-    let script = both(&submits, &stops);
-    lives_twice(rt, rt.alloc(), settings, HELD, script, &findings)
+    let script = both(&submits, &OTHER_STOPS);
+    lives_twice(rt, rt.alloc(), settings, HELD, script, &SPARED)
 }

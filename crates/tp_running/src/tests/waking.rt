@@ -19,6 +19,8 @@ const TWO_START: Step = Step::Start(Start::All(2));
 // One of two tasks that wait for each other.
 const MEETS: Step = Step::Hand(Kind::Plain, Deed::Meet(0, 2), Answer::Accepted);
 
+const WOKEN: [Finding; 2] = [Finding::Run(500), Finding::NoFault];
+
 // One task after the other, each once the one before it is completed.
 #[test]
 fn sleeping_worker_is_woken(rt: HostRuntime) -> Result<(), Fail> {
@@ -34,8 +36,7 @@ fn sleeping_worker_is_woken(rt: HostRuntime) -> Result<(), Fail> {
         last: &[SHUTS_DOWN],
         beside: &[],
     };
-    let findings = [Finding::Run(500), Finding::NoFault];
-    lives_twice(rt, rt.alloc(), settings, MANNER, script, &findings)
+    lives_twice(rt, rt.alloc(), settings, MANNER, script, &WOKEN)
 }
 
 // Two tasks that wait for each other, for two workers that sleep, so many times.
@@ -49,26 +50,28 @@ const fn pairs(rounds: u32) -> Script<'static> {
     }
 }
 
+const BOTH_WOKEN: [Finding; 3] = [Finding::Run(1000), Finding::NoFault, Finding::Largest(2)];
+
 #[test]
 fn two_sleeping_workers_are_woken(rt: HostRuntime) -> Result<(), Fail> {
     let settings = Config {
         record_limit: 16_384,
         ..SETTINGS
     };
-    let findings = [Finding::Run(1000), Finding::NoFault, Finding::Largest(2)];
-    lives_twice(rt, rt.alloc(), settings, MANNER, pairs(500), &findings)
+    lives_twice(rt, rt.alloc(), settings, MANNER, pairs(500), &BOTH_WOKEN)
 }
+
+const NEW_WOKEN: [Finding; 3] = [Finding::Run(6), Finding::NoFault, Finding::Largest(2)];
 
 // The signal by which a worker heard that its slot is live may be left over when it sleeps first.
 #[test]
 fn new_workers_are_woken(rt: HostRuntime) -> Result<(), Fail> {
-    let findings = [Finding::Run(6), Finding::NoFault, Finding::Largest(2)];
     for pool in 0..50u32 {
         let manner = Manner {
             yields: pool % 2 == 0,
             ..MANNER
         };
-        lives(rt, rt.alloc(), SETTINGS, manner, pairs(3), &findings)?;
+        lives(rt, rt.alloc(), SETTINGS, manner, pairs(3), &NEW_WOKEN)?;
     }
     Ok(())
 }
@@ -88,47 +91,51 @@ const BEHIND: [Step; 4] = [
 
 const OPENS: Step = Step::Cue(Cue::Put(Signal::Limit, u64::MAX));
 
+const MEET: [Step; 6] = [
+    MEETS,
+    MEETS,
+    Step::View(View::BecomesCompleted(2)),
+    Step::Cue(Cue::Is(Signal::Passed, 2)),
+    OPENS,
+    SHUTS_DOWN,
+];
+
+const MET: [Finding; 2] = [Finding::Run(2), Finding::NoFault];
+
 // Tasks that wait for each other meet all the same, since a worker that is woken takes without passing the gate
 // again.
 #[test]
 fn woken_workers_pass_no_gate(rt: HostRuntime) -> Result<(), Fail> {
-    let meet = [
-        MEETS,
-        MEETS,
-        Step::View(View::BecomesCompleted(2)),
-        Step::Cue(Cue::Is(Signal::Passed, 2)),
-        OPENS,
-        SHUTS_DOWN,
-    ];
     let script = Script {
-        last: &meet,
+        last: &MEET,
         ..alone(&BEHIND)
     };
-    let findings = [Finding::Run(2), Finding::NoFault];
-    lives_twice(rt, rt.alloc(), SETTINGS, SHUT, script, &findings)
+    lives_twice(rt, rt.alloc(), SETTINGS, SHUT, script, &MET)
 }
+
+const HOLDS: [Step; 11] = [
+    LOOKS,
+    Step::Cue(Cue::Reaches(Signal::Came, 3)),
+    LOOKS,
+    Step::Cue(Cue::Reaches(Signal::Came, 4)),
+    LOOKS,
+    Step::Cue(Cue::Rest(5000)),
+    Step::View(View::IsCompleted(2)),
+    Step::Cue(Cue::Put(Signal::Limit, 3)),
+    Step::View(View::BecomesCompleted(3)),
+    OPENS,
+    SHUTS_DOWN,
+];
+
+const HELD_NOBODY: [Finding; 2] = [Finding::Run(3), Finding::NoFault];
 
 // A worker that its gate holds before its take looks for no task: the other is woken for the next one. Where
 // both are held, a task waits until one may go on.
 #[test]
 fn nobody_waits_for_a_worker_at_its_gate(rt: HostRuntime) -> Result<(), Fail> {
-    let holds = [
-        LOOKS,
-        Step::Cue(Cue::Reaches(Signal::Came, 3)),
-        LOOKS,
-        Step::Cue(Cue::Reaches(Signal::Came, 4)),
-        LOOKS,
-        Step::Cue(Cue::Rest(5000)),
-        Step::View(View::IsCompleted(2)),
-        Step::Cue(Cue::Put(Signal::Limit, 3)),
-        Step::View(View::BecomesCompleted(3)),
-        OPENS,
-        SHUTS_DOWN,
-    ];
     let script = Script {
-        last: &holds,
+        last: &HOLDS,
         ..alone(&BEHIND)
     };
-    let findings = [Finding::Run(3), Finding::NoFault];
-    lives_twice(rt, rt.alloc(), SETTINGS, SHUT, script, &findings)
+    lives_twice(rt, rt.alloc(), SETTINGS, SHUT, script, &HELD_NOBODY)
 }

@@ -2,8 +2,9 @@
 ghost use Rattle.std.specs.Prelude.{◌≡◌};
 
 use super::chores::Chore;
+use super::compare::same;
 use super::playing::{Tested, play};
-use super::scripts::Script;
+use super::scripts::{Script, Tale};
 use std::alloc::Global;
 use std::marker::Brand;
 use std::process::Abort;
@@ -50,8 +51,8 @@ fn ended<G: PoolNaming, R: Wait>(
     Ok((report, steps))
 }
 
-// The first caller's lines, in a thread that gives back its pass.
-fn plays_first<
+// A caller's lines, the first one's or the second one's, in a thread that gives back its pass.
+fn plays<
     G: PoolNaming + Send + Sync + 'static,
     R: Abort + Threads + Wait + Clock + Copy + Send + 'static,
 >(
@@ -59,32 +60,21 @@ fn plays_first<
     alloc: Global,
     pool: &Tested<G>,
     board: &Arc<Board>,
-    script: Script<'_>,
+    script: Script,
+    is_first: bool,
     pass: Pass<G>,
 ) -> Pass<G> {
     let mut pass = pass;
-    play(rt, alloc, pool, board, script.first, &mut pass);
+    let parts = if is_first {
+        script.first
+    } else {
+        script.beside
+    };
+    play(rt, alloc, pool, board, parts, &mut pass);
     pass
 }
 
-// The second caller's.
-fn plays_second<
-    G: PoolNaming + Send + Sync + 'static,
-    R: Abort + Threads + Wait + Clock + Copy + Send + 'static,
->(
-    rt: R,
-    alloc: Global,
-    pool: &Tested<G>,
-    board: &Arc<Board>,
-    script: Script<'_>,
-    pass: Pass<G>,
-) -> Pass<G> {
-    let mut pass = pass;
-    play(rt, alloc, pool, board, script.beside, &mut pass);
-    pass
-}
-
-// Two callers play, each in a thread of its own.
+// Two callers play, each in a thread of its own. They share one closure: each is proved anew.
 fn plays_both<
     G: PoolNaming + Send + Sync + 'static,
     R: Abort + Threads + Wait + Clock + Copy + Send + Sync + 'static,
@@ -93,23 +83,15 @@ fn plays_both<
     alloc: Global,
     pool: &Tested<G>,
     board: &Arc<Board>,
-    script: Script<'_>,
+    script: Script,
     first: Pass<G>,
 ) -> Result<(Pass<G>, Pass<G>), PoolError> {
     let mut first = first;
     let second = pool.split_pass(&rt, &mut first)?;
-    Ok(in_two(
-        &rt,
-        pool,
-        first,
-        second,
-        &move |pool: &Tested<G>, pass: Pass<G>| {
-            plays_first(rt, alloc, pool, board, script, pass)
-        },
-        &move |pool: &Tested<G>, pass: Pass<G>| {
-            plays_second(rt, alloc, pool, board, script, pass)
-        },
-    ))
+    let act = move |pool: &Tested<G>, (is_first, pass): (bool, Pass<G>)| {
+        plays(rt, alloc, pool, board, script, is_first, pass)
+    };
+    Ok(in_two(&rt, pool, (true, first), (false, second), &act, &act))
 }
 
 fn live<
@@ -120,11 +102,11 @@ fn live<
     alloc: Global,
     pool: Tested<G>,
     board: &Arc<Board>,
-    script: Script<'_>,
+    script: Script,
     first: Pass<G>,
 ) -> Result<(Report, u64), PoolError> {
     if script.beside.is_empty() {
-        let first = plays_first(rt, alloc, &pool, board, script, first);
+        let first = plays(rt, alloc, &pool, board, script, true, first);
         return ended(&rt, alloc, pool, first, None);
     }
     let (first, second) = plays_both(rt, alloc, &pool, board, script, first)?;
@@ -142,7 +124,7 @@ fn open<
     settings: Config,
     users: Users,
     board: &Arc<Board>,
-    script: Script<'_>,
+    script: Script,
 ) -> Result<(Report, u64), PoolError>
     requires named { unopened ≡ record { ledger = G.name; parts = G.parts; table = G.table } }
     requires settings { settings ≡ G.config }
@@ -157,29 +139,29 @@ fn lived<R: Abort + Threads + Wait + Clock + Copy + Send + Sync + 'static>(
     alloc: Global,
     settings: Config,
     manner: Manner,
-    script: Script<'_>,
+    script: Script,
     findings: &[Finding],
 ) -> Result<(), PoolError> {
     let board = Board::new(alloc)?;
     let users = Users::new(manner, &board)?;
     let unopened = Unopened::new(alloc)?;
     let (report, steps) = open::<Brand, R>(rt, alloc, unopened, settings, users, &board, script)?;
-    assert_eq!(&rt; steps, report.entries.len() as u64);
-    assert_eq!(&rt; missing(&report, &board, findings), None);
+    let seen = (steps, missing(&report, &board, findings));
+    same(&rt, 0, &seen, &(report.entries.len() as u64, None));
     Ok(())
 }
 
-// Lives with a gate that yields at all points, and with one that never does; workers are held before bodies
-// where it says so.
+// Lives with a gate that yields at all points, and with one that never does.
 pub fn lives<R: Abort + Threads + Wait + Clock + Copy + Send + Sync + 'static>(
     rt: R,
     alloc: Global,
-    settings: Config,
-    holds: bool,
-    script: Script<'_>,
-    findings: &[Finding],
-) -> Result<(), Fail> {
-    let stance = if holds { Stance::Held } else { Stance::Free };
+    tale: &Tale,
+) -> Result<(), PoolError> {
+    let stance = if tale.holds {
+        Stance::Held
+    } else {
+        Stance::Free
+    };
     for yields in [true, false] {
         let manner = Manner {
             stance,
@@ -187,7 +169,19 @@ pub fn lives<R: Abort + Threads + Wait + Clock + Copy + Send + Sync + 'static>(
             stack: 262_144,
             ..MANNER
         };
-        lived(rt, alloc, settings, manner, script, findings)?;
+        lived(rt, alloc, tale.settings, manner, tale.script, tale.findings)?;
+    }
+    Ok(())
+}
+
+// Lives each of these tales.
+pub fn lives_all<R: Abort + Threads + Wait + Clock + Copy + Send + Sync + 'static>(
+    rt: R,
+    alloc: Global,
+    tales: &[Tale],
+) -> Result<(), Fail> {
+    for tale in tales {
+        lives(rt, alloc, tale)?;
     }
     Ok(())
 }

@@ -1,6 +1,7 @@
 // How a caller's lines are played.
 
 use super::chores::{Chore, Deed};
+use super::compare::same;
 use super::scripts::{Control, Cue, Many, Step};
 use std::alloc::Global;
 use std::process::Abort;
@@ -110,7 +111,7 @@ fn is_refused(found: Result<Vec<TaskId>, PoolError>, error: PoolError) -> bool {
     }
 }
 
-fn jobs_of<'s>(many: Many<'s>) -> &'s [Deed] {
+fn jobs_of(many: Many) -> &'static [Deed] {
     match many {
         Many::All(deeds, _)
         | Many::AllUntil(deeds, _, _)
@@ -125,7 +126,7 @@ fn invokes<G: PoolNaming + Send + Sync + 'static, R: Threads + Wait + Copy + Sen
     alloc: Global,
     pool: &Tested<G>,
     board: &Arc<Board>,
-    many: Many<'_>,
+    many: Many,
     pass: &mut Pass<G>,
 ) -> bool {
     let deeds = jobs_of(many);
@@ -226,7 +227,7 @@ fn makes<G: PoolNaming + Send + Sync + 'static, R: Threads + Wait + Clock + Copy
     alloc: Global,
     pool: &Tested<G>,
     board: &Arc<Board>,
-    step: Step<'_>,
+    step: Step,
     pass: &mut Pass<G>,
 ) -> bool {
     match step {
@@ -245,6 +246,21 @@ fn makes<G: PoolNaming + Send + Sync + 'static, R: Threads + Wait + Clock + Copy
 }
 
 // Plays these lines, each of which must be answered as it says.
+fn play_part<
+    G: PoolNaming + Send + Sync + 'static,
+    R: Abort + Threads + Wait + Clock + Copy + Send + 'static,
+>(rt: R, alloc: Global, pool: &Tested<G>, board: &Arc<Board>, steps: &[Step], pass: &mut Pass<G>) {
+    for (line, step) in steps.iter().enumerate() {
+        same(
+            &rt,
+            line,
+            &makes(rt, alloc, pool, board, *step, pass),
+            &true,
+        );
+    }
+}
+
+// Plays each part of a script.
 pub fn play<
     G: PoolNaming + Send + Sync + 'static,
     R: Abort + Threads + Wait + Clock + Copy + Send + 'static,
@@ -253,11 +269,10 @@ pub fn play<
     alloc: Global,
     pool: &Tested<G>,
     board: &Arc<Board>,
-    steps: &[Step<'_>],
+    parts: &[&[Step]],
     pass: &mut Pass<G>,
 ) {
-    for (line, step) in steps.iter().enumerate() {
-        let made = makes(rt, alloc, pool, board, *step, pass);
-        assert!(&rt; made, "line {line} of {}", steps.len());
+    for part in parts {
+        play_part(rt, alloc, pool, board, part, pass);
     }
 }

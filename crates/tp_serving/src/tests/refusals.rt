@@ -1,10 +1,9 @@
 // A submission of many that is refused: the earlier ones are cancelled, and it and the later ones are dropped.
 
 use super::chores::Deed;
-use super::lives::{ONE, lives};
-use super::scripts::{Many, Script, Step, comes, future, opens, shuts_down};
+use super::lives::{ONE, lives_all};
+use super::scripts::{CAME, FIRST, Many, OPENS, SHUTS_DOWN, Script, Step, Tale};
 use std::test::Fail;
-use tp_stage::boards::Signal;
 use tp_stage::findings::Finding;
 use tp_types::configs::{Config, QueueKind};
 use tp_types::ids::TaskId;
@@ -12,60 +11,79 @@ use tp_types::refusals::PoolError;
 
 const LOOKS: [Deed; 3] = [Deed::Look, Deed::Look, Deed::Look];
 
+const REFUSED: PoolError = PoolError::Rejected(TaskId(2));
+
 // One place is left in the queue, so the second of three is rejected.
-fn rejects<'s>(many: Many<'s>) -> [Step<'s>; 6] {
-    [
-        future(Deed::End(Ok(6)), 0),
-        comes(Signal::Came),
-        Step::Many(many),
-        Step::Get(1, Err(PoolError::CancelledTask)),
-        opens(),
-        shuts_down(),
-    ]
-}
+const ONE_PLACE: Config = Config {
+    queue: QueueKind::Bounded(1),
+    ..ONE
+};
+
+const HELD: [Step; 2] = [FIRST, CAME];
+
+const ALL: [Step; 1] = [Step::Many(Many::AllRefused(&LOOKS, REFUSED))];
+
+const ANY: [Step; 1] = [Step::Many(Many::Any(&LOOKS, Err(REFUSED)))];
+
+const GOES_ON: [Step; 3] = [
+    Step::Get(1, Err(PoolError::CancelledTask)),
+    OPENS,
+    SHUTS_DOWN,
+];
+
+const FOUND: [Finding; 3] = [
+    Finding::Submitted(3),
+    Finding::Run(1),
+    Finding::Cancelled(1),
+];
+
+static REJECTED: [Tale; 2] = [
+    Tale {
+        settings: ONE_PLACE,
+        holds: true,
+        script: Script {
+            first: &[&HELD, &ALL, &GOES_ON],
+            beside: &[],
+        },
+        findings: &FOUND,
+    },
+    Tale {
+        settings: ONE_PLACE,
+        holds: true,
+        script: Script {
+            first: &[&HELD, &ANY, &GOES_ON],
+            beside: &[],
+        },
+        findings: &FOUND,
+    },
+];
 
 #[test]
 fn earlier_jobs_are_cancelled(rt: HostRuntime) -> Result<(), Fail> {
-    let settings = Config {
-        queue: QueueKind::Bounded(1),
-        ..ONE
-    };
-    let refused = PoolError::Rejected(TaskId(2));
-    for many in [
-        Many::AllRefused(&LOOKS, refused),
-        Many::Any(&LOOKS, Err(refused)),
-    ] {
-        let steps = rejects(many);
-        let script = Script {
-            first: &steps,
-            beside: &[],
-        };
-        let findings = [
-            Finding::Submitted(3),
-            Finding::Run(1),
-            Finding::Cancelled(1),
-        ];
-        lives(rt, rt.alloc(), settings, true, script, &findings)?;
-    }
-    Ok(())
+    lives_all(rt, rt.alloc(), &REJECTED)
 }
+
+const FULL: [Step; 3] = [
+    Step::Many(Many::AllRefused(&[Deed::Look; 40], PoolError::BookFull)),
+    OPENS,
+    SHUTS_DOWN,
+];
+
+static FULL_TALE: [Tale; 1] = [Tale {
+    settings: Config {
+        record_limit: 64,
+        ..ONE
+    },
+    holds: true,
+    script: Script {
+        first: &[&FULL],
+        beside: &[],
+    },
+    findings: &[],
+}];
 
 // The record has no room for as many. A cancel that finds none either is left undone, and the pool still ends.
 #[test]
 fn full_record_refuses_many(rt: HostRuntime) -> Result<(), Fail> {
-    let settings = Config {
-        record_limit: 64,
-        ..ONE
-    };
-    let jobs = [Deed::Look; 40];
-    let steps = [
-        Step::Many(Many::AllRefused(&jobs, PoolError::BookFull)),
-        opens(),
-        shuts_down(),
-    ];
-    let script = Script {
-        first: &steps,
-        beside: &[],
-    };
-    lives(rt, rt.alloc(), settings, true, script, &[])
+    lives_all(rt, rt.alloc(), &FULL_TALE)
 }

@@ -2,18 +2,20 @@
 
 use super::chores::Deed;
 use tp_stage::boards::Signal;
+use tp_stage::findings::Finding;
+use tp_types::configs::Config;
 use tp_types::refusals::PoolError;
-use tp_types::tasks::{Fate, Kind};
+use tp_types::tasks::Kind;
 
 // Many jobs at once.
 #[derive(Clone, Copy)]
-pub enum Many<'s> {
+pub enum Many {
     // The numbers that are answered begin with this one, and are as many as the jobs.
-    All(&'s [Deed], u32),
+    All(&'static [Deed], u32),
     // Until this moment.
-    AllUntil(&'s [Deed], u64, u32),
-    AllRefused(&'s [Deed], PoolError),
-    Any(&'s [Deed], Result<i64, PoolError>),
+    AllUntil(&'static [Deed], u64, u32),
+    AllRefused(&'static [Deed], PoolError),
+    Any(&'static [Deed], Result<i64, PoolError>),
 }
 
 // What becomes of tasks, and of the pool.
@@ -44,13 +46,13 @@ pub enum Cue {
 
 // Each line says how it is answered.
 #[derive(Clone, Copy)]
-pub enum Step<'s> {
+pub enum Step {
     // Submits a job of this kind, which gets this number.
     Submit(Kind, Deed, u32),
     Get(u32, Result<i64, PoolError>),
     GetUntil(u32, u64, Result<i64, PoolError>),
     TryGet(u32, Result<Option<i64>, PoolError>),
-    Many(Many<'s>),
+    Many(Many),
     // A done task of this group.
     Take(u32, Result<u32, PoolError>),
     Poll(u32, Result<Option<u32>, PoolError>),
@@ -62,42 +64,32 @@ pub enum Step<'s> {
     WaitStep(u64, u64),
 }
 
-// A caller's lines, and those of a second caller, in a thread of its own beside the first, where there is one.
+// A caller's lines, and those of a second caller, in a thread of its own beside the first, where there is one; each in parts, which
+// several scripts may share.
 #[derive(Clone, Copy)]
-pub struct Script<'s> {
-    pub first: &'s [Step<'s>],
-    pub beside: &'s [Step<'s>],
+pub struct Script {
+    pub first: &'static [&'static [Step]],
+    pub beside: &'static [&'static [Step]],
 }
 
-// A future that has this number.
-pub fn future<'s>(deed: Deed, number: u32) -> Step<'s> {
-    Step::Submit(Kind::Future, deed, number)
+// A pool with these settings, whose workers are held before bodies where it says so; what its callers do, and what it is to leave.
+pub struct Tale {
+    pub settings: Config,
+    pub holds: bool,
+    pub script: Script,
+    pub findings: &'static [Finding],
 }
 
-// The future is lost with this fate.
-pub fn lost<'s>(t: u32, fate: Fate) -> Step<'s> {
-    Step::Get(t, Err(PoolError::Lost(fate)))
-}
-
-pub fn shuts_down<'s>() -> Step<'s> {
-    Step::Control(Control::Shutdown)
-}
+pub const SHUTS_DOWN: Step = Step::Control(Control::Shutdown);
 
 // Lets workers go on that are held before bodies.
-pub fn opens<'s>() -> Step<'s> {
-    Step::Cue(Cue::Raise(Signal::Open))
-}
+pub const OPENS: Step = Step::Cue(Cue::Raise(Signal::Open));
 
 // Lets jobs go on that wait.
-pub fn tells<'s>() -> Step<'s> {
-    Step::Cue(Cue::Raise(Signal::Told))
-}
+pub const TELLS: Step = Step::Cue(Cue::Raise(Signal::Told));
 
-pub fn raises<'s>(signal: Signal) -> Step<'s> {
-    Step::Cue(Cue::Raise(signal))
-}
+// Waits until a worker has come to the gate that holds it.
+pub const CAME: Step = Step::Cue(Cue::Reaches(Signal::Came, 1));
 
-// Waits until one has come.
-pub fn comes<'s>(signal: Signal) -> Step<'s> {
-    Step::Cue(Cue::Reaches(signal, 1))
-}
+// Task 0 is a future, and answers 6.
+pub const FIRST: Step = Step::Submit(Kind::Future, Deed::End(Ok(6)), 0);

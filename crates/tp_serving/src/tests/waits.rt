@@ -1,16 +1,11 @@
 // A second caller waits while the first has the pool go on.
 
 use super::chores::Deed;
-use super::lives::{ONE, lives};
+use super::lives::{ONE, lives_all};
 use super::scripts::{
-    Control, Cue, Many, Script, Step, comes, future, lost, opens, raises, shuts_down,
+    CAME, Control, Cue, FIRST, Many, OPENS, SHUTS_DOWN, Script, Step, TELLS, Tale,
 };
-use std::alloc::Global;
-use std::process::Abort;
-use std::sync::Wait;
 use std::test::Fail;
-use std::thread::Threads;
-use std::time::Clock;
 use tp_stage::boards::Signal;
 use tp_stage::findings::Finding;
 use tp_types::configs::{Config, Policy, QueueKind};
@@ -21,234 +16,374 @@ const GROUP: Kind = Kind::Group(3);
 
 const ONE_JOB: [Deed; 1] = [Deed::End(Ok(8))];
 
-// How long the second caller has to fall asleep, in microseconds.
-const A_WHILE: u32 = 2_000;
+const READY: Step = Step::Cue(Cue::Raise(Signal::Ready));
 
-// How task 1 leaves the queue in which it is: what the first caller does, and the fate.
-#[derive(Clone, Copy)]
-enum Way {
-    Removed,
-    Drained,
-    Discarded,
-}
+// The second caller is about to wait.
+const IT_WAITS: Step = Step::Cue(Cue::Reaches(Signal::Waits, 1));
 
-fn leaves<'s>(way: Way) -> Step<'s> {
-    match way {
-        Way::Removed => Step::Control(Control::Remove(1)),
-        Way::Drained => Step::Control(Control::Stop(1)),
-        Way::Discarded => future(Deed::Look, 2),
-    }
-}
+// How long the second caller has to fall asleep.
+const A_WHILE: Step = Step::Cue(Cue::Rest(2_000));
 
-fn fate(way: Way) -> Fate {
-    match way {
-        Way::Removed => Fate::Removed,
-        Way::Drained => Fate::HandedBack,
-        Way::Discarded => Fate::Discarded,
-    }
-}
+// The second caller has done what it does.
+const IT_IS_OVER: Step = Step::Cue(Cue::Reaches(Signal::Told, 1));
 
-// The first caller's lines once the second one is to wait: after a while the task leaves.
-fn goes_on<'s>(way: Way) -> [Step<'s>; 6] {
-    [
-        comes(Signal::Waits),
-        Step::Cue(Cue::Queued(1)),
-        Step::Cue(Cue::Rest(A_WHILE)),
-        leaves(way),
-        opens(),
-        shuts_down(),
-    ]
-}
+// The second caller's lines, up to its wait, and behind it.
+const WAITS: [Step; 2] = [
+    Step::Cue(Cue::Reaches(Signal::Ready, 1)),
+    Step::Cue(Cue::Raise(Signal::Waits)),
+];
+
+const OVER: [Step; 1] = [TELLS];
 
 // A pool of one place in its queue, which drops its oldest task where that is taken. Task 0 is held.
-fn leaves_under<R: Abort + Threads + Wait + Clock + Copy + Send + Sync + 'static>(
-    rt: R,
-    alloc: Global,
-    way: Way,
-    is_first: bool,
-    beside: &[Step<'_>],
-) -> Result<(), Fail> {
-    let settings = Config {
-        queue: QueueKind::Bounded(1),
-        policy: Policy::DiscardOldest,
-        ..ONE
-    };
-    let [a, b, c, d, e, f] = goes_on(way);
-    let held = future(Deed::End(Ok(6)), 0);
-    let came = comes(Signal::Came);
-    let ready = raises(Signal::Ready);
-    let many = [held, came, ready, a, b, c, d, e, f];
-    let group = Step::Submit(GROUP, Deed::Look, 1);
-    let single = [held, came, group, ready, a, b, c, d, e, f];
-    let first: &[Step<'_>] = if is_first { &single } else { &many };
-    let script = Script { first, beside };
-    lives(rt, alloc, settings, true, script, &[])
-}
+const LEFT: Config = Config {
+    queue: QueueKind::Bounded(1),
+    policy: Policy::DiscardOldest,
+    ..ONE
+};
 
-const WAYS: [Way; 3] = [Way::Removed, Way::Drained, Way::Discarded];
+// The first caller queues task 1 itself, or the second one does.
+const SINGLE: [Step; 4] = [FIRST, CAME, Step::Submit(GROUP, Deed::Look, 1), READY];
+
+const MANY: [Step; 3] = [FIRST, CAME, READY];
+
+// How task 1 leaves the queue in which it is, after a while.
+const REMOVED: [Step; 4] = [
+    IT_WAITS,
+    Step::Cue(Cue::Queued(1)),
+    A_WHILE,
+    Step::Control(Control::Remove(1)),
+];
+
+const DRAINED: [Step; 4] = [
+    IT_WAITS,
+    Step::Cue(Cue::Queued(1)),
+    A_WHILE,
+    Step::Control(Control::Stop(1)),
+];
+
+const DISCARDED: [Step; 4] = [
+    IT_WAITS,
+    Step::Cue(Cue::Queued(1)),
+    A_WHILE,
+    Step::Submit(Kind::Future, Deed::Look, 2),
+];
+
+const GOES_ON: [Step; 2] = [OPENS, SHUTS_DOWN];
+
+// The second caller finds it lost.
+const LOST_REMOVED: [Step; 1] = [Step::Get(1, Err(PoolError::Lost(Fate::Removed)))];
+
+const LOST_DRAINED: [Step; 1] = [Step::Get(1, Err(PoolError::Lost(Fate::HandedBack)))];
+
+const LOST_DISCARDED: [Step; 1] = [Step::Get(1, Err(PoolError::Lost(Fate::Discarded)))];
+
+static LOST_TO_A_GET: [Tale; 3] = [
+    Tale {
+        settings: LEFT,
+        holds: true,
+        script: Script {
+            first: &[&SINGLE, &REMOVED, &GOES_ON],
+            beside: &[&WAITS, &LOST_REMOVED],
+        },
+        findings: &[],
+    },
+    Tale {
+        settings: LEFT,
+        holds: true,
+        script: Script {
+            first: &[&SINGLE, &DRAINED, &GOES_ON],
+            beside: &[&WAITS, &LOST_DRAINED],
+        },
+        findings: &[],
+    },
+    Tale {
+        settings: LEFT,
+        holds: true,
+        script: Script {
+            first: &[&SINGLE, &DISCARDED, &GOES_ON],
+            beside: &[&WAITS, &LOST_DISCARDED],
+        },
+        findings: &[],
+    },
+];
 
 #[test]
 fn lost_future_ends_a_get(rt: HostRuntime) -> Result<(), Fail> {
-    for way in WAYS {
-        let beside = [
-            comes(Signal::Ready),
-            raises(Signal::Waits),
-            lost(1, fate(way)),
-        ];
-        leaves_under(rt, rt.alloc(), way, true, &beside)?;
-    }
-    Ok(())
+    lives_all(rt, rt.alloc(), &LOST_TO_A_GET)
 }
+
+const TAKES: [Step; 1] = [Step::Take(3, Err(PoolError::NothingOpen))];
+
+static LOST_TO_A_TAKE: [Tale; 3] = [
+    Tale {
+        settings: LEFT,
+        holds: true,
+        script: Script {
+            first: &[&SINGLE, &REMOVED, &GOES_ON],
+            beside: &[&WAITS, &TAKES],
+        },
+        findings: &[],
+    },
+    Tale {
+        settings: LEFT,
+        holds: true,
+        script: Script {
+            first: &[&SINGLE, &DRAINED, &GOES_ON],
+            beside: &[&WAITS, &TAKES],
+        },
+        findings: &[],
+    },
+    Tale {
+        settings: LEFT,
+        holds: true,
+        script: Script {
+            first: &[&SINGLE, &DISCARDED, &GOES_ON],
+            beside: &[&WAITS, &TAKES],
+        },
+        findings: &[],
+    },
+];
 
 #[test]
 fn lost_task_ends_a_take(rt: HostRuntime) -> Result<(), Fail> {
-    for way in WAYS {
-        let beside = [
-            comes(Signal::Ready),
-            raises(Signal::Waits),
-            Step::Take(3, Err(PoolError::NothingOpen)),
-        ];
-        leaves_under(rt, rt.alloc(), way, true, &beside)?;
-    }
-    Ok(())
+    lives_all(rt, rt.alloc(), &LOST_TO_A_TAKE)
 }
+
+const INVOKES_ALL: [Step; 1] = [Step::Many(Many::All(&ONE_JOB, 1))];
+
+static LOST_TO_ALL: [Tale; 3] = [
+    Tale {
+        settings: LEFT,
+        holds: true,
+        script: Script {
+            first: &[&MANY, &REMOVED, &GOES_ON],
+            beside: &[&WAITS, &INVOKES_ALL, &LOST_REMOVED],
+        },
+        findings: &[],
+    },
+    Tale {
+        settings: LEFT,
+        holds: true,
+        script: Script {
+            first: &[&MANY, &DRAINED, &GOES_ON],
+            beside: &[&WAITS, &INVOKES_ALL, &LOST_DRAINED],
+        },
+        findings: &[],
+    },
+    Tale {
+        settings: LEFT,
+        holds: true,
+        script: Script {
+            first: &[&MANY, &DISCARDED, &GOES_ON],
+            beside: &[&WAITS, &INVOKES_ALL, &LOST_DISCARDED],
+        },
+        findings: &[],
+    },
+];
 
 #[test]
 fn lost_task_ends_an_invocation_of_all(rt: HostRuntime) -> Result<(), Fail> {
-    for way in WAYS {
-        let beside = [
-            comes(Signal::Ready),
-            raises(Signal::Waits),
-            Step::Many(Many::All(&ONE_JOB, 1)),
-            lost(1, fate(way)),
-        ];
-        leaves_under(rt, rt.alloc(), way, false, &beside)?;
-    }
-    Ok(())
+    lives_all(rt, rt.alloc(), &LOST_TO_ALL)
 }
+
+const INVOKES_ANY: [Step; 1] = [Step::Many(Many::Any(&ONE_JOB, Err(PoolError::AllFailed(None))))];
+
+static LOST_TO_ANY: [Tale; 3] = [
+    Tale {
+        settings: LEFT,
+        holds: true,
+        script: Script {
+            first: &[&MANY, &REMOVED, &GOES_ON],
+            beside: &[&WAITS, &INVOKES_ANY],
+        },
+        findings: &[],
+    },
+    Tale {
+        settings: LEFT,
+        holds: true,
+        script: Script {
+            first: &[&MANY, &DRAINED, &GOES_ON],
+            beside: &[&WAITS, &INVOKES_ANY],
+        },
+        findings: &[],
+    },
+    Tale {
+        settings: LEFT,
+        holds: true,
+        script: Script {
+            first: &[&MANY, &DISCARDED, &GOES_ON],
+            beside: &[&WAITS, &INVOKES_ANY],
+        },
+        findings: &[],
+    },
+];
 
 #[test]
 fn lost_task_ends_an_invocation_of_any(rt: HostRuntime) -> Result<(), Fail> {
-    for way in WAYS {
-        let beside = [
-            comes(Signal::Ready),
-            raises(Signal::Waits),
-            Step::Many(Many::Any(&ONE_JOB, Err(PoolError::AllFailed(None)))),
-            lost(1, fate(way)),
-        ];
-        leaves_under(rt, rt.alloc(), way, false, &beside)?;
-    }
-    Ok(())
+    lives_all(rt, rt.alloc(), &LOST_TO_ANY)
 }
 
 // Task 0 is held while the second caller falls asleep, and then ends.
-fn ends_under<R: Abort + Threads + Wait + Clock + Copy + Send + Sync + 'static>(
-    rt: R,
-    alloc: Global,
-    beside: &[Step<'_>],
-    findings: &[Finding],
-) -> Result<(), Fail> {
-    let first = [
-        Step::Submit(GROUP, Deed::End(Ok(6)), 0),
-        comes(Signal::Came),
-        raises(Signal::Ready),
-        comes(Signal::Waits),
-        Step::Cue(Cue::Rest(A_WHILE)),
-        opens(),
-        comes(Signal::Told),
-        shuts_down(),
-    ];
-    let script = Script {
-        first: &first,
-        beside,
-    };
-    lives(rt, alloc, ONE, true, script, findings)
-}
+const ENDS: [Step; 8] = [
+    Step::Submit(GROUP, Deed::End(Ok(6)), 0),
+    CAME,
+    READY,
+    IT_WAITS,
+    A_WHILE,
+    OPENS,
+    IT_IS_OVER,
+    SHUTS_DOWN,
+];
+
+const NOT_CANCELLED: [Finding; 1] = [Finding::Cancelled(0)];
+
+static ENDED: [Tale; 7] = [
+    Tale {
+        settings: ONE,
+        holds: true,
+        script: Script {
+            first: &[&ENDS],
+            beside: &[&WAITS, &[Step::Get(0, Ok(6))], &OVER],
+        },
+        findings: &NOT_CANCELLED,
+    },
+    Tale {
+        settings: ONE,
+        holds: true,
+        script: Script {
+            first: &[&ENDS],
+            beside: &[&WAITS, &[Step::GetUntil(0, 9, Ok(6))], &OVER],
+        },
+        findings: &NOT_CANCELLED,
+    },
+    Tale {
+        settings: ONE,
+        holds: true,
+        script: Script {
+            first: &[&ENDS],
+            beside: &[&WAITS, &[Step::Take(3, Ok(0))], &OVER],
+        },
+        findings: &NOT_CANCELLED,
+    },
+    Tale {
+        settings: ONE,
+        holds: true,
+        script: Script {
+            first: &[&ENDS],
+            beside: &[&WAITS, &[Step::Many(Many::All(&ONE_JOB, 1))], &OVER],
+        },
+        findings: &NOT_CANCELLED,
+    },
+    Tale {
+        settings: ONE,
+        holds: true,
+        script: Script {
+            first: &[&ENDS],
+            beside: &[&WAITS, &[Step::Many(Many::AllUntil(&ONE_JOB, 9, 1))], &OVER],
+        },
+        findings: &NOT_CANCELLED,
+    },
+    Tale {
+        settings: ONE,
+        holds: true,
+        script: Script {
+            first: &[&ENDS],
+            beside: &[&WAITS, &[Step::Many(Many::Any(&ONE_JOB, Ok(8)))], &OVER],
+        },
+        findings: &NOT_CANCELLED,
+    },
+    Tale {
+        settings: ONE,
+        holds: true,
+        script: Script {
+            first: &[&ENDS],
+            beside: &[&WAITS, &[Step::WaitStep(4, 5)], &OVER],
+        },
+        findings: &NOT_CANCELLED,
+    },
+];
 
 #[test]
 fn end_of_a_task_ends_waits(rt: HostRuntime) -> Result<(), Fail> {
-    let is_over = raises(Signal::Told);
-    let lines = [
-        Step::Get(0, Ok(6)),
-        Step::GetUntil(0, 9, Ok(6)),
-        Step::Take(3, Ok(0)),
-        Step::Many(Many::All(&ONE_JOB, 1)),
-        Step::Many(Many::AllUntil(&ONE_JOB, 9, 1)),
-        Step::Many(Many::Any(&ONE_JOB, Ok(8))),
-        Step::WaitStep(4, 5),
-    ];
-    for line in lines {
-        let beside = [comes(Signal::Ready), raises(Signal::Waits), line, is_over];
-        ends_under(rt, rt.alloc(), &beside, &[Finding::Cancelled(0)])?;
-    }
-    Ok(())
+    lives_all(rt, rt.alloc(), &ENDED)
 }
+
+const STEPS: [Step; 12] = [
+    Step::Submit(Kind::Future, Deed::Look, 0),
+    CAME,
+    Step::Steps(4),
+    Step::WaitStep(3, 4),
+    Step::WaitStep(0, 4),
+    READY,
+    IT_WAITS,
+    A_WHILE,
+    Step::Control(Control::Tick(1)),
+    IT_IS_OVER,
+    OPENS,
+    SHUTS_DOWN,
+];
+
+const AWAITS_A_STEP: [Step; 2] = [Step::WaitStep(4, 5), Step::Steps(5)];
+
+static STEP_TALE: [Tale; 1] = [Tale {
+    settings: ONE,
+    holds: true,
+    script: Script {
+        first: &[&STEPS],
+        beside: &[&WAITS, &AWAITS_A_STEP, &OVER],
+    },
+    findings: &[Finding::Run(1)],
+}];
 
 // The record has four entries while the first task is held: `submit`, `open`, `take` and `begin`. A wait for a
 // fourth ends at once, and one for a fifth with the next step.
 #[test]
 fn step_ends_a_wait_for_it(rt: HostRuntime) -> Result<(), Fail> {
-    let first = [
-        future(Deed::Look, 0),
-        comes(Signal::Came),
-        Step::Steps(4),
-        Step::WaitStep(3, 4),
-        Step::WaitStep(0, 4),
-        raises(Signal::Ready),
-        comes(Signal::Waits),
-        Step::Cue(Cue::Rest(A_WHILE)),
-        Step::Control(Control::Tick(1)),
-        comes(Signal::Told),
-        opens(),
-        shuts_down(),
-    ];
-    let beside = [
-        comes(Signal::Ready),
-        raises(Signal::Waits),
-        Step::WaitStep(4, 5),
-        Step::Steps(5),
-        raises(Signal::Told),
-    ];
-    let script = Script {
-        first: &first,
-        beside: &beside,
-    };
-    lives(rt, rt.alloc(), ONE, true, script, &[Finding::Run(1)])
+    lives_all(rt, rt.alloc(), &STEP_TALE)
 }
+
+const TICKS: [Step; 11] = [
+    Step::Submit(Kind::Future, Deed::Look, 0),
+    CAME,
+    READY,
+    IT_WAITS,
+    A_WHILE,
+    Step::Control(Control::Tick(4)),
+    A_WHILE,
+    Step::Control(Control::Tick(5)),
+    IT_IS_OVER,
+    OPENS,
+    SHUTS_DOWN,
+];
+
+static TICKED: [Tale; 2] = [
+    Tale {
+        settings: ONE,
+        holds: true,
+        script: Script {
+            first: &[&TICKS],
+            beside: &[
+                &WAITS,
+                &[Step::GetUntil(0, 5, Err(PoolError::TimedOut))],
+                &OVER,
+            ],
+        },
+        findings: &[Finding::Run(1), Finding::Cancelled(0)],
+    },
+    Tale {
+        settings: ONE,
+        holds: true,
+        script: Script {
+            first: &[&TICKS],
+            beside: &[&WAITS, &[Step::Many(Many::AllUntil(&ONE_JOB, 5, 1))], &OVER],
+        },
+        findings: &[Finding::Run(1), Finding::Cancelled(1)],
+    },
+];
 
 // A tick ends a wait whose deadline it reaches, and so do those of many: the job that is open then is cancelled.
 #[test]
 fn tick_ends_waits(rt: HostRuntime) -> Result<(), Fail> {
-    let first = [
-        future(Deed::Look, 0),
-        comes(Signal::Came),
-        raises(Signal::Ready),
-        comes(Signal::Waits),
-        Step::Cue(Cue::Rest(A_WHILE)),
-        Step::Control(Control::Tick(4)),
-        Step::Cue(Cue::Rest(A_WHILE)),
-        Step::Control(Control::Tick(5)),
-        comes(Signal::Told),
-        opens(),
-        shuts_down(),
-    ];
-    let lines = [
-        (Step::GetUntil(0, 5, Err(PoolError::TimedOut)), 1, 0),
-        (Step::Many(Many::AllUntil(&ONE_JOB, 5, 1)), 1, 1),
-    ];
-    for (line, run, cancelled) in lines {
-        let beside = [
-            comes(Signal::Ready),
-            raises(Signal::Waits),
-            line,
-            raises(Signal::Told),
-        ];
-        let script = Script {
-            first: &first,
-            beside: &beside,
-        };
-        let findings = [Finding::Run(run), Finding::Cancelled(cancelled)];
-        lives(rt, rt.alloc(), ONE, true, script, &findings)?;
-    }
-    Ok(())
+    lives_all(rt, rt.alloc(), &TICKED)
 }
