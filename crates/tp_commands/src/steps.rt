@@ -15,8 +15,8 @@ use tp_choices::choices::Playing;
 use tp_reasons::messages::Style;
 use tp_reasons::mistakes::Kind;
 use tp_replay::plays::{Play, play_text};
-use tp_scenario::run::run;
-use tp_text::watched::{WatchedReader, WatchedWriter};
+use tp_scenario::run::run_text;
+use tp_text::watched::WatchedWriter;
 use tp_types::refusals::PoolError;
 
 /// Whether a play lets the program end well.
@@ -109,7 +109,7 @@ pub fn play<W: Write, E: Write>(
     if playing.prints_record {
         return play_for_record(alloc, playing, text, out, errors);
     }
-    let outcome = run(alloc, &mut WatchedReader::new(text), out);
+    let outcome = run_text(alloc, text, out);
     let again = play_again(alloc, playing, text, errors);
     match outcome {
         Ok(()) => again,

@@ -10,9 +10,9 @@ use Rattle.tp_record.specs.State.{state}
 use Rattle.tp_text.specs.RunText.{Answer, after, after_all, answer_lines, run_lines}
 use Rattle.tp_text.proofs.RunLaws.{after_all-push}
 use Rattle.tp_scenario.specs.declared.lines.ScenarioLine.{ScenarioLine}
-use Rattle.tp_scenario.specs.Answered.{Answers, Playing, Stands, outcomes_all}
+use Rattle.tp_scenario.specs.Answered.{AnswersLine, IsAt, Playing, Running, Stands, outcomes_all, played}
 use Rattle.tp_scenario.specs.Played.{IsPlay, Outcomes, ask_of, asks_of, outcomes_after}
-use Rattle.tp_scenario.proofs.PlayLaws.{one_each, play, stands_on}
+use Rattle.tp_scenario.proofs.PlayLaws.{one_each, play, stands_first, stands_on}
 use Rattle.tp_replay.specs.declared.plays.Answered.{Answered}
 use Rattle.tp_replay.specs.Plays.{PlaysOf, answers_of, asked_of, entries_in, refusals_in}
 
@@ -27,32 +27,31 @@ asks_on c h os (k ∷ lines) (b ∷ answers) l a each =
     ap (λ rest. (0, ask_of (state c h) os k) ∷ rest) (asks_on c (after h b) (outcomes_after os k b) lines answers l a (omega arith))
 
 -- the first lines are answered so
-pub record Going (c : Config) (lines : List ScenarioLine) (n : ℕ) (r : Playing) (xs : List Answered) : Type 0 where
+pub record Going (c : Config) (lines : List ScenarioLine) (n : ℕ) (r : Running) (xs : List Answered) : Type 0 where
   pub stands : Stands c (take n lines) (answers_of xs) r (run_lines c [] (answers_of xs))
   pub asked : asked_of xs ≡ asks_of c [] [] (take n lines) (answers_of xs)
 
 -- no line is answered yet
-pub going_first : (c : Config) (lines : List ScenarioLine) (r : Playing) → r ≡ record { config = c; history = []; outcomes = [] } → Going c lines 0 r []
-going_first c lines r start = record { stands = record { plays = tt; runner = start; output = refl }; asked = refl }
+pub going_first : (c : Config) (lines : List ScenarioLine) (r : Running) → IsAt r (record { config = c; history = []; outcomes = [] }) → Going c lines 0 r []
+going_first c lines r start = record { stands = stands_first c r [] start refl; asked = refl }
 
 -- one more line is answered
-pub going_on : (c : Config) (lines : List ScenarioLine) (n : ℕ) (r p : Playing) (xs : List Answered) (d : ScenarioLine) (x : Answered) → Going c lines n r xs → n < length lines
-    → x.ask ≡ ask_of (state r.config r.history) r.outcomes (get_or lines n d)
-    → Answers r.config r.history (ask_of (state r.config r.history) r.outcomes (get_or lines n d)) x.answer
-    → p ≡ record { config = r.config; history = after r.history x.answer; outcomes = outcomes_after r.outcomes (get_or lines n d) x.answer }
+pub going_on : (c : Config) (lines : List ScenarioLine) (n : ℕ) (r p : Running) (xs : List Answered) (d : ScenarioLine) (x : Answered) → Going c lines n r xs → n < length lines
+    → ((q : Playing) → IsAt r q → x.ask ≡ ask_of (state q.config q.history) q.outcomes (get_or lines n d))
+    → ((q : Playing) → IsAt r q → AnswersLine q (get_or lines n d) x.answer p)
     → Going c lines (n + 1) p (xs ++ x ∷ [])
-going_on c lines n r p xs d x so_far below asks answers leads =
+going_on c lines n r p xs d x so_far below asks answers =
     let l : ScenarioLine = get_or lines n d in
     let a : Answer = x.answer in
     let front : List ScenarioLine = take n lines in
     let given : List Answer = answers_of xs in
+    let at : Playing = played c front given in
     let more : take (n + 1) lines ≡ front ++ l ∷ [] = take_more lines n d below in
     let told : answers_of (xs ++ x ∷ []) ≡ given ++ a ∷ [] = map_push (λ (y : Answered). y.answer) xs x in
-    let next : Stands c (front ++ l ∷ []) (given ++ a ∷ []) p (run_lines c [] given ++ answer_lines r.config r.history a) =
-    stands_on c front given r p (run_lines c [] given) (run_lines c [] given ++ answer_lines r.config r.history a) l a so_far.stands answers leads refl in
+    let next : Stands c (front ++ l ∷ []) (given ++ a ∷ []) p (run_lines c [] given ++ answer_lines c (after_all [] given) a) =
+    stands_on c front given r p (run_lines c [] given) (run_lines c [] given ++ answer_lines c (after_all [] given) a) l a so_far.stands (answers at so_far.stands.runner) refl in
     let whole : Stands c (front ++ l ∷ []) (given ++ a ∷ []) p (run_lines c [] (given ++ a ∷ [])) = record { plays = next.plays; runner = next.runner; output = refl } in
-    let there : x.ask ≡ ask_of (state c (after_all [] given)) (outcomes_all [] front given) l =
-    asks ∙ ap (λ (q : Playing). ask_of (state q.config q.history) q.outcomes l) so_far.stands.runner in
+    let there : x.ask ≡ ask_of (state c (after_all [] given)) (outcomes_all [] front given) l = asks at so_far.stands.runner in
     let each : length given ≡ length front = one_each c [] [] front given so_far.stands.plays in
     let asked : asked_of (xs ++ x ∷ []) ≡ asks_of c [] [] (front ++ l ∷ []) (given ++ a ∷ []) =
     map_push (λ (y : Answered). (0, y.ask)) xs x ∙ ap (λ q. asked_of xs ++ (0, q) ∷ []) there
@@ -67,7 +66,7 @@ going_on c lines n r p xs d x so_far below asks answers leads =
     }
 
 -- all lines are answered
-pub going_whole : (c : Config) (lines : List ScenarioLine) (n : ℕ) (r : Playing) (xs : List Answered) → Going c lines n r xs → length lines ≤ n → PlaysOf c lines xs
+pub going_whole : (c : Config) (lines : List ScenarioLine) (n : ℕ) (r : Running) (xs : List Answered) → Going c lines n r xs → length lines ≤ n → PlaysOf c lines xs
 going_whole c lines n r xs so_far all =
     let whole : take n lines ≡ lines = take_all n lines all in
     let plays = so_far.stands.plays in

@@ -1,7 +1,7 @@
 //! What comes of the steps of a scenario: its answers, without the pool that gave them.
 
 ghost use Rattle.std.specs.Prelude.{◌≡◌, ◌≤◌, [], length, Ok, IfOk, IfErr, IsOkUnless};
-ghost use Rattle.tp_scenario.specs.Answered.{answer_of};
+ghost use Rattle.tp_scenario.specs.Answered.{IsAt, answer_of, settings_of};
 ghost use Rattle.tp_scenario.specs.Read.{lines_said};
 ghost use Rattle.tp_replay.specs.Plays.{IsPlayIn, IsPlayOf, PlaysOf, RefusesPlay, RefusesSaid, refusals_in};
 
@@ -49,8 +49,8 @@ fn play_steps(
     runner: &mut Runner,
     steps: &[ScenarioLine],
 ) -> Result<Vec<Answered>, PoolError>
-    requires starts { runner.old ≡ record { config = runner.old.config; history = []; outcomes = [] } }
-    ensures plays { IfOk result (λ answers. PlaysOf runner.old.config steps.now answers.items) }
+    requires starts { IsAt runner.old (record { config = settings_of runner.old; history = []; outcomes = [] }) }
+    ensures plays { IfOk result (λ answers. PlaysOf (settings_of runner.old) steps.now answers.items) }
     ensures only_memory { IsOkUnless result PoolError.NoMemory }
 {
     let mut answers = Vec::new(alloc);

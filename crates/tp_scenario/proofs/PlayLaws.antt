@@ -1,23 +1,23 @@
 -- Lines that are answered one after another make a run.
-use Rattle.std.proofs.Common.{◌≡◌, ℕ, suc, ◌+◌, ◌<◌, List, [], ◌∷◌, ◌++◌, length, map, take, Result, Ok, Err, refl, sym, ◌∙◌, ap, subst, inl, inr, ◌⊎◌, ◌≤◌, Bool, true, false, is_ok, get_or, arith}
-use Rattle.std.proofs.lemmas.List.{take_more}
+use Rattle.std.proofs.Common.{◌≡◌, ℕ, suc, ◌+◌, ◌≤◌, List, [], ◌∷◌, ◌++◌, length, map, Option, Result, Ok, Err, refl, sym, ◌∙◌, ap, subst, arith}
+use Rattle.std.proofs.Math.Seq.{take-append_seam}
 use Rattle.tp_types.specs.declared.configs.Config.{Config}
+use Rattle.tp_types.specs.declared.refusals.PoolError.{PoolError}
+use Rattle.tp_types.specs.declared.refusals.PoolError.TheVariants.{NoMemory}
 use Rattle.tp_record.specs.declared.entries.Entry.{Entry}
 use Rattle.tp_record.specs.declared.entries.Ask.{Ask}
-use Rattle.tp_record.specs.State.{state, counts}
+use Rattle.tp_record.specs.State.{state}
 use Rattle.tp_record.specs.Step as steps
-use Rattle.tp_types.specs.declared.refusals.PoolError.{PoolError}
-use Rattle.tp_machine.specs.declared.steps.Stepped.{Stepped}
-use Rattle.tp_text.specs.RunText.{Answer, after, after_all, run_lines, answer_lines}
+use Rattle.tp_machine.specs.Seen.{At}
+use Rattle.tp_text.specs.RunText.{Answer, after, after_all, answer_lines}
 use Rattle.tp_text.proofs.RunLaws.{after_all-push, run_lines-push}
+use Rattle.tp_scenario.specs.declared.forms.LineRead.TheVariants as read
 use Rattle.tp_scenario.specs.declared.lines.ScenarioLine.{ScenarioLine}
-use Rattle.tp_scenario.specs.Played.{Outcomes, ask_of, asks_of, outcomes_after, told, IsPlay}
-use Rattle.tp_scenario.specs.Answered.{Answers, answer_of, PlaysFrom, outcomes_all, Playing, Stands, Breaks}
-
--- an answer is an entry where the machine's is
-pub ok_told : {P : Type 0} (x : Result (Entry × Stepped P) PoolError) → is_ok x ≡ is_ok (answer_of x)
-ok_told (Ok x) = refl
-ok_told (Err e) = refl
+use Rattle.tp_scenario.specs.Lines.{FitsLine, line_text}
+use Rattle.tp_scenario.specs.PoolText.{LinesSayFrom, ReadsLine}
+use Rattle.tp_scenario.specs.Played.{Outcomes, ask_of, asks_of, outcome_said, outcomes_after, told, IsPlay}
+use Rattle.tp_scenario.specs.Answered.{Answers, AnswersLine, IsAt, PlaysFrom, PlaysLine, PlaysLines, Playing, Running, Stands, notes, outcomes_all, outcomes_kept, played}
+use Rattle.tp_scenario.proofs.ReadLaws.{Cut, Reading, lines_all, lines_line, reading_line, reading_skip}
 
 -- as many answers as lines
 pub one_each : (c : Config) (h : List Entry) (os : Outcomes) (lines : List ScenarioLine) (answers : List Answer) → PlaysFrom c h os lines answers → length answers ≡ length lines
@@ -58,63 +58,100 @@ outcomes_on os [] (b ∷ answers) l a each = absurd (omega arith)
 outcomes_on os (k ∷ lines) [] l a each = absurd (omega arith)
 outcomes_on os (k ∷ lines) (b ∷ answers) l a each = outcomes_on (outcomes_after os k b) lines answers l a (omega arith)
 
+-- what becomes of outcomes behind a line
+kept_line : (os : Outcomes) (l : ScenarioLine) (a : Answer) → outcomes_kept os (outcome_said l) a ≡ outcomes_after os l a
+kept_line os l (Ok e) = refl
+kept_line os l (Err r) = refl
+
 -- where the runner stands after one more line
-pub stands_on : (c : Config) (lines : List ScenarioLine) (answers : List Answer) (r p : Playing) (out out' : List ℕ) (l : ScenarioLine) (a : Answer) → Stands c lines answers r out
-    → Answers r.config r.history (ask_of (state r.config r.history) r.outcomes l) a
-    → p ≡ record { config = r.config; history = after r.history a; outcomes = outcomes_after r.outcomes l a }
-    → out' ≡ out ++ answer_lines r.config r.history a
+pub stands_on : (c : Config) (lines : List ScenarioLine) (answers : List Answer) (r p : Running) (out out' : List ℕ) (l : ScenarioLine) (a : Answer) → Stands c lines answers r out
+    → AnswersLine (played c lines answers) l a p
+    → out' ≡ out ++ answer_lines c (after_all [] answers) a
     → Stands c (lines ++ l ∷ []) (answers ++ a ∷ []) p out'
-stands_on c lines answers r p out out' l a so_far more leads grows =
-    let Next : Playing → Type 0 = λ q. Answers q.config q.history (ask_of (state q.config q.history) q.outcomes l) a in
-    let at : Playing = record { config = c; history = after_all [] answers; outcomes = outcomes_all [] lines answers } in
-    let told_there : Next at = subst Next so_far.runner more in
-    let on : Playing → Playing = λ q. record { config = q.config; history = after q.history a; outcomes = outcomes_after q.outcomes l a } in
+stands_on c lines answers r p out out' l a so_far more grows =
+    let h : List Entry = after_all [] answers in
+    let os : Outcomes = outcomes_all [] lines answers in
+    let history : after h a ≡ after_all [] (answers ++ a ∷ []) = sym (after_all-push [] answers a) in
+    let outcomes : outcomes_kept os (outcome_said l) a ≡ outcomes_all [] (lines ++ l ∷ []) (answers ++ a ∷ []) =
+    kept_line os l a ∙ sym (outcomes_on [] lines answers l a (one_each c [] [] lines answers so_far.plays)) in
     record {
-      plays = plays_on c [] [] lines answers l a so_far.plays told_there;
-      runner = leads ∙ ap on so_far.runner
-          ∙ ap (λ h. record { config = c; history = h; outcomes = outcomes_after (outcomes_all [] lines answers) l a }) (sym (after_all-push [] answers a))
-          ∙ ap (λ os. record { config = c; history = after_all [] (answers ++ a ∷ []); outcomes = os }) (sym (outcomes_on [] lines answers l a (one_each c [] [] lines answers so_far.plays)));
-      output = grows ∙ ap (λ x. x ++ answer_lines r.config r.history a) so_far.output ∙ ap (λ (q : Playing). run_lines c [] answers ++ answer_lines q.config q.history a) so_far.runner ∙ sym (run_lines-push c [] answers a);
-    }
-
--- the first lines are answered, and as many entries are counted as the record has
-pub record Going (c : Config) (lines : List ScenarioLine) (n accepted : ℕ) (r : Playing) (out : List ℕ) : Type 0 where
-  pub answers : List Answer
-  pub stands : Stands c (take n lines) answers r out
-  pub counted : accepted ≡ length r.history
-  pub few : accepted ≤ n
-
--- an entry that was added is counted
-counted_on : (a : Answer) (h : List Entry) (n m : ℕ) (b : Bool) → n ≡ length h → b ≡ is_ok a → ((b ≡ true) × (m ≡ n + 1)) ⊎ ((b ≡ false) × (m ≡ n)) → m ≡ length (after h a)
-counted_on (Ok e) h n m b so_far test (inl more) = omega (arith, more.1)
-counted_on (Ok e) h n m b so_far test (inr same) = let no : true ≡ false = sym test ∙ same.0 in cc
-counted_on (Err r) h n m b so_far test (inl more) = let no : false ≡ true = sym test ∙ more.0 in cc
-counted_on (Err r) h n m b so_far test (inr same) = same.1 ∙ so_far
-
-at_most : (n m k : ℕ) (b : Bool) → n ≤ k → ((b ≡ true) × (m ≡ n + 1)) ⊎ ((b ≡ false) × (m ≡ n)) → m ≤ k + 1
-at_most n m k b few (inl more) = omega (arith, more.1)
-at_most n m k b few (inr same) = omega (arith, same.1)
-
--- one more line is answered, and its answer is written
-pub going_on : (c : Config) (lines : List ScenarioLine) (n accepted m : ℕ) (r p : Playing) (out out' : List ℕ) (d : ScenarioLine) (a : Answer) (b : Bool) → Going c lines n accepted r out → n < length lines
-    → Answers r.config r.history (ask_of (state r.config r.history) r.outcomes (get_or lines n d)) a
-    → p ≡ record { config = r.config; history = after r.history a; outcomes = outcomes_after r.outcomes (get_or lines n d) a }
-    → (accepted + 1 ≡ suc (length r.history) → out' ≡ out ++ answer_lines r.config r.history a)
-    → b ≡ is_ok a → ((b ≡ true) × (m ≡ accepted + 1)) ⊎ ((b ≡ false) × (m ≡ accepted)) → Going c lines (n + 1) m p out'
-going_on c lines n accepted m r p out out' d a b so_far below answers leads writes test counts =
-    let l : ScenarioLine = get_or lines n d in
-    record {
-      answers = so_far.answers ++ a ∷ [];
-      stands = subst (λ x. Stands c x (so_far.answers ++ a ∷ []) p out') (sym (take_more lines n d below))
-          (stands_on c (take n lines) so_far.answers r p out out' l a so_far.stands answers leads (writes (omega (arith, so_far.counted))));
-      counted = counted_on a r.history accepted m b so_far.counted test counts ∙ sym (ap (λ (q : Playing). length q.history) leads);
-      few = at_most accepted m n b so_far.few counts;
+      plays = plays_on c [] [] lines answers l a so_far.plays more.answers;
+      runner = record { at = subst (At notes p.machine) history more.leads.at; config = more.leads.config; outcomes = more.leads.outcomes ∙ outcomes };
+      output = grows ∙ ap (λ x. x ++ answer_lines c h a) so_far.output ∙ sym (run_lines-push c [] answers a);
     }
 
 -- no line is answered yet
-pub going_first : (c : Config) (lines : List ScenarioLine) (r : Playing) (out : List ℕ) → Stands c [] [] r out → Going c lines 0 0 r out
-going_first c lines r out stands = record { answers = []; stands = stands; counted = sym (ap (λ (q : Playing). length q.history) stands.runner); few = omega arith }
+pub stands_first : (c : Config) (r : Running) (out : List ℕ) → IsAt r (record { config = c; history = []; outcomes = [] }) → out ≡ [] → Stands c [] [] r out
+stands_first c r out is empty = record { plays = tt; runner = is; output = empty }
 
--- between two answers the first ones are written
-pub breaks_here : (c : Config) (lines : List ScenarioLine) (n accepted : ℕ) (r : Playing) (out : List ℕ) → Going c lines n accepted r out → Breaks c lines out
-breaks_here c lines n accepted r out so_far = (n, so_far.answers, so_far.stands.plays, so_far.stands.output)
+-- how far the lines of a text are played: those that were read are answered, and as many entries are counted as the record has
+pub record Going (c : Config) (first : ℕ) (text : List ℕ) (k : ℕ) (rest : List ℕ) (accepted : ℕ) (r : Running) (out : List ℕ) : Type 0 where
+  pub before : List ScenarioLine
+  pub reading : Reading line_text FitsLine first text k rest before
+  pub answers : List Answer
+  pub stands : Stands c before answers r out
+  pub counted : accepted ≡ length (after_all [] answers)
+  pub few : first + accepted ≤ k
+
+-- before the first line
+pub going_first : (c : Config) (first : ℕ) (text : List ℕ) (r : Running) (out : List ℕ) → Stands c [] [] r out → Going c first text first text 0 r out
+going_first c first text r out stands = record {
+  before = [];
+  reading = record { counted = omega arith; on = λ said say. say };
+  answers = [];
+  stands = stands;
+  counted = refl;
+  few = omega arith;
+}
+
+-- a line is skipped
+pub going_skip : (c : Config) (first : ℕ) (text : List ℕ) (k j : ℕ) (rest line behind : List ℕ) (accepted : ℕ) (r : Running) (out : List ℕ) → Going c first text k rest accepted r out → Cut rest line behind
+    → ReadsLine line_text FitsLine line read.Skipped → j ≡ k + 1 → Going c first text j behind accepted r out
+going_skip c first text k j rest line behind accepted r out so_far cut reads next = record {
+  before = so_far.before;
+  reading = reading_skip line_text FitsLine first text k j rest line behind so_far.before so_far.reading cut reads next;
+  answers = so_far.answers;
+  stands = so_far.stands;
+  counted = so_far.counted;
+  few = omega (arith, so_far.few, next);
+}
+
+-- one more line is answered, and its answer is written
+pub going_line : (c : Config) (first : ℕ) (text : List ℕ) (k j : ℕ) (rest line behind : List ℕ) (accepted more : ℕ) (r p : Running) (out out' : List ℕ) (l : ScenarioLine) → Going c first text k rest accepted r out → Cut rest line behind
+    → ReadsLine line_text FitsLine line (read.Says l) → j ≡ k + 1
+    → ((q : Playing) → IsAt r q → accepted ≡ length q.history → PlaysLine q l p more out out')
+    → more ≤ accepted + 1 → Going c first text j behind more p out'
+going_line c first text k j rest line behind accepted more r p out out' l so_far cut reads next plays bound =
+    let at : Playing = played c so_far.before so_far.answers in
+    let one : PlaysLine at l p more out out' = plays at so_far.stands.runner so_far.counted in
+    record {
+      before = so_far.before ++ l ∷ [];
+      reading = reading_line line_text FitsLine first text k j rest line behind so_far.before l so_far.reading cut reads next;
+      answers = so_far.answers ++ one.answer ∷ [];
+      stands = stands_on c so_far.before so_far.answers r p out out' l one.answer so_far.stands one.told one.written;
+      counted = one.counted ∙ ap length (sym (after_all-push [] so_far.answers one.answer));
+      few = omega (arith, so_far.few, next, bound);
+    }
+
+-- what the lines of a text come to that were played so
+abbrev pub PlaysText : Config → ℕ → List ℕ → Option ℕ → Result (Unit {0}) PoolError → Running → List ℕ → Type 0
+PlaysText c first text bad result r out = (lines : List ScenarioLine) × LinesSayFrom line_text FitsLine first text (lines, bad) × PlaysLines c lines result r out
+
+-- no more lines come
+pub going_whole : (c : Config) (first : ℕ) (text : List ℕ) (k : ℕ) (rest : List ℕ) (accepted : ℕ) (r : Running) (out : List ℕ) (bad : Option ℕ) → Going c first text k rest accepted r out
+    → LinesSayFrom line_text FitsLine k rest ([], bad) → PlaysText c first text bad (Ok tt) r out
+going_whole c first text k rest accepted r out bad so_far say =
+    (so_far.before, lines_all line_text FitsLine first text k rest so_far.before bad so_far.reading say, (so_far.answers, so_far.stands))
+
+-- memory gave out at a line: the answers of those before it are written
+pub going_broken : (c : Config) (first : ℕ) (text : List ℕ) (k : ℕ) (rest line behind : List ℕ) (accepted : ℕ) (r p : Running) (out out' : List ℕ) (l : ScenarioLine) (e : PoolError) (bad : Option ℕ)
+    → Going c first text k rest accepted r out → Cut rest line behind → ReadsLine line_text FitsLine line (read.Says l) → e ≡ NoMemory → out' ≡ out
+    → (lines : List ScenarioLine) × LinesSayFrom line_text FitsLine (suc k) behind (lines, bad) → PlaysText c first text bad (Err e) p out'
+going_broken c first text k rest line behind accepted r p out out' l e bad so_far cut reads memory same more = (
+  so_far.before ++ l ∷ more.0,
+  so_far.reading.on (l ∷ more.0, bad) (lines_line line_text FitsLine k rest line behind l more.0 bad cut reads more.1),
+  (
+    memory,
+    (length so_far.before, so_far.answers, subst (λ x. PlaysFrom c [] [] x so_far.answers) (sym (take-append_seam so_far.before (l ∷ more.0))) so_far.stands.plays, same ∙ so_far.stands.output),
+  ),
+)

@@ -1,8 +1,9 @@
 -- A text is read line by line.
-use Rattle.std.proofs.Common.{◌≡◌, ◌≢◌, ℕ, zero, suc, ◌+◌, ◌<◌, ◌≤◌, inl, inr, List, [], ◌∷◌, ◌++◌, length, Option, Some, None, Ok, Err, refl, sym, ◌∙◌, ap, subst, arith, append_assoc, append-nil}
+use Rattle.std.proofs.Common.{◌≡◌, ◌≢◌, ℕ, zero, suc, ◌+◌, ◌<◌, ◌≤◌, ◌^◌, inl, inr, List, [], ◌∷◌, ◌++◌, length, Option, Some, None, Ok, Err, refl, sym, ◌∙◌, ap, subst, arith, append_assoc, append-nil}
 use Rattle.std.specs.List.{flat_map}
 use Rattle.std.proofs.lemmas.Bool.{cases_eq}
 use Rattle.tp_text.specs.declared.pools.PoolLine.{PoolLine}
+use Rattle.tp_scenario.specs.declared.forms.LineRead.{LineRead}
 use Rattle.tp_scenario.specs.declared.forms.LineRead.TheVariants as read
 use Rattle.tp_scenario.specs.declared.forms.PoolRead.TheVariants as head
 use Rattle.tp_text.specs.Lines.{HasNoLineFeed, IsLines, ended}
@@ -122,6 +123,19 @@ module _ {L : Type 0} (text_of : L → List ℕ) (fits : L → Type 0) where
   pub lines_all : (first : ℕ) (text : List ℕ) (k : ℕ) (rest : List ℕ) (before : List L) (bad : Option ℕ) → Reading first text k rest before → LinesSayFrom text_of fits k rest ([], bad) → LinesSayFrom text_of fits first text (before, bad)
   lines_all first text k rest before bad so_far say = subst (λ x. LinesSayFrom text_of fits first text (x, bad)) (append-nil before) (so_far.on ([], bad) say)
 
+  -- the same where nobody keeps what was said so far
+  pub record Searching (first : ℕ) (text : List ℕ) (k : ℕ) (rest : List ℕ) : Type 0 where
+    pub before : List L
+    pub reading : Reading first text k rest before
+
+  pub searching_first : (first : ℕ) (text : List ℕ) → Searching first text first text
+  searching_first first text = record { before = []; reading = record { counted = omega arith; on = λ said say. say } }
+
+  pub searching_on : (first : ℕ) (text : List ℕ) (k j : ℕ) (rest line behind : List ℕ) (r : LineRead L) → Searching first text k rest → Cut rest line behind → ReadsLine text_of fits line r → r ≢ read.Bad → j ≡ k + 1 → Searching first text j behind
+  searching_on first text k j rest line behind read.Skipped so_far cut reads good next = record { before = so_far.before; reading = reading_skip first text k j rest line behind so_far.before so_far.reading cut reads next }
+  searching_on first text k j rest line behind (read.Says l) so_far cut reads good next = record { before = so_far.before ++ l ∷ []; reading = reading_line first text k j rest line behind so_far.before l so_far.reading cut reads next }
+  searching_on first text k j rest line behind read.Bad so_far cut reads good next = absurd (good refl)
+
   -- up to the pool line
 
   pub text_skip : (k : ℕ) (text line behind : List ℕ) (s : TextSaid L) → Cut text line behind → ReadsPoolLine line head.Skipped → TextSaysFrom text_of fits (suc k) behind s → TextSaysFrom text_of fits k text s
@@ -147,3 +161,7 @@ module _ {L : Type 0} (text_of : L → List ℕ) (fits : L → Type 0) where
     counted = omega (arith, so_far.counted, shorter k j rest line behind cut next);
     on = λ s says. so_far.on s (text_skip k rest line behind s cut reads (subst (λ n. TextSaysFrom text_of fits n behind s) (omega arith) says));
   }
+
+  -- what stands behind the pool line is short too
+  pub opening_few : (text : List ℕ) (k : ℕ) (rest line behind : List ℕ) → Opening text k rest → Cut rest line behind → length text ≤ 1048576 → (k + 1) + length behind < 2 ^ 32
+  opening_few text k rest line behind so_far cut short = omega (arith, so_far.counted, short, shorter k (k + 1) rest line behind cut refl)

@@ -1,19 +1,22 @@
 -- How a runner answers lines, one after another.
-use Rattle.std.specs.Prelude.{◌≡◌, ℕ, true, false, List, [], ◌∷◌, map, take, slice_get, option_map, Option, Result, Ok, Err, pos}
+use Rattle.std.specs.Prelude.{◌≡◌, ℕ, true, false, List, [], ◌∷◌, ◌++◌, length, take, slice_get, option_map, Option, Result, Ok, Err, pos}
+use Rattle.std.specs.Option.{option_to_list}
 use Rattle.tp_types.specs.declared.configs.Config.{Config}
 use Rattle.tp_types.specs.declared.refusals.PoolError.{PoolError}
+use Rattle.tp_types.specs.declared.refusals.PoolError.TheVariants.{NoMemory}
 use Rattle.tp_types.specs.declared.tasks.Promise.{Promise}
 use Rattle.tp_record.specs.declared.entries.Entry.{Entry}
 use Rattle.tp_record.specs.declared.entries.Ask.{Ask}
 use Rattle.tp_record.specs.Effects.{Outcome}
 use Rattle.tp_record.specs.State.{state}
 use Rattle.tp_record.specs.Step.{Gives, IsRefused}
-use Rattle.tp_machine.specs.declared.steps.Stepped.{Stepped}
-use Rattle.tp_machine.specs.declared.steps.Stepped.TheVariants as stepped
-use Rattle.tp_machine.specs.Seen.{Seen, promise}
-use Rattle.tp_text.specs.RunText.{Answer, after, after_all, run_lines}
+use Rattle.tp_tasks.specs.declared.tasks.Tasks.{Tasks}
+use Rattle.tp_tasks.specs.Tasks.{promise_of as promise_in}
+use Rattle.tp_machine.specs.Seen.{Seen, At, config_of, promise}
+use Rattle.tp_text.specs.RunText.{Answer, after, after_all, answer_lines, run_lines}
+use Rattle.tp_scenario.specs.declared.counted.Counted.{Counted}
 use Rattle.tp_scenario.specs.declared.lines.ScenarioLine.{ScenarioLine}
-use Rattle.tp_scenario.specs.Played.{Outcomes, ask_of, outcomes_after}
+use Rattle.tp_scenario.specs.Played.{Outcomes, ask_of, outcome_said, outcomes_after}
 
 -- a pool's settings and its record, latest entry first, and how its tasks end
 pub record Playing : Type 0 where
@@ -31,24 +34,63 @@ abbrev pub Answers : Config → List Entry → Ask → Answer → Type 0
 Answers c h a (Ok e) = (e ≡ record { by = 0; ask = a; did = e.did }) × Gives c (state c h) a e.did
 Answers c h a (Err r) = IsRefused c (state c h) a r
 
+module _ {P R : Type 0} where
+  -- each task of a machine promised to end so, and there is no other
+  abbrev pub ArePromised : Seen P R → Outcomes → Type 0
+  ArePromised m os = (t : ℕ) → promise m t ≡ option_map promise_of (slice_get os t)
+
 -- what a submission comes with, whose task ends so: what its job promises, and no payload to speak of
 abbrev pub submission : Option Outcome → Option (Promise × Unit {0})
 submission o = option_map (λ x. (promise_of x, tt)) o
 
-module _ {P : Type 0} where
-  -- each task of a machine promised to end so, and there is no other
-  abbrev pub ArePromised : {R : Type 0} → Seen P R → Outcomes → Type 0
-  ArePromised m os = (t : ℕ) → promise m t ≡ option_map promise_of (slice_get os t)
+-- no promise comes or goes
+abbrev pub KeepsPromises : {P : Type 0} → Tasks P → Tasks P → Type 0
+KeepsPromises old new = (t : ℕ) → promise_in new t ≡ promise_in old t
 
-  -- an answer without what the machine says beside its entry
-  abbrev pub answer_of : Result (Entry × Stepped P) PoolError → Answer
-  answer_of (Ok x) = Ok x.0
-  answer_of (Err e) = Err e
+-- the histories that a recorder may have counted
+abbrev pub notes : Counted → List Entry → Type 0
+notes f h = length h ≡ f.noted
 
-  -- the tasks that the machine handed back, in its order
-  abbrev pub handed_back : Stepped P → List ℕ
-  handed_back (stepped.Stop handed) = map (λ x. x.0.0) handed.items
-  handed_back _ = []
+-- what a runner keeps: the pool, and how its tasks end
+pub record Running : Type 0 where
+  pub machine : Seen (Unit {0}) Counted
+  pub outcomes : Outcomes
+
+-- the settings of its pool
+abbrev pub settings_of : Running → Config
+settings_of r = config_of r.machine
+
+-- a runner stands there: its pool at this record, which it does not keep
+pub record IsAt (r : Running) (p : Playing) : Type 0 where
+  pub at : At notes r.machine p.history
+  pub config : settings_of r ≡ p.config
+  pub outcomes : r.outcomes ≡ p.outcomes
+
+-- an answer without what the step handed back
+abbrev pub answer_of : {H : Type 0} → Result (Entry × H) PoolError → Answer
+answer_of (Ok x) = Ok x.0
+answer_of (Err e) = Err e
+
+-- how tasks end after this answer to an ask: an accepted submission says how one more ends
+abbrev pub outcomes_kept : Outcomes → Option Outcome → Answer → Outcomes
+outcomes_kept os o (Ok e) = os ++ option_to_list o
+outcomes_kept os o (Err r) = os
+
+-- a runner that stands there answers an ask so, and stands behind the answer then; a submission comes with how its task ends
+pub record AnswersAsk (p : Playing) (a : Ask) (o : Option Outcome) (x : Answer) (new : Running) : Type 0 where
+  pub answers : Answers p.config p.history a x
+  pub leads : IsAt new (record { config = p.config; history = after p.history x; outcomes = outcomes_kept p.outcomes o x })
+
+-- the same of a line
+abbrev pub AnswersLine : Playing → ScenarioLine → Answer → Running → Type 0
+AnswersLine p l x new = AnswersAsk p (ask_of (state p.config p.history) p.outcomes l) (outcome_said l) x new
+
+-- a line is answered there, and the answer written: so many entries are in the record then
+pub record PlaysLine (p : Playing) (l : ScenarioLine) (new : Running) (accepted : ℕ) (old out : List ℕ) : Type 0 where
+  pub answer : Answer
+  pub told : AnswersLine p l answer new
+  pub counted : accepted ≡ length (after p.history answer)
+  pub written : out ≡ old ++ answer_lines p.config p.history answer
 
 -- lines that are answered so from the history h
 abbrev pub PlaysFrom : Config → List Entry → Outcomes → List ScenarioLine → List Answer → Type 0
@@ -62,12 +104,21 @@ abbrev pub outcomes_all : Outcomes → List ScenarioLine → List Answer → Out
 outcomes_all os (l ∷ lines) (a ∷ answers) = outcomes_all (outcomes_after os l a) lines answers
 outcomes_all os _ _ = os
 
+-- where a pool stands after lines that were answered so from an empty record
+abbrev pub played : Config → List ScenarioLine → List Answer → Playing
+played c lines answers = record { config = c; history = after_all [] answers; outcomes = outcomes_all [] lines answers }
+
 -- where a runner stands after lines that were answered so from an empty record, and what is written then
-pub record Stands (c : Config) (lines : List ScenarioLine) (answers : List Answer) (r : Playing) (out : List ℕ) : Type 0 where
+pub record Stands (c : Config) (lines : List ScenarioLine) (answers : List Answer) (r : Running) (out : List ℕ) : Type 0 where
   pub plays : PlaysFrom c [] [] lines answers
-  pub runner : r ≡ record { config = c; history = after_all [] answers; outcomes = outcomes_all [] lines answers }
+  pub runner : IsAt r (played c lines answers)
   pub output : out ≡ run_lines c [] answers
 
 -- the answers of some first lines are written, and nothing else
 abbrev pub Breaks : Config → List ScenarioLine → List ℕ → Type 0
 Breaks c lines out = (n : ℕ) × (answers : List Answer) × PlaysFrom c [] [] (take n lines) answers × (out ≡ run_lines c [] answers)
+
+-- lines were played to their end, or memory gave out between two of them
+abbrev pub PlaysLines : Config → List ScenarioLine → Result (Unit {0}) PoolError → Running → List ℕ → Type 0
+PlaysLines c lines (Ok u) r out = (answers : List Answer) × Stands c lines answers r out
+PlaysLines c lines (Err e) r out = (e ≡ NoMemory) × Breaks c lines out

@@ -5,3 +5,4 @@ pub mod Scenario
 pub mod Played
 pub mod Answered
 pub mod Jobs
+pub mod Codes

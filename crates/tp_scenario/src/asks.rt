@@ -5,13 +5,13 @@ ghost use Rattle.tp_record.specs.State.{slot_at};
 ghost use Rattle.tp_machine.specs.Seen.{task_of_row};
 ghost use Rattle.tp_machine.specs.Stepped.{FitsOutcome, IsPaid};
 ghost use Rattle.tp_machine.specs.Readings.{EachState};
-ghost use Rattle.tp_scenario.specs.Answered.{ArePromised, submission};
+ghost use Rattle.tp_scenario.specs.Answered.{ArePromised, notes, submission};
 ghost use Rattle.tp_scenario.specs.Played.{outcome_of, outcome_there, task_ask, slot_ask, pool_ask, size_ask, tick_ask, ask_of, outcome_said};
 
+use crate::counted::Counted;
 use crate::lines::ScenarioLine;
 use tp_machine::machine::Machine;
 use tp_record::entries::Ask;
-use tp_record::recorders::{Full, Recorder};
 use tp_text::commands::{PoolVerb, SizeVerb, SlotVerb, TaskVerb, TickVerb};
 use tp_types::ids::{SlotId, TaskId};
 use tp_types::tasks::Outcome;
@@ -95,9 +95,10 @@ fn tick_ask(verb: TickVerb, ticks: u64) -> Ask
 }
 
 /// What a line asks of this pool, whose tasks end so.
-pub fn ask_of(machine: &Machine<(), Full>, outcomes: &[Outcome], line: &ScenarioLine) -> Ask
+#[inline(always)]
+pub fn ask_of(machine: &Machine<(), Counted>, outcomes: &[Outcome], line: &ScenarioLine) -> Ask
     requires promised { ArePromised machine.now outcomes.now }
-    ensures asks { EachState ⟦<Full as Recorder>⟧.tells machine.now (λ s. result ≡ ask_of s outcomes.now line.now) }
+    ensures asks { EachState notes machine.now (λ s. result ≡ ask_of s outcomes.now line.now) }
     ensures fits { FitsOutcome machine.now result }
     ensures paid { IsPaid result (submission (outcome_said line.now)) }
 {

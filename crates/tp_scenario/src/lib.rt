@@ -3,6 +3,7 @@
 #![tactic(auto)]
 
 pub mod asks;
+pub mod counted;
 pub mod forms;
 pub mod jobs;
 pub mod lines;

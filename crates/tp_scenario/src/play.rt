@@ -1,20 +1,21 @@
 //! A scenario is played: from its text to what is written of it, in memory.
 
-ghost use Rattle.std.specs.Prelude.{◌≡◌, ◌⊎◌, ◌≤◌, ◌++◌, ℕ, suc, [], List, length, map, take, Ok, Err, IfOk, OnOk, OnErr, IsOkUnless};
-ghost use Rattle.tp_types.specs.declared.configs.Config.{Config};
-ghost use Rattle.tp_record.specs.declared.entries.Entry.{Entry};
+ghost use Rattle.std.specs.Prelude.{◌≡◌, ◌⊎◌, ◌≤◌, ◌<◌, ◌+◌, ◌^◌, ◌++◌, ℕ, [], List, length, map, take, Err, Ok, IfOk, OnOk, OnErr, IsOkUnless};
 ghost use Rattle.tp_record.specs.State.{state};
-ghost use Rattle.tp_text.specs.RunText.{Answer, answer_lines, drained, fate_lines, end_lines, IsFront};
-ghost use Rattle.tp_scenario.specs.Answered.{Stands, Breaks, answer_of, handed_back};
-ghost use Rattle.tp_text.specs.Pools.{config_of};
-ghost use Rattle.tp_scenario.specs.Read.{lines_said};
+ghost use Rattle.tp_text.specs.RunText.{fate_lines, end_lines, IsFront};
+ghost use Rattle.tp_scenario.specs.Lines.{FitsLine, line_text};
+ghost use Rattle.tp_scenario.specs.PoolText.{LinesSayFrom};
+ghost use Rattle.tp_scenario.specs.Scenario.{Asked};
+ghost use Rattle.tp_scenario.specs.Answered.{IsAt, Playing, PlaysLine, PlaysLines, Stands, settings_of};
 ghost use Rattle.tp_scenario.specs.Played.{IsPlayed, ComesOf, BreaksOff};
 
+use crate::forms::LineRead;
 use crate::lines::ScenarioLine;
-use crate::scenarios::{Scenario, read_scenario};
-use crate::step::{Runner, Told};
+use crate::step::Runner;
+use crate::texts::{first_bad, opening, read_line};
 use std::alloc::{AllocError, Global};
-use tp_machine::steps::Stepped;
+use tp_text::lines::next_line;
+use tp_text::pools::PoolLine;
 use tp_text::printing::Output;
 use tp_types::ids::TaskId;
 use tp_types::refusals::PoolError;
@@ -29,6 +30,7 @@ pub struct Played {
 }
 
 /// The tasks without their payloads.
+#[inline(always)]
 fn without_payloads(
     alloc: Global,
     handed: &[(TaskId, Option<()>)],
@@ -42,73 +44,79 @@ fn without_payloads(
     Ok(tasks)
 }
 
-/// The tasks that a step handed back, in the queue's order.
-fn tasks_back(alloc: Global, stepped: &Stepped<()>) -> Result<Vec<TaskId>, AllocError>
-    ensures { IfOk result (λ tasks. map (λ t. t.0) tasks.items ≡ handed_back stepped.now) }
-{
-    match stepped {
-        Stepped::Stop(handed) => without_payloads(alloc, handed.as_slice()),
-        _ => Ok(Vec::new(alloc)),
-    }
-}
-
-/// Writes what comes of a line. An entry has this number in its record.
-fn write_told(
+/// Plays a line behind so many accepted steps, and writes what comes of it.
+#[inline(always)]
+fn play_line(
     alloc: Global,
-    number: usize,
-    told: &Told,
+    runner: &mut Runner,
+    line: &ScenarioLine,
+    accepted: &mut usize,
     output: &mut Output,
 ) -> Result<(), PoolError>
-    ensures ok { OnOk result ((c : Config) (h : List Entry) → number ≡ suc (length h)
-        → IfOk told.now (λ x. handed_back x.1 ≡ drained c h x.0.did)
-        → output.new.written.items ≡ output.old.written.items ++ answer_lines c h (answer_of told.now)) }
+    requires { accepted.old < 2 ^ 32 }
+    ensures ok { OnOk result ((p : Playing) → IsAt runner.old p → accepted.old ≡ length p.history → PlaysLine p line.now runner.new accepted.new output.old.written.items output.new.written.items) }
+    ensures few { accepted.new ≤ accepted.old + 1 }
     ensures err { OnErr result (output.new.written.items ≡ output.old.written.items) }
     ensures only_memory { IsOkUnless result PoolError.NoMemory }
 {
+    let Ok(told) = runner.step(line) else {
+        return Err(PoolError::NoMemory);
+    };
     match told {
-        Ok((entry, stepped)) => {
-            let Ok(back) = tasks_back(alloc, stepped) else {
+        Ok((entry, handed)) => {
+            let Ok(back) = without_payloads(alloc, handed.as_slice()) else {
                 return Err(PoolError::NoMemory);
             };
-            output.entry(number, entry, back.as_slice())
+            *accepted += 1;
+            output.entry(*accepted, &entry, back.as_slice())
         }
-        Err(refusal) => output.refusal(*refusal),
+        Err(refusal) => output.refusal(refusal),
     }
 }
 
-/// Plays the steps, and writes a line for each answer.
-fn play_steps(
+/// Plays the lines of a text behind its pool line, the first of which has the number `first`, and writes a line for each answer.
+/// It tells whether there was memory for all of them, and the number of the first bad line, where there is one.
+fn play_lines(
     alloc: Global,
     runner: &mut Runner,
-    steps: &[ScenarioLine],
+    first: u32,
+    text: &[u8],
     output: &mut Output,
-) -> Result<(), PoolError>
-    requires starts { Stands runner.old.config [] [] runner.old output.old.written.items }
-    ensures ok { OnOk result ((answers : List Answer) × Stands runner.old.config steps.now answers runner.new output.new.written.items) }
-    ensures err { OnErr result (Breaks runner.old.config steps.now output.new.written.items) }
-    ensures only_memory { IsOkUnless result PoolError.NoMemory }
+) -> (Result<(), PoolError>, Option<u32>)
+    requires short { first + length text.now < 2 ^ 32 }
+    requires starts { Stands (settings_of runner.old) [] [] runner.old output.old.written.items }
+    ensures { (lines : List ScenarioLine) × LinesSayFrom line_text FitsLine first text.now (lines, result.1)
+        × PlaysLines (settings_of runner.old) lines result.0 runner.new output.new.written.items }
 {
     let mut accepted = 0;
-    for step in steps {
-        let Ok(told) = runner.step(step) else {
-            return Err(PoolError::NoMemory);
-        };
-        if let Err(error) = write_told(alloc, accepted + 1, &told, output) {
-            return Err(error);
+    let mut rest = text;
+    let mut number = first;
+    while let Some((line, behind)) = next_line(rest) {
+        match read_line::<ScenarioLine>(line) {
+            LineRead::Skipped => {}
+            LineRead::Says(line) => {
+                if let Err(error) = play_line(alloc, runner, &line, &mut accepted, output) {
+                    return (Err(error), first_bad::<ScenarioLine>(number + 1, behind));
+                }
+            }
+            LineRead::Bad => return (Ok(()), Some(number)),
         }
-        if told.is_ok() {
-            accepted += 1;
-        }
+        rest = behind;
+        number += 1;
     }
-    Ok(())
+    if rest.is_empty() {
+        (Ok(()), None)
+    } else {
+        (Ok(()), Some(number))
+    }
 }
 
 /// Writes the fates of the tasks.
 fn write_fates(runner: &Runner, output: &mut Output) -> Result<(), PoolError>
-    ensures ok { OnOk result (output.new.written.items ≡ output.old.written.items
-        ++ fate_lines 0 (state runner.now.config runner.now.history).tasks) }
-    ensures err { OnErr result ((n : ℕ) × (output.new.written.items ≡ output.old.written.items
-        ++ fate_lines 0 (take n (state runner.now.config runner.now.history).tasks))) }
+    ensures ok { OnOk result ((p : Playing) → IsAt runner.now p → output.new.written.items ≡ output.old.written.items
+        ++ fate_lines 0 (state p.config p.history).tasks) }
+    ensures err { OnErr result ((p : Playing) → IsAt runner.now p → (n : ℕ) × (output.new.written.items ≡ output.old.written.items
+        ++ fate_lines 0 (take n (state p.config p.history).tasks))) }
     ensures only_memory { IsOkUnless result PoolError.NoMemory }
 {
     for task in 0..runner.counts().submitted {
@@ -120,10 +128,10 @@ fn write_fates(runner: &Runner, output: &mut Output) -> Result<(), PoolError>
 
 /// Writes what stands at the end of a run: the fates, the run state and the counters.
 fn write_ends(runner: &Runner, output: &mut Output) -> Result<(), PoolError>
-    ensures ok { OnOk result (output.new.written.items ≡ output.old.written.items
-        ++ end_lines (state runner.now.config runner.now.history)) }
-    ensures err { OnErr result ((front : List ℕ) × (output.new.written.items ≡ output.old.written.items ++ front)
-        × IsFront front (end_lines (state runner.now.config runner.now.history))) }
+    ensures ok { OnOk result ((p : Playing) → IsAt runner.now p → output.new.written.items ≡ output.old.written.items
+        ++ end_lines (state p.config p.history)) }
+    ensures err { OnErr result ((p : Playing) → IsAt runner.now p → (front : List ℕ) × (output.new.written.items ≡ output.old.written.items ++ front)
+        × IsFront front (end_lines (state p.config p.history))) }
     ensures only_memory { IsOkUnless result PoolError.NoMemory }
 {
     write_fates(runner, output)?;
@@ -131,29 +139,37 @@ fn write_ends(runner: &Runner, output: &mut Output) -> Result<(), PoolError>
     output.counts(&runner.counts())
 }
 
-/// Plays a scenario that was read.
-fn play_scenario(alloc: Global, scenario: &Scenario, output: &mut Output) -> Result<(), PoolError>
+/// Plays the lines of a text behind this pool line, the first of which has the number `first`.
+fn play_pool(
+    alloc: Global,
+    pool: &PoolLine,
+    first: u32,
+    text: &[u8],
+    output: &mut Output,
+) -> Result<(), PoolError>
+    requires short { first + length text.now < 2 ^ 32 }
     requires empty { output.old.written.items ≡ [] }
-    ensures { (ComesOf (Ok (scenario.now.pool, lines_said scenario.now)) output.new.written.items result)
-        ⊎ ((result ≡ Err PoolError.NoMemory) × BreaksOff (Ok (scenario.now.pool, lines_said scenario.now)) output.new.written.items) }
+    ensures { (asked : Asked) × LinesSayFrom line_text FitsLine first text.now asked
+        × ((ComesOf (Ok (pool.now, asked)) output.new.written.items result)
+        ⊎ ((result ≡ Err PoolError.NoMemory) × BreaksOff (Ok (pool.now, asked)) output.new.written.items)) }
 {
-    let config = scenario.pool.config();
+    let config = pool.config();
     if let Err(error) = config.check() {
+        // The lines are read all the same: what a text says is told whatever comes of it.
+        let _ = first_bad::<ScenarioLine>(first, text);
         return Err(error);
     }
     let mut runner = match Runner::new(alloc, config) {
         Ok(runner) => runner,
-        Err(error) => return Err(error),
+        Err(error) => {
+            let _ = first_bad::<ScenarioLine>(first, text);
+            return Err(error);
+        }
     };
-    if let Err(error) = play_steps(alloc, &mut runner, scenario.lines.as_slice(), output) {
-        return Err(error);
-    }
-    if let Some(line) = scenario.bad {
-        return Err(PoolError::BadLine(line));
-    }
-    match write_ends(&runner, output) {
-        Ok(()) => Ok(()),
-        Err(error) => Err(error),
+    match play_lines(alloc, &mut runner, first, text, output) {
+        (Err(error), _) => Err(error),
+        (Ok(()), Some(line)) => Err(PoolError::BadLine(line)),
+        (Ok(()), None) => write_ends(&runner, output),
     }
 }
 
@@ -163,11 +179,8 @@ fn play_text(alloc: Global, text: &[u8], output: &mut Output) -> Result<(), Pool
     requires empty { output.old.written.items ≡ [] }
     ensures { IsPlayed text.now output.new.written.items result }
 {
-    let Ok(said) = read_scenario(alloc, text) else {
-        return Err(PoolError::NoMemory);
-    };
-    match said {
-        Ok(scenario) => play_scenario(alloc, &scenario, output),
+    match opening::<ScenarioLine>(text) {
+        Ok((pool, first, behind)) => play_pool(alloc, &pool, first, behind, output),
         Err(line) => Err(PoolError::BadLine(line)),
     }
 }

@@ -1,6 +1,6 @@
 //! The runner: a scenario's text is read, played, and what comes of it is written.
 
-ghost use Rattle.std.specs.Prelude.{◌≡◌, ◌⊎◌, ◌<◌, length, Err, IfSome};
+ghost use Rattle.std.specs.Prelude.{◌≡◌, ◌≢◌, ◌⊎◌, ◌≤◌, ◌<◌, length, Err, Some, IfSome};
 ghost use Rattle.tp_text.specs.Watching.{TellsReader, TellsWriter, sink, source};
 ghost use Rattle.tp_scenario.specs.Played.{IsRun};
 
@@ -11,6 +11,26 @@ use tp_text::inputs::read_text;
 use tp_text::watched::{WatchedReader, WatchedWriter};
 use tp_text::writing::write_text;
 use tp_types::refusals::PoolError;
+
+/// Plays the scenario of a text, and writes what comes of it. What the run ends with is the answer: 23 at the first bad line, the
+/// refusal of a pool's configuration, or 4 for want of memory of the runner's own. 26 comes just where the writer fails now, which
+/// keeps why.
+pub fn run_text<W: Write>(
+    alloc: Global,
+    text: &[u8],
+    writer: &mut WatchedWriter<W>,
+) -> Result<(), PoolError>
+    requires { length text.now ≤ 1048576 }
+    ensures runs { IsRun (Some text.now) (W.contents (sink writer.old)) (W.contents (sink writer.new)) result }
+    ensures reads { result ≢ Err PoolError.ReadFailed }
+    ensures tells_writer { TellsWriter writer.old result writer.new }
+{
+    let played = play(alloc, text);
+    if let Err(error) = write_text(writer, played.output.as_slice()) {
+        return Err(error);
+    }
+    played.ending
+}
 
 /// Reads a scenario whole, plays it, and writes what comes of it. What the run ends with is the
 /// answer: 23 at the first bad line, the refusal of a pool's configuration, or 4 for want of memory
@@ -32,9 +52,5 @@ pub fn run<R: Read, W: Write>(
         Ok(text) => text,
         Err(error) => return Err(error),
     };
-    let played = play(alloc, text.as_slice());
-    if let Err(error) = write_text(writer, played.output.as_slice()) {
-        return Err(error);
-    }
-    played.ending
+    run_text(alloc, text.as_slice(), writer)
 }

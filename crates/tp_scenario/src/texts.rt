@@ -1,9 +1,9 @@
 //! A text that begins with a pool line: what it says, line by line.
 
-ghost use Rattle.std.specs.Prelude.{◌≡◌, ◌+◌, ◌≤◌, ◌<◌, ◌^◌, length, IfOk};
+ghost use Rattle.std.specs.Prelude.{◌≡◌, ◌+◌, ◌≤◌, ◌<◌, ◌^◌, List, length, Ok, Err, IfOk, IfErr};
 ghost use Rattle.tp_text.specs.declared.pools.PoolLine.{PoolLine};
 ghost use Rattle.tp_text.specs.Pools.{FitsPool, pool_text};
-ghost use Rattle.tp_scenario.specs.PoolText.{IsPoolText, LinesSayFrom, ReadsLine, ReadsPoolLine};
+ghost use Rattle.tp_scenario.specs.PoolText.{IsPoolText, LinesSaid, LinesSayFrom, ReadsLine, ReadsPoolLine};
 ghost use Rattle.tp_scenario.specs.Read.{said_by};
 
 use crate::forms::{LineForm, LineRead, PoolRead};
@@ -91,6 +91,48 @@ fn said<L: LineForm>(
     }
 }
 
+/// The number of the first bad line of a text, where there is one. The first line has the number `first`.
+#[cold]
+#[inline(never)]
+pub fn first_bad<L: LineForm>(first: u32, text: &[u8]) -> Option<u32>
+    requires { first + length text.now < 2 ^ 32 }
+    ensures { (lines : List L) × LinesSayFrom L.text_of L.fits first text.now (lines, result) }
+{
+    let mut rest = text;
+    let mut number = first;
+    while let Some((line, behind)) = next_line(rest) {
+        match read_line::<L>(line) {
+            LineRead::Bad => return Some(number),
+            _ => {}
+        }
+        rest = behind;
+        number += 1;
+    }
+    if rest.is_empty() { None } else { Some(number) }
+}
+
+/// The pool line of a text, the number of the line behind it, and what stands there; or the number of the bad line before any pool
+/// line. Where no line is left for the pool, the line after the last is bad.
+pub fn opening<L: LineForm>(text: &[u8]) -> Result<(PoolLine, u32, &[u8]), u32>
+    requires { length text.now ≤ 1048576 }
+    ensures few { IfOk result (λ o. o.1 + length o.2.now < 2 ^ 32) }
+    ensures pool { IfOk result (λ o. (said : LinesSaid L) → LinesSayFrom L.text_of L.fits o.1 o.2.now said → IsPoolText L.text_of L.fits text.now (Ok (o.0, said))) }
+    ensures bad { IfErr result (λ k. IsPoolText L.text_of L.fits text.now (Err k)) }
+{
+    let mut rest = text;
+    let mut number = 1;
+    while let Some((line, behind)) = next_line(rest) {
+        match read_pool_line(line) {
+            PoolRead::Skipped => {}
+            PoolRead::Pool(pool) => return Ok((pool, number + 1, behind)),
+            PoolRead::Bad => return Err(number),
+        }
+        rest = behind;
+        number += 1;
+    }
+    Err(number)
+}
+
 /// What a text says: its pool and its lines, or the number of the bad line before any pool line. Where
 /// no line is left for the pool, the line after the last is bad.
 pub fn read_pool_text<L: LineForm>(
@@ -100,21 +142,13 @@ pub fn read_pool_text<L: LineForm>(
     requires { length text.now ≤ 1048576 }
     ensures { IfOk result (λ r. IsPoolText L.text_of L.fits text.now (said_by r)) }
 {
-    let mut rest = text;
-    let mut number = 1;
-    while let Some((line, behind)) = next_line(rest) {
-        match read_pool_line(line) {
-            PoolRead::Skipped => {}
-            PoolRead::Pool(pool) => {
-                let (lines, bad) = said::<L>(alloc, number + 1, behind)?;
-                return Ok(Ok(PoolText { pool, lines, bad }));
-            }
-            PoolRead::Bad => return Ok(Err(number)),
+    match opening::<L>(text) {
+        Ok((pool, first, behind)) => {
+            let (lines, bad) = said::<L>(alloc, first, behind)?;
+            Ok(Ok(PoolText { pool, lines, bad }))
         }
-        rest = behind;
-        number += 1;
+        Err(line) => Ok(Err(line)),
     }
-    Ok(Err(number))
 }
 
 /// The law that no text is that of two pool lines.

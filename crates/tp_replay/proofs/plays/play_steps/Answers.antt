@@ -1,14 +1,14 @@
 use Rattle.std.proofs.Common.{arith}
-use Rattle.tp_scenario.specs.Answered.{answer_of}
+use Rattle.tp_scenario.specs.Answered.{answer_of, settings_of}
 use Rattle.tp_replay.proofs.Playing.{going_on, going_whole}
 use Rattle.tp_replay.proofs.plays.play_steps.Goals as goal
 
 pub loop-step-preserved : goal.loop-step-preserved
 loop-step-preserved c =
     rw (c.in_ok-push.ensures.items, c.answer_of-answer.ensures)
-    (going_on c.args.runner.now.config c.args.steps.now c.loop-step.step-index c.loop-step.runner c.step.new.self c.loop-step.answers.items _ (record { ask = c.ask-ask.result; answer = answer_of c.in-Ok.told })
-    c.loop-step.invariant c.loop-step-test.true c.ask-ask.ensures c.in-Ok.ensures.answers c.in-Ok.ensures.leads)
+    (going_on (settings_of c.args.runner.now) c.args.steps.now c.loop-step.step-index c.loop-step.runner c.step.new.self c.loop-step.answers.items _ (record { ask = c.ask-ask.result; answer = answer_of c.in-Ok.told })
+    c.loop-step.invariant c.loop-step-test.true c.ask-ask.ensures c.in-Ok.ensures.answers)
 
 pub returns-clause-plays : goal.returns-clause-plays
 returns-clause-plays c =
-    going_whole c.args.runner.now.config c.args.steps.now c.loop-step.step-index c.loop-step.runner c.loop-step.answers.items c.loop-step.invariant (omega (arith, c.loop-step-test.false))
+    going_whole (settings_of c.args.runner.now) c.args.steps.now c.loop-step.step-index c.loop-step.runner c.loop-step.answers.items c.loop-step.invariant (omega (arith, c.loop-step-test.false))
