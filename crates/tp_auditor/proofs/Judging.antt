@@ -1,5 +1,5 @@
 -- What an auditor judges of an entry, by what its tables show.
-use Rattle.std.proofs.Common.{◌⊎◌, ◌&&◌, ◌↔◌, IsTrue, inl, inr, map, ◌≡◌, ℕ, suc, ◌+◌, ◌<◌, ◌≤◌, take, reverse, get_or, length-take, Bool, true, false, cond, List, [], ◌∷◌, length, Option, Some, None, Ok, Err, refl, arith, sym, ap, subst, ◌∙◌}
+use Rattle.std.proofs.Common.{◌&&◌, ◌↔◌, IsTrue, inl, inr, map, ◌≡◌, ℕ, suc, ◌+◌, ◌<◌, ◌≤◌, take, reverse, get_or, length-take, Bool, true, false, cond, List, [], ◌∷◌, length, Option, Some, None, Ok, Err, refl, arith, sym, ap, subst, ◌∙◌}
 use Rattle.std.specs.Prelude.{slice_get, count_by, is_some, unwrap_or, IfSome}
 use Rattle.std.proofs.lemmas.Bool.{false≢true, and_parts}
 use Rattle.std.proofs.lemmas.List.{length-reverse}
@@ -7,7 +7,7 @@ use Rattle.tp_types.specs.RunState.{state_rank}
 use Rattle.tp_types.specs.Config.{IsConfig}
 use Rattle.tp_types.specs.declared.configs.Config.{Config}
 use Rattle.tp_types.specs.declared.refusals.PoolError.{PoolError}
-use Rattle.tp_types.specs.declared.refusals.PoolError.TheVariants.{BookFull, NoMemory}
+use Rattle.tp_types.specs.declared.refusals.PoolError.TheVariants.{BookFull}
 use Rattle.tp_record.specs.declared.entries.Entry.{Entry}
 use Rattle.tp_record.specs.declared.entries.Ask.{Ask}
 use Rattle.tp_record.specs.declared.entries.Ask.TheVariants as ask
@@ -20,12 +20,13 @@ use Rattle.tp_model.proofs.Weak.{within}
 use Rattle.tp_model.proofs.NextState.{next_is_state}
 use Rattle.tp_model.proofs.Told.{sound_legal, given_answer, given_legal}
 use Rattle.tp_plain.specs.Snapshot.{IsAnswer, IsFirstDone}
+use Rattle.tp_plain.proofs.Numbers.{taken_at}
 use Rattle.tp_plain.proofs.Sizes.{length-task_rows}
 use Rattle.tp_audit.specs.declared.summary.Summary.{Summary}
 use Rattle.tp_audit.specs.Audit.{IsSummary, IsFirstFlaw}
 use Rattle.tp_audit.proofs.Judged.{rank-le, first_flaw}
 use Rattle.tp_auditor.specs.declared.tables.Tables.{Tables}
-use Rattle.tp_auditor.specs.Audited.{Judge, Judged}
+use Rattle.tp_auditor.specs.Audited.{Judge, Judged, IsDenied}
 use Rattle.tp_auditor.specs.Done.{done_in}
 use Rattle.tp_auditor.specs.Owed.{room_by, due_by}
 use Rattle.tp_auditor.specs.Tables.{shown, undone, grouped, completion, with_completion, handed_out, HasRanks, StandsAt, Suits, SuitsAll}
@@ -46,6 +47,11 @@ other_answer a e d err ok = absurd (differ (sym err ∙ ok))
     differ : ◌≡◌ {A = Answer} (Err e) (Ok d) → ⊥
     differ e = cc
 
+-- a refusal for which no memory may be lacking is the step's
+refused_is : (a : Answer) (e : PoolError) → IsAnswer {D = Did} ⊥ (Err e) a → a ≡ Err e
+refused_is a e (inl is) = is
+refused_is a e (inr none) = absurd none.1
+
 is_leaving : (d : Did) (b : Bool) → ◌≡◌ {A = Answer} (cond b (Ok d) (Err BookFull)) (Ok d) → b ≡ true
 is_leaving d true e = refl
 is_leaving d false e = cc
@@ -57,9 +63,9 @@ module _ (c : Config) (h : List Entry) (t : Tables) (at : StandsAt c h t) where
 
   -- the answer over the tables is the answer over the state
   pub answer_shown : (r : Answer) (n : ℕ) (a : Ask) (first : Option ℕ) → ((g : ℕ) → a ≡ ask.TakeDone g → first ≡ slice_get (done_in t.done g) 0) →
-      ((done : List ℕ) → IsFirstDone (record (shown t) { done = done }) a first → IsAnswer r (fitting c (record (shown t) { done = done }) n a)) → IsAnswer r (fitting c (state c h) n a)
+      ((done : List ℕ) → IsFirstDone (record (shown t) { done = done }) a first → IsAnswer ⊥ r (fitting c (record (shown t) { done = done }) n a)) → IsAnswer ⊥ r (fitting c (state c h) n a)
   answer_shown r n a first asked answers =
-      subst (λ (s : State). IsAnswer r (fitting c s n a)) state_shown
+      subst (λ (s : State). IsAnswer ⊥ r (fitting c s n a)) state_shown
       (answers (state c h).done
       (λ g is. asked g is ∙ ap (λ xs. slice_get xs 0) (at.shows.done g) ∙ ap (λ (s : State). slice_get (done_of s g) 0) (sym state_shown)))
 
@@ -154,9 +160,8 @@ fits_same a x d b is same = (λ t. is ∙ ap (λ (y : Did). as_answer y) (same.0
     as_answer y = Ok y
 
 -- a refusal does not fit
-pub fits_refused : (a : Answer) (e : PoolError) (d : Did) → (a ≡ Err e) ⊎ (e ≡ NoMemory) → (e ≡ NoMemory → ⊥) → IsTrue false ↔ (a ≡ Ok d)
-fits_refused a e d (inl is) other = (λ t. absurd (false≢true t), λ ok. absurd (other_answer a e d is ok))
-fits_refused a e d (inr none) other = absurd (other none)
+pub fits_refused : (a : Answer) (e : PoolError) (d : Did) → IsAnswer ⊥ (Err e) a → IsTrue false ↔ (a ≡ Ok d)
+fits_refused a e d is = (λ t. absurd (false≢true t), λ ok. absurd (other_answer a e d (refused_is a e is) ok))
 
 module _ (c : Config) (h : List Entry) (t : Tables) (at : StandsAt c h t) (a : Ask) (d : Did) where
   -- what does not fit is not given
@@ -184,6 +189,21 @@ module _ (c : Config) (s : State) (w : ℕ) (a : Ask) where
       let own = within c s (fitting c s (unwrap_or (reserves d) 0) a) d gives.0 in
       let leaves = is_leaving d (leaves_room c s d) (sym (ap (within_room c s) own) ∙ gives.0) in
       ap (within_room c s) fits ∙ ap (λ b. cond b (Ok d) (Err BookFull)) leaves
+
+  -- what does not fit there is refused so
+  pub denied_unfit : (e : PoolError) → IsAnswer ⊥ (Err e) (fitting c s w a) → IsDenied c s w a e
+  denied_unfit e is = inl (ap (within_room c s) (refused_is (fitting c s w a) e is))
+
+  -- what fits there and is not given is refused for want of room, or since its number is taken
+  pub denied_full : (d : Did) → fitting c s w a ≡ Ok d → (Gives c s a d → ⊥) → IsDenied c s w a BookFull
+  denied_full d fits not_given = by_room (leaves_room c s d) refl
+    where
+      by_room : (b : Bool) → leaves_room c s d ≡ b → IsDenied c s w a BookFull
+      by_room false room = inl (ap (within_room c s) fits ∙ ap (λ b. cond b (Ok d) (Err BookFull)) room)
+      by_room true room =
+          let is : step c s w a ≡ Ok d = ap (within_room c s) fits ∙ ap (λ b. cond b (Ok d) (Err BookFull)) room in
+          let taken = taken_at c s w a d is not_given in
+          inr (refl, (d, is, taken.0, taken.1))
 
 -- What the auditor answers at the end
 

@@ -1,13 +1,14 @@
 -- What a contract sees of an auditor.
-use Rattle.std.specs.Prelude.{ℕ, ◌≡◌, ◌⊎◌, List, Ok, Err}
+use Rattle.std.specs.Prelude.{ℕ, ◌≡◌, ◌⊎◌, false, List, Some, Ok, Err}
 use Rattle.tp_types.specs.declared.configs.Config.{Config}
 use Rattle.tp_types.specs.declared.refusals.PoolError.{PoolError}
-use Rattle.tp_types.specs.declared.refusals.PoolError.TheVariants.{BookFull, NoMemory}
+use Rattle.tp_types.specs.declared.refusals.PoolError.TheVariants.{BookFull}
 use Rattle.tp_record.specs.declared.entries.Ask.{Ask}
 use Rattle.tp_record.specs.declared.entries.Did.{Did}
 use Rattle.tp_record.specs.declared.entries.Entry.{Entry}
+use Rattle.tp_record.specs.Effects.{reserves}
 use Rattle.tp_record.specs.State.{State}
-use Rattle.tp_record.specs.Step.{step, Gives}
+use Rattle.tp_record.specs.Step.{step, is_free_for}
 use Rattle.tp_auditor.specs.declared.tables.Tables.{Tables}
 use Rattle.tp_auditor.specs.Tables.{StandsAt}
 
@@ -24,8 +25,11 @@ settings a = a.config
 abbrev pub Judged : Judge → List Entry → Type 0
 Judged a h = StandsAt a.config h a.tables
 
--- no entry is answered, where a slot that is made gets the number w: for want of memory, or as the step refuses, or since
--- the step would make a slot of a number that is one
+-- the step would make slot w, which is one already, and which its entry does not free
+abbrev pub IsTaken : Config → State → ℕ → Ask → Type 0
+IsTaken c s w a = (d : Did) × (step c s w a ≡ Ok d) × (reserves d ≡ Some w) × (is_free_for s d w ≡ false)
+
+-- no entry is answered, where a slot that is made gets the number w: as the step refuses, or since the step would make a slot
+-- of a number that is one
 abbrev pub IsDenied : Config → State → ℕ → Ask → PoolError → Type 0
-IsDenied c s w a e =
-    (e ≡ NoMemory) ⊎ ((step c s w a ≡ Err e) ⊎ ((e ≡ BookFull) × ((d : Did) × (step c s w a ≡ Ok d) × (Gives c s a d → ⊥))))
+IsDenied c s w a e = (step c s w a ≡ Err e) ⊎ ((e ≡ BookFull) × IsTaken c s w a)

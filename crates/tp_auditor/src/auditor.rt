@@ -77,21 +77,22 @@ impl Auditor {
         }
     }
 
-    /// Tells the auditor the next entry: Ok exactly where the step gives it after those told before, memory aside; else its
-    /// number, counted from 1, as a flaw. After a flaw, and where there is no memory (4), the auditor is as it was. The pass
-    /// that the entry names is free, and so is the number of a new slot, if it is no slot then.
+    /// Tells the auditor the next entry: Ok where the step gives it after those told before, and there is memory for what it
+    /// makes, else NoMemory (4); and exactly where the step does not give it, its number, counted from 1, as a flaw. After
+    /// either the auditor is as it was. The pass that the entry names is free, and so is the number of a new slot, if it is no
+    /// slot then.
     pub fn push(&mut self, entry: &Entry) -> Result<(), Flaw>
         ensures given { OnOk result ((h : List Told) → Judged self.old h → steps.Gives (settings self.old) (states.state (settings self.old) h) entry.now.ask entry.now.did) }
         ensures told { OnOk result ((h : List Told) → Judged self.old h → Judged self.new (entry.now ∷ h)) }
         ensures flaw { (n : ℕ) → result ≡ Err (Flaw.At n) → (h : List Told) → Judged self.old h
             → (n ≡ suc (length h)) × (steps.Gives (settings self.old) (states.state (settings self.old) h) entry.now.ask entry.now.did → ⊥) }
+        ensures memory { result ≡ Err Flaw.NoMemory → (h : List Told) → Judged self.old h
+            → steps.Gives (settings self.old) (states.state (settings self.old) h) entry.now.ask entry.now.did }
         ensures same { OnErr result ((h : List Told) → Judged self.old h → Judged self.new h) }
         ensures settings { settings self.new ≡ settings self.old }
     {
-        match self.is_given(entry.ask, entry.did) {
-            Ok(true) => {}
-            Ok(false) => return Err(Flaw::At(self.tables.steps as usize + 1)),
-            Err(_) => return Err(Flaw::NoMemory),
+        if !self.is_given(entry.ask, entry.did) {
+            return Err(Flaw::At(self.tables.steps as usize + 1));
         }
         let Ok(()) = self.tables.note(entry.did) else {
             return Err(Flaw::NoMemory);
@@ -122,8 +123,7 @@ impl Auditor {
     }
 
     /// What the step gives for an ask after the entries told so far, where a slot that it makes gets the number `made`; else
-    /// its refusal, which is BookFull (5) too where the entry would make a slot of a number that is one. Want of memory is
-    /// NoMemory (4).
+    /// its refusal, which is BookFull (5) too where the entry would make a slot of a number that is one. It takes no memory.
     pub fn answer(&self, ask: Ask, made: SlotId) -> Result<Did, PoolError>
         ensures given { IfOk result (λ did. (h : List Told) → Judged self.now h
             → steps.Gives (settings self.now) (states.state (settings self.now) h) ask did) }
@@ -137,38 +137,33 @@ impl Auditor {
             Ok(did) => did,
             Err(refusal) => return Err(refusal),
         };
-        match self.is_given(ask, did) {
-            Ok(true) => Ok(did),
-            Ok(false) => Err(PoolError::BookFull),
-            Err(refusal) => Err(refusal),
+        if !self.is_given(ask, did) {
+            return Err(PoolError::BookFull);
         }
+        Ok(did)
     }
 
     /// Whether the step gives this entry after those told before.
-    fn is_given(&self, ask: Ask, did: Did) -> Result<bool, PoolError>
-        ensures given { IfOk result (λ b. (h : List Told) → Judged self.now h
-            → IsTrue b ↔ steps.Gives (settings self.now) (states.state (settings self.now) h) ask did) }
-        ensures refused { IsOkUnless result PoolError.NoMemory }
+    fn is_given(&self, ask: Ask, did: Did) -> bool
+        ensures { (h : List Told) → Judged self.now h
+            → IsTrue result ↔ steps.Gives (settings self.now) (states.state (settings self.now) h) ask did }
     {
-        match self.fits(ask, did) {
-            Ok(true) => Ok(self.has_free_number(did) && self.tables.has_room(&self.config, did)),
-            Ok(false) => Ok(false),
-            Err(error) => Err(error),
+        if !self.fits(ask, did) {
+            return false;
         }
+        self.has_free_number(did) && self.tables.has_room(&self.config, did)
     }
 
     /// Whether the ask is answered so, without a look at the room.
-    fn fits(&self, ask: Ask, did: Did) -> Result<bool, PoolError>
-        ensures fits { IfOk result (λ b. (h : List Told) → Judged self.now h
-            → IsTrue b ↔ (steps.fitting (settings self.now) (states.state (settings self.now) h) (unwrap_or (reserves did) 0) ask ≡ Ok did)) }
-        ensures refused { IsOkUnless result PoolError.NoMemory }
+    fn fits(&self, ask: Ask, did: Did) -> bool
+        ensures { (h : List Told) → Judged self.now h
+            → IsTrue result ↔ (steps.fitting (settings self.now) (states.state (settings self.now) h) (unwrap_or (reserves did) 0) ask ≡ Ok did) }
     {
         let made = SlotId(reserved_by(did).unwrap_or(0));
         let first = self.first_asked(ask);
         match fitting(self.alloc, &self.config, &self.tables, made, ask, first) {
-            Ok(answer) => Ok(are_same(answer, did)),
-            Err(PoolError::NoMemory) => Err(PoolError::NoMemory),
-            Err(_) => Ok(false),
+            Ok(answer) => are_same(answer, did),
+            Err(_) => false,
         }
     }
 

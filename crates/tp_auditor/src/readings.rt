@@ -19,6 +19,8 @@ impl Readings for Tables {
 
     ghost stands = { λ t c. Stands c t };
 
+    ghost lacks = { ⊥ };
+
     fn few_wait(&self, _config: &Config) {
         let _ = &self.queue;
     }

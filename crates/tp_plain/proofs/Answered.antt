@@ -16,13 +16,13 @@ use Rattle.tp_record.specs.State.{State, task_at}
 use Rattle.tp_record.specs.Step.{Answer, of_row, fitting, offer_to, offer_answer}
 use Rattle.tp_plain.specs.Snapshot.{IsAnswer}
 
-IsAnswer-self : (a : Answer) → IsAnswer a a
-IsAnswer-self (Ok d) = refl
-IsAnswer-self (Err e) = inl refl
+IsAnswer-self : (Lacks : Type 0) (a : Answer) → IsAnswer Lacks a a
+IsAnswer-self Lacks (Ok d) = refl
+IsAnswer-self Lacks (Err e) = inl refl
 
 -- the same answer
-pub IsAnswer-same : (x a : Answer) → x ≡ a → IsAnswer x a
-IsAnswer-same x a e = subst (λ (y : Answer). IsAnswer y a) (sym e) (IsAnswer-self a)
+pub IsAnswer-same : (Lacks : Type 0) (x a : Answer) → x ≡ a → IsAnswer Lacks x a
+IsAnswer-same Lacks x a e = subst (λ (y : Answer). IsAnswer Lacks y a) (sym e) (IsAnswer-self Lacks a)
 
 -- the answer at a slot that was found
 pub of_row-found : (o : Option SlotRow) (r : SlotRow) (f : SlotRow → Answer) → ok_or o UnknownSlot ≡ Ok r → of_row o f ≡ f r

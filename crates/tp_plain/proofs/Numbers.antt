@@ -1,6 +1,6 @@
 -- An answer speaks of the number that a new slot would get only where it reserves it.
 use Rattle.std.proofs.Common.{◌≡◌, ℕ, ◌-◌, ◌^◌, Bool, true, false, not, ◌&&◌, ◌||◌, cond, List, [], ◌∷◌, length, Option, Some, None, Ok, Err, inl, inr, refl, sym, subst, ap, ◌∙◌, ◌⊎◌, eq-eqb}
-use Rattle.std.specs.Prelude.{◌==◌, nat_lt, nat_le, is_none, unwrap_or, IfOk, IfSome}
+use Rattle.std.specs.Prelude.{◌==◌, nat_lt, nat_le, is_none, unwrap_or, IfOk, IfSome, ⊤}
 use Rattle.tp_types.specs.declared.ids.TaskId.{TaskId}
 use Rattle.tp_types.specs.declared.ids.SlotId.{SlotId}
 use Rattle.tp_types.specs.declared.tasks.Place.{Place}
@@ -219,6 +219,21 @@ gives_at c s w a d free is =
           (ap (steps.within_room c s) m.1 ∙ ap (λ (b : Bool). cond {A = Answer} b (Ok d) (Err BookFull)) x.1, tt)
     ]
 
+-- a step that is given at no number makes the slot of its own, which is one already
+pub taken_at : (c : Config) (s : State) (w : ℕ) (a : Ask) (d : Did) → steps.step c s w a ≡ Ok d → (Gives c s a d → ⊥) → (reserves d ≡ Some w) × (is_free_for s d w ≡ false)
+taken_at c s w a d is not_given =
+    let x = within c s (steps.fitting c s w a) d is in
+    let P : Option ℕ → Type 0 = λ o. (steps.step c s (unwrap_or o 0) a ≡ Ok d) × IfSome o (λ v. is_free_for s d v ≡ true) in
+    elim ((fitting_makes c s w a).made d x.0) [
+      | inl m ↦ (m, by_test (is_free_for s d w) refl)
+      | inr m ↦ absurd (not_given (subst P (sym m.0)
+          (ap (steps.within_room c s) m.1 ∙ ap (λ (b : Bool). cond {A = Answer} b (Ok d) (Err BookFull)) x.1, tt)))
+    ]
+  where
+    by_test : (b : Bool) → is_free_for s d w ≡ b → is_free_for s d w ≡ false
+    by_test true free = absurd (not_given (gives_at c s w a d free is))
+    by_test false free = free
+
 gives_at_free : (c : Config) (s : State) (w : ℕ) (a : Ask) (d : Did) → slot_at s.slots w ≡ None → steps.step c s w a ≡ Ok d → Gives c s a d
 gives_at_free c s w a d free is = gives_at c s w a d (ap (λ o. is_none o || is_it (frees d) w) free) is
 
@@ -259,22 +274,22 @@ gives_at_least c s a d is = gives_at_free c s (least_free s.slots) a d (slot_at-
 
 -- an answer over a snapshot, at the least number that is no slot there
 pub answer_at_least : (c : Config) (r : Answer) (p s : State) (w : ℕ) (a : Ask) → p ≡ s → w ≡ least_free p.slots →
-    IsAnswer r (steps.step c p w a) → IsAnswer r (steps.step c s (least_free s.slots) a)
+    IsAnswer ⊤ r (steps.step c p w a) → IsAnswer ⊤ r (steps.step c s (least_free s.slots) a)
 answer_at_least c r p s w a same number answered =
-    let P : State → Type 0 = λ q. IsAnswer r (steps.step c q (least_free q.slots) a) in
-    let Q : ℕ → Type 0 = λ n. IsAnswer r (steps.step c p n a) in
+    let P : State → Type 0 = λ q. IsAnswer ⊤ r (steps.step c q (least_free q.slots) a) in
+    let Q : ℕ → Type 0 = λ n. IsAnswer ⊤ r (steps.step c p n a) in
     subst P same (subst Q number answered)
 
 -- each entry that a program answers is one that a record may have
-pub answer_gives : (c : Config) (r : Answer) (s : State) (a : Ask) → IsAnswer r (steps.step c s (least_free s.slots) a) → IfOk r (λ d. Gives c s a d)
+pub answer_gives : (c : Config) (r : Answer) (s : State) (a : Ask) → IsAnswer ⊤ r (steps.step c s (least_free s.slots) a) → IfOk r (λ d. Gives c s a d)
 answer_gives c (Ok d) s a answered = gives_at_least c s a d answered
 answer_gives c (Err e) s a answered = tt
 
 -- an answer over a snapshot, at a number of the caller's choice
-pub answer_at_number : (c : Config) (r : Answer) (p s : State) (w : ℕ) (a : Ask) → p ≡ s → IsAnswer r (steps.step c p w a) → IsAnswer r (steps.step c s w a)
-answer_at_number c r p s w a same answered = let P : State → Type 0 = λ q. IsAnswer r (steps.step c q w a) in subst P same answered
+pub answer_at_number : (c : Config) (r : Answer) (p s : State) (w : ℕ) (a : Ask) → p ≡ s → IsAnswer ⊤ r (steps.step c p w a) → IsAnswer ⊤ r (steps.step c s w a)
+answer_at_number c r p s w a same answered = let P : State → Type 0 = λ q. IsAnswer ⊤ r (steps.step c q w a) in subst P same answered
 
 -- each entry that a program answers at a number that the step may use is one that a record may have
-pub answer_at_gives : (c : Config) (r : Answer) (s : State) (w : ℕ) (a : Ask) → steps.IsFreeTo s a w → IsAnswer r (steps.step c s w a) → IfOk r (λ d. Gives c s a d)
+pub answer_at_gives : (c : Config) (r : Answer) (s : State) (w : ℕ) (a : Ask) → steps.IsFreeTo s a w → IsAnswer ⊤ r (steps.step c s w a) → IfOk r (λ d. Gives c s a d)
 answer_at_gives c (Ok d) s w a free answered = gives_at_free_to c s w a d free answered
 answer_at_gives c (Err e) s w a free answered = tt

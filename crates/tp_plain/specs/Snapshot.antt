@@ -41,9 +41,9 @@ pub record IsSmall (n : ℕ) (s : State) : Type 0 where
   pub slots : length s.slots < 2 ^ 32
   pub completions : s.completions ≤ n
 
--- the program's answer is the step's, or want of memory
-abbrev pub IsAnswer : {D : Type 0} → Result D PoolError → Result D PoolError → Type 0
-IsAnswer r a = MatchResult r (λ d. a ≡ Ok d) (λ e. (a ≡ Err e) ⊎ (e ≡ NoMemory))
+-- the program's answer is the step's, or want of memory where it may lack some
+abbrev pub IsAnswer : {D : Type 0} → Type 0 → Result D PoolError → Result D PoolError → Type 0
+IsAnswer Lacks r a = MatchResult r (λ d. a ≡ Ok d) (λ e. (a ≡ Err e) ⊎ ((e ≡ NoMemory) × Lacks))
 
 -- the least number that is no slot
 abbrev pub least_free : List (Option SlotRow) → ℕ

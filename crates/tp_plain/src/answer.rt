@@ -1,6 +1,6 @@
 //! The answer to an ask after these entries.
 
-ghost use Rattle.std.specs.Prelude.{◌≡◌, ◌≤◌, length, reverse, IfOk};
+ghost use Rattle.std.specs.Prelude.{◌≡◌, ◌≤◌, length, reverse, IfOk, ⊤};
 ghost use Rattle.tp_record.specs.Fields as fields;
 ghost use Rattle.tp_record.specs.State.{state};
 ghost use Rattle.tp_record.specs.Step as steps;
@@ -40,7 +40,7 @@ pub fn answer_at(
 ) -> Result<Did, PoolError>
     requires short { length entries.now ≤ 1048576 }
     requires free { steps.IsFreeTo (state config.now (reverse entries.now)) ask w.0 }
-    ensures answer { IsAnswer result (steps.step config.now (state config.now (reverse entries.now)) w.0 ask) }
+    ensures answer { IsAnswer ⊤ result (steps.step config.now (state config.now (reverse entries.now)) w.0 ask) }
     ensures gives { IfOk result (λ d. steps.Gives config.now (state config.now (reverse entries.now)) ask d) }
 {
     match snapshot(alloc, config, entries) {
@@ -53,7 +53,7 @@ pub fn answer_at(
 /// least number that is no slot. The step gives each entry that is answered.
 pub fn answer(alloc: Global, config: &Config, entries: &[Entry], ask: Ask) -> Result<Did, PoolError>
     requires { length entries.now ≤ 1048576 }
-    ensures answer { IsAnswer result (steps.step config.now (state config.now (reverse entries.now))
+    ensures answer { IsAnswer ⊤ result (steps.step config.now (state config.now (reverse entries.now))
         (least_free (fields.slot_rows (reverse entries.now))) ask) }
     ensures gives { IfOk result (λ d. steps.Gives config.now (state config.now (reverse entries.now)) ask d) }
 {

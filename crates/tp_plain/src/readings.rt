@@ -18,7 +18,7 @@ use tp_types::tasks::{Kind, Place};
 
 /// What is read of a pool at one moment.
 pub trait Readings {
-    ghost use Rattle.std.specs.Prelude.{◌≡◌, ◌≤◌, ◌<◌, count_by, length, slice_get, IfOk, IsOkUnless};
+    ghost use Rattle.std.specs.Prelude.{◌≡◌, ◌≤◌, ◌<◌, count_by, length, slice_get, IfOk, IsOkUnless, OnErr};
     ghost use Rattle.tp_record.specs.State as states;
     ghost use Rattle.tp_record.specs.Step as steps;
     ghost use Rattle.tp_types.specs.declared.configs.Config.{Config as Settings};
@@ -28,6 +28,9 @@ pub trait Readings {
 
     /// It is as the entries of a pool that was made with these settings left it, as far as the readings rest on that.
     ghost stands: { Self → Settings → Type 0 };
+
+    /// A reading may lack memory.
+    ghost lacks: { Type 0 };
 
     /// The law that so few tasks wait.
     fn few_wait(&self, config: &Config)
@@ -101,7 +104,8 @@ pub trait Readings {
         requires few { (states.task_at (shown self.now) t.0).retries < 64 }
         ensures leaves { IfOk result (λ b. b ≡ steps.leaves_room config.now (shown self.now)
             (Did.Verdict t Verdict.DiscardOldest (steps.retry_of (shown self.now).queue))) }
-        ensures memory { IsOkUnless result PoolError.NoMemory };
+        ensures memory { IsOkUnless result PoolError.NoMemory }
+        ensures lacks { OnErr result lacks };
 }
 
 /// Reserved and live slots together.
@@ -154,11 +158,14 @@ fn count_cancelled(state: &Snapshot) -> u32
 }
 
 impl Readings for Snapshot {
+    ghost use Rattle.std.specs.Prelude.{⊤};
     ghost use Rattle.tp_plain.specs.Snapshot.{shown as state_shown, IsSmall};
 
     ghost shown = { λ s. state_shown s };
 
     ghost stands = { λ s c. IsSmall 1048576 (state_shown s) };
+
+    ghost lacks = { ⊤ };
 
     fn few_wait(&self, _config: &Config) {
         let _ = &self.queue;

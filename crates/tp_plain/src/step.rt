@@ -1,6 +1,6 @@
 //! The answers to asks, over what is read of a pool.
 
-ghost use Rattle.std.specs.Prelude.{ℕ, ◌≡◌, ◌+◌, List, count_by, length, nat_le, nat_lt, slice_get, Ok, Err, IfOk, IsOkUnless, if◌then◌else◌};
+ghost use Rattle.std.specs.Prelude.{ℕ, ◌≡◌, ◌+◌, List, count_by, length, nat_le, nat_lt, slice_get, Ok, Err, IfOk, IsOkUnless, OnErr, ⊤, if◌then◌else◌};
 ghost use Rattle.std.specs.Option.{ok_or};
 ghost use Rattle.tp_record.specs.State as states;
 ghost use Rattle.tp_record.specs.Step as steps;
@@ -226,6 +226,7 @@ pub fn retried<S: Readings>(
     requires refused { IsRefusedTask (S.shown state.now) t.0 row }
     ensures ruled { IfOk result (λ r. r ≡ steps.retried config.now (S.shown state.now) t row) }
     ensures memory { IsOkUnless result PoolError.NoMemory }
+    ensures lacks { OnErr result S.lacks }
 {
     if state.rank() > 0 || row.retries >= 64 {
         return Ok(Ruled::Discarded);
@@ -250,6 +251,7 @@ pub fn rule<S: Readings>(
     requires refused { IsRefusedTask (S.shown state.now) t.0 row }
     ensures ruled { IfOk result (λ r. r ≡ steps.rule config.now (S.shown state.now) t row verdict) }
     ensures memory { IsOkUnless result PoolError.NoMemory }
+    ensures lacks { OnErr result S.lacks }
 {
     match verdict {
         Verdict::Abort => Ok(Ruled::Rejected),
@@ -272,7 +274,7 @@ pub fn verdict_answer<S: Readings>(
 ) -> Result<Did, PoolError>
     requires stands { S.stands state.now config.now }
     requires known { HasRow (S.shown state.now) t.0 row }
-    ensures { IsAnswer result (steps.verdict_answer config.now (S.shown state.now) t verdict row) }
+    ensures { IsAnswer S.lacks result (steps.verdict_answer config.now (S.shown state.now) t verdict row) }
 {
     if row.place == Place::Refused && allows(config.policy, verdict) {
         match rule(alloc, config, state, t, row, verdict) {
@@ -529,7 +531,7 @@ pub fn fitting<S: Readings>(
 ) -> Result<Did, PoolError>
     requires { S.stands state.now config.now }
     ensures { (done : List ℕ) → IsFirstDone (record (S.shown state.now) { done = done }) ask first
-        → IsAnswer result (steps.fitting config.now (record (S.shown state.now) { done = done }) w.0 ask) }
+        → IsAnswer S.lacks result (steps.fitting config.now (record (S.shown state.now) { done = done }) w.0 ask) }
 {
     match ask {
         Ask::TakeDone(group) => take_done_answer(first, group),
@@ -547,7 +549,7 @@ fn fitting_other<S: Readings>(
 ) -> Result<Did, PoolError>
     requires stands { S.stands state.now config.now }
     requires other { (g : ℕ) → ask ≡ Ask.TakeDone g → ⊥ }
-    ensures { IsAnswer result (steps.fitting config.now (S.shown state.now) w.0 ask) }
+    ensures { IsAnswer S.lacks result (steps.fitting config.now (S.shown state.now) w.0 ask) }
 {
     match ask {
         Ask::Submit(kind, priority) => submit_answer(state, w, kind, priority),
@@ -629,7 +631,7 @@ pub fn step(
     ask: Ask,
 ) -> Result<Did, PoolError>
     requires { IsSmall 1048576 (shown state.now) }
-    ensures { IsAnswer result (steps.step config.now (shown state.now) w.0 ask) }
+    ensures { IsAnswer ⊤ result (steps.step config.now (shown state.now) w.0 ask) }
 {
     let did = match fitting(alloc, config, state, w, ask, first_asked(state, ask)) {
         Ok(did) => did,

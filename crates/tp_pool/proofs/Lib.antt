@@ -8,6 +8,5 @@ pub mod Returned
 pub mod Starts
 pub mod Submissions
 pub mod Turned
-pub mod Undone
 pub mod Walks
 pub mod Watched

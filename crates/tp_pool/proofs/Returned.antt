@@ -1,10 +1,12 @@
 -- A rejected task's job comes back unless the task was cancelled.
 use Rattle.std.proofs.Common.{◌≡◌, ℕ, Bool, true, false, List, [], ◌∷◌, refl, sym, ap, subst, ◌∙◌}
 use Rattle.std.specs.Prelude.{◌==◌, not, Option, Some, None, is_some, option_map, unwrap_or, Result, Ok, Err, IfOk, IfSome, OnOk, OnErr, if◌then◌else◌}
+use Rattle.tp_types.specs.declared.configs.Config.{Config}
 use Rattle.tp_types.specs.declared.configs.Verdict.{Verdict}
 use Rattle.tp_types.specs.declared.ids.TaskId.{TaskId}
 use Rattle.tp_types.specs.declared.refusals.PoolError.{PoolError}
 use Rattle.tp_record.specs.declared.entries.Ask.{Ask}
+use Rattle.tp_record.specs.declared.entries.Ask.TheVariants as ask
 use Rattle.tp_record.specs.declared.entries.Did.{Did}
 use Rattle.tp_record.specs.declared.entries.Did.TheVariants as did
 use Rattle.tp_record.specs.declared.entries.Entry.{Entry}
@@ -22,12 +24,17 @@ use Rattle.tp_paths.specs.Fronts.{follow_of, goes, is_awaited}
 use Rattle.tp_paths.specs.declared.paths.Next.{Next}
 use Rattle.tp_paths.specs.declared.paths.Next.TheVariants as next
 use Rattle.tp_tasks.specs.declared.tasks.Tasks.{Tasks}
-use Rattle.tp_machine.specs.Answers.{ComesBack, ruled_of, ReturnsAt}
+use Rattle.tp_machine.specs.declared.answers.Judged.{Judged}
+use Rattle.tp_machine.specs.Answers.{ComesBack, IsJudged, Judges, ruled_of, ReturnsAt}
+use Rattle.tp_glance.specs.Word.{IsFrontOf}
+use Rattle.tp_glance.proofs.Fronts.{IsFrontOf_refl, IsFrontOf_trans}
 use Rattle.tp_book.specs.PassView.{PassView}
 use Rattle.tp_locked.specs.CoreView.{CoreView}
 use Rattle.tp_locked.specs.Holds.{Holds}
 use Rattle.tp_locked.specs.Passes.{KnowsStep}
+use Rattle.tp_locked.specs.Steps.{Makes}
 use Rattle.tp_locked.specs.declared.tasks.Task.{Task}
+use Rattle.tp_pool.specs.Admissions.{TakesOut}
 
 -- a pass that a step was made with knows it, and of the history before it what the answer says
 pub knows : {J A : Type 0} (old new : CoreView J) (before after : PassView) (a : Ask) (did : A → Did) (moves : A → Tasks (Task J) → Tasks (Task J) → Type 0) (says : A → List Entry → Type 0) (r : Result A PoolError) →
@@ -112,6 +119,44 @@ comes_back t d payload dropped old new a known is =
     let said : ReturnsAt t ruled.Rejected payload dropped known.0 = subst (λ x. ReturnsAt t (ruled_of x) payload dropped known.0) rejects.2 known.2 in
     let front : new.front ≡ e ∷ known.0 = known.1 ∙ ap (λ x. record { by = old.number; ask = a; did = x } ∷ known.0) rejects.2 in
     subst (λ h. is_some payload ≡ not (is_cancelled h t.0)) (sym front) said
+
+-- what the verdict took out of the book for its task is what was handed out
+pub takes_out : {J : Type 0} (c : Config) (t : TaskId) (v : Verdict) (j : Judged (Task J)) (old new : PassView) →
+    Makes J c old.number old.front (ask.Verdict t v) j.did (λ before after. IsJudged before after t j) new.front → follows t.0 j.did ≡ Ends Rejected → TakesOut c old.number t.0 j.payload old.front new.front
+takes_out c t v j old new makes is =
+    let rejects = only_rejected t.0 j.did is in
+    let ruling : ruled_of j.did ≡ ruled.Rejected = ap ruled_of rejects.2 in
+    let out : Judges makes.old.machine.parts.tasks makes.new.machine.parts.tasks t ruled.Rejected j.payload j.dropped =
+    subst (λ r. Judges makes.old.machine.parts.tasks makes.new.machine.parts.tasks t r j.payload j.dropped) ruling makes.step.payloads in record {
+      number = t;
+      is_task = refl;
+      verdict = v;
+      made = j.did;
+      rejects = ruling;
+      then_history = new.front;
+      makes = record {
+        old = makes.old;
+        new = makes.new;
+        is = makes.is;
+        goes_on = makes.goes_on;
+        step = record { promised = makes.step.promised; step = makes.step.step; payloads = out.0; notes = makes.step.notes; accounts = makes.step.accounts };
+        shown = makes.shown;
+      };
+      goes_on = IsFrontOf_refl new.front;
+    }
+
+-- at a history behind an earlier one it is so, too
+pub takes_from : {J : Type 0} (c : Config) (by t : ℕ) (payload : Option (Task J)) (f g h : List Entry) → IsFrontOf f g → TakesOut c by t payload g h → TakesOut c by t payload f h
+takes_from c by t payload f g h on out = record {
+  number = out.number;
+  is_task = out.is_task;
+  verdict = out.verdict;
+  made = out.made;
+  rejects = out.rejects;
+  then_history = out.then_history;
+  makes = record { old = out.makes.old; new = out.makes.new; is = out.makes.is; goes_on = IsFrontOf_trans on out.makes.goes_on; step = out.makes.step; shown = out.makes.shown };
+  goes_on = out.goes_on;
+}
 
 -- so does that of the task that held it
 pub comes_back_as : {J : Type 0} (t : ℕ) (h : List Entry) (held : Option (Task J)) (job : Option J) → job ≡ option_map (λ k. k.job) held → ComesBack t held h → ComesBack t job h

@@ -1,6 +1,6 @@
 -- What a submission adds behind room for its receipts.
 use Rattle.std.proofs.Common.{◌≡◌, ◌≢◌, ◌⊎◌, ◌≤◌, ℕ, [], ◌∷◌, ◌++◌, List, length, inl, inr, refl, ap, sym, subst, ◌∙◌, ⊎_elim}
-use Rattle.std.specs.Prelude.{not, ⊤, Result, Ok, Err, Some, IsSome, IfOk, IfErr}
+use Rattle.std.specs.Prelude.{not, ⊤, Option, Result, Ok, Err, Some, IsSome, IfOk, IfErr}
 use Rattle.tp_types.specs.declared.configs.Config.{Config}
 use Rattle.tp_types.specs.declared.ids.TaskId.{TaskId}
 use Rattle.tp_types.specs.declared.refusals.PoolError.TheVariants as error
@@ -21,10 +21,11 @@ use Rattle.tp_locked.specs.declared.answers.Admitted.{Admitted}
 use Rattle.tp_locked.specs.declared.answers.Admitted.TheVariants as admitted
 use Rattle.tp_locked.specs.declared.answers.Refused.{Refused}
 use Rattle.tp_machine.specs.Answers.{ComesBack}
-use Rattle.tp_pool.specs.Admissions.{AddsPath, AddsFront, AtPriority, IsUndone, GotJob, IsAdmitted, IsTurnedAway, task_of, end_of}
+use Rattle.tp_pool.specs.Admissions.{AddsPath, AddsFront, AtPriority, IsUndone, GotJob, IsAdmitted, IsJobOut, IsTurnedAway, TakesOut, task_of, end_of}
 use Rattle.tp_pool.specs.Submissions.{AddsJob, AddsSubmission}
 use Rattle.tp_locked.proofs.Plain.{submitted_plain}
 use Rattle.tp_locked.proofs.Receipts.{adds_behind, none_behind}
+use Rattle.tp_pool.proofs.Returned.{takes_from}
 
 -- one that was admitted
 admits : (c : Config) (k : Kind) (p : ℕ) (a : Admitted) (old new : PassView) → AddsPath c k p (task_of a) (end_of a) old new → AddsSubmission c k p (task_of a) old new
@@ -83,6 +84,13 @@ module _ (c : Config) where
     got_behind t old mid new none got =
         got_from old.number t old.front mid.front new.front none.1 (subst (λ (by : ℕ). GotJob c kind priority job promise by t mid.front new.front) (ap (λ p. p.number) none.0) got)
 
+    out_behind : (t : ℕ) (j : Option J) (old mid new : PassView) → AddsNone old mid → IsJobOut c mid.number t j mid.front new.front → IsJobOut c old.number t j old.front new.front
+    out_behind t j old mid new none out = (
+      out.0,
+      out.1,
+      subst (λ (by : ℕ). TakesOut c by t out.0 old.front new.front) (ap (λ p. p.number) none.0) (takes_from c mid.number t out.0 old.front mid.front new.front none.1 out.2),
+    )
+
     pub admits_behind : (old mid new : PassView) (r : Result Admitted (Refused J)) → AddsNone old mid →
         IfOk r (IsAdmitted c kind priority job promise mid new) → IfOk r (IsAdmitted c kind priority job promise old new)
     admits_behind old mid new (Ok a) none is = (path_behind kind priority (task_of a) (end_of a) old mid new none is.0, got_behind (task_of a).0 old mid new none is.1)
@@ -90,8 +98,8 @@ module _ (c : Config) where
 
     turns_behind : (old mid new : PassView) (x : Refused J) → AddsNone old mid → IsTurnedAway c kind priority job promise mid new x → IsTurnedAway c kind priority job promise old new x
     turns_behind old mid new x none is =
-        ⊎_elim (λ (y : (t : TaskId) × (x.error ≡ error.Rejected t) × AddsPath c kind priority t Rejected mid new × GotJob c kind priority job promise mid.number t.0 mid.front new.front × ComesBack t.0 x.job new.front).
-        inl (y.0, y.1, path_behind kind priority y.0 Rejected old mid new none y.2, got_behind y.0.0 old mid new none y.3, y.4))
+        ⊎_elim (λ (y : (t : TaskId) × (x.error ≡ error.Rejected t) × AddsPath c kind priority t Rejected mid new × GotJob c kind priority job promise mid.number t.0 mid.front new.front × ComesBack t.0 x.job new.front × IsJobOut c mid.number t.0 x.job mid.front new.front).
+        inl (y.0, y.1, path_behind kind priority y.0 Rejected old mid new none y.2, got_behind y.0.0 old mid new none y.3, y.4, out_behind y.0.0 x.job old mid new none y.5))
         (⊎_elim (λ (y : (t : TaskId) × (x.error ≡ error.TornRecord) × AddsFront c kind priority t mid new × GotJob c kind priority job promise mid.number t.0 mid.front new.front).
         inr (inl (y.0, y.1, front_behind kind priority y.0 old mid new none y.2, got_behind y.0.0 old mid new none y.3)))
         (λ (y : Refuses c ⊤ new.front (ask.Submit kind priority) x.error × (x.job ≡ Some job) × AddsNone mid new). inr (inr (y.0, y.1, none_behind old mid new none y.2))))
@@ -105,7 +113,7 @@ module _ (c : Config) where
 -- a refused plain task's job comes back, unless the submission was torn off
 pub plain_returned : {J : Type 0} (c : Config) (p : ℕ) (job : J) (promise : Promise) (old new : PassView) (x : Refused J) → IsTurnedAway c kinds.Plain p job promise old new x → x.error ≢ error.TornRecord → IsSome x.job
 plain_returned c p job promise old new x is whole =
-    ⊎_elim (λ (y : (t : TaskId) × (x.error ≡ error.Rejected t) × AddsPath c kinds.Plain p t Rejected old new × GotJob c kinds.Plain p job promise old.number t.0 old.front new.front × ComesBack t.0 x.job new.front).
+    ⊎_elim (λ (y : (t : TaskId) × (x.error ≡ error.Rejected t) × AddsPath c kinds.Plain p t Rejected old new × GotJob c kinds.Plain p job promise old.number t.0 old.front new.front × ComesBack t.0 x.job new.front × IsJobOut c old.number t.0 x.job old.front new.front).
     let got = y.3 in
     let e : Entry = record { by = old.number; ask = ask.Submit kinds.Plain p; did = did.Submit got.number kinds.Plain p got.look } in
     let on : IsFrontOf (e ∷ got.makes.old.history) new.front = subst (λ h. IsFrontOf h new.front) (got.makes.shown ∙ got.makes.step.notes) got.goes_on in

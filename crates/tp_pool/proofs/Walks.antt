@@ -29,9 +29,9 @@ use Rattle.tp_locked.specs.declared.answers.Admitted.{Admitted}
 use Rattle.tp_locked.specs.declared.answers.Refused.{Refused}
 use Rattle.tp_locked.specs.declared.tasks.Task.{Task}
 use Rattle.tp_machine.specs.Answers.{ComesBack}
-use Rattle.tp_pool.specs.Admissions.{task_of, end_of, AddsFront, AsksFor, Awaits, GotJob, IsUndone, IsAdmitted, IsTurnedAway}
+use Rattle.tp_pool.specs.Admissions.{task_of, end_of, AddsFront, AsksFor, Awaits, GotJob, IsUndone, IsAdmitted, IsTurnedAway, TakesOut}
 use Rattle.tp_locked.proofs.Receipts.{adds_looks, adds_then, leads_front}
-use Rattle.tp_pool.proofs.Returned.{comes_back_as}
+use Rattle.tp_pool.proofs.Returned.{comes_back_as, takes_from}
 use Rattle.tp_pool.proofs.Submissions.{got_on}
 use Rattle.std.proofs.lemmas.Bool.{eq-eqb}
 
@@ -135,6 +135,12 @@ module _ {J : Type 0} (c : Config) (kind : Kind) (priority : ℕ) (job : J) (pro
         room = omega (arith, walk.room);
       }
 
+  -- what the next step takes out of the book is taken out by the submission's pass, behind its first front
+  pub taken_on : (t : ℕ) (old mid : PassView) (f : Follow) (steps : ℕ) → Walk t old f steps mid → (held : Option (Task J)) (after : List Entry) → TakesOut c mid.number t held mid.front after →
+      TakesOut c old.number t held old.front after
+  taken_on t old mid f steps walk held after out =
+      subst (λ (by : ℕ). TakesOut c by t held old.front after) walk.adds.number (takes_from c mid.number t held old.front mid.front after (leads_front old.front mid.front walk.front walk.adds.leads) out)
+
   -- its end, as the answer says it
   pub admits_at : Closes → (t : TaskId) (old new : PassView) (f : Follow) (steps : ℕ) (end : Admission) → f ≡ Ends end → Walk t.0 old f steps new →
       (r : Result Admitted (Refused J)) → IfOk r (λ a. (task_of a ≡ t) × (end_of a ≡ end)) → IfOk r (IsAdmitted c kind priority job promise old new)
@@ -146,17 +152,19 @@ module _ {J : Type 0} (c : Config) (kind : Kind) (priority : ℕ) (job : J) (pro
   admits_at law t old new f steps end is walk (Err x) same = tt
 
   pub rejects_at : Closes → (t : TaskId) (old new : PassView) (f : Follow) (steps : ℕ) (end : Ending) → f ≡ Ends (admission_of end) → Walk t.0 old f steps new →
-      (held : Option (Task J)) → (f ≡ Ends Rejected → ComesBack t.0 held new.front) → (r : Result Admitted (Refused J)) → IfErr r (λ x. (x.error ≡ error.Rejected t) × (end ≡ ending.Rejected)) →
+      (held : Option (Task J)) → (f ≡ Ends Rejected → ComesBack t.0 held new.front × TakesOut c old.number t.0 held old.front new.front) → (r : Result Admitted (Refused J)) → IfErr r (λ x. (x.error ≡ error.Rejected t) × (end ≡ ending.Rejected)) →
       IfErr r (λ x. x.job ≡ option_map (λ k. k.job) held) → IfErr r (IsTurnedAway c kind priority job promise old new)
   rejects_at law t old new f steps end is walk held returned (Ok a) same hands = tt
   rejects_at law t old new f steps end is walk held returned (Err x) same hands =
       let rejected : f ≡ Ends Rejected = is ∙ ap (λ e. Ends (admission_of e)) same.1 in
+      let out = returned rejected in
       inl (
         t,
         same.0,
         (walk.front, law t.0 walk.front Rejected (subst (λ f. IsFront t.0 walk.front f) rejected walk.is_front), walk.asks, walk.adds),
         walk.got,
-        comes_back_as t.0 new.front held x.job hands (returned rejected),
+        comes_back_as t.0 new.front held x.job hands out.0,
+        (held, hands, out.1),
       )
 
   -- torn off where the next step is not taken

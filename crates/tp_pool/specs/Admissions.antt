@@ -1,5 +1,5 @@
 -- What submissions come to, and what they add to their caller's pass.
-use Rattle.std.specs.Prelude.{ℕ, Bool, ◌≡◌, ◌⊎◌, ◌≤◌, List, [], ◌∷◌, ◌++◌, length, Some, Result, IfOk, ⊤}
+use Rattle.std.specs.Prelude.{ℕ, Bool, true, ◌≡◌, ◌⊎◌, ◌≤◌, List, [], ◌∷◌, ◌++◌, length, Option, Some, option_map, Result, IfOk, ⊤}
 use Rattle.tp_types.specs.declared.configs.Config.{Config}
 use Rattle.tp_types.specs.declared.configs.Verdict.{Verdict}
 use Rattle.tp_types.specs.declared.ids.TaskId.{TaskId}
@@ -12,12 +12,14 @@ use Rattle.tp_record.specs.declared.entries.Did.{Did}
 use Rattle.tp_record.specs.declared.entries.Did.TheVariants as did
 use Rattle.tp_record.specs.declared.entries.Entry.{Entry}
 use Rattle.tp_record.specs.declared.entries.Looked.{Looked}
+use Rattle.tp_record.specs.declared.entries.Ruled.TheVariants as ruled
 use Rattle.tp_record.specs.Paths.{Admission, Accepted, RanHere, Discarded, Rejected, Follow, Then, Astray, IsPath}
-use Rattle.tp_parts.specs.Payloads.{PutsIn}
+use Rattle.tp_record.specs.Step.{allows}
+use Rattle.tp_parts.specs.Payloads.{PutsIn, HandsOut}
 use Rattle.tp_paths.specs.Fronts.{IsFront, follow_of, goes}
 use Rattle.tp_paths.specs.declared.paths.Next.{Next}
 use Rattle.tp_paths.specs.declared.paths.Next.TheVariants as next
-use Rattle.tp_machine.specs.Answers.{ComesBack}
+use Rattle.tp_machine.specs.Answers.{ComesBack, ruled_of}
 use Rattle.tp_glance.specs.Word.{IsFrontOf}
 use Rattle.tp_book.specs.PassView.{PassView}
 use Rattle.tp_locked.specs.Passes.{Adds, AddsNone, Refuses, opening}
@@ -59,6 +61,21 @@ pub record GotJob {J : Type 0} (c : Config) (kind : Kind) (priority : ℕ) (job 
   pub makes : Makes J c by before (ask.Submit kind priority) (did.Submit number kind priority look) (λ old new. PutsIn old new t promise task) then_history
   pub goes_on : IsFrontOf then_history after
 
+-- a verdict of the pass rejected task t, and took this out of the pool's book, where it lay for t: at a history between the two
+pub record TakesOut {J : Type 0} (c : Config) (by t : ℕ) (payload : Option (Task J)) (before after : List Entry) : Type 0 where
+  pub number : TaskId
+  pub is_task : number.0 ≡ t
+  pub verdict : Verdict
+  pub made : Did
+  pub rejects : ruled_of made ≡ ruled.Rejected
+  pub then_history : List Entry
+  pub makes : Makes J c by before (ask.Verdict number verdict) made (λ old new. HandsOut old new t payload) then_history
+  pub goes_on : IsFrontOf then_history after
+
+-- so it is with this job, or with none
+abbrev pub IsJobOut : {J : Type 0} → Config → ℕ → ℕ → Option J → List Entry → List Entry → Type 0
+IsJobOut {J} c by t job before after = (payload : Option (Task J)) × (job ≡ option_map (λ k. k.job) payload) × TakesOut c by t payload before after
+
 -- a further step is to follow
 abbrev pub Awaits : Follow → Type 0
 Awaits (Then fits) = ⊤
@@ -68,19 +85,19 @@ Awaits _ = ⊥
 abbrev pub AddsPath : Config → Kind → ℕ → TaskId → Admission → PassView → PassView → Type 0
 AddsPath c kind priority t a old new = (steps : List Entry) × IsPath t.0 steps a × AsksFor kind priority steps × Adds c old steps new
 
--- what the submitter of task t asks by this deed
-abbrev pub IsAskOf : TaskId → Next → Ask → Type 0
-IsAskOf t next.Look a = a ≡ ask.Look t
-IsAskOf t next.Offer a = a ≡ ask.Offer t
-IsAskOf t next.Second a = a ≡ ask.Second t
-IsAskOf t next.Grow a = a ≡ ask.Grow t
-IsAskOf t next.Judge a = (v : Verdict) × (a ≡ ask.Verdict t v)
-IsAskOf t (next.Staff w) a = (staffed : Bool) × (a ≡ opening w staffed)
-IsAskOf t _ a = ⊥
+-- what the submitter of task t asks by this deed, in a pool with these settings: its verdict is one that their policy allows
+abbrev pub IsAskOf : Config → TaskId → Next → Ask → Type 0
+IsAskOf c t next.Look a = a ≡ ask.Look t
+IsAskOf c t next.Offer a = a ≡ ask.Offer t
+IsAskOf c t next.Second a = a ≡ ask.Second t
+IsAskOf c t next.Grow a = a ≡ ask.Grow t
+IsAskOf c t next.Judge a = (v : Verdict) × (a ≡ ask.Verdict t v) × (allows c.policy v ≡ true)
+IsAskOf c t (next.Staff w) a = (staffed : Bool) × (a ≡ opening w staffed)
+IsAskOf c t _ a = ⊥
 
 -- the deed is left undone: at this history the pool refuses what it asks, or it was to tell how the submitter's own run ended
 abbrev pub IsUndone : Config → TaskId → Next → List Entry → Type 0
-IsUndone c t n history = ((a : Ask) × IsAskOf t n a × IsBarred c history a) ⊎ (n ≡ next.RunHere)
+IsUndone c t n history = ((a : Ask) × IsAskOf c t n a × IsBarred c history a) ⊎ (n ≡ next.RunHere)
 
 -- the pass has the receipts of a front of the path of this task, which is of this kind and priority, behind which this deed was to follow
 pub record AddsFront (c : Config) (kind : Kind) (priority : ℕ) (t : TaskId) (old new : PassView) : Type 0 where
@@ -98,10 +115,11 @@ module _ {J : Type 0} (c : Config) (kind : Kind) (priority : ℕ) (job : J) (pro
   abbrev pub IsAdmitted : Admitted → Type 0
   IsAdmitted a = AddsPath c kind priority (task_of a) (end_of a) old new × GotJob c kind priority job promise old.number (task_of a).0 old.front new.front
 
-  -- it is refused: after its whole path, with the job unless its task was cancelled; or torn off on it; or before its first step, and then with the job
+  -- it is refused: after its whole path, with the job that its verdict took out of the pool's book, unless its task was cancelled; or torn off on it; or before its first step, and then
+  -- with the job
   abbrev pub IsTurnedAway : Refused J → Type 0
   IsTurnedAway refused =
-      ((t : TaskId) × (refused.error ≡ error.Rejected t) × AddsPath c kind priority t Rejected old new × GotJob c kind priority job promise old.number t.0 old.front new.front × ComesBack t.0 refused.job new.front)
+      ((t : TaskId) × (refused.error ≡ error.Rejected t) × AddsPath c kind priority t Rejected old new × GotJob c kind priority job promise old.number t.0 old.front new.front × ComesBack t.0 refused.job new.front × IsJobOut c old.number t.0 refused.job old.front new.front)
       ⊎ ((t : TaskId) × (refused.error ≡ error.TornRecord) × AddsFront c kind priority t old new × GotJob c kind priority job promise old.number t.0 old.front new.front)
       ⊎ (Refuses c ⊤ new.front (ask.Submit kind priority) refused.error × (refused.job ≡ Some job) × AddsNone old new)
 

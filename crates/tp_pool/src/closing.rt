@@ -7,14 +7,14 @@ ghost use Rattle.tp_locked.specs.declared.tasks.Task.{Task};
 use crate::edges::Edge;
 use crate::pool::{Hold, PoolOf};
 use crate::shared::Shared;
-use std::sync::{Arc, Mutex, Wait};
+use std::sync::{Arc, Wait};
 use std::thread;
 pub use tp_book::book::Report;
 use tp_book::book::Unclosed;
 use tp_book::passes::Pass;
 use tp_callbacks::jobs::Job;
 use tp_laws::lawful::legal_is_lawful;
-use tp_locked::locked::Core;
+use tp_locked::locks::PoolLock;
 use tp_locked::names::PoolNaming;
 use tp_types::refusals::PoolError;
 
@@ -93,7 +93,7 @@ impl<G: PoolNaming, J: Job, E: Edge> Shared<G, J, E> {
             alloc,
         } = self;
         let mut passes = passes;
-        let (mut book, workers, beside) = core.into_inner().part();
+        let (mut book, workers, beside) = core.part();
         book.all_are_fronts(&glance, &mut passes);
         book.is_balanced();
         match book.close(&glance, passes, workers) {
@@ -109,7 +109,7 @@ impl<G: PoolNaming, J: Job, E: Edge> Shared<G, J, E> {
                     workers,
                 } = unclosed;
                 let shared = Shared {
-                    core: Mutex::new(Core::again(alloc, book, workers, beside)),
+                    core: PoolLock::again(alloc, book, workers, beside),
                     conditions,
                     parkers,
                     glance,

@@ -19,6 +19,7 @@ pub mod futures;
 pub mod handles;
 pub mod lives;
 pub mod lock;
+mod policies;
 pub mod pool;
 mod prestarts;
 pub mod readings;

@@ -1,5 +1,5 @@
 //! Jobs on a pool of their own, in one call: the pool is opened, runs them, is shut down, waited for and closed.
-ghost use Rattle.std.specs.Prelude.{◌≡◌, ◌≤◌, [], ◌∷◌, IfOk, IfErr, OnOk};
+ghost use Rattle.std.specs.Prelude.{◌≡◌, ◌⊎◌, ◌≤◌, [], ◌∷◌, IfOk, IfErr, OnOk};
 ghost use Rattle.tp_record.specs.Fields.{rank};
 ghost use Rattle.tp_record.specs.Step.{Legal};
 ghost use Rattle.tp_book.specs.PassView.{PassView};
@@ -59,8 +59,7 @@ pub fn run_all<J: Job + 'static, E: Edge + Send + Sync + 'static, R: Runtime>(
     opened::<Brand, J, E, R>(rt, alloc, unopened, settings, edge, jobs)
 }
 
-// The same under a name of the pool's own. The pass with which the pool is ended is made before the jobs are
-// submitted, with room for all receipts of the end, so that no memory is wanted once the pool has threads.
+// The same under a name of the pool's own.
 fn opened<
     G: PoolNaming + Send + Sync + 'static,
     J: Job + 'static,
@@ -79,19 +78,51 @@ fn opened<
     ensures run { IfOk result (λ r. IsRun settings J.promised J.urgency jobs.items r.0.items r.1) }
     ensures over { IfErr result (IsOver settings) }
 {
-    let (pool, mut pass) = match PoolOf::<G, J, E>::over(alloc, unopened, settings, edge) {
-        Ok(opened) => opened,
-        Err(error) => return Err(error),
-    };
-    let mut last = match pool.split_pass(rt, &mut pass) {
+    match PoolOf::<G, J, E>::over(alloc, unopened, settings, edge) {
+        Ok((pool, pass)) => entered(rt, alloc, pool, jobs, pass),
+        Err(error) => Err(error),
+    }
+}
+
+// The life of a new pool, with its first pass. The pass with which the pool is ended is made before the jobs are
+// submitted, so that no memory is wanted once the pool has threads.
+fn entered<G: PoolName, J: Job + 'static, E: Edge + Send + Sync + 'static, R: Runtime>(
+    rt: &R,
+    alloc: Global,
+    pool: PoolOf<G, J, E>,
+    jobs: Vec<J>,
+    pass: Pass<G>,
+) -> Result<(Vec<Answer>, Report), PoolError>
+    ensures run { IfOk result (λ r. (new other : PassView) × AreAnswered G.config J.promised J.urgency jobs.items r.0.items pass new × Reports G.config (new ∷ other ∷ []) r.1) }
+    ensures over { IfErr result (IsOver G.config) }
+{
+    let mut pass = pass;
+    let mut last = match ending_pass(rt, &pool, &mut pass) {
         Ok(last) => last,
         Err(error) => return Err(error),
     };
-    if let Err(error) = last.reserve(3) {
-        return Err(error);
-    }
     let mut seen = pool.sight(&mut last);
     lived(rt, alloc, pool, jobs, pass, last, &mut seen)
+}
+
+// The pass with which a pool is ended, with room for all receipts of the end. NoMemory (4), or BookFull (5).
+fn ending_pass<G: PoolNaming, J: Job, E: Edge, R: Wait>(
+    rt: &R,
+    pool: &PoolOf<G, J, E>,
+    pass: &mut Pass<G>,
+) -> Result<Pass<G>, PoolError>
+    ensures room { IfOk result (λ p. 3 ≤ p.room) }
+    ensures refused { IfErr result (λ e. (e ≡ PoolError.NoMemory) ⊎ (e ≡ PoolError.BookFull)) }
+    ensures same { pass.new ≡ pass.old }
+{
+    let mut last = match pool.split_pass(rt, pass) {
+        Ok(last) => last,
+        Err(error) => return Err(error),
+    };
+    match last.reserve(3) {
+        Ok(()) => Ok(last),
+        Err(error) => Err(error),
+    }
 }
 
 // The jobs' runs, and the end after them: the sight has then seen that the pool has no worker any more.

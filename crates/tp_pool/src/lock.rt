@@ -2,6 +2,7 @@
 
 use std::hint::spin_loop;
 use std::sync::{Mutex, MutexGuard, Wait};
+use std::thread::yield_now;
 
 /// How a thread waits for the lock before it sleeps: so many looks, with a pause after each. Each pause is twice
 /// as long as the one before, up to the longest. A pause is counted in turns of `spin_loop`, some 5 nanoseconds
@@ -38,6 +39,9 @@ pub fn polite<'a, T, R: Wait>(rt: &R, lock: &'a Mutex<T>, patience: Patience) ->
     for _ in 0..patience.looks {
         if let Some(guard) = lock.try_lock() {
             return guard;
+        }
+        if pause == LONGEST {
+            yield_now();
         }
         rest(pause);
         pause = pause.saturating_mul(2).min(LONGEST);

@@ -9,9 +9,10 @@ ghost use Rattle.tp_locked.specs.declared.tasks.Task.{Task};
 
 use crate::boxes::Boxed;
 use crate::edges::{Boxes, Edge};
+use crate::policies::PolicyOf;
 use crate::shared::{Conditions, Shared};
 use std::alloc::{AllocError, Global};
-use std::sync::{Arc, Mutex, Wait};
+use std::sync::{Arc, Wait};
 use std::thread::Parker;
 use tp_book::book::Book;
 use tp_book::opening::Unopened;
@@ -21,16 +22,14 @@ use tp_callbacks::gates::Gate;
 use tp_callbacks::handlers::RejectionHandler;
 use tp_callbacks::hooks::Hooks;
 use tp_callbacks::jobs::Job;
+use tp_glance::glance::Glance;
 use tp_locked::locked::Core;
+use tp_locked::locks::PoolLock;
 use tp_locked::names::PoolNaming;
 use tp_types::configs::Config;
 use tp_types::limits::MAX_WORKERS;
 use tp_types::refusals::PoolError;
 use tp_types::states::RunState;
-
-// The steps of a task that waits and runs. Room for the flags of so many tasks as the record has room for is taken
-// when the pool is made, as room for their rows is.
-const ENTRIES_OF_A_RUN: u32 = 6;
 
 /// A pool of threads, as `ThreadPoolExecutor`, over jobs `J` and the caller's objects `E`. Its calls take
 /// `&self`, so that many threads may share it. A call that makes steps takes a pass: each entry of the record
@@ -108,34 +107,17 @@ impl<G: PoolNaming, J: Job, E: Edge> PoolOf<G, J, E> {
         ensures good { OnOk result (IsConfig config) }
         ensures refused { IfErr result (λ e. (checked config ≡ Err e) ⊎ ((e ≡ PoolError.NoMemory) × IsConfig config)) }
     {
-        let (book, glance, pass) = match Book::open(alloc, unopened, config) {
-            Ok(opened) => opened,
+        let (core, glance, pass) = match begin(alloc, unopened, config) {
+            Ok(begun) => begun,
             Err(error) => return Err(error),
         };
-        let policy = config.policy;
-        let tasks = (config.record_limit / ENTRIES_OF_A_RUN) as usize;
-        let Ok(core) = Core::new(alloc, book, tasks) else {
-            return Err(PoolError::NoMemory);
-        };
-        let Ok(parkers) = parkers(alloc) else {
-            return Err(PoolError::NoMemory);
-        };
-        let shared = Shared {
-            core: Mutex::new(core),
-            conditions: Conditions::new(),
-            parkers,
-            glance,
-            edge,
-            policy,
-            alloc,
-        };
-        let Ok(shared) = Arc::new(alloc, shared) else {
-            return Err(PoolError::NoMemory);
-        };
-        let pool = PoolOf {
-            hold: Hold::Many(shared),
-        };
-        Ok((pool, pass))
+        match share(alloc, core, glance, edge, PolicyOf::new(&config)) {
+            Ok(shared) => {
+                let hold = Hold::Many(shared);
+                Ok((PoolOf { hold }, pass))
+            }
+            Err(_) => Err(PoolError::NoMemory),
+        }
     }
 
     /// Makes a pass for one more caller, which knows what this caller's pass knows; Java's callers need none.
@@ -161,6 +143,52 @@ impl<G: PoolNaming, J: Job, E: Edge> PoolOf<G, J, E> {
         ensures same { pass.new ≡ record pass.old { front = pass.new.front } }
     {
         pass.glance(&self.shared().glance)
+    }
+}
+
+// The value that a new pool's lock guards, the word that publishes its run state, and its first pass.
+fn begin<G: PoolNaming, J: Drop>(
+    alloc: Global,
+    unopened: Unopened,
+    config: Config,
+) -> Result<(PoolLock<G, J>, Glance<G>, Pass<G>), PoolError>
+    requires named { unopened ≡ record { ledger = G.name; parts = G.parts; table = G.table } }
+    requires settings { config ≡ G.config }
+    ensures pass { IfOk result (λ r. r.2 ≡ record { number = 0; amount = 0; front = []; receipts = []; room = r.2.room }) }
+    ensures good { OnOk result (IsConfig config) }
+    ensures refused { IfErr result (λ e. (checked config ≡ Err e) ⊎ ((e ≡ PoolError.NoMemory) × IsConfig config)) }
+{
+    let (book, glance, pass) = match Book::open(alloc, unopened, config) {
+        Ok(opened) => opened,
+        Err(error) => return Err(error),
+    };
+    match Core::new(alloc, book, config.runs() as usize) {
+        Ok(core) => Ok((PoolLock::new(core), glance, pass)),
+        Err(error) => Err(error),
+    }
+}
+
+// What all threads of a new pool share.
+fn share<G: PoolNaming, J: Drop, E: Drop>(
+    alloc: Global,
+    core: PoolLock<G, J>,
+    glance: Glance<G>,
+    edge: E,
+    policy: PolicyOf<G>,
+) -> Result<Arc<Shared<G, J, E>>, AllocError> {
+    let parkers = parkers(alloc)?;
+    let shared = Shared {
+        core,
+        conditions: Conditions::new(),
+        parkers,
+        glance,
+        edge,
+        policy,
+        alloc,
+    };
+    match Arc::new(alloc, shared) {
+        Ok(shared) => Ok(shared),
+        Err(_) => Err(AllocError),
     }
 }
 

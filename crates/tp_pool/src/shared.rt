@@ -13,21 +13,22 @@ ghost use Rattle.tp_pool.specs.Endings.{AddsEnding, IsBarred};
 
 use crate::edges::Edge;
 use crate::lock::{CALLER, WORKER, polite};
+use crate::policies::PolicyOf;
 use std::alloc::Global;
-use std::sync::{Condvar, Mutex, MutexGuard, Wait};
+use std::sync::{Condvar, MutexGuard, Wait};
 use std::thread::Parker;
 use tp_book::passes::Pass;
 use tp_book::payers::Payer;
 use tp_glance::glance::Glance;
 use tp_locked::answers::Drained;
 use tp_locked::locked::{Core, Look, Marks};
+use tp_locked::locks::PoolLock;
 use tp_locked::names::PoolNaming;
 use tp_locked::tasks::Task;
 use tp_machine::typed::Step;
 use tp_machine::typed::controllers::{Ended, Tidy};
 use tp_record::entries::{Ask, Did};
 use tp_turns::rescues::Remains;
-use tp_types::configs::Policy;
 use tp_types::ids::SlotId;
 use tp_types::refusals::PoolError;
 use tp_waking::calls::{Calls, Waiters};
@@ -77,7 +78,7 @@ impl Conditions {
 #[derive(Drop)]
 pub struct Shared<G: PoolNaming, J, E> {
     /// The value under the lock.
-    pub core: Mutex<Core<G, J>>,
+    pub core: PoolLock<G, J>,
     /// The places where waiters sleep.
     pub conditions: Conditions,
     /// The places where workers sleep, one for each slot number.
@@ -87,7 +88,7 @@ pub struct Shared<G: PoolNaming, J, E> {
     /// The caller's objects.
     pub edge: E,
     /// The rejection policy.
-    pub policy: Policy,
+    pub policy: PolicyOf<G>,
     /// The allocator of the calls' answers.
     pub alloc: Global,
 }
@@ -105,13 +106,13 @@ impl<G: PoolNaming, J: Drop, E: Edge> Shared<G, J, E> {
     /// Takes the lock, for a caller.
     #[inline(always)]
     pub fn hold<R: Wait>(&self, rt: &R) -> MutexGuard<'_, Core<G, J>> {
-        polite(rt, &self.core, CALLER)
+        polite(rt, self.core.mutex(), CALLER)
     }
 
     /// Takes the lock, for a worker.
     #[inline(always)]
     pub fn hold_as_worker<R: Wait>(&self, rt: &R) -> MutexGuard<'_, Core<G, J>> {
-        polite(rt, &self.core, WORKER)
+        polite(rt, self.core.mutex(), WORKER)
     }
 
     /// Lets go of the lock, and only then wakes the threads that the hold concerned: a thread that is woken

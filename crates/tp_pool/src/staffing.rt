@@ -43,22 +43,41 @@ pub fn staff_heir<
     if !shared.edge.allow(&rt, w) {
         return false;
     }
-    let Some((kept, theirs)) = keepers(shared.alloc) else {
+    let Some((kept, theirs)) = enlisted(&rt, &**shared, w) else {
         return false;
     };
-    let enlisted = shared.hold(&rt).enlist(w, &shared.glance);
-    let Ok(pass) = enlisted else {
-        return false;
-    };
-    *kept.lock(&rt) = Some(pass);
     if launch(rt, shared, w, theirs, heirs) {
         return true;
     }
-    let left = kept.lock(&rt).take();
-    if let Some(pass) = left {
-        shared.hand_in(&rt, pass);
-    }
+    hand_back(&rt, &**shared, &kept);
     false
+}
+
+// A pass for this slot's worker, in both ends of what keeps it. None for want of memory, or of a number.
+fn enlisted<G: PoolNaming, J: Drop, E: Edge, R: Wait>(
+    rt: &R,
+    shared: &Shared<G, J, E>,
+    w: SlotId,
+) -> Option<(Kept<G>, Kept<G>)> {
+    let (kept, theirs) = keepers(shared.alloc)?;
+    let enlisted = shared.hold(rt).enlist(w, &shared.glance);
+    let Ok(pass) = enlisted else {
+        return None;
+    };
+    *kept.lock(rt) = Some(pass);
+    Some((kept, theirs))
+}
+
+// Hands in the pass of a worker that has no thread.
+fn hand_back<G: PoolNaming, J: Drop, E: Edge, R: Wait>(
+    rt: &R,
+    shared: &Shared<G, J, E>,
+    kept: &Kept<G>,
+) {
+    let left = kept.lock(rt).take();
+    if let Some(pass) = left {
+        shared.hand_in(rt, pass);
+    }
 }
 
 // Both ends of what keeps a worker's pass: for whoever wants the worker, and for its thread.

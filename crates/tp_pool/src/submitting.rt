@@ -1,8 +1,9 @@
 //! Submissions: a task's path from its first step to its end, each step in a hold of its own. Between two of
 //! them other threads may make steps, so a submission asks after each answer what comes next.
-ghost use Rattle.std.specs.Prelude.{◌≡◌, ◌≢◌, ◌⊎◌, ◌+◌, ◌<◌, ◌≤◌, option_map, Some, IsSome, IfSome, IfNone, IfOk, IfErr, OnSome, OnOk, OnErr, ⊤};
+ghost use Rattle.std.specs.Prelude.{◌≡◌, ◌≢◌, ◌⊎◌, ◌+◌, ◌<◌, ◌≤◌, true, option_map, Some, IsSome, IfSome, IfNone, IfOk, IfErr, OnSome, OnOk, OnErr, ⊤};
 ghost use Rattle.tp_record.specs.State.{state};
 ghost use Rattle.tp_record.specs.declared.entries.Ask.{Ask as AskOf};
+ghost use Rattle.tp_record.specs.Step.{allows};
 ghost use Rattle.tp_record.specs.Paths.{Ends, Rejected, follows as what_follows};
 ghost use Rattle.tp_parts.specs.Payloads.{PutsIn};
 ghost use Rattle.tp_paths.specs.Fronts.{admission_of, follow_of, goes};
@@ -11,7 +12,7 @@ ghost use Rattle.tp_locked.specs.Passes.{AddsStep, AddsNone, IsRefusal, LooksOnl
 ghost use Rattle.tp_locked.specs.Steps.{Makes};
 ghost use Rattle.tp_locked.specs.declared.tasks.Task.{Task as TaskOf};
 ghost use Rattle.tp_machine.specs.Answers.{ComesBack};
-ghost use Rattle.tp_pool.specs.Admissions.{task_of, end_of, Admits, AtPriority, Awaits, IsAdmitted, IsTurnedAway, IsUndone};
+ghost use Rattle.tp_pool.specs.Admissions.{task_of, end_of, Admits, AtPriority, Awaits, IsAdmitted, IsTurnedAway, IsUndone, TakesOut};
 ghost use Rattle.tp_pool.specs.Endings.{IsBarred};
 
 use crate::boxes::Boxed;
@@ -34,7 +35,7 @@ use tp_paths::laws::fronts_are_paths;
 use tp_paths::paths::{Ending, Next, follows};
 use tp_record::entries::{Ask, Did, Looked, Seconded};
 use tp_turns::rescues::Remains;
-use tp_types::configs::{Policy, Verdict};
+use tp_types::configs::Verdict;
 use tp_types::ids::{SlotId, TaskId};
 use tp_types::refusals::PoolError;
 use tp_types::tasks::{Kind, Outcome};
@@ -209,7 +210,7 @@ impl<
         ensures left { OnSome result (pass.old.room ≤ pass.new.room + 1) }
         ensures on_path { OnSome result (Awaits (follow_of t.0 next)) }
         ensures undone { IfNone result (Awaits (follow_of t.0 next) → IsUndone G.config t next pass.new.front) }
-        ensures returned { IfSome result (λ d. goes t.0 (follow_of t.0 next) d ≡ Ends Rejected → ComesBack t.0 held.new pass.new.front) }
+        ensures returned { IfSome result (λ d. goes t.0 (follow_of t.0 next) d ≡ Ends Rejected → ComesBack t.0 held.new pass.new.front × TakesOut G.config pass.old.number t.0 held.new pass.old.front pass.new.front) }
         ensures unchanged { IfNone result ((pass.new ≡ pass.old) ⊎ LooksOnly G.config pass.old pass.new) }
     {
         let shared = self.shared();
@@ -258,7 +259,7 @@ impl<
         ensures step { IfSome result (λ d. AddsStep G.config pass.old (Ask.Verdict t verdict) d pass.new) }
         ensures left { OnSome result (pass.old.room ≤ pass.new.room + 1) }
         ensures refused { IfNone result (IsBarred G.config pass.new.front (Ask.Verdict t verdict)) }
-        ensures returned { IfSome result (λ d. what_follows t.0 d ≡ Ends Rejected → ComesBack t.0 held.new pass.new.front) }
+        ensures returned { IfSome result (λ d. what_follows t.0 d ≡ Ends Rejected → ComesBack t.0 held.new pass.new.front × TakesOut G.config pass.old.number t.0 held.new pass.old.front pass.new.front) }
         ensures unchanged { IfNone result (LooksOnly G.config pass.old pass.new) }
     {
         let (did, remains) = self.shared().judge(&rt, t, verdict, held, pass);
@@ -286,14 +287,13 @@ impl<
     }
 
     // The verdict on a refused task: the policy's, or the handler's under `Policy::Own`.
-    fn verdict<R: Wait>(&self, rt: &R, t: TaskId) -> Verdict {
+    fn verdict<R: Wait>(&self, rt: &R, t: TaskId) -> Verdict
+        ensures { allows G.config.policy result ≡ true }
+    {
         let shared = self.shared();
-        match shared.policy {
-            Policy::Abort => Verdict::Abort,
-            Policy::CallerRuns => Verdict::CallerRuns,
-            Policy::Discard => Verdict::Discard,
-            Policy::DiscardOldest => Verdict::DiscardOldest,
-            Policy::Own => {
+        match shared.policy.verdict() {
+            Some(verdict) => verdict,
+            None => {
                 let state = shared.hold(rt).state();
                 shared.edge.verdict(rt, t, state)
             }
@@ -466,7 +466,7 @@ impl<G: PoolNaming, J: Job, E: Edge> Shared<G, J, E> {
         ensures step { IfSome result.0 (λ d. AddsStep G.config pass.old (Ask.Verdict t verdict) d pass.new) }
         ensures left { OnSome result.0 (pass.old.room ≤ pass.new.room + 1) }
         ensures refused { IfNone result.0 (IsBarred G.config pass.new.front (Ask.Verdict t verdict)) }
-        ensures returned { IfSome result.0 (λ d. what_follows t.0 d ≡ Ends Rejected → ComesBack t.0 held.new pass.new.front) }
+        ensures returned { IfSome result.0 (λ d. what_follows t.0 d ≡ Ends Rejected → ComesBack t.0 held.new pass.new.front × TakesOut G.config pass.old.number t.0 held.new pass.old.front pass.new.front) }
         ensures unchanged { IfNone result.0 (LooksOnly G.config pass.old pass.new) }
         ensures remains { IsLeft (state G.config pass.new.front) result.1 }
     {

@@ -1,5 +1,5 @@
 //! The wait for a pool's end, with a deadline or with none.
-ghost use Rattle.std.specs.Prelude.{◌≡◌, ◌⊎◌, ◌≤◌, [], ◌∷◌, true, IfErr, OnOk};
+ghost use Rattle.std.specs.Prelude.{◌≡◌, ◌⊎◌, ◌<◌, ◌≤◌, [], ◌∷◌, true, IfErr, OnOk};
 ghost use Rattle.tp_record.specs.Fields.{rank};
 ghost use Rattle.tp_locked.specs.Moments.{AtFront};
 ghost use Rattle.tp_locked.specs.Passes.{Adds, AddsNone, tidied, ended};
@@ -30,7 +30,7 @@ impl<G: PoolNaming, J: Job, E: Edge> PoolOf<G, J, E> {
         ensures steps { OnOk result (Adds G.config pass.old [] pass.new ⊎ Adds G.config pass.old (tidied pass.old.number ∷ ended pass.old.number ∷ []) pass.new) }
         ensures seen { OnOk result (rank pass.new.front ≡ 4) }
         ensures late { IfErr result (λ e. e ≡ PoolError.TimedOut → AtFront G.config pass.new.front (λ s. (has_come deadline s.now ≡ true) × ¬ (s.rank ≡ 4))) }
-        ensures refused { IfErr result (λ e. ((e ≡ PoolError.NoMemory) × AddsNone pass.old pass.new)
+        ensures refused { IfErr result (λ e. ((e ≡ PoolError.NoMemory) × (pass.old.room < 2) × AddsNone pass.old pass.new)
             ⊎ ((e ≡ PoolError.TimedOut) × Adds G.config pass.old [] pass.new)
             ⊎ ((e ≡ PoolError.TornRecord) × IsBarred G.config pass.new.front Ask.Ended × Adds G.config pass.old (tidied pass.old.number ∷ []) pass.new)) }
     {

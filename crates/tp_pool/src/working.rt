@@ -9,7 +9,7 @@ use crate::edges::Edge;
 use crate::lock::rest;
 use crate::shared::Shared;
 use std::sync::{Arc, Wait};
-use std::thread::Threads;
+use std::thread::{Threads, yield_now};
 use tp_book::passes::WorkerPass;
 use tp_callbacks::flags::CancelFlag;
 use tp_callbacks::gates::Point;
@@ -26,11 +26,73 @@ use tp_turns::turns::{Begun, Workplace, one_turn};
 use tp_types::ids::{SlotId, TaskId};
 use tp_types::tasks::Outcome;
 
-// A worker that is listed looks whether it was called before it parks: so often, with a pause before each look.
+// A worker that is listed looks whether it was called before it parks, where the next task may come soon: so often, with
+// a pause before each look.
 const DOZES: u32 = 8;
 
 // That pause, in turns of `spin_loop`.
 const DOZE: u32 = 1_000;
+
+// So many tasks in a row, found without a wait, are a stream.
+const STREAM: u32 = 64;
+
+// After so many waits in a row with no stream between them a worker gives way all the same.
+const WAITS: u32 = 64;
+
+// How a worker's tasks came of late, by which it waits for the next one.
+//
+// A worker that is woken often runs on the processor of the thread that woke it, and that thread waits for it. If it
+// parked then, it would be woken for each task by itself. Where it gives way instead, its waker goes on, and the worker
+// finds many tasks. But a thread that gives way also gives way to all others on its processor, for milliseconds where
+// these never sleep. So it does so after a stream of tasks, and else rarely, to find out whether one comes.
+#[derive(Drop)]
+struct Pace {
+    // Whether it has parked since its last task.
+    parked: bool,
+    // Whether that task came with no park before it: then the next one may come soon too.
+    soon: bool,
+    // How many came since its last wait.
+    streak: u32,
+    // How often it has waited since it gave way last.
+    waits: u32,
+}
+
+impl Pace {
+    // Of a worker that had no task yet.
+    fn new() -> Pace {
+        Pace {
+            parked: false,
+            soon: false,
+            streak: 0,
+            waits: 0,
+        }
+    }
+
+    // A task has come.
+    #[inline(always)]
+    fn found(&mut self) {
+        self.soon = !self.parked;
+        self.parked = false;
+        self.streak = self.streak.saturating_add(1);
+    }
+
+    // A wait begins: whether the worker is to give way.
+    fn gives_way(&mut self) -> bool {
+        let gives_way = self.streak >= STREAM || self.waits >= WAITS;
+        self.streak = 0;
+        self.waits = if gives_way {
+            0
+        } else {
+            self.waits.saturating_add(1)
+        };
+        gives_way
+    }
+
+    // Whether the worker looks for a while before it parks.
+    fn dozes(&self) -> bool {
+        self.soon && !self.parked
+    }
+}
 
 /// A worker at its slot.
 #[derive(Drop)]
@@ -42,6 +104,8 @@ pub struct Post<G: PoolNaming, J, E> {
     heir: Option<SlotId>,
     // The flag of the job that it ran last, until the pool has it back.
     flag: Option<CancelFlag>,
+    // How its tasks came of late.
+    pace: Pace,
 }
 
 impl<
@@ -64,10 +128,13 @@ impl<
     fn take(&mut self, rt: &R) -> Taken {
         for _ in rt.forever() {
             match self.shared.take(rt, self.w, &mut self.pass) {
-                Taking::Task => return Taken::Task,
+                Taking::Task => {
+                    self.pace.found();
+                    return Taken::Task;
+                }
                 Taking::Left => return Taken::Left,
                 Taking::Refused => return Taken::Refused,
-                Taking::Sleeps => self.shared.sleep(rt, self.w),
+                Taking::Sleeps => self.shared.sleep(rt, self.w, &mut self.pace),
             }
         }
         unreachable!()
@@ -127,6 +194,7 @@ impl<G: PoolNaming + Send + Sync + 'static, J: Job + 'static, E: Edge + Send + S
             pass,
             heir: None,
             flag: None,
+            pace: Pace::new(),
         }
     }
 
@@ -152,6 +220,7 @@ impl<G: PoolNaming + Send + Sync + 'static, J: Job + 'static, E: Edge + Send + S
             pass,
             heir: _,
             flag: _,
+            pace: _,
         } = self;
         (shared, pass)
     }
@@ -225,23 +294,43 @@ impl<G: PoolNaming, J: Drop, E: Edge> Shared<G, J, E> {
         }
     }
 
-    // Sleeps until another thread took the worker off the list of sleepers. It looks a few times before it
-    // parks: where a task comes meanwhile, neither thread makes a system call. Each wake is checked under the
-    // lock, since one may be left over from an earlier sleep.
-    fn sleep<R: Wait>(&self, rt: &R, w: SlotId) {
-        for _ in 0..DOZES {
-            rest(DOZE);
-            if !self.hold_as_worker(rt).is_asleep(w) {
+    // Sleeps until another thread took the worker off the list of sleepers. Where a task comes before the worker parks,
+    // neither thread makes a system call. Each wake is checked under the lock, since one may be left over from an
+    // earlier sleep.
+    fn sleep<R: Wait>(&self, rt: &R, w: SlotId, pace: &mut Pace) {
+        if pace.gives_way() {
+            yield_now();
+            if self.is_called(rt, w) {
                 return;
             }
         }
+        if pace.dozes() && self.doze(rt, w) {
+            return;
+        }
+        pace.parked = true;
         for _ in rt.forever() {
             self.park(rt, w);
-            if !self.hold_as_worker(rt).is_asleep(w) {
+            if self.is_called(rt, w) {
                 return;
             }
         }
         unreachable!()
+    }
+
+    // Looks a few times whether the worker was called.
+    fn doze<R: Wait>(&self, rt: &R, w: SlotId) -> bool {
+        for _ in 0..DOZES {
+            rest(DOZE);
+            if self.is_called(rt, w) {
+                return true;
+            }
+        }
+        false
+    }
+
+    // Whether another thread took the worker off the list of sleepers.
+    fn is_called<R: Wait>(&self, rt: &R, w: SlotId) -> bool {
+        !self.hold_as_worker(rt).is_asleep(w)
     }
 
     // Ends the pool, where it can end now, by a worker's steps.

@@ -36,6 +36,20 @@ in_steps old w vs ws =
 pub entry_in_parts : (n : ℕ) (e : Entry) → entry_line n e ≡ (decimal n ++ behind (pass_words e.by)) ++ (behind (did_words e.did) ++ 10 ∷ [])
 entry_in_parts n e = sym (in_steps [] (decimal n) (pass_words e.by) (did_words e.did)) ∙ append_assoc (decimal n ++ behind (pass_words e.by)) (behind (did_words e.did)) (10 ∷ [])
 
+-- one more piece of a line is written
+pub more_on_ok : {A E : Type 0} (r : Result A E) (old mid all xs ys : List ℕ) → mid ≡ old ++ xs → OnOk r (all ≡ mid ++ ys) → OnOk r (all ≡ old ++ (xs ++ ys))
+more_on_ok (Ok x) old mid all xs ys m a = a ∙ ap (λ zs. zs ++ ys) m ∙ append_assoc old xs ys
+more_on_ok (Err x) old mid all xs ys m a = tt
+
+-- the line of an entry is written piece by piece
+pub entry_on_ok : {A E : Type 0} (r : Result A E) (n : ℕ) (e : Entry) (old place did all : List ℕ) → place ≡ old ++ (decimal n ++ behind (pass_words e.by)) → did ≡ place ++ behind (did_words e.did)
+    → OnOk r (all ≡ did ++ 10 ∷ []) → OnOk r (all ≡ old ++ entry_line n e)
+entry_on_ok (Ok x) n e old place did all p d a =
+    let front : List ℕ = decimal n ++ behind (pass_words e.by) in
+    let back : List ℕ = behind (did_words e.did) in
+    a ∙ ap (λ x. x ++ 10 ∷ []) (d ∙ ap (λ x. x ++ back) p) ∙ append_assoc (old ++ front) back (10 ∷ []) ∙ append_assoc old front (back ++ 10 ∷ []) ∙ ap (λ x. old ++ x) (sym (entry_in_parts n e))
+entry_on_ok (Err x) n e old place did all p d a = tt
+
 -- the counters in three steps, and the end
 pub counts_in_steps : (c : Counts) (old ran lost all : List ℕ) → ran ≡ old ++ (codes "counts" ++ behind (ran_counters c)) → lost ≡ ran ++ behind (lost_counters c) → all ≡ lost ++ behind (worker_counters c) → all ++ 10 ∷ [] ≡ old ++ counts_line c
 counts_in_steps c old ran lost all r l a =

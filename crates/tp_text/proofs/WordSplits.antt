@@ -1,38 +1,10 @@
 -- A line falls apart at its first space in one way.
-use Rattle.std.proofs.Common.{◌≢◌, suc, zero, Bool, true, false, not, ◌&&◌, ◌==◌, ◌≡◌, ℕ, List, [], ◌∷◌, length, Option, Some, None, refl, sym, ap, arith, subst, Bor, length-append}
+use Rattle.std.proofs.Common.{◌≢◌, suc, zero, Bool, true, false, not, ◌&&◌, ◌==◌, ◌≡◌, ℕ, List, [], ◌∷◌, length, take, drop, ◌+◌, ◌-◌, ◌<◌, subst, Option, Some, None, refl, sym, ap, arith, ◌∙◌}
 use Rattle.std.proofs.lemmas.Bool.{eq-eqb}
-use Rattle.std.specs.List.{list_all}
-use Rattle.std.proofs.lemmas.Str.Pattern.{IsSplitOnceResult, split_after, split_parts}
-use Rattle.std.proofs.Math.Seq.{get_or-append_seam}
+use Rattle.std.specs.List.{list_all, slice_index, slice_range}
 use Rattle.std.specs.Str.{bytes_eq}
 use Rattle.std.proofs.lemmas.Slice.Eq.{bytes_eq-Decides}
-use Rattle.tp_text.specs.Reads.{IsWord, followed, spaced}
-
--- a text with a space is no word
-pub word-spaced : (bs word rest : List ℕ) → IsWord bs → bs ≡ spaced word rest → ⊥
-word-spaced bs word rest is_word same =
-    is_word (length word) (rw same (omega (arith, length-append word (32 ∷ rest)))) (rw same (get_or-append_seam word 32 rest 0))
-
--- a text that is not split has no other first word
-pub first_alone : (bs : List ℕ) (r : Option (Bor (List ℕ) × Bor (List ℕ))) → IsSplitOnceResult 32 bs r → r ≡ None
-    → (word : List ℕ) (rest : Option (List ℕ)) → IsWord word → bs ≡ followed word rest → (bs ≡ word) × (None ≡ rest)
-first_alone bs r splits none word None is_word same = (same, refl)
-first_alone bs None splits none word (Some rest) is_word same = absurd (split_after 32 bs word rest None splits (omega arith) same is_word)
-first_alone bs (Some x) splits none word (Some rest) is_word same = cc
-
--- a text is split at its first space
-pub first_split : (bs : List ℕ) (x : Bor (List ℕ) × Bor (List ℕ)) → IsSplitOnceResult 32 bs (Some x)
-    → (word : List ℕ) (rest : Option (List ℕ)) → IsWord word → bs ≡ followed word rest → (x.0.now ≡ word) × (Some x.1.now ≡ rest)
-first_split bs x splits word None is_word same =
-    let parts = split_parts 32 bs (Some x) splits (omega arith) in
-    absurd (word-spaced bs x.0.now x.1.now (subst IsWord (sym same) is_word) parts.0)
-first_split bs x splits word (Some rest) is_word same =
-    let parts = split_after 32 bs word rest (Some x) splits (omega arith) same is_word in
-    (parts.0, ap Some parts.1)
-
--- a text that is split is its two parts
-pub whole_split : (bs : List ℕ) (x : Bor (List ℕ) × Bor (List ℕ)) → IsSplitOnceResult 32 bs (Some x) → bs ≡ spaced x.0.now x.1.now
-whole_split bs x splits = (split_parts 32 bs (Some x) splits (omega arith)).0
+use Rattle.tp_text.specs.Reads.{FirstWord, IsWord, followed}
 
 and_left : (a b : Bool) → (a && b) ≡ true → a ≡ true
 and_left true b e = refl
@@ -80,3 +52,22 @@ same_words (b ∷ w) (c ∷ v) None None x y e = (e, refl)
 same_words (b ∷ w) (c ∷ v) None (Some q) x y e = let p = same_words w v None (Some q) (rest_is_word b w x) (rest_is_word c v y) cc in (cc, p.1)
 same_words (b ∷ w) (c ∷ v) (Some r) None x y e = let p = same_words w v (Some r) None (rest_is_word b w x) (rest_is_word c v y) cc in (cc, p.1)
 same_words (b ∷ w) (c ∷ v) (Some r) (Some q) x y e = let p = same_words w v (Some r) (Some q) (rest_is_word b w x) (rest_is_word c v y) cc in (cc, p.1)
+
+-- a text begins with the word before its first space
+pub first_cut : (bs word : List ℕ) (rest : Option (List ℕ)) → IsWord word → bs ≡ followed word rest → FirstWord bs word rest
+first_cut bs word rest is whole = record { whole = whole; only = λ w r also same. same_words word w rest r is also (sym whole ∙ same) }
+
+-- a text is what stands before its space of this number, that space, and what stands behind it
+cut_at : (bs : List ℕ) (i : ℕ) → i < length bs → slice_index bs i ≡ 32 → bs ≡ followed (take i bs) (Some (drop (suc i) bs))
+cut_at [] i within space = absurd (omega arith)
+cut_at (b ∷ bs) zero within space = ap (λ x. x ∷ bs) space
+cut_at (b ∷ bs) (suc i) within space = ap (λ xs. b ∷ xs) (cut_at bs i (omega arith) space)
+
+-- a text begins with what stands before its first space
+pub first_at : (bs : List ℕ) (i : ℕ) (word rest : List ℕ) → (i < length bs) × (slice_index bs i ≡ 32) × IsWord (take i bs) → word ≡ slice_range bs 0 i → rest ≡ drop (i + 1) bs → FirstWord bs word (Some rest)
+first_at bs i word rest at front back =
+    let same : i - 0 ≡ i = omega arith in
+    let next : i + 1 ≡ suc i = omega arith in
+    let before : word ≡ take i bs = front ∙ ap (λ k. take k bs) same in
+    let behind : rest ≡ drop (suc i) bs = back ∙ ap (λ k. drop k bs) next in
+    first_cut bs word (Some rest) (subst IsWord (sym before) at.2) (cut_at bs i at.0 at.1 ∙ ap (λ x. followed x (Some (drop (suc i) bs))) (sym before) ∙ ap (λ x. followed word (Some x)) (sym behind))

@@ -3,6 +3,7 @@ ghost use Rattle.std.specs.Prelude.{◌≡◌, ◌++◌, OnOk, codes, map, strin
 ghost use Rattle.tp_text.specs.EntryLine.{behind};
 ghost use Rattle.tp_text.specs.EndLines.{refused_place, refusal_line, back_line, fate_word, fate_line, state_line, ran_counters, lost_counters, worker_counters, counts_line};
 
+use crate::pieces::{numbered, text};
 use std::alloc::AllocError;
 use tp_types::ids::TaskId;
 use tp_types::refusals::PoolError;
@@ -25,10 +26,13 @@ pub fn write_refusal(line: &mut String, refusal: PoolError) -> Result<(), AllocE
 {
     let number = refusal.number();
     let name = refusal.name();
-    match refused_place(refusal) {
-        None => write!(line, "refused {number} {name}\n"),
-        Some(place) => write!(line, "refused {number} {name} {place}\n"),
+    numbered(line, "refused ", number)?;
+    text(line, " ")?;
+    text(line, name)?;
+    if let Some(place) = refused_place(refusal) {
+        numbered(line, " ", place)?;
     }
+    text(line, "\n")
 }
 
 /// Writes the line of tasks that a stop handed back, in the queue's order, as `back t1 t2`.
@@ -38,7 +42,7 @@ pub fn write_back(line: &mut String, tasks: &[TaskId]) -> Result<(), AllocError>
     line.push_str("back")?;
     for task in tasks {
         let TaskId(task) = *task;
-        write!(line, " t{task}")?;
+        numbered(line, " t", task)?;
     }
     line.push_str("\n")
 }
@@ -57,8 +61,10 @@ pub fn write_fate(line: &mut String, task: TaskId, fate: Option<Fate>) -> Result
     ensures { OnOk result (string_bytes line.new ≡ string_bytes line.old ++ fate_line task.0 fate) }
 {
     let TaskId(task) = task;
-    let fate = fate_word(fate);
-    write!(line, "t{task} {fate}\n")
+    numbered(line, "t", task)?;
+    text(line, " ")?;
+    text(line, fate_word(fate))?;
+    text(line, "\n")
 }
 
 /// Writes the line of the run state, as `state running`.

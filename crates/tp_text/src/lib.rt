@@ -9,6 +9,7 @@ pub mod entries;
 pub mod inputs;
 pub mod lines;
 pub mod numbers;
+mod pieces;
 pub mod pools;
 pub mod printing;
 pub mod runs;

@@ -35,6 +35,7 @@ impl Output {
     }
 
     /// Writes the line, where all of it was made.
+    #[inline(always)]
     fn keep(&mut self, made: Result<(), AllocError>) -> Result<(), PoolError>
         ensures made { OnOk result (IsOk made) }
         ensures ok { OnOk result (self.new.written.items ≡ self.old.written.items ++ string_bytes self.old.line) }
@@ -51,6 +52,7 @@ impl Output {
 
     /// Writes what an accepted step writes: the line of its entry, which has this number, and the line
     /// of the tasks that it handed back, where there are any.
+    #[inline(always)]
     pub fn entry(&mut self, number: usize, entry: &Entry, back: &[TaskId]) -> Result<(), PoolError>
         ensures ok { OnOk result ((c : Config) (h : List Entry) → number ≡ suc (length h)
             → map (λ task. task.0) back.now ≡ drained c h entry.now.did

@@ -17,6 +17,7 @@ use tp_types::ids::TaskId;
 
 /// Writes what an accepted step writes: its entry's line, and after it the line of the tasks that it
 /// handed back, where there are any. Where room is missing, some of it may be written.
+#[inline(always)]
 pub fn write_lines(
     line: &mut String,
     number: usize,

@@ -1,8 +1,8 @@
 //! The words of a line.
 
-ghost use Rattle.std.specs.Prelude.{◌≡◌, ◌≢◌, List, ℕ, Option, Some, IfSome, IfNone, MatchOption};
+ghost use Rattle.std.specs.Prelude.{◌≡◌, ◌≢◌, ◌<◌, List, ℕ, Option, Some, IfSome, IfNone, MatchOption, length, slice_index, take};
 ghost use Rattle.std.specs.Option.{option_map};
-ghost use Rattle.tp_text.specs.Reads.{Any, FirstWord, ReadsAs, spaced};
+ghost use Rattle.tp_text.specs.Reads.{Any, FirstWord, IsWord, ReadsAs, spaced};
 ghost use Rattle.tp_text.specs.Commands.{IsNoLoneCommand, command_word, pool_word, size_word, slot_word, task_word, tick_word};
 ghost use Rattle.tp_text.specs.EntryLine.{switch_word};
 ghost use Rattle.tp_types.specs.Verdict.{verdict_name};
@@ -10,13 +10,22 @@ ghost use Rattle.tp_types.specs.Verdict.{verdict_name};
 use crate::commands::{Command, PoolVerb, SizeVerb, SlotVerb, TaskVerb, TickVerb};
 use tp_types::configs::Verdict;
 
+/// Where the first space is.
+#[inline(always)]
+fn first_space(text: &[u8]) -> Option<usize>
+    ensures { MatchOption result (IsWord text.now) (λ i. (i < length text.now) × (slice_index text.now i ≡ 32) × IsWord (take i text.now)) }
+{
+    text.iter().position(|b| *b == b' ')
+}
+
 /// The first word, and what follows it after a space, if a space does.
+#[inline(always)]
 pub fn first_word(text: &str) -> (&str, Option<&str>)
     ensures { FirstWord text.now result.0.now (option_map (λ r. r.now) result.1) }
 {
-    match text.split_once(' ') {
+    match first_space(text.as_bytes()) {
         None => (text, None),
-        Some((word, rest)) => (word, Some(rest)),
+        Some(end) => (&text[..end], Some(&text[end + 1..])),
     }
 }
 

@@ -17,7 +17,7 @@ use Rattle.tp_scenario.specs.declared.jobs.JobLine.{JobLine}
 use Rattle.tp_types.specs.declared.tasks.Promise.{Promise}
 use Rattle.tp_record.specs.Step.{Legal}
 use Rattle.tp_machine.specs.Answers.{ComesBack}
-use Rattle.tp_pool.specs.Admissions.{AddsPath, AddsFront, GotJob, IsTurnedAway}
+use Rattle.tp_pool.specs.Admissions.{AddsPath, AddsFront, GotJob, IsJobOut, IsTurnedAway}
 use Rattle.tp_locked.proofs.Receipts.{adds_both, adds_behind, looks_adds, none_behind, stands_looking}
 use Rattle.tp_pool.proofs.Submissions.{front_behind}
 use Rattle.tp_threads.specs.Runs.{Asked, AreSubmissions, AddsSubmissions, IsTorn, BreaksOff, asked_of, asked}
@@ -56,7 +56,7 @@ module _ {J : Type 0} (c : Config) (kind : Kind) (priority : ℕ) (job : J) (pro
   pub turned_whole : (old mid new : PassView) (x : Refused J) (t : TaskId) → x.error ≡ error.Rejected t → AddsNone old mid →
       IsTurnedAway c kind priority job promise mid new x → AddsSubmissions c ((kind, priority) ∷ []) old new
   turned_whole old mid new x t rejected none is =
-      ⊎_elim (λ (y : (t : TaskId) × (x.error ≡ error.Rejected t) × AddsPath c kind priority t Rejected mid new × GotJob c kind priority job promise mid.number t.0 mid.front new.front × ComesBack t.0 x.job new.front). one_submission c (kind, priority) y.0 Rejected old mid new none y.2)
+      ⊎_elim (λ (y : (t : TaskId) × (x.error ≡ error.Rejected t) × AddsPath c kind priority t Rejected mid new × GotJob c kind priority job promise mid.number t.0 mid.front new.front × ComesBack t.0 x.job new.front × IsJobOut c mid.number t.0 x.job mid.front new.front). one_submission c (kind, priority) y.0 Rejected old mid new none y.2)
       (⊎_elim (λ (y : (t : TaskId) × (x.error ≡ error.TornRecord) × AddsFront c kind priority t mid new × GotJob c kind priority job promise mid.number t.0 mid.front new.front). let torn = y.1 in absurd (grind arith))
       (λ (y : Refuses c ⊤ new.front (ask.Submit kind priority) x.error × (x.job ≡ Some job) × AddsNone mid new).
       ⊎_elim (λ (e : x.error ≡ error.NoMemory). absurd (grind arith)) (λ (e : x.error ≡ error.BookFull). absurd (grind arith)) (before_first c new.front kind priority x.error y.0)))
@@ -66,7 +66,7 @@ module _ {J : Type 0} (c : Config) (kind : Kind) (priority : ℕ) (job : J) (pro
   pub turned_torn : (old mid new : PassView) (x : Refused J) → ((t : TaskId) → x.error ≢ error.Rejected t) → AddsNone old mid →
       IsTurnedAway c kind priority job promise mid new x → IsTorn c (kind, priority) x.error old new
   turned_torn old mid new x other none is =
-      ⊎_elim (λ (y : (t : TaskId) × (x.error ≡ error.Rejected t) × AddsPath c kind priority t Rejected mid new × GotJob c kind priority job promise mid.number t.0 mid.front new.front × ComesBack t.0 x.job new.front). absurd (other y.0 y.1))
+      ⊎_elim (λ (y : (t : TaskId) × (x.error ≡ error.Rejected t) × AddsPath c kind priority t Rejected mid new × GotJob c kind priority job promise mid.number t.0 mid.front new.front × ComesBack t.0 x.job new.front × IsJobOut c mid.number t.0 x.job mid.front new.front). absurd (other y.0 y.1))
       (⊎_elim (λ (y : (t : TaskId) × (x.error ≡ error.TornRecord) × AddsFront c kind priority t mid new × GotJob c kind priority job promise mid.number t.0 mid.front new.front). inr (y.1, (y.0, front_behind c kind priority y.0 old mid new none y.2)))
       (λ (y : Refuses c ⊤ new.front (ask.Submit kind priority) x.error × (x.job ≡ Some job) × AddsNone mid new). inl (before_first c new.front kind priority x.error y.0, none_behind old mid new none y.2)))
       is

@@ -1,5 +1,5 @@
 //! A pool's configuration, and the ranges that its settings have to keep.
-ghost use Rattle.std.specs.Prelude.{◌≡◌, ◌↔◌};
+ghost use Rattle.std.specs.Prelude.{◌≡◌, ◌↔◌, ◌/◌};
 ghost use Rattle.tp_types.specs.Policy.{policy_name, PoliciesAreDistinct};
 ghost use Rattle.tp_types.specs.Verdict.{verdict_name, VerdictsAreDistinct};
 ghost use Rattle.tp_types.specs.Config.{IsConfig, HasBadSizes, HasBadCapacity, HasBadLimit, HasZeroKeep, HasGoodCapacity, are_good_sizes, is_good_capacity, is_good_limit, is_good_keep, checked};
@@ -7,6 +7,9 @@ ghost use Rattle.tp_types.specs.Queues.{is_ranked, is_open};
 
 use crate::limits::{MAX_CAPACITY, MAX_RECORD_LIMIT, MAX_WORKERS, MIN_RECORD_LIMIT};
 use crate::refusals::PoolError;
+
+// The entries of a task that waits and runs: `submit`, `offer`, `second`, `take`, `begin` and `end`.
+const ENTRIES_OF_A_RUN: u32 = 6;
 
 /// The kind of the queue in which tasks wait for a worker.
 #[derive(Clone, Copy, Debug, PartialEq, Eq, Hash)]
@@ -142,6 +145,13 @@ pub fn verdicts_are_distinct()
 {}
 
 impl Config {
+    /// How many tasks that wait and run the record has room for, where each has its six entries.
+    pub fn runs(&self) -> u32
+        ensures { result ≡ self.now.record_limit / 6 }
+    {
+        self.record_limit / ENTRIES_OF_A_RUN
+    }
+
     /// Refuses settings that no pool can have, as `ThreadPoolExecutor`'s constructor with its
     /// `IllegalArgumentException`. The first of these that applies is answered: BadSizes (1),
     /// BadCapacity (2), BadLimit (3) or KeepZero (11).

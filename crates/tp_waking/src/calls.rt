@@ -34,7 +34,7 @@ impl Waiters {
             results,
             steps,
         } = *self;
-        !(end || results || steps)
+        !(end | results | steps)
     }
 }
 
@@ -77,6 +77,6 @@ impl Calls {
     pub fn is_nobody(&self) -> bool
         ensures { IsTrue result ↔ (self.now ≡ NOBODY) }
     {
-        self.worker.is_none() && !self.everyone && self.waiters.is_none()
+        self.worker.is_none() & !self.everyone & self.waiters.is_none()
     }
 }

@@ -80,7 +80,7 @@ impl Waking {
     pub fn is_quiet(&self) -> bool
         ensures { IsTrue result → IsQuiet self.now }
     {
-        self.sleepers.none_sleeps() && self.awaited.is_none()
+        self.sleepers.none_sleeps() & self.awaited.is_none()
     }
 
     /// After an accepted step, which leaves the pool in this state, with so many live workers and queued tasks;

@@ -1,5 +1,5 @@
 //! What a thread that leaves a pool to nobody learns in one hold of the lock, and with what it goes on.
-ghost use Rattle.std.specs.Prelude.{◌≡◌, ◌⊎◌, ◌+◌, length, IfOk, IfErr, OnOk, OnErr};
+ghost use Rattle.std.specs.Prelude.{◌≡◌, ◌⊎◌, ◌+◌, ◌≤◌, length, IfOk, IfErr, OnOk, OnErr};
 ghost use Rattle.tp_types.specs.RunState.{state_rank};
 ghost use Rattle.tp_record.specs.State.{State};
 ghost use Rattle.tp_record.specs.Step.{slot_count};
@@ -56,7 +56,7 @@ impl<G: PoolNaming, J: Drop> Core<G, J> {
         ensures others { (self.new.roster.seats ≡ self.old.roster.seats) × (self.new.roster.ended ≡ self.old.roster.ended) }
         ensures asleep { self.new.waking ≡ self.old.waking }
         ensures unchanged { OnErr result (self.new ≡ record self.old { roster = record self.old.roster { room = self.new.roster.room } }) }
-        ensures refused { IfErr result (λ e. (e ≡ PoolError.NoMemory) ⊎ (e ≡ PoolError.BookFull)) }
+        ensures refused { IfErr result (λ e. (e ≡ PoolError.NoMemory) ⊎ ((e ≡ PoolError.BookFull) × (4294967295 ≤ self.old.book.accounts.made))) }
     {
         if let Err(error) = self.roster.make_room() {
             return Err(error);

@@ -16,18 +16,18 @@ has_room-requires-clause-sizes c = few_shown c.self.inside.config c.self.invaria
 pub has_room-requires-clause-due : goal.has_room-requires-clause-due
 has_room-requires-clause-due c = due_shown c.self.inside.config c.self.invariant.0 c.self.inside.tables c.self.invariant.1
 
-pub returns-in-Ok-false-clause-given : goal.returns-in-Ok-false-clause-given
-returns-in-Ok-false-clause-given c = λ h at.
+pub returns-then-not-fits : goal.returns-then-not-fits
+returns-then-not-fits c = λ h at.
     let self = c.args.self.now in
     let d = c.args.did in
-    let fits = subst (λ b. IsTrue b ↔ (fitting self.config (state self.config h) (unwrap_or (reserves d) 0) c.args.ask ≡ Ok d)) c.in-Ok-false.field-0-test (c.in-Ok-false.ensures.fits h at) in
+    let fits = subst (λ b. IsTrue b ↔ (fitting self.config (state self.config h) (unwrap_or (reserves d) 0) c.args.ask ≡ Ok d)) c.if-not-fits.true (c.fits.ensures h at) in
     unfit self.config h self.tables at c.args.ask d fits
 
-pub returns-then-has_free_number-clause-given : goal.returns-then-has_free_number-clause-given
-returns-then-has_free_number-clause-given c = λ h at.
+pub returns-then-has_free_number : goal.returns-then-has_free_number
+returns-then-has_free_number c = λ h at.
     let self = c.args.self.now in
     let d = c.args.did in
-    let fits = subst (λ b. IsTrue b ↔ (fitting self.config (state self.config h) (unwrap_or (reserves d) 0) c.args.ask ≡ Ok d)) c.in-Ok-true.field-0-test (c.in-Ok-true.ensures.fits h at) in
+    let fits = subst (λ b. IsTrue b ↔ (fitting self.config (state self.config h) (unwrap_or (reserves d) 0) c.args.ask ≡ Ok d)) c.if-not-fits.false (c.fits.ensures h at) in
     let room = subst (λ (a : Judge). c.has_room.result ≡ room_by a.config d (shown a.tables) a.tables.due) c.self.view_is c.has_room.ensures in
     subst (λ b. IsTrue (b && c.has_room.result) ↔ Gives self.config (state self.config h) c.args.ask d) c.if-has_free_number.true
     (fit self.config h self.tables at c.args.ask d c.has_free_number.result c.has_room.result fits c.has_free_number.ensures room)

@@ -9,7 +9,7 @@ note-requires-clause-suits c =
     let e = c.args.entry.now in
     let h = c.self.invariant.0 in
     let at = judged_now inside.config inside.tables c.args.self.now c.self.view_is h c.self.invariant.1 in
-    let gives = gives_inside inside.config inside.tables c.args.self.now c.self.view_is h e.ask e.did ((c.in-Ok-true.ensures.given h at).0 c.in-Ok-true.field-0-test) in
+    let gives = gives_inside inside.config inside.tables c.args.self.now c.self.view_is h e.ask e.did ((c.is_given.ensures h at).0 c.if-not-is_given.false) in
     suits_shown inside.config h inside.tables c.self.invariant.1 e.ask e.did gives
 
 pub note-requires-clause-all : goal.note-requires-clause-all
@@ -29,7 +29,7 @@ returns-clause-told c = λ h at.
     let inside = c.self.inside in
     let e = c.args.entry.now in
     let there = judged_inside inside.config inside.tables c.args.self.now c.self.view_is h at in
-    let gives = gives_inside inside.config inside.tables c.args.self.now c.self.view_is h e.ask e.did ((c.in-Ok-true.ensures.given h at).0 c.in-Ok-true.field-0-test) in
+    let gives = gives_inside inside.config inside.tables c.args.self.now c.self.view_is h e.ask e.did ((c.is_given.ensures h at).0 c.if-not-is_given.false) in
     stands_next inside.config h inside.tables there e c.note.new.self gives c.in-Ok.ensures.next c.in-Ok.ensures.done c.in-Ok.ensures.due c.note.ensures.ranks
 
 pub invariant_of-self-2 : goal.invariant_of-self-2
@@ -38,5 +38,5 @@ invariant_of-self-2 c =
     let e = c.args.entry.now in
     let h = c.self.invariant.0 in
     let at = judged_now inside.config inside.tables c.args.self.now c.self.view_is h c.self.invariant.1 in
-    let gives = gives_inside inside.config inside.tables c.args.self.now c.self.view_is h e.ask e.did ((c.in-Ok-true.ensures.given h at).0 c.in-Ok-true.field-0-test) in
+    let gives = gives_inside inside.config inside.tables c.args.self.now c.self.view_is h e.ask e.did ((c.is_given.ensures h at).0 c.if-not-is_given.false) in
     (e ∷ h, stands_next inside.config h inside.tables c.self.invariant.1 e c.note.new.self gives c.in-Ok.ensures.next c.in-Ok.ensures.done c.in-Ok.ensures.due c.note.ensures.ranks)

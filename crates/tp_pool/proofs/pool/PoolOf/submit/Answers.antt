@@ -8,7 +8,7 @@ use Rattle.tp_record.specs.declared.entries.Looked.{Looked}
 use Rattle.tp_record.specs.declared.entries.Ruled.TheVariants as ruled
 use Rattle.tp_paths.specs.Fronts.{admission_of, follow_of}
 use Rattle.tp_pool.proofs.Returned.{unrejected}
-use Rattle.tp_pool.proofs.Walks.{Walk, begun, walked, admits_at, rejects_at, torn_off}
+use Rattle.tp_pool.proofs.Walks.{Walk, begun, walked, taken_on, admits_at, rejects_at, torn_off}
 use Rattle.tp_pool.proofs.pool.PoolOf.submit.Goals as goal
 
 submitted_otherwise : {t u : TaskId} {k : Kind} {p : ℕ} {l : Looked} {v : Verdict} → ¬ (did.Submit t k p l ≡ did.Verdict u v ruled.Rejected)
@@ -35,7 +35,11 @@ loop-preserved g c =
       subst (λ f. Walk g.G.PoolNaming.config c.args.kind c.args.priority job promise t c.args.pass.now f (c.loop.counter + 1) c.advance.new.pass) (sym c.after-next.ensures)
           (walked g.G.PoolNaming.config c.args.kind c.args.priority job promise c.fronts_are_paths.ensures.goes_on t c.args.pass.now c.loop.pass c.advance.new.pass c.loop.next c.loop.counter step.0 c.in-Some.did
           c.loop.invariant.0 c.in-Some.ensures.on_path step.1 c.in-Some.ensures.left),
-      λ rejected. c.in-Some.ensures.returned (sym c.after-next.ensures ∙ rejected),
+      λ rejected. let out = c.in-Some.ensures.returned (sym c.after-next.ensures ∙ rejected) in (
+        out.0,
+        taken_on g.G.PoolNaming.config c.args.kind c.args.priority job promise t c.args.pass.now c.loop.pass
+            (follow_of t c.loop.next) c.loop.counter c.loop.invariant.0 c.advance.new.held c.advance.new.pass.front out.1,
+      ),
     )
 
 pub returns-in-Err-clause-refused : goal.returns-in-Err-clause-refused

@@ -1,0 +1,63 @@
+//! A pool's one lock.
+ghost use Rattle.std.specs.Prelude.{◌≡◌, []};
+ghost use Rattle.tp_types.specs.Config.{IsConfig};
+ghost use Rattle.tp_book.specs.BookView.{config};
+
+use crate::locked::{Beside, Core};
+use crate::names::PoolNaming;
+use crate::tasks::Task;
+use std::alloc::Global;
+use std::sync::Mutex;
+use tp_book::book::Book;
+use tp_book::passes::WorkerPass;
+
+/// A pool's value behind its one lock. It is made around a new pool's value, or around one that a close took apart and
+/// could not close.
+#[derive(Drop)]
+pub struct PoolLock<G: PoolNaming, J> {
+    core: Mutex<Core<G, J>>,
+}
+
+impl<G: PoolNaming, J: Drop> PoolLock<G, J> {
+    /// The lock of a new pool: its record is empty, its first pass is the only one, and it has no thread.
+    pub fn new(core: Core<G, J>) -> PoolLock<G, J>
+        requires empty { core.book.history ≡ [] }
+        requires first { core.book.accounts ≡ record { total = 0; made = 1; callers = 1 } }
+        requires nobody { (core.roster.running ≡ 0) × (core.roster.ended ≡ []) }
+    {
+        PoolLock {
+            core: Mutex::new(core),
+        }
+    }
+
+    /// The book, the passes that workers handed in, and the rest, of a pool whose threads are gone.
+    pub fn part(self) -> (Book<G, Task<J>>, Vec<WorkerPass<G>>, Beside)
+        ensures settings { config result.0 ≡ G.config }
+        ensures good { IsConfig G.config }
+    {
+        self.core.into_inner().part()
+    }
+
+    /// What `part` took apart, put together again.
+    pub fn again(
+        alloc: Global,
+        book: Book<G, Task<J>>,
+        ended: Vec<WorkerPass<G>>,
+        beside: Beside,
+    ) -> PoolLock<G, J>
+        requires settings { config book ≡ G.config }
+        requires good { IsConfig G.config }
+    {
+        PoolLock {
+            core: Mutex::new(Core::again(alloc, book, ended, beside)),
+        }
+    }
+}
+
+impl<G: PoolNaming, J> PoolLock<G, J> {
+    /// The lock itself.
+    #[inline(always)]
+    pub fn mutex(&self) -> &Mutex<Core<G, J>> {
+        &self.core
+    }
+}
