@@ -1,13 +1,12 @@
 -- A task that is out stays so after an entry that spares it.
-use Rattle.std.proofs.Common.{◌≡◌, ℕ, zero, suc, ◌+◌, ◌<◌, ◌⊎◌, Bool, true, false, not, ◌&&◌, ◌||◌, cond, List, [], ◌∷◌, ◌++◌, length, get_or, Option, Some, None, refl, arith, sym, ap, ap₂, subst, ◌∙◌, inl, inr}
+use Rattle.std.proofs.Common.{◌≡◌, ℕ, zero, suc, ◌+◌, ◌<◌, ◌⊎◌, Bool, true, false, ◌&&◌, ◌||◌, cond, List, [], ◌∷◌, ◌++◌, length, get_or, Option, Some, None, refl, arith, sym, ap, ap₂, ◌∙◌, inl, inr}
 use Rattle.std.specs.Prelude.{filter}
 use Rattle.std.proofs.Common.{length-append}
 use Rattle.std.proofs.Math.ListN.{get_or-append}
-use Rattle.tp_types.specs.declared.tasks.Place.TheVariants as at
 use Rattle.tp_record.specs.declared.entries.Did.{Did}
 use Rattle.tp_record.specs.declared.rows.TaskRow.{TaskRow}
 use Rattle.tp_record.specs.declared.rows.SlotRow.{SlotRow}
-use Rattle.tp_record.specs.Lists.{is_it, is_among, change_each, at_end, long_enough}
+use Rattle.tp_record.specs.Lists.{is_it, change_each, long_enough}
 use Rattle.tp_record.specs.Effects.{is_submit, queues, reserves, completes}
 use Rattle.tp_record.specs.State.{State, next, no_row, row_at, task_at, slot_at, row_after, tasks_after, slot_after, slots_after, stays_queued, stays_done}
 use Rattle.tp_model.proofs.ListLaws.{length-change_each, get_or-longer}

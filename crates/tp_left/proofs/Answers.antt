@@ -1,5 +1,5 @@
 -- An ask that does not name a task that is out gets no answer that names it.
-use Rattle.std.proofs.Common.{◌≡◌, ℕ, ◌<◌, Bool, true, false, not, ◌&&◌, ◌||◌, List, [], ◌∷◌, length, Option, Some, None, Ok, Err, refl, arith, sym, ap, subst, ◌∙◌}
+use Rattle.std.proofs.Common.{◌≡◌, ℕ, ◌<◌, Bool, true, false, not, ◌&&◌, ◌||◌, List, [], ◌∷◌, length, Option, Some, None, Ok, refl, arith, subst}
 use Rattle.std.specs.Prelude.{◌==◌, ◌^◌, ◌-◌, IfOk, is_none, nat_lt, nat_le, if◌then◌else◌}
 use Rattle.std.proofs.lemmas.Bool.{cond_both, or_parts, ne_eqb}
 use Rattle.std.proofs.lemmas.Bool.Decides.{nat_tests}
@@ -10,7 +10,6 @@ use Rattle.tp_types.specs.declared.configs.Verdict.{Verdict}
 use Rattle.tp_types.specs.declared.configs.Verdict.TheVariants as verdict
 use Rattle.tp_types.specs.declared.ids.TaskId.{TaskId}
 use Rattle.tp_types.specs.declared.ids.SlotId.{SlotId}
-use Rattle.tp_types.specs.declared.tasks.Kind.{Kind}
 use Rattle.tp_types.specs.declared.tasks.Place.{Place}
 use Rattle.tp_types.specs.declared.tasks.Place.TheVariants as at
 use Rattle.tp_record.specs.declared.entries.Ask.{Ask}
@@ -18,7 +17,6 @@ use Rattle.tp_record.specs.declared.entries.Ask.TheVariants as ask
 use Rattle.tp_record.specs.declared.entries.Did.{Did}
 use Rattle.tp_record.specs.declared.entries.Did.TheVariants as did
 use Rattle.tp_record.specs.declared.entries.Failed.{Failed}
-use Rattle.tp_record.specs.declared.entries.Ruled.{Ruled}
 use Rattle.tp_record.specs.declared.entries.Ruled.TheVariants as ruled
 use Rattle.tp_record.specs.declared.rows.Stage.{Stage}
 use Rattle.tp_record.specs.declared.rows.Stage.TheVariants as stages
@@ -27,8 +25,8 @@ use Rattle.tp_record.specs.declared.rows.TaskRow.{TaskRow}
 use Rattle.tp_record.specs.Lists.{is_it, is_among}
 use Rattle.tp_record.specs.Effects.{Outcome, is_plain}
 use Rattle.tp_record.specs.Fields.{is_queued_place, is_idle_stage}
-use Rattle.tp_record.specs.State.{State, task_at, slot_at, fate_of}
-use Rattle.tp_record.specs.Step.{Answer, of_task, of_row, of_slot, is_known, slot_count, wants_worker, leaves_room, look, submit_answer, look_answer, hand_answer, offer_to, offer_answer, second_answer, grow_answer, is_refused_place, allows, rule, retried, retry_of, verdict_answer, caller_end_answer, cancel_answer, is_reserved, given_up, open_answer, failed_task, fail_answer, timed_out, next_of_queue, take_next, held_answer, take_answer, begin_task, begin_answer, end_task, end_answer, leave_answer, tidy_answer, first_done, done_of, prestart_answer, added, fitting}
+use Rattle.tp_record.specs.State.{State, task_at, slot_at}
+use Rattle.tp_record.specs.Step.{Answer, of_task, of_row, is_known, slot_count, wants_worker, leaves_room, look_answer, hand_answer, offer_to, offer_answer, second_answer, grow_answer, is_refused_place, allows, rule, retry_of, verdict_answer, caller_end_answer, cancel_answer, is_reserved, given_up, open_answer, failed_task, fail_answer, timed_out, next_of_queue, take_next, held_answer, take_answer, begin_task, begin_answer, end_task, end_answer, leave_answer, first_done, done_of, fitting}
 use Rattle.tp_model.proofs.Keystone.{number_of, seat_of}
 use Rattle.tp_shapes.proofs.Names.{names, drops}
 use Rattle.tp_record.specs.Left.{asked}

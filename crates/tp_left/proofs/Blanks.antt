@@ -1,7 +1,7 @@
 -- Lists with one element replaced, and filters that agree on all numbers but one.
-use Rattle.std.proofs.Common.{◌≡◌, ℕ, zero, suc, ◌+◌, ◌<◌, ◌⊎◌, Bool, true, false, not, cond, List, [], ◌∷◌, ◌++◌, length, set, refl, arith, sym, ap, ap₂, ◌∙◌, inl, inr}
-use Rattle.std.specs.Prelude.{◌==◌, ◌||◌, filter, count_by}
-use Rattle.std.proofs.lemmas.Bool.{or_parts, cases_eq, eq-eqb, true≢false}
+use Rattle.std.proofs.Common.{◌≡◌, ℕ, zero, suc, ◌+◌, ◌<◌, Bool, false, not, cond, List, [], ◌∷◌, ◌++◌, length, set, refl, arith, sym, ap, ap₂, ◌∙◌}
+use Rattle.std.specs.Prelude.{◌==◌, filter, count_by}
+use Rattle.std.proofs.lemmas.Bool.{or_parts, eq-eqb, true≢false}
 use Rattle.std.proofs.lemmas.List.Sums.{sum_by-cons}
 use Rattle.tp_record.specs.Lists.{change_each, is_among}
 use Rattle.tp_model.proofs.Arranged.{AllPass}

@@ -1,8 +1,7 @@
 -- The laws, for any number of tasks that are left out.
-use Rattle.std.proofs.Common.{◌≡◌, ℕ, ◌<◌, ◌≤◌, Bool, true, false, not, ◌&&◌, ◌||◌, List, [], ◌∷◌, ◌++◌, length, set, Option, Some, None, Ok, Err, refl, arith, sym, ap, ap₂, subst, ◌∙◌, inl, inr}
+use Rattle.std.proofs.Common.{◌≡◌, ℕ, ◌<◌, Bool, true, false, not, ◌&&◌, ◌||◌, List, [], ◌∷◌, length, Option, Some, None, Ok, Err, refl, arith, sym, ap, ap₂, subst, ◌∙◌, inl, inr}
 use Rattle.std.specs.Prelude.{◌==◌, nat_lt, if◌then◌else◌}
 use Rattle.std.proofs.lemmas.Bool.{and_parts, or_parts, or_cases, ltb-true, lt-ltb, eq-eqb, eqb-true, ne_eqb, cases_eq, true≢false, not-true}
-use Rattle.std.proofs.lemmas.Bool.Decides.{nat_tests}
 use Rattle.std.proofs.lemmas.List.{length-set, get_or-set_other}
 use Rattle.tp_types.specs.declared.configs.Config.{Config}
 use Rattle.tp_types.specs.declared.ids.TaskId.{TaskId}
@@ -14,20 +13,19 @@ use Rattle.tp_record.specs.declared.entries.Ask.TheVariants as ask
 use Rattle.tp_record.specs.declared.entries.Did.{Did}
 use Rattle.tp_record.specs.declared.entries.Did.TheVariants as did
 use Rattle.tp_record.specs.declared.rows.TaskRow.{TaskRow}
-use Rattle.tp_record.specs.declared.rows.SlotRow.{SlotRow}
 use Rattle.tp_record.specs.Lists.{is_it, is_among, IsOnce}
-use Rattle.tp_record.specs.Fields.{is_queued_place, place, submitted, slot_row, task_row}
-use Rattle.tp_record.specs.State.{State, state, next, due, counts, task_at, no_row, slot_at}
-use Rattle.tp_record.specs.Step.{Answer, Legal, step, fitting, within_room, is_known, of_task, look_answer, offer_answer, second_answer, grow_answer, verdict_answer, caller_end_answer, cancel_answer}
+use Rattle.tp_record.specs.Fields.{is_queued_place, place, submitted, slot_row}
+use Rattle.tp_record.specs.State.{State, state, next, due, counts, task_at, no_row}
+use Rattle.tp_record.specs.Step.{Answer, Legal, step, fitting, within_room, of_task, look_answer, offer_answer, second_answer, grow_answer, verdict_answer, caller_end_answer, cancel_answer}
 use Rattle.tp_model.specs.Seats.{slot_of}
 use Rattle.tp_model.proofs.Weak.{within}
 use Rattle.tp_model.proofs.Readings.{tasks_counted, row_read, slot_read}
 use Rattle.tp_model.proofs.Queues.{among-queue}
-use Rattle.tp_model.proofs.Keystone.{IsSound, seat_of}
+use Rattle.tp_model.proofs.Keystone.{seat_of}
 use Rattle.tp_model.proofs.Told.{sound_legal}
 use Rattle.tp_record.specs.Left.{leave_out, left, MayRelease, MayAll, asked, is_one_of}
 use Rattle.tp_left.proofs.Answers.{IsOut, answer_spares}
-use Rattle.tp_left.proofs.After.{row_stays, out_after}
+use Rattle.tp_left.proofs.After.{out_after}
 use Rattle.tp_left.proofs.Without.{is_other, due_without, counts_without, next_without, step_without}
 
 -- What is left of a state

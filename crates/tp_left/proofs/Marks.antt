@@ -1,13 +1,12 @@
 -- Where tasks are only marked as left out: what fits is what fits the whole state, unless the ask names one of them.
-use Rattle.std.proofs.Common.{◌≡◌, ℕ, Bool, true, false, not, ◌&&◌, ◌||◌, List, [], ◌∷◌, length, Option, Some, None, Ok, Err, refl, arith, sym, ap, ap₂, ◌∙◌}
-use Rattle.std.specs.Prelude.{nat_lt, nat_le, if◌then◌else◌}
+use Rattle.std.proofs.Common.{◌≡◌, ℕ, Bool, true, false, not, ◌&&◌, ◌||◌, List, [], ◌∷◌, length, Ok, Err, refl, sym, ap, ap₂, ◌∙◌}
+use Rattle.std.specs.Prelude.{nat_lt, if◌then◌else◌}
 use Rattle.tp_types.specs.declared.configs.Config.{Config}
 use Rattle.tp_types.specs.declared.configs.QueueKind.{QueueKind}
 use Rattle.tp_types.specs.declared.configs.QueueKind.TheVariants.{Handoff, Unbounded, Bounded, Priority}
 use Rattle.tp_types.specs.declared.configs.Verdict.{Verdict}
 use Rattle.tp_types.specs.declared.configs.Verdict.TheVariants as verdict
 use Rattle.tp_types.specs.declared.ids.TaskId.{TaskId}
-use Rattle.tp_types.specs.declared.ids.SlotId.{SlotId}
 use Rattle.tp_types.specs.declared.tasks.Place.{Place}
 use Rattle.tp_types.specs.declared.tasks.Place.TheVariants as at
 use Rattle.tp_types.specs.declared.refusals.PoolError.TheVariants.{UnknownTask, NotThere}
@@ -16,15 +15,11 @@ use Rattle.tp_record.specs.declared.entries.Ask.TheVariants as ask
 use Rattle.tp_record.specs.declared.entries.Entry.{Entry}
 use Rattle.tp_record.specs.declared.entries.Did.{Did}
 use Rattle.tp_record.specs.declared.entries.Did.TheVariants as did
-use Rattle.tp_record.specs.declared.rows.Stage.{Stage}
-use Rattle.tp_record.specs.declared.rows.Stage.TheVariants as stages
 use Rattle.tp_record.specs.declared.rows.TaskRow.{TaskRow}
 use Rattle.tp_record.specs.Lists.{is_among}
-use Rattle.tp_record.specs.Effects.{Outcome}
 use Rattle.tp_record.specs.Fields.{is_queued_place}
 use Rattle.tp_record.specs.State.{State, state, task_at}
 use Rattle.tp_record.specs.Step.{Answer, Legal, is_known, of_task, step, within_room, fitting, look_answer, offer_to, offer_answer, second_answer, grow_answer, rule, verdict_answer, caller_end_answer, cancel_answer, is_refused_place, allows}
-use Rattle.tp_model.proofs.Weak.{within}
 use Rattle.tp_record.specs.Left.{left, mark, MayAll, MayRelease, asked, is_one_of}
 use Rattle.std.proofs.lemmas.Bool.{and_parts, not-true}
 use Rattle.tp_left.proofs.LeftOut.{fitting_unknown, step_legal, unknown_left, unknown_to, left_out_of, left_length, left_row, left_done}

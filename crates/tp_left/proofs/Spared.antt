@@ -1,21 +1,19 @@
 -- An entry that neither names nor drops a task: what it says of it, and of the slots.
-use Rattle.std.proofs.Common.{◌≡◌, ℕ, Bool, true, false, List, Option, Some, None, refl, arith, ap, ◌∙◌}
-use Rattle.std.specs.Prelude.{◌==◌, unwrap_or}
+use Rattle.std.proofs.Common.{◌≡◌, ℕ, Bool, false, Option, None, arith, ap, ◌∙◌}
+use Rattle.std.specs.Prelude.{unwrap_or}
 use Rattle.std.proofs.lemmas.Bool.Decides.{nat_tests}
-use Rattle.tp_types.specs.declared.ids.TaskId.{TaskId}
 use Rattle.tp_types.specs.declared.tasks.Fate.{Fate}
 use Rattle.tp_types.specs.declared.tasks.Kind.{Kind}
 use Rattle.tp_types.specs.declared.tasks.Place.{Place}
 use Rattle.tp_types.specs.declared.tasks.Place.TheVariants as at
 use Rattle.tp_record.specs.declared.entries.Did.{Did}
-use Rattle.tp_record.specs.declared.entries.Did.TheVariants as did
 use Rattle.tp_record.specs.declared.rows.TaskRow.{TaskRow}
 use Rattle.tp_record.specs.declared.rows.SlotRow.{SlotRow}
 use Rattle.tp_record.specs.Lists.{said_of, is_it}
-use Rattle.tp_record.specs.Effects.{kinds_said, priorities_said, moved, seconds, cancels, endings, outcomes, tries, seated, holds, queues, completes, is_plain_fault}
+use Rattle.tp_record.specs.Effects.{kinds_said, priorities_said, moved, seconds, cancels, endings, outcomes, tries, queues, completes, is_plain_fault}
 use Rattle.tp_record.specs.Fields.{swept, handed_back, counted}
 use Rattle.tp_record.specs.State.{State, row_after, slot_after}
-use Rattle.tp_model.proofs.Keystone.{number_of, seat_of}
+use Rattle.tp_model.proofs.Keystone.{seat_of}
 use Rattle.tp_shapes.proofs.Names.{names, drops}
 
 -- the entry neither names the task nor drops it

@@ -1,5 +1,5 @@
 -- The step, the next state, the counts and what is owed, where one task that is out is left out.
-use Rattle.std.proofs.Common.{◌≡◌, ℕ, zero, suc, ◌+◌, ◌-◌, ◌^◌, ◌<◌, Bool, true, false, not, ◌&&◌, ◌||◌, cond, List, [], ◌∷◌, ◌++◌, length, set, Option, Some, None, Ok, Err, refl, arith, sym, ap, ap₂, subst, ◌∙◌}
+use Rattle.std.proofs.Common.{◌≡◌, ℕ, zero, suc, ◌+◌, ◌-◌, ◌^◌, ◌<◌, Bool, true, false, not, ◌&&◌, ◌||◌, cond, List, [], ◌∷◌, ◌++◌, length, set, Option, Some, None, Ok, Err, refl, arith, sym, ap, ap₂, ◌∙◌}
 use Rattle.std.specs.Prelude.{◌==◌, max, filter, count_by, sum_by, unwrap_or, option_to_list, nat_lt, nat_le, if◌then◌else◌}
 use Rattle.std.proofs.lemmas.Bool.{eq-eqb, ne_eqb, not-true, true≢false}
 use Rattle.std.proofs.lemmas.List.{length-set, get_or-set_other}
@@ -21,23 +21,22 @@ use Rattle.tp_record.specs.declared.entries.Ask.{Ask}
 use Rattle.tp_record.specs.declared.entries.Ask.TheVariants as ask
 use Rattle.tp_record.specs.declared.entries.Did.{Did}
 use Rattle.tp_record.specs.declared.entries.Did.TheVariants as did
-use Rattle.tp_record.specs.declared.entries.Ruled.{Ruled}
 use Rattle.tp_record.specs.declared.entries.Ruled.TheVariants as ruled
 use Rattle.tp_record.specs.declared.rows.Stage.{Stage}
 use Rattle.tp_record.specs.declared.rows.Stage.TheVariants as stages
 use Rattle.tp_record.specs.declared.rows.SlotRow.{SlotRow}
 use Rattle.tp_record.specs.declared.rows.TaskRow.{TaskRow}
 use Rattle.tp_record.specs.Lists.{said_of, is_it, is_among, at_end, change_each, long_enough, join_line}
-use Rattle.tp_record.specs.Effects.{Outcome, moved, queues, reserves, is_submit, holds, turned, seated, completes, is_plain_fault, idles}
+use Rattle.tp_record.specs.Effects.{Outcome, moved, queues, reserves, is_submit, holds, turned, seated, is_plain_fault, idles}
 use Rattle.tp_record.specs.Fields.{swept, is_queued_place, is_live, woken, is_idle_row}
 use Rattle.tp_record.specs.State.{State, next, due, counts, fated, more_by, is_fate, fate_of, no_row, row_at, task_at, slot_at, row_after, tasks_after, stays_queued, queue_after, seat_by, no_seat, slot_after, slots_after, stays_idle, idling_after, stays_done, done_after, task_weight, place_weight, is_held_for_core, slot_weight}
-use Rattle.tp_record.specs.Step.{Answer, is_known, of_task, of_row, of_slot, leaves_room, within_room, step, fitting, rule, retry_of, allows, look_answer, offer_to, offer_answer, second_answer, grow_answer, caller_end_answer, cancel_answer, is_refused_place, verdict_answer, held_answer, take_answer, begin_task, begin_answer, end_task, end_answer, first_done, done_of, is_of_group, submit_answer, look}
+use Rattle.tp_record.specs.Step.{Answer, is_known, of_task, of_row, leaves_room, within_room, step, fitting, rule, retry_of, allows, look_answer, offer_to, offer_answer, second_answer, grow_answer, caller_end_answer, cancel_answer, is_refused_place, verdict_answer, held_answer, take_answer, begin_task, begin_answer, end_task, end_answer, first_done, is_of_group, look}
 use Rattle.tp_model.proofs.ListLaws.{change_each-agree, length-change_each}
 use Rattle.tp_model.proofs.Arranged.{join-agree, pass-filter}
 use Rattle.tp_model.proofs.Keystone.{number_of, seat_of}
 use Rattle.tp_record.specs.Left.{leave_out, asked}
 use Rattle.tp_left.proofs.Blanks.{change_each-replaced, set-append, filter_but, count_but, pass_but}
-use Rattle.tp_left.proofs.Spared.{Spares, place_unsaid, spared_row, spared_queues, same_fault, same_completes}
+use Rattle.tp_left.proofs.Spared.{Spares, spared_row, spared_queues, same_fault, same_completes}
 use Rattle.tp_left.proofs.Answers.{IsOut, Spare, drops_retry, fitting_spares}
 use Rattle.tp_left.proofs.After.{row_stays, out_after}
 

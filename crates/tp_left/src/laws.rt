@@ -6,7 +6,6 @@ ghost use Rattle.tp_types.specs.declared.refusals.PoolError.TheVariants.{Unknown
 ghost use Rattle.tp_record.specs.declared.entries.Ask.{Ask};
 ghost use Rattle.tp_record.specs.declared.entries.Did.{Did};
 ghost use Rattle.tp_record.specs.declared.entries.Entry.{Entry};
-ghost use Rattle.tp_record.specs.Lists.{is_among};
 ghost use Rattle.tp_record.specs.State.{State, state, next, counts, due};
 ghost use Rattle.tp_record.specs.Step.{step, Legal};
 ghost use Rattle.tp_record.specs.Left.{left, mark, MayRelease, MayAll, asked, is_one_of};
