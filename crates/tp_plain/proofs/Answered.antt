@@ -1,6 +1,6 @@
 -- When a program's answer is the step's.
-use Rattle.std.proofs.Common.{◌≡◌, ℕ, List, length, Option, Some, None, Ok, Err, inl, refl, sym, ap, subst}
-use Rattle.std.specs.Prelude.{nat_lt, if◌then◌else◌}
+use Rattle.std.proofs.Common.{◌≡◌, ℕ, List, Option, Some, None, Ok, Err, inl, refl, sym, ap, subst}
+use Rattle.std.specs.Prelude.{if◌then◌else◌}
 use Rattle.std.specs.Option.{ok_or}
 use Rattle.tp_types.specs.declared.refusals.PoolError.TheVariants.{UnknownSlot, UnknownTask}
 use Rattle.tp_types.specs.declared.configs.Config.{Config}
@@ -13,7 +13,7 @@ use Rattle.tp_record.specs.declared.entries.Ask.{Ask}
 use Rattle.tp_record.specs.declared.entries.Ask.TheVariants as ask
 use Rattle.tp_record.specs.declared.rows.SlotRow.{SlotRow}
 use Rattle.tp_record.specs.State.{State, task_at}
-use Rattle.tp_record.specs.Step.{Answer, of_row, fitting, offer_to, offer_answer}
+use Rattle.tp_record.specs.Step.{Answer, is_known, of_row, fitting, offer_to, offer_answer}
 use Rattle.tp_plain.specs.Snapshot.{IsAnswer}
 
 IsAnswer-self : (a : Answer) → IsAnswer a a
@@ -44,7 +44,7 @@ pub other_fitting : (c : Config) (s : State) (done : List ℕ) (w : ℕ) (a : As
 other_fitting c s done w (ask.Submit k p) other = refl
 other_fitting c s done w (ask.Look t) other = refl
 other_fitting c s done w (ask.Offer t) other =
-    ap (λ x. if nat_lt t.0 (length s.tasks) then x else Err UnknownTask) (offer_same c s done t (task_at s t.0).place)
+    ap (λ x. if is_known s t.0 then x else Err UnknownTask) (offer_same c s done t (task_at s t.0).place)
 other_fitting c s done w (ask.Second t) other = refl
 other_fitting c s done w (ask.Grow t) other = refl
 other_fitting c s done w (ask.Verdict t v) other = refl

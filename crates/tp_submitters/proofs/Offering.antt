@@ -10,11 +10,12 @@ use Rattle.tp_types.specs.declared.configs.QueueKind.{QueueKind}
 use Rattle.tp_types.specs.declared.configs.QueueKind.TheVariants.{Handoff, Unbounded, Bounded, Priority}
 use Rattle.tp_types.specs.declared.tasks.Place.TheVariants as at
 use Rattle.tp_types.specs.Queues.{is_open}
+use Rattle.tp_record.specs.Lists.{is_among, IsOnce}
 use Rattle.tp_record.specs.Fields.{queue, submitted, is_queued_place}
 use Rattle.tp_queue.specs.Queues.{waiting_of}
 use Rattle.tp_model.proofs.Given.{HasQueueRoom, IsAt}
 use Rattle.tp_model.proofs.Places.{queue_at}
-use Rattle.tp_model.proofs.Queues.{is_among, IsOnce, once-queue, among-queue, Contains-from_among}
+use Rattle.tp_model.proofs.Queues.{once-queue, among-queue, Contains-from_among}
 use Rattle.tp_model.proofs.Readings.{tasks_counted}
 use Rattle.tp_parts.specs.declared.parts.Parts.{Parts}
 use Rattle.tp_parts.specs.Offers.{RoomBy, HasRoom}
