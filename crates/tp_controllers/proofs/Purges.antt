@@ -1,7 +1,7 @@
 -- What a purge makes of a state, and that the queue of a state holds those whose place it is.
-use Rattle.std.proofs.Common.{◌≡◌, ℕ, ◌*◌, true, List, Ok, Contains, arith, refl, sym, ap, subst, ◌∙◌}
+use Rattle.std.proofs.Common.{◌≡◌, ℕ, ◌*◌, true, List, length, Ok, Contains, arith, refl, sym, ap, subst, ◌∙◌}
 use Rattle.std.specs.Prelude.{count_by}
-use Rattle.std.proofs.lemmas.Bool.{false≢true}
+use Rattle.std.proofs.lemmas.Bool.{false≢true, lt-ltb}
 use Rattle.tp_types.specs.declared.configs.Config.{Config}
 use Rattle.tp_types.specs.declared.tasks.Place.{Place}
 use Rattle.tp_types.specs.declared.tasks.Place.TheVariants as at
@@ -30,7 +30,7 @@ queued_place _ is = absurd (false≢true is)
 
 pub holds_queued : (c : Config) (h : List Entry) → Legal c h → HoldsQueued (view (state c h))
 holds_queued c h legal = record {
-  known = λ t has. let k = queue_known c h legal t (queued t has) in let n = tasks_counted h in omega (arith, k, n);
+  known = λ t has. let k = queue_known c h legal t (queued t has) in let n = tasks_counted h in lt-ltb t (length (state c h).tasks) (omega (arith, k, n));
   placed = λ t. (
     (λ has. read t ∙ queued_place (place h t) (queued t has)),
     (λ placed. Contains-from_among (queue c h) t (among-queue c h t ∙ ap is_queued_place (sym (read t) ∙ placed))),

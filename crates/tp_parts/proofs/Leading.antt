@@ -1,16 +1,18 @@
 -- How a step leads from structures that show a state to structures that show the next: what is seen of the next state, and what the changes of the
 -- structures keep in view, are the same.
-use Rattle.std.proofs.Common.{◌≡◌, ℕ, suc, ◌+◌, ◌-◌, cond, List, Some, refl, arith, sym, ap, ◌∙◌}
-use Rattle.std.specs.Prelude.{is_some}
+use Rattle.std.proofs.Common.{◌≡◌, ℕ, suc, ◌+◌, ◌-◌, not, ◌&&◌, cond, List, Some, refl, arith, sym, ap, ◌∙◌}
+use mathlib.Core.Path.{ap₂}
+use Rattle.std.specs.Prelude.{nat_lt, is_some}
 use Rattle.tp_record.specs.declared.entries.Entry.{Entry}
 use Rattle.tp_record.specs.declared.entries.Ask.{Ask}
 use Rattle.tp_record.specs.declared.entries.Did.{Did}
+use Rattle.tp_record.specs.Lists.{is_among}
 use Rattle.tp_record.specs.Fields.{is_live}
 use Rattle.tp_record.specs.State.{State, state, next}
 use Rattle.tp_record.specs.Step.{Legal}
 use Rattle.tp_model.proofs.Given.{Given}
 use Rattle.tp_parts.specs.declared.parts.Parts.{Parts}
-use Rattle.tp_shapes.specs.View.{View, view, Reads, Effect}
+use Rattle.tp_shapes.specs.View.{View, view, is_held, Reads, Effect}
 use Rattle.tp_parts.specs.Shows.{Views, Shows}
 use Rattle.tp_parts.specs.Tied.{IsTied}
 use Rattle.tp_parts.specs.Steps.{Stands, Fits, Leads}
@@ -31,8 +33,9 @@ module _ {P : Type 0} where
         times_out = reads.core_timeout ∙ views.times_out;
         present = reads.now ∙ views.present;
         submitted = reads.submitted ∙ views.submitted;
-        rows = λ t known. views.rows t (omega (arith, n, known)) ∙ ap (λ r. Some r) (sym (reads.tasks t));
-        unknown = λ t past. views.unknown t (omega (arith, n, past));
+        rows = λ t known. views.rows t (sym (held t) ∙ known) ∙ ap (λ r. Some r) (sym (reads.tasks t));
+        unknown = λ t off. views.unknown t (sym (held t) ∙ off);
+        issued = λ t is. let below = views.issued t (ap (is_among t) (sym reads.left_out) ∙ is) in omega (arith, n, below);
         fates = λ f. reads.fates f ∙ views.fates f;
         queued = reads.queue ∙ views.queued;
         seats = λ w. reads.slots w ∙ views.seats w;
@@ -41,6 +44,10 @@ module _ {P : Type 0} where
         completed = reads.completions ∙ views.completed;
         most = reads.largest ∙ views.most;
       }
+    where
+      -- the same tasks are held
+      held : (t : ℕ) → is_held (view s) t ≡ is_held v t
+      held t = ap₂ (λ rs n. not (is_among t rs) && nat_lt t n) reads.left_out reads.submitted
 
   -- so structures that keep in view what is seen of the next state, count one entry more and owe what it leaves owed show it
   pub shows_next : (old new : Parts P) (s : State) (d : Did) (v : View) (fall rise : ℕ) → Shows old s → Effect s d v fall rise → Views new v →

@@ -14,3 +14,4 @@ pub mod Purging
 pub mod Falls
 pub mod Drains
 pub mod Reading
+pub mod Rows

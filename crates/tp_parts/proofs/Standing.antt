@@ -1,7 +1,7 @@
 -- What is known where structures stand.
-use Rattle.std.proofs.Common.{◌≡◌, ℕ, ◌+◌, ◌-◌, ◌^◌, ◌<◌, ◌≤◌, Bool, true, false, List, Option, Some, None, Ok, Err, cond, arith, sym, ap, subst, ◌∙◌}
+use Rattle.std.proofs.Common.{◌≡◌, ℕ, ◌+◌, ◌-◌, ◌^◌, ◌<◌, ◌≤◌, Bool, true, false, List, length, Option, Some, None, Ok, Err, cond, arith, sym, ap, subst, ◌∙◌}
 use Rattle.std.specs.Prelude.{unwrap_or, ◌↔◌, ◌&&◌, not}
-use Rattle.std.proofs.lemmas.Bool.{le-leb}
+use Rattle.std.proofs.lemmas.Bool.{le-leb, lt-ltb}
 use Rattle.tp_types.specs.Config.{IsConfig}
 use Rattle.tp_types.specs.declared.configs.Config.{Config}
 use Rattle.tp_types.specs.declared.ids.TaskId.{TaskId}
@@ -66,7 +66,9 @@ module _ {P : Type 0} (p : Parts P) (stands : Stands p) where
 
   -- a submitted task's row in the structures
   pub row_here : (t : ℕ) → t < submitted stands.history → row_of p.tasks t ≡ Some (task_at (state p.config stands.history) t)
-  row_here t known = let n = tasks_counted stands.history in stands.shows.seen.rows t (omega (arith, n, known))
+  row_here t known =
+      let n = tasks_counted stands.history in
+      stands.shows.seen.rows t (lt-ltb t (length (state p.config stands.history).tasks) (omega (arith, n, known)))
 
   -- a task that is there: its row in the structures, and its place
   pub task_here : (t : ℕ) (place : Place) → IsAt stands.history t place →

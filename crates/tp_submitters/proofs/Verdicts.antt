@@ -1,6 +1,7 @@
 -- What a verdict answers.
-use Rattle.std.proofs.Common.{◌≡◌, ℕ, ◌<◌, Bool, true, false, cond, List, [], ◌∷◌, Some, Ok, Err, refl, arith, sym, ap, subst, ◌∙◌}
+use Rattle.std.proofs.Common.{◌≡◌, ℕ, ◌<◌, Bool, true, false, cond, List, [], ◌∷◌, length, Some, Ok, Err, refl, arith, sym, ap, subst, ◌∙◌}
 use Rattle.std.specs.Prelude.{◌||◌, ◌&&◌, not, nat_lt, nat_le, if◌then◌else◌}
+use Rattle.std.proofs.lemmas.Bool.{ltb-true}
 use Rattle.std.proofs.lemmas.Bool.Decides.{nat_tests}
 use Rattle.tp_types.specs.declared.configs.Config.{Config}
 use Rattle.tp_types.specs.declared.configs.Verdict.{Verdict}
@@ -49,7 +50,7 @@ module _ {P : Type 0} (p : Parts P) (h : List Entry) (sh : Shows p (state p.conf
       let d = did.Verdict t verdict.DiscardOldest (retry_of (queue p.config h)) in
       let counted = tasks_counted h in
       let shown = row_shown p s sh t.0 row there in
-      let known : t.0 < submitted h = let k = shown.0 in omega (arith, counted, k) in
+      let known : t.0 < submitted h = let k = ltb-true t.0 (length s.tasks) shown.0 in omega (arith, counted, k) in
       let read = sym (row_read h t.0 known) ∙ shown.1 in
       let tried = ap (λ r. r.retries) read in
       let moves = retry_moves p.config h t verdict.DiscardOldest legal (known, ap (λ r. r.place) read ∙ refused) runs (omega (arith, few, tried)) (queue p.config h) refl in

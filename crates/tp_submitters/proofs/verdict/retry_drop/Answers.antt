@@ -1,5 +1,6 @@
-use Rattle.std.proofs.Common.{suc, ◌+◌, cond, Some, None, arith, ap, subst, ◌∙◌}
+use Rattle.std.proofs.Common.{suc, ◌+◌, cond, length, Some, None, arith, ap, subst, ◌∙◌}
 use Rattle.std.specs.Prelude.{drop, if◌then◌else◌}
+use Rattle.std.proofs.lemmas.Bool.{lt-ltb}
 use Rattle.tp_types.specs.declared.tasks.Fate.TheVariants as fate
 use Rattle.tp_types.specs.declared.tasks.Place.TheVariants as at
 use Rattle.tp_record.specs.declared.entries.Ask.TheVariants as ask
@@ -56,7 +57,7 @@ retry_task-requires g c =
     record {
       known = (
         task_at s t.0,
-        seen.rows t.0 (omega (arith, counted, known)) ∙ ap (λ r. Some r) (put_other u.0 _ (task_at s) t.0 (places_apart stands.history t.0 u.0 at.Refused at.Queued given.0 given.1.3 (λ e. let n : ⊥ = cc in n))),
+        seen.rows t.0 (lt-ltb t.0 (length s.tasks) (omega (arith, counted, known))) ∙ ap (λ r. Some r) (put_other u.0 _ (task_at s) t.0 (places_apart stands.history t.0 u.0 at.Refused at.Queued given.0 given.1.3 (λ e. let n : ⊥ = cc in n))),
         ap is_before there.1,
         omega (arith, few, read),
       );
