@@ -3,7 +3,7 @@
 
     python3 tools/run_docs.py               all of them: those that prove take an hour and more
     python3 tools/run_docs.py --only-quick  without those that prove
-    python3 tools/run_docs.py --libs CLONE  over the built libraries (crates/*/out) of another clone
+    python3 tools/run_docs.py --libs CLONE  over the built libraries (crates/*/out) of another clone, without the gate
     python3 tools/run_docs.py FILE.md ..    those of these documents
 
 What a block of a document is, fenced or indented:
@@ -28,6 +28,7 @@ import tempfile
 ROOT = pathlib.Path(__file__).resolve().parent.parent
 COMMANDS = r"(rt|cd|git|python3|tools/\S+|mkdir|rm|cat|echo|printf|touch)\b"
 PROVES = r"rt (check|run|test|ci|lib|all|verdict|must-fail|plant|tidy)\b|further\.py|gate_costs\.py"
+GATE = r"rt ci\b|gate_costs\.py"
 FENCED = re.compile(r"^```(\w*)\n(.*?)^```$", re.M | re.S)
 INDENTED = re.compile(r"(?<=\n\n)((?: {4}[^\n]*\n|\n(?= {4}))+)")
 FILE = re.compile(r"`([\w./-]+)`[^`\n]*:$")
@@ -71,9 +72,9 @@ def edit(path, lines):
 class Reader:
     """A reader of documents, who does in the clone what they say."""
 
-    def __init__(self, clone, quick):
+    def __init__(self, clone, left_out):
         self.clone = clone
-        self.quick = quick
+        self.left_out = left_out
         self.printed = None
         self.faults = 0
 
@@ -83,7 +84,7 @@ class Reader:
 
     def run(self, lines):
         script = "\n".join(lines)
-        if self.quick and re.search(PROVES, script):
+        if self.left_out and re.search(self.left_out, script):
             print(f"  left out: {lines[0]}")
             self.printed = None
             return
@@ -126,7 +127,7 @@ def main():
             clone = pathlib.Path(folder) / "zellunkay"
             clone_of(ROOT, clone, asked.libs)
             print(document)
-            reader = Reader(clone, asked.only_quick)
+            reader = Reader(clone, PROVES if asked.only_quick else GATE if asked.libs else None)
             for above, label, lines in blocks((ROOT / document).read_text()):
                 reader.read(above, label, lines)
             faults += reader.faults

@@ -98,8 +98,9 @@ pub use watching::Busy;
 pub use workers::Taking;
 
 impl<G: PoolNaming, J: Drop> Core<G, J> {
-    /// A new pool's book, of a pool in which nobody sleeps or waits. NoMemory (4).
-    pub fn new(alloc: Global, book: Book<G, Task<J>>) -> Result<Core<G, J>, PoolError>
+    /// A new pool's book, of a pool in which nobody sleeps or waits, and room for the flags of so many tasks.
+    /// NoMemory (4).
+    pub fn new(alloc: Global, book: Book<G, Task<J>>, tasks: usize) -> Result<Core<G, J>, PoolError>
         requires settings { config book ≡ G.config }
         requires good { IsConfig G.config }
         requires fresh { (book.history ≡ []) × (book.accounts ≡ record { total = 0; made = 1; callers = 1 }) }
@@ -110,7 +111,7 @@ impl<G: PoolNaming, J: Drop> Core<G, J> {
     {
         let slots = MAX_WORKERS as usize;
         let (Ok(flags), Ok(waking), Ok(roster)) = (
-            Flags::new(alloc),
+            Flags::new(alloc, tasks),
             Waking::new(alloc, slots),
             Roster::new(alloc, slots),
         ) else {

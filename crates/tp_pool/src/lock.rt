@@ -25,7 +25,7 @@ pub const CALLER: Patience = Patience {
 /// the steps of a task.
 pub const WORKER: Patience = Patience {
     looks: 12,
-    first: 300,
+    first: 480,
 };
 
 // The longest pause, in turns. Where the lock is rarely held, no pause comes near it.

@@ -28,6 +28,10 @@ use tp_types::limits::MAX_WORKERS;
 use tp_types::refusals::PoolError;
 use tp_types::states::RunState;
 
+// The steps of a task that waits and runs. Room for the flags of so many tasks as the record has room for is taken
+// when the pool is made, as room for their rows is.
+const ENTRIES_OF_A_RUN: u32 = 6;
+
 /// A pool of threads, as `ThreadPoolExecutor`, over jobs `J` and the caller's objects `E`. Its calls take
 /// `&self`, so that many threads may share it. A call that makes steps takes a pass: each entry of the record
 /// has the number of the pass that asked for it.
@@ -109,7 +113,8 @@ impl<G: PoolNaming, J: Job, E: Edge> PoolOf<G, J, E> {
             Err(error) => return Err(error),
         };
         let policy = config.policy;
-        let Ok(core) = Core::new(alloc, book) else {
+        let tasks = (config.record_limit / ENTRIES_OF_A_RUN) as usize;
+        let Ok(core) = Core::new(alloc, book, tasks) else {
             return Err(PoolError::NoMemory);
         };
         let Ok(parkers) = parkers(alloc) else {

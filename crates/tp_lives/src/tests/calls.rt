@@ -4,8 +4,10 @@ use std::process::Abort;
 use std::sync::Wait;
 use std::thread::Threads;
 use tp_book::passes::Pass;
+use tp_pool::edges::Edge;
+use tp_pool::jobs::Job;
 use tp_pool::names::PoolNaming;
-use tp_pool::pool::Pool;
+use tp_pool::pool::{Pool, PoolOf};
 use tp_types::ids::TaskId;
 use tp_types::refusals::PoolError;
 
@@ -43,12 +45,12 @@ fn long_enough(steps: u64, seen: u64) -> Result<(), PoolError> {
 }
 
 // Makes the call. A pool without tasks gives back nothing.
-pub fn make<G: PoolNaming + Send + Sync + 'static, R: Threads + Wait + Copy + Send + 'static>(
-    rt: &R,
-    pool: &Pool<G>,
-    call: Call,
-    pass: &mut Pass<G>,
-) -> Result<(), PoolError> {
+pub fn make<
+    G: PoolNaming + Send + Sync + 'static,
+    J: Job + 'static,
+    E: Edge + Send + Sync + 'static,
+    R: Threads + Wait + Copy + Send + 'static,
+>(rt: &R, pool: &PoolOf<G, J, E>, call: Call, pass: &mut Pass<G>) -> Result<(), PoolError> {
     match call {
         Call::Core(core) => pool.set_core(rt, core, pass),
         Call::Maximum(maximum) => pool.set_maximum(rt, maximum, pass),

@@ -20,6 +20,10 @@ enum Flagged<R> {
 }
 
 impl<R: Runtime> Body for Flagged<R> {
+    fn priority(&self) -> u32 {
+        0
+    }
+
     fn run(&mut self, cancel: &CancelFlag) -> Outcome {
         match self {
             Flagged::Shares(rt, kept) => {

@@ -9,10 +9,12 @@ use std::sync::atomic::{AtomicU64, Ordering};
 use std::test::Fail;
 use std::thread::Threads;
 use tp_book::passes::Pass;
+use tp_pool::edges::Edge;
 use tp_pool::hooks::Hooks;
 use tp_pool::in_two;
+use tp_pool::jobs::Job;
 use tp_pool::names::PoolNaming;
-use tp_pool::pool::Pool;
+use tp_pool::pool::{Pool, PoolOf};
 use tp_types::ids::{SlotId, TaskId};
 use tp_types::refusals::PoolError;
 use tp_types::tasks::Outcome;
@@ -33,9 +35,14 @@ impl Hooks for Lingering {
 }
 
 // Makes the call that waits.
-fn awaits<G: PoolNaming + Send + Sync + 'static, R: Threads + Wait + Copy + Send + 'static>(
+fn awaits<
+    G: PoolNaming + Send + Sync + 'static,
+    J: Job + 'static,
+    E: Edge + Send + Sync + 'static,
+    R: Threads + Wait + Copy + Send + 'static,
+>(
     rt: &R,
-    pool: &Pool<G>,
+    pool: &PoolOf<G, J, E>,
     waiting: Call,
     stage: &AtomicU64,
     mut pass: Pass<G>,
@@ -46,9 +53,14 @@ fn awaits<G: PoolNaming + Send + Sync + 'static, R: Threads + Wait + Copy + Send
 }
 
 // Makes the step, when the other has had time to fall asleep.
-fn wakes<G: PoolNaming + Send + Sync + 'static, R: Threads + Wait + Copy + Send + 'static>(
+fn wakes<
+    G: PoolNaming + Send + Sync + 'static,
+    J: Job + 'static,
+    E: Edge + Send + Sync + 'static,
+    R: Threads + Wait + Copy + Send + 'static,
+>(
     rt: &R,
-    pool: &Pool<G>,
+    pool: &PoolOf<G, J, E>,
     waker: Call,
     stage: &AtomicU64,
     mut pass: Pass<G>,
@@ -70,14 +82,16 @@ const WAITS: [(Call, Call, Result<(), PoolError>); 5] = [
 
 const END: [Line; 2] = [(1, Call::Shutdown, Ok(())), (0, Call::Await(0), Ok(()))];
 
-// One waits for the end, and the other makes the step: by itself, where little else is known, since the check
-// shows here that the pool may be shared.
+// One waits for the end, and the other makes the step: by itself, and for all jobs and edges, since the check shows
+// here that the pool may be shared, and boxes are much to look through.
 fn beside<
     G: PoolNaming + Send + Sync + 'static,
+    J: Job + 'static,
+    E: Edge + Send + Sync + 'static,
     R: Abort + Threads + Wait + Copy + Send + Sync + 'static,
 >(
     rt: R,
-    pool: &Pool<G>,
+    pool: &PoolOf<G, J, E>,
     waiting: Call,
     waker: Call,
     first: Pass<G>,
@@ -93,8 +107,8 @@ fn beside<
         pool,
         first,
         second,
-        &move |pool: &Pool<G>, pass: Pass<G>| { awaits(&rt, pool, waiting, stage, pass) },
-        &move |pool: &Pool<G>, pass: Pass<G>| { wakes(&rt, pool, waker, stage, pass) },
+        &move |pool: &PoolOf<G, J, E>, pass: Pass<G>| { awaits(&rt, pool, waiting, stage, pass) },
+        &move |pool: &PoolOf<G, J, E>, pass: Pass<G>| { wakes(&rt, pool, waker, stage, pass) },
     )
 }
 

@@ -163,15 +163,16 @@ fn back_unchanged<G: PoolNaming, R: Wait>(
     refused.job
 }
 
-// Hands in a plain task. Where memory is wanted the job comes back, nothing has changed, and it is handed in
-// again.
+// Hands in a plain task whose job has this number. Where memory is wanted that very job comes back, nothing has
+// changed, and it is handed in again.
 fn insists_task<G: PoolNaming + Send + Sync + 'static, R: Threads + Wait + Copy + Send + 'static>(
     rt: R,
     pool: &Tested<G>,
     board: &Arc<Board>,
+    number: u32,
     pass: &mut Pass<G>,
 ) -> bool {
-    let Ok(job) = chore(board, Deed::Look) else {
+    let Ok(job) = chore(board, Deed::Urgent(number)) else {
         return false;
     };
     let before = seen(&rt, pool, pass);
@@ -182,6 +183,9 @@ fn insists_task<G: PoolNaming + Send + Sync + 'static, R: Threads + Wait + Copy 
     let Some(job) = back_unchanged(&rt, pool, refused, before, pass) else {
         return false;
     };
+    if job.priority != number {
+        return false;
+    }
     let again = handed(rt, pool, Kind::Plain, job, pass);
     matches!(again, Ok(Admitted::Accepted(_)))
 }
@@ -234,7 +238,7 @@ pub fn deals<
         Deal::Answers => answers(&rt, pool, board),
         Deal::TimesOut(stay) => times_out(&rt, pool, board, stay, pass),
         Deal::OneLeaves => one_leaves(&rt, pool, board, pass),
-        Deal::InsistsTask => insists_task(rt, pool, board, pass),
+        Deal::InsistsTask(number) => insists_task(rt, pool, board, number, pass),
         Deal::Insists(start) => insists(rt, pool, start, pass),
     }
 }

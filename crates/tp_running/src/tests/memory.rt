@@ -13,7 +13,9 @@ use tp_stage::users::MANNER;
 use tp_types::configs::Config;
 use tp_types::refusals::PoolError;
 
-const TASK: Step = Step::Deal(Deal::InsistsTask);
+const TASK: Step = Step::Deal(Deal::InsistsTask(5));
+
+const OTHER: Step = Step::Deal(Deal::InsistsTask(6));
 
 // Workers change nothing meanwhile.
 const ALL_DONE: Step = Step::View(View::AllCompleted);
@@ -51,7 +53,7 @@ fn ample_memory_succeeds(rt: HostRuntime) -> Result<(), Fail> {
     let steps = [
         TASK,
         ALL_DONE,
-        TASK,
+        OTHER,
         ALL_DONE,
         insists(Start::One(true)),
         insists(Start::Core(3)),

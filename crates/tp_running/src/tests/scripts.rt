@@ -85,8 +85,9 @@ pub enum Deal {
     TimesOut(u32),
     // One of two workers leaves, where both were idle at the last tick.
     OneLeaves,
-    // Makes the call once more where memory is wanted, which has changed nothing.
-    InsistsTask,
+    // Makes the call once more where memory is wanted, which has changed nothing: of a submission the job with this number
+    // has come back.
+    InsistsTask(u32),
     Insists(Start),
 }
 
