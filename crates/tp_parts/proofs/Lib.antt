@@ -15,3 +15,4 @@ pub mod Falls
 pub mod Drains
 pub mod Reading
 pub mod Rows
+pub mod Forgetting

@@ -1,20 +1,26 @@
 -- What is seen where one task's row is changed, where a task comes, and where one is forgotten.
-use Rattle.std.proofs.Common.{◌≡◌, ℕ, suc, ◌<◌, Bool, true, false, not, ◌&&◌, ◌||◌, List, ◌∷◌, Some, None, refl, arith, sym, ap, ◌∙◌, inl, inr}
+use Rattle.std.proofs.Common.{◌≡◌, ℕ, suc, ◌<◌, Bool, true, false, not, ◌&&◌, ◌||◌, List, ◌∷◌, Option, Some, None, refl, arith, sym, ap, subst, ◌∙◌, inl, inr}
 use mathlib.Core.Path.{ap₂}
-use Rattle.std.specs.Prelude.{◌==◌, nat_lt, if◌then◌else◌}
+use Rattle.std.specs.Prelude.{◌==◌, nat_lt, is_some, if◌then◌else◌}
+use Rattle.std.specs.List.{Contains}
 use Rattle.std.proofs.lemmas.Bool.{cases_eq, eq-eqb, ne_eqb, eqb-true, lt-ltb, or_cases, true≢false}
 use Rattle.std.proofs.lemmas.Bool.Decides.{nat_tests}
 use Rattle.std.proofs.lemmas.Option.{same_Some, none-some}
+use Rattle.tp_types.specs.declared.configs.Config.{Config}
+use Rattle.tp_types.specs.declared.ids.TaskId.{TaskId}
 use Rattle.tp_types.specs.declared.tasks.Fate.{Fate}
 use Rattle.tp_record.specs.declared.rows.TaskRow.{TaskRow}
 use Rattle.tp_record.specs.Lists.{is_among}
 use Rattle.tp_record.specs.State.{is_fate}
+use Rattle.tp_queue.specs.Queues.{waiting_of}
+use Rattle.tp_tasks.specs.declared.table.Task.{Task}
 use Rattle.tp_tasks.specs.declared.tasks.Tasks.{Tasks}
-use Rattle.tp_tasks.specs.Table.{row_of_task}
-use Rattle.tp_tasks.specs.Tasks.{row_of, done_of, fated_of, submissions, KeepsOthers}
+use Rattle.tp_tasks.specs.Table.{row_of_task, number_of_task, payload_of_task, promise_of_task}
+use Rattle.tp_tasks.specs.Tasks.{task_of, row_of, done_of, fated_of, submissions, KeepsOthers}
 use Rattle.tp_shapes.specs.View.{View, is_held, put}
 use Rattle.tp_parts.specs.declared.parts.Parts.{Parts}
 use Rattle.tp_parts.specs.Shows.{Views}
+use Rattle.tp_parts.specs.Tied.{IsTied, IsKeyed, waits, KeepsPromise}
 
 -- a fate is counted for a task that was not cancelled
 pub fate_unless : (f g : Fate) (b : Bool) → is_fate f (if b then None else Some g) ≡ (not b && is_fate f (Some g))
@@ -155,3 +161,39 @@ module _ {P : Type 0} (old : Parts P) (new : Tasks P) (v : View) (views : Views 
       where
         held_else : (u : ℕ) → (u ≡ t → ⊥) → is_held (record v { left_out = t ∷ v.left_out }) u ≡ is_held v u
         held_else u apart = ap (λ b. not (b || is_among u v.left_out) && nat_lt u v.submitted) (ne_eqb u t apart)
+
+-- a task that is forgotten, and that was not queued, ties nothing
+pub tied_forgets : {P : Type 0} (c : Config) (n : ℕ) (old : Parts P) → IsTied c n old → (new : Tasks P) (t : TaskId) → ((k : ℕ) → Contains (waiting_of old.queue).items (t, k) → ⊥) →
+    task_of new t.0 ≡ None → KeepsOthers old.tasks new t.0 → submissions new ≡ submissions old.tasks → IsTied c n (record old { tasks = new })
+tied_forgets {P = P} c n old tied new t unqueued gone others counted =
+    record {
+      made_with = tied.made_with;
+      config = tied.config;
+      least = tied.least;
+      sizes = tied.sizes;
+      places = tied.places;
+      kind = tied.kind;
+      queue_places = λ is. let p = tied.queue_places is in omega (arith, p, counted);
+      offers = tied.offers;
+      idlings = tied.idlings;
+      keyed = λ u key has. elim (cases_eq u.0 t.0) [
+        | inl same ↦ let equal : u ≡ t = grind arith in absurd (unqueued key (let Q : TaskId → Type 0 = λ x. Contains (waiting_of old.queue).items (x, key) in subst Q equal has))
+        | inr apart ↦
+            let Q : Option (Task P) → Type 0 = λ k. IsKeyed (waiting_of old.queue) (row_of_task k) (number_of_task k) key in
+            subst Q (sym (others u.0 (ne_eqb t.0 u.0 (λ b. apart (sym b))))) (tied.keyed u key has)
+      ];
+      payloads = λ u. elim (cases_eq u t.0) [
+        | inl same ↦
+            let none : task_of new u ≡ None = ap (task_of new) same ∙ gone in
+            ap (λ k. is_some (payload_of_task k)) none ∙ ap (λ k. waits (row_of_task k)) (sym none)
+        | inr apart ↦
+            let o = others u (ne_eqb t.0 u (λ b. apart (sym b))) in
+            ap (λ k. is_some (payload_of_task k)) o ∙ tied.payloads u ∙ ap (λ k. waits (row_of_task k)) (sym o)
+      ];
+      promises = λ u.
+          let Q : Option (Task P) → Type 0 = λ k. KeepsPromise (promise_of_task k) (row_of_task k) in
+          elim (cases_eq u t.0) [
+            | inl same ↦ subst Q (sym (ap (task_of new) same ∙ gone)) tt
+            | inr apart ↦ subst Q (sym (others u (ne_eqb t.0 u (λ b. apart (sym b))))) (tied.promises u)
+          ];
+    }

@@ -24,6 +24,6 @@ returns-clause-leads g c =
     let here = entry_here old stands (ask.Grow c.args.t) (did.Grow c.args.t grown.Refuse) _ 7 0 7 c.requires.fits (grow_refuse old.config stands.history c.args.t stands.legal) (omega arith) in
     let due : c.place_task.new.self.due ≡ old.due - 7 = cc in
     leads_by old c.place_task.new.self (ask.Grow c.args.t) (did.Grow c.args.t grown.Refuse) 7 0 c.requires.fits
-    (λ h legal given sh. (_, grow_refuse old.config h c.args.t legal given, c.place_task.ensures.views _ (c.count_entry.ensures.views _ sh.seen)))
+    (λ h rs legal given sh. (_, grow_refuse old.config h c.args.t legal given, c.place_task.ensures.views _ (c.count_entry.ensures.views _ sh.seen)))
     (cc) (cc) (omega (arith, due, here))
     (c.place_task.ensures.tied old.config (suc old.steps) (c.count_entry.ensures.tied old.config (suc old.steps) (tied_more old.config old.steps old stands.tied)))

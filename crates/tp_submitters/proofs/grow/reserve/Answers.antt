@@ -4,6 +4,7 @@ use Rattle.tp_types.specs.declared.tasks.Place.TheVariants as at
 use Rattle.tp_record.specs.declared.entries.Ask.TheVariants as ask
 use Rattle.tp_record.specs.declared.entries.Did.TheVariants as did
 use Rattle.tp_record.specs.declared.entries.Grown.TheVariants as grown
+use Rattle.tp_record.specs.Left.{mark}
 use Rattle.tp_record.specs.State.{state, task_at}
 use Rattle.tp_record.specs.Step.{slot_count}
 use Rattle.tp_shapes.specs.View.{view, put}
@@ -49,8 +50,8 @@ returns-clause-leads g c =
     let due : c.reserve.new.self.due ≡ old.due - 1 = cc in
     let number = c.reserve.ensures.number ∙ ap (λ p. p.slots.next) m ∙ ap (λ p. p.slots.next) k ∙ sym c.requires.next in
     leads_by old c.reserve.new.self (ask.Grow t) d 1 0 c.requires.fits
-    (λ h legal given sh.
-    let s = state old.config h in
+    (λ h rs legal given sh.
+    let s = mark rs (state old.config h) in
     let v = record (view s) { tasks = put t.0 (moved_to (at.Held w) (task_at s t.0)) (task_at s) } in (
       _,
       grow_reserve old.config h t w legal given,

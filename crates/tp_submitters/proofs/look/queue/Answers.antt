@@ -20,6 +20,6 @@ returns-clause-leads g c =
     let k = c.count_entry.ensures in
     let m = c.place_task.ensures in
     leads_from old c.place_task.new.self (ask.Look c.args.t) (did.Look c.args.t looked.Queue) 2 0 2 c.requires.stands c.requires.fits
-    (λ h legal given sh. (_, look_queue old.config h c.args.t legal given, m.views _ (k.views _ sh.seen)))
+    (λ h rs legal given sh. (_, look_queue old.config h c.args.t legal given, m.views _ (k.views _ sh.seen)))
     refl (ap (λ p. p.config) m.rest ∙ ap (λ p. p.config) k.rest) (ap (λ p. p.steps) m.rest ∙ ap (λ p. p.steps) k.rest) (ap (λ p. p.due) m.rest ∙ ap (λ p. p.due) k.rest)
     (λ tied. m.tied _ _ (k.tied _ _ tied))

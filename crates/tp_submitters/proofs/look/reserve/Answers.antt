@@ -5,6 +5,7 @@ use Rattle.tp_record.specs.declared.entries.Ask.TheVariants as ask
 use Rattle.tp_record.specs.declared.entries.Did.TheVariants as did
 use Rattle.tp_record.specs.declared.entries.Looked.TheVariants as looked
 use Rattle.tp_record.specs.Step.{slot_count}
+use Rattle.tp_record.specs.Left.{mark}
 use Rattle.tp_record.specs.State.{state, task_at}
 use Rattle.tp_shapes.specs.View.{view, put}
 use Rattle.tp_shapes.proofs.Rows.{moved_to, for_core}
@@ -43,8 +44,8 @@ returns-clause-leads g c =
     let r = c.reserve.ensures in
     let number = r.number ∙ ap (λ p. p.slots.next) m.rest ∙ ap (λ p. p.slots.next) k.rest ∙ sym c.requires.next in
     leads_from old c.reserve.new.self (ask.Look c.args.t) (did.Look c.args.t (looked.Reserve c.args.w)) 1 0 1 c.requires.stands c.requires.fits
-    (λ h legal given sh.
-    let s = state old.config h in
+    (λ h rs legal given sh.
+    let s = mark rs (state old.config h) in
     let v = record (view s) { tasks = put c.args.t.0 (moved_to (at.Held w) (task_at s c.args.t.0)) (task_at s) } in (
       _,
       look_reserve old.config h c.args.t w legal given,

@@ -37,7 +37,7 @@ returns-clause-leads g c =
     let m = c.hand_task.ensures in
     let r = c.wake.ensures in
     leads_from old c.wake.new.self (ask.Offer c.args.t) (did.Offer c.args.t (offered.Hand c.args.w)) 1 0 1 c.requires.stands c.requires.fits
-    (λ h legal given sh. (
+    (λ h rs legal given sh. (
       _,
       offer_hand old.config h c.args.t c.args.w legal given,
       views_slots c.wake.new.self _ _ (drop 1 (idling h)) _ _ (λ x. refl) (sym (without_head c.args.w.0 (idling h) given.2.0 (once-idling h) given.2.1)) (r.views _ (m.views _ (k.views _ sh.seen))),

@@ -6,6 +6,7 @@ use Rattle.tp_record.specs.declared.entries.Offered.TheVariants as offered
 use Rattle.tp_types.specs.declared.tasks.Place.TheVariants as at
 use Rattle.tp_types.specs.Queues.{is_ranked}
 use Rattle.tp_record.specs.Lists.{join_line}
+use Rattle.tp_record.specs.Left.{mark}
 use Rattle.tp_record.specs.State.{State, state, task_at}
 use Rattle.tp_queue.specs.Queues.{waiting_of}
 use Rattle.tp_shapes.specs.View.{View, view, put}
@@ -65,6 +66,6 @@ returns-clause-leads g c =
     let same = ap (λ p. (waiting_of p.queue).offers) k.rest in
     let ranked = ap (λ p. is_ranked (waiting_of p.queue).kind) k.rest ∙ ap is_ranked c.requires.stands.tied.kind in
     leads_from old c.enqueue.new.self (ask.Offer c.args.t) (did.Offer c.args.t offered.Queued) 1 0 1 c.requires.stands c.requires.fits
-    (λ h legal given sh. (_, offer_queued old.config h c.args.t legal given, subst (λ b. Views c.enqueue.new.self (joined b (state old.config h) c.args.t.0)) ranked (m.views _ (k.views _ sh.seen))))
+    (λ h rs legal given sh. (_, offer_queued old.config h c.args.t legal given, subst (λ b. Views c.enqueue.new.self (joined b (mark rs (state old.config h)) c.args.t.0)) ranked (m.views _ (k.views _ sh.seen))))
     refl (ap (λ p. p.config) m.rest ∙ ap (λ p. p.config) k.rest) (ap (λ p. p.steps) m.rest ∙ ap (λ p. p.steps) k.rest) (ap (λ p. p.due) m.rest ∙ ap (λ p. p.due) k.rest)
     (λ tied. m.tied old.config (suc old.steps) (k.tied _ _ tied) (omega (arith, offers, same)))

@@ -4,6 +4,7 @@ use Rattle.tp_types.specs.declared.tasks.Place.TheVariants as at
 use Rattle.tp_record.specs.declared.entries.Ask.TheVariants as ask
 use Rattle.tp_record.specs.declared.entries.Did.TheVariants as did
 use Rattle.tp_record.specs.declared.entries.Looked.TheVariants as looked
+use Rattle.tp_record.specs.Left.{mark}
 use Rattle.tp_record.specs.State.{state, task_at}
 use Rattle.tp_record.specs.Step.{slot_count}
 use Rattle.tp_tasks.specs.Tasks.{submissions}
@@ -48,8 +49,8 @@ returns-clause-leads g c =
     let slot = c.reserve.ensures.number ∙ ap (λ p. p.slots.next) m ∙ ap (λ p. p.slots.next) k ∙ sym c.requires.next in
     let due = ap (λ p. p.due) r ∙ ap (λ p. p.due) m ∙ ap (λ p. p.due) k in
     leads_by old c.reserve.new.self (ask.Submit kind priority) (did.Submit t kind priority (looked.Reserve w)) 0 12 (subst (λ n. Fits old (ask.Submit kind priority) (did.Submit (record { 0 = n }) kind priority (looked.Reserve w))) (sym number) c.requires.fits)
-    (λ h legal given sh.
-    let s = state old.config h in
+    (λ h rs legal given sh.
+    let s = mark rs (state old.config h) in
     let v = record (view s) { submitted = suc (length s.tasks); tasks = put t.0 (new_row kind priority (at.Held w)) (task_at s) } in (
       _,
       submit_reserve old.config h t kind priority w legal given,

@@ -24,7 +24,7 @@ begin_task-payload-requires g c =
     let old = c.args.parts.now in
     let stands = c.requires.stands in
     let given = given_here old stands (ask.Begin c.args.w) (did.Begin c.args.w (started.Run c.args.t)) c.requires.fits in
-    let there = task_here old stands c.args.t.0 (at.Taken c.args.w) given.1 in
+    let there = task_here old stands c.args.t.0 (at.Taken c.args.w) given.1 refl in
     let alive = cancelled_here old stands c.args.t.0 false given.1.0 given.2 in
     record {
       known = (task_at (state old.config stands.history) c.args.t.0, ap (λ p. row_of p.tasks c.args.t.0) c.count_entry.ensures.rest ∙ there.0);
@@ -39,7 +39,7 @@ returns-clause-leads g c =
     let m = c.begin_task-payload.ensures in
     let r = c.set_slot.ensures in
     leads_from old c.set_slot.new.self (ask.Begin c.args.w) (did.Begin c.args.w (started.Run c.args.t)) 1 0 1 c.requires.stands c.requires.fits
-    (λ h legal given sh. (_, begin_run old.config h c.args.w c.args.t legal given, r.views _ (m.views _ (k.views _ sh.seen))))
+    (λ h rs legal given sh. (_, begin_run old.config h c.args.w c.args.t legal given, r.views _ (m.views _ (k.views _ sh.seen))))
     refl
     (ap (λ p. p.config) r.rest ∙ ap (λ p. p.config) m.rest ∙ ap (λ p. p.config) k.rest)
     (ap (λ p. p.steps) r.rest ∙ ap (λ p. p.steps) m.rest ∙ ap (λ p. p.steps) k.rest)

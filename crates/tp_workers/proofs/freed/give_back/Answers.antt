@@ -19,6 +19,6 @@ returns-clause-leads g c =
     let r = c.give_up.ensures.rest in
     λ a d is fits.
     leads_from old c.give_up.new.self a d 3 0 3 c.requires.stands fits
-    (λ h legal given sh. (_, given_back old.config h c.args.w a d is legal given, c.give_up.ensures.views _ (c.count_entry.ensures.views _ sh.seen)))
+    (λ h rs legal given sh. (_, given_back old.config h c.args.w a d is legal given, c.give_up.ensures.views _ (c.count_entry.ensures.views _ sh.seen)))
     refl (ap (λ p. p.config) r ∙ ap (λ p. p.config) k) (ap (λ p. p.steps) r ∙ ap (λ p. p.steps) k) (ap (λ p. p.due) r ∙ ap (λ p. p.due) k)
     (λ tied. c.give_up.ensures.tied old.config (suc old.steps) (c.count_entry.ensures.tied old.config (suc old.steps) tied))

@@ -22,6 +22,6 @@ returns-clause-leads g c =
     let k = c.count_entry.ensures.rest in
     let r = c.free.ensures.rest in
     leads_from old c.free.new.self (ask.Leave c.args.w) (did.Leave c.args.w None) 4 0 4 c.requires.stands c.requires.fits
-    (λ h legal given sh. (_, leave_alone old.config h c.args.w legal given, views_slots _ _ _ _ _ _ (λ x. refl) (sym (busy_order h c.args.w.0 (ap is_idle_row given.0))) (c.free.ensures.views _ (c.count_entry.ensures.views _ sh.seen))))
+    (λ h rs legal given sh. (_, leave_alone old.config h c.args.w legal given, views_slots _ _ _ _ _ _ (λ x. refl) (sym (busy_order h c.args.w.0 (ap is_idle_row given.0))) (c.free.ensures.views _ (c.count_entry.ensures.views _ sh.seen))))
     refl (ap (λ p. p.config) r ∙ ap (λ p. p.config) k) (ap (λ p. p.steps) r ∙ ap (λ p. p.steps) k) (ap (λ p. p.due) r ∙ ap (λ p. p.due) k)
     (λ tied. c.free.ensures.tied old.config (suc old.steps) (c.count_entry.ensures.tied old.config (suc old.steps) tied))

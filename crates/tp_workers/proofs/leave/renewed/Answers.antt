@@ -40,7 +40,7 @@ returns-clause-leads g c =
     let r = c.reserve.ensures.rest in
     let number = c.reserve.ensures.number ∙ ap (λ t. t.next) c.free.ensures.table in
     leads_from old c.reserve.new.self (ask.Leave c.args.w) (did.Leave c.args.w (Some c.args.w)) 1 0 1 c.requires.stands c.requires.fits
-    (λ h legal given sh. (
+    (λ h rs legal given sh. (
       _,
       leave_renewed old.config h c.args.w legal given,
       views_slots _ _ _ _ _ _

@@ -24,7 +24,7 @@ place_task-requires g c =
     let old = c.args.parts.now in
     let stands = c.requires.stands in
     let given = given_here old stands (ask.Take c.args.w) (did.Take c.args.w (took.Held c.args.t)) c.requires.fits in
-    let there = task_here old stands c.args.t.0 (at.Held c.args.w) given.1 in
+    let there = task_here old stands c.args.t.0 (at.Held c.args.w) given.1 refl in
     let r = task_at (state old.config stands.history) c.args.t.0 in
     record { known = (r, ap (λ p. row_of p.tasks c.args.t.0) c.count_entry.ensures.rest ∙ there.0, ap (λ b. b && not r.cancelled) (sym (ap is_before there.1))) }
 
@@ -35,7 +35,7 @@ returns-clause-leads g c =
     let m = c.place_task.ensures in
     let r = c.set_slot.ensures in
     leads_from old c.set_slot.new.self (ask.Take c.args.w) (did.Take c.args.w (took.Held c.args.t)) 1 0 1 c.requires.stands c.requires.fits
-    (λ h legal given sh. (_, take_held old.config h c.args.w c.args.t legal given, r.views _ (m.views _ (k.views _ sh.seen))))
+    (λ h rs legal given sh. (_, take_held old.config h c.args.w c.args.t legal given, r.views _ (m.views _ (k.views _ sh.seen))))
     refl
     (ap (λ p. p.config) r.rest ∙ ap (λ p. p.config) m.rest ∙ ap (λ p. p.config) k.rest)
     (ap (λ p. p.steps) r.rest ∙ ap (λ p. p.steps) m.rest ∙ ap (λ p. p.steps) k.rest)
