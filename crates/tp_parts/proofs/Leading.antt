@@ -8,7 +8,7 @@ use Rattle.tp_record.specs.declared.entries.Did.{Did}
 use Rattle.tp_record.specs.Lists.{is_among}
 use Rattle.tp_record.specs.Fields.{is_live}
 use Rattle.tp_record.specs.State.{State, state, next, due}
-use Rattle.tp_record.specs.Left.{mark}
+use Rattle.tp_record.specs.Left.{mark, MayAll}
 use Rattle.tp_record.specs.Step.{Legal}
 use Rattle.tp_model.proofs.Given.{Given}
 use Rattle.tp_parts.specs.declared.parts.Parts.{Parts}
@@ -65,19 +65,25 @@ module _ {P : Type 0} where
       }
 
   -- the whole of what a step does: the effect of its entry, in view of the new structures
-  pub leads_by : (old new : Parts P) (a : Ask) (d : Did) (fall rise : ℕ) → Fits old a d →
-      ((h : List Entry) (rs : List ℕ) → Legal old.config h → Given old.config h d → Shows old (mark rs (state old.config h)) → (v : View) × Effect (state old.config h) d v fall rise × Views new (record v { left_out = rs })) →
+  pub leads_where : (old new : Parts P) (a : Ask) (d : Did) (fall rise : ℕ) → Fits old a d →
+      ((h : List Entry) (rs : List ℕ) → Legal old.config h → MayAll rs (state old.config h) → Given old.config h d → Shows old (mark rs (state old.config h)) → (v : View) × Effect (state old.config h) d v fall rise × Views new (record v { left_out = rs })) →
       new.config ≡ old.config → new.steps ≡ suc old.steps → new.due + fall ≡ old.due + rise → IsTied old.config (suc old.steps) new → Leads old d new
-  leads_by old new a d fall rise fits effects config steps owes tied = record {
+  leads_where old new a d fall rise fits effects config steps owes tied = record {
     shows = λ h rs legal may sh.
-        let e = effects h rs legal (given_fitting old.config h rs a d legal (fits h rs legal may sh)) sh in
+        let e = effects h rs legal may (given_fitting old.config h rs a d legal (fits h rs legal may sh)) sh in
         shows_next old new rs (state old.config h) d e.0 fall rise sh e.1 e.2 steps owes;
     tied = tied;
     config = config;
     steps = steps;
   }
 
-  -- the same, of structures that stand, where one entry was counted by which n fewer are owed
+  -- the same, where the effect does not depend on what was released
+  pub leads_by : (old new : Parts P) (a : Ask) (d : Did) (fall rise : ℕ) → Fits old a d →
+      ((h : List Entry) (rs : List ℕ) → Legal old.config h → Given old.config h d → Shows old (mark rs (state old.config h)) → (v : View) × Effect (state old.config h) d v fall rise × Views new (record v { left_out = rs })) →
+      new.config ≡ old.config → new.steps ≡ suc old.steps → new.due + fall ≡ old.due + rise → IsTied old.config (suc old.steps) new → Leads old d new
+  leads_by old new a d fall rise fits effects = leads_where old new a d fall rise fits (λ h rs legal may. effects h rs legal)
+
+  -- and of structures that stand, where one entry was counted by which n fewer are owed
   pub leads_from : (old new : Parts P) (a : Ask) (d : Did) (fall rise n : ℕ) → Stands old → Fits old a d →
       ((h : List Entry) (rs : List ℕ) → Legal old.config h → Given old.config h d → Shows old (mark rs (state old.config h)) → (v : View) × Effect (state old.config h) d v fall rise × Views new (record v { left_out = rs })) →
       fall ≡ n + rise → new.config ≡ old.config → new.steps ≡ suc old.steps → new.due ≡ old.due - n → (IsTied old.config (suc old.steps) old → IsTied old.config (suc old.steps) new) → Leads old d new

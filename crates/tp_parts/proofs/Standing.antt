@@ -15,7 +15,7 @@ use Rattle.tp_record.specs.declared.rows.Stage.{Stage}
 use Rattle.tp_record.specs.Effects.{reserves}
 use Rattle.tp_record.specs.Lists.{is_among}
 use Rattle.tp_record.specs.Fields.{rank, submitted, is_cancelled, owes_second}
-use Rattle.tp_record.specs.Left.{mark, MayAll}
+use Rattle.tp_record.specs.Left.{mark, MayAll, asked, is_one_of}
 use Rattle.tp_left.proofs.Marks.{fits_whole}
 use Rattle.tp_record.specs.State.{State, state, slot_at, task_at, due}
 use Rattle.tp_record.specs.declared.rows.TaskRow.{TaskRow}
@@ -73,6 +73,11 @@ module _ {P : Type 0} (p : Parts P) (stands : Stands p) where
   -- a task that was released is gone, and owes no second look
   pub gone_here : (t : ℕ) → is_among t stands.released ≡ true → ((task_at (state p.config stands.history) t).place ≡ at.Gone) × ((task_at (state p.config stands.history) t).second ≡ false)
   gone_here t is = let may = stands.may.each t is in (may.gone, may.paid)
+
+  -- an ask that fits names no task that was released
+  pub named_here : (a : Ask) (d : Did) → Fits p a d → is_one_of (asked a) stands.released ≡ false
+  named_here a d fits =
+      (fits_whole p.config stands.history stands.released (unwrap_or (reserves d) 0) a d (fits stands.history stands.released stands.legal stands.may stands.shows).0).0
 
   -- a submitted task's row in the structures, where it was not released
   pub row_here : (t : ℕ) → t < submitted stands.history → is_among t stands.released ≡ false → row_of p.tasks t ≡ Some (task_at (state p.config stands.history) t)

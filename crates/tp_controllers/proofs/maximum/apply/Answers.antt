@@ -15,6 +15,6 @@ returns-clause-leads g c =
     let k = c.count_entry.ensures.rest in
     let r = c.set_maximum.ensures.rest in
     setting_leads old c.requires.stands c.set_maximum.new.self (ask.Maximum n) (did.Maximum n) c.requires.fits
-    (λ h legal given sh. (_, maximum_effect old.config h n legal given, c.set_maximum.ensures.views _ (c.count_entry.ensures.views _ sh.seen)))
+    (λ h rs legal given sh. (_, maximum_effect old.config h n legal given, c.set_maximum.ensures.views _ (c.count_entry.ensures.views _ sh.seen)))
     (cc) (cc) (cc)
     (λ tied. c.set_maximum.ensures.tied old.config (suc old.steps) (c.count_entry.ensures.tied old.config (suc old.steps) tied))

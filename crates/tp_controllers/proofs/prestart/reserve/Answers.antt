@@ -2,6 +2,7 @@ use Rattle.std.proofs.Common.{◌≡◌, ◌+◌, Some, suc, arith, sym, subst, 
 use Rattle.std.specs.Prelude.{ℕ}
 use Rattle.tp_record.specs.declared.entries.Ask.TheVariants as ask
 use Rattle.tp_record.specs.declared.entries.Did.TheVariants as did
+use Rattle.tp_record.specs.Left.{mark}
 use Rattle.tp_record.specs.State.{state, slot_at}
 use Rattle.tp_record.specs.Step.{slot_count}
 use Rattle.tp_shapes.specs.View.{view, put}
@@ -29,8 +30,8 @@ returns-clause-leads g c =
     let number : c.reserve.result.0 ≡ w.0 = c.reserve.ensures.number ∙ ap (λ p. p.slots.next) k ∙ sym c.requires.next in
     let due : new.due ≡ old.due + 3 = cc in
     leads_by old new ask.Prestart (did.Prestart (Some w)) 0 3 c.requires.fits
-    (λ h legal given sh.
-    let s = state old.config h in
+    (λ h rs legal given sh.
+    let s = mark rs (state old.config h) in
     let V : ℕ → Type 0 = λ n. Views new (record (view s) { slots = put n (Some bare) (slot_at s.slots); taken = suc (slot_count s) }) in (
       _,
       prestart_effect old.config h w legal given,
