@@ -26,7 +26,7 @@ use Rattle.tp_model.proofs.Told.{sound_legal}
 use Rattle.tp_record.specs.Left.{leave_out, left, MayRelease, MayAll, asked, is_one_of}
 use Rattle.tp_left.proofs.Answers.{IsOut, answer_spares}
 use Rattle.tp_left.proofs.After.{out_after}
-use Rattle.tp_left.proofs.Without.{is_other, due_without, counts_without, next_without, step_without}
+use Rattle.tp_left.proofs.Without.{is_other, due_without, counts_without, fitting_without, next_without, step_without}
 
 -- What is left of a state
 
@@ -97,6 +97,13 @@ step_left (t ∷ rs) s out c w a off =
     let parts = split (asked a) t rs off in
     step_without (left rs s) t (out_left rs s t out.1 out.0) c w a parts.0 ∙ step_left rs s out.2 c w a parts.1
 
+pub fitting_left : (rs : List ℕ) (s : State) → AllOut rs s → (c : Config) (w : ℕ) (a : Ask) → is_one_of (asked a) rs ≡ false → fitting c (left rs s) w a ≡ fitting c s w a
+unfolding AllOut
+fitting_left [] s out c w a off = refl
+fitting_left (t ∷ rs) s out c w a off =
+    let parts = split (asked a) t rs off in
+    fitting_without (left rs s) t (out_left rs s t out.1 out.0) c w a parts.0 ∙ fitting_left rs s out.2 c w a parts.1
+
 pub next_left : (rs : List ℕ) (s : State) → AllOut rs s → (c : Config) (w : ℕ) (a : Ask) (d : Did) → is_one_of (asked a) rs ≡ false → fitting c s w a ≡ Ok d → next (left rs s) d ≡ left rs (next s d)
 unfolding AllOut
 next_left [] s out c w a d off is = refl
@@ -141,7 +148,7 @@ fitting_unknown c s w _ is = absurd (true≢false (sym is))
 pub unknown_to : (c : Config) (s : State) (w : ℕ) (a : Ask) → is_one_of (asked a) s.left_out ≡ true → step c s w a ≡ Err UnknownTask
 unknown_to c s w a is = ap (within_room c s) (fitting_unknown c s w a is)
 
-is_left_out : (o : Option ℕ) (rs : List ℕ) (s : State) → is_one_of o rs ≡ true → is_one_of o (left rs s).left_out ≡ true
+pub is_left_out : (o : Option ℕ) (rs : List ℕ) (s : State) → is_one_of o rs ≡ true → is_one_of o (left rs s).left_out ≡ true
 is_left_out None rs s is = is
 is_left_out (Some u) rs s is = left_out_of rs s u ∙ ap (λ b. b || is_among u s.left_out) is
 
@@ -270,6 +277,9 @@ module _ (c : Config) (h : List Entry) (legal : Legal c h) where
 
   pub step_legal : (rs : List ℕ) (w : ℕ) (a : Ask) → MayAll rs (state c h) → is_one_of (asked a) rs ≡ false → step c (left rs (state c h)) w a ≡ step c (state c h) w a
   step_legal rs w a all off = step_left rs (state c h) (all_legal rs all) c w a off
+
+  pub fitting_legal : (rs : List ℕ) (w : ℕ) (a : Ask) → MayAll rs (state c h) → is_one_of (asked a) rs ≡ false → fitting c (left rs (state c h)) w a ≡ fitting c (state c h) w a
+  fitting_legal rs w a all off = fitting_left rs (state c h) (all_legal rs all) c w a off
 
   pub next_legal : (rs : List ℕ) (w : ℕ) (a : Ask) (d : Did) → MayAll rs (state c h) → is_one_of (asked a) rs ≡ false → step c (state c h) w a ≡ Ok d → next (left rs (state c h)) d ≡ left rs (next (state c h) d)
   next_legal rs w a d all off is = next_left rs (state c h) (all_legal rs all) c w a d off (fits_step w a d is)

@@ -20,9 +20,9 @@ use Rattle.tp_record.specs.Lists.{is_among}
 use Rattle.tp_record.specs.Fields.{is_queued_place}
 use Rattle.tp_record.specs.State.{State, state, task_at}
 use Rattle.tp_record.specs.Step.{Answer, Legal, is_known, of_task, step, within_room, fitting, look_answer, offer_to, offer_answer, second_answer, grow_answer, rule, verdict_answer, caller_end_answer, cancel_answer, is_refused_place, allows}
-use Rattle.tp_record.specs.Left.{left, mark, MayAll, MayRelease, asked, is_one_of}
+use Rattle.tp_record.specs.Left.{leave_out, left, mark, MayAll, MayRelease, asked, is_one_of}
 use Rattle.std.proofs.lemmas.Bool.{and_parts, not-true}
-use Rattle.tp_left.proofs.LeftOut.{fitting_unknown, step_legal, unknown_left, unknown_to, left_out_of, left_length, left_row, left_done}
+use Rattle.tp_left.proofs.LeftOut.{fitting_unknown, fitting_legal, is_left_out, step_legal, unknown_left, unknown_to, left_out_of, left_length, left_row, left_done}
 
 module _ (s : State) (rs : List ℕ) where
   task_marked : (u : TaskId) (f g : TaskRow → Answer) → is_among u.0 rs ≡ false → ((r : TaskRow) → f r ≡ g r) → of_task (mark rs s) u f ≡ of_task (mark [] s) u g
@@ -72,6 +72,14 @@ module _ (c : Config) (h : List Entry) (rs : List ℕ) where
           two : ◌≡◌ {A = Answer} (Err UnknownTask) (Ok d) → ⊥
           two e = cc
       by_named false off = (off, sym (fitting_marked (state c h) rs c w a off) ∙ is)
+
+  -- what fits is the same where their rows are blank
+  pub fitting_blank : (w : ℕ) (a : Ask) → Legal c h → MayAll rs (state c h) → fitting c (mark rs (state c h)) w a ≡ fitting c (left rs (state c h)) w a
+  fitting_blank w a legal may = by_named (is_one_of (asked a) rs) refl
+    where
+      by_named : (b : Bool) → is_one_of (asked a) rs ≡ b → fitting c (mark rs (state c h)) w a ≡ fitting c (left rs (state c h)) w a
+      by_named true named = fitting_unknown c (mark rs (state c h)) w a named ∙ sym (fitting_unknown c (left rs (state c h)) w a (is_left_out (asked a) rs (state c h) named))
+      by_named false off = fitting_marked (state c h) rs c w a off ∙ sym (fitting_legal c h legal rs w a may off)
 
   -- the step is the same where their rows are blank
   pub step_marked : (w : ℕ) (a : Ask) → Legal c h → MayAll rs (state c h) → step c (mark rs (state c h)) w a ≡ step c (left rs (state c h)) w a
@@ -130,6 +138,11 @@ module _ (c : Config) (h : List Entry) (rs : List ℕ) where
         handed_out = ap (is_among t) (sym (left_done rs (state c h))) ∙ may.handed_out;
       }
 
+-- all else of the state is the same
+pub left_else : (rs : List ℕ) (s : State) → left rs s ≡ record s { tasks = (left rs s).tasks; left_out = (left rs s).left_out; forgotten = (left rs s).forgotten }
+left_else [] s = refl
+left_else (t ∷ rs) s =
+    ap {A = State} {B = State} (λ x. record x { tasks = (leave_out t (left rs s)).tasks; left_out = (leave_out t (left rs s)).left_out; forgotten = (leave_out t (left rs s)).forgotten }) (left_else rs s)
+
 pub left_slots : (rs : List ℕ) (s : State) → (left rs s).slots ≡ s.slots
-left_slots [] s = refl
-left_slots (t ∷ rs) s = left_slots rs s
+left_slots rs s = ap (λ (x : State). x.slots) (left_else rs s)

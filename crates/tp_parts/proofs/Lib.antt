@@ -16,3 +16,4 @@ pub mod Drains
 pub mod Reading
 pub mod Rows
 pub mod Forgetting
+pub mod Leaving

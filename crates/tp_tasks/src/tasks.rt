@@ -1,6 +1,6 @@
 //! The tasks of a pool, by number.
 
-ghost use Rattle.std.specs.Prelude.{ℕ, ◌≡◌, ◌↔◌, ◌+◌, ◌-◌, ◌<◌, ◌^◌, ◌&&◌, ◌++◌, ◌∷◌, [], true, false, not, drop, length, slice_get, option_map, nat_eq, is_none, IsTrue, IsSome, IsOkUnless, IfOk, OnOk, Some, None, if◌then◌else◌};
+ghost use Rattle.std.specs.Prelude.{ℕ, ◌≡◌, ◌↔◌, ◌+◌, ◌-◌, ◌<◌, ◌^◌, ◌&&◌, ◌++◌, ◌∷◌, [], true, false, not, drop, List, length, slice_get, option_map, nat_eq, is_none, IsTrue, IsSome, IsOkUnless, IfOk, OnOk, Some, None, if◌then◌else◌};
 ghost use Rattle.tp_types.specs.declared.tasks.Fate.{Fate};
 ghost use Rattle.tp_record.specs.declared.rows.TaskRow.{TaskRow};
 ghost use Rattle.tp_record.specs.State.{fate_of, is_fate, no_row};
@@ -37,7 +37,7 @@ pub struct Tasks<P> {
 }
 
 impl<P> Tasks<P> {
-    ghost use Rattle.tp_tasks.specs.Tasks.{task_of, row_of, promise_of, number_of, payload_of, done_of, fated_of, submissions, HasNone, IsReady, IsOpenIn, IsListed, KeepsOthers, KeepsDone, KeepsFates, SetsRow, IsUnchanged};
+    ghost use Rattle.tp_tasks.specs.Tasks.{task_of, row_of, promise_of, number_of, payload_of, done_of, fated_of, submissions, HasNone, IsReady, IsOpenIn, IsListed, AreReleased, KeepsOthers, KeepsDone, KeepsFates, SetsRow, IsUnchanged};
 
     /// No tasks. It takes no memory.
     pub fn new(alloc: Global) -> Tasks<P>
@@ -336,6 +336,13 @@ impl<P> Tasks<P> {
         ensures submitted { submissions self.new ≡ submissions self.old }
     {
         table::remove(&mut self.tasks, t.0);
+    }
+
+    /// How many tasks are kept: those that were submitted and not released.
+    pub fn kept(&self) -> u32
+        ensures { (rs : List ℕ) → AreReleased self.now rs → result + length rs ≡ submissions self.now }
+    {
+        self.tasks.len() as u32
     }
 
     /// How many tasks came to this fate.
