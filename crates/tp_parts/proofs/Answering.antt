@@ -23,9 +23,24 @@ use Rattle.tp_parts.proofs.Standing.{given_fitting}
 pub marked_effect : (rs : List ℕ) (s : State) (d : Did) (v : View) (fall rise : ℕ) → Effect s d v fall rise → Effect (mark rs s) d (record v { left_out = rs }) fall rise
 marked_effect rs s d v fall rise e = record {
   reads = record {
-    rank = e.reads.rank; core = e.reads.core; maximum = e.reads.maximum; keep = e.reads.keep; core_timeout = e.reads.core_timeout; now = e.reads.now;
-    submitted = e.reads.submitted; tasks = e.reads.tasks; fates = e.reads.fates; queue = e.reads.queue; slots = e.reads.slots; taken = e.reads.taken; live = e.reads.live;
-    largest = e.reads.largest; idling = e.reads.idling; done = e.reads.done; completions = e.reads.completions; left_out = refl;
+    rank = e.reads.rank;
+    core = e.reads.core;
+    maximum = e.reads.maximum;
+    keep = e.reads.keep;
+    core_timeout = e.reads.core_timeout;
+    now = e.reads.now;
+    submitted = e.reads.submitted;
+    tasks = e.reads.tasks;
+    fates = e.reads.fates;
+    queue = e.reads.queue;
+    slots = e.reads.slots;
+    taken = e.reads.taken;
+    live = e.reads.live;
+    largest = e.reads.largest;
+    idling = e.reads.idling;
+    done = e.reads.done;
+    completions = e.reads.completions;
+    left_out = refl;
   };
   owes = e.owes;
 }
