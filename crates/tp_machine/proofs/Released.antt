@@ -16,6 +16,18 @@ use Rattle.tp_record.specs.State.{state, slot_at}
 use Rattle.tp_record.specs.Step.{Answer, Legal, Gives, Refuses, IsRefused, IsFreeTo, step}
 use Rattle.tp_left.proofs.LeftOut.{step_legal, unknown_left}
 use Rattle.tp_left.proofs.Marks.{step_marked, left_slots}
+use Rattle.tp_parts.specs.Shows.{Shows}
+use Rattle.tp_parts.proofs.Leaving.{shows_left, shows_marked}
+use Rattle.tp_machine.specs.Seen.{Seen, At, config_of}
+
+-- what a machine shows where the tasks that were released are only marked, as the proofs of steps speak of it
+pub marked : {P R : Type 0} (tells : R → List Entry → List ℕ → Type 0) (m : Seen P R) (h : List Entry) (rs : List ℕ) → At tells m h rs → Shows m.parts (mark rs (state (config_of m) h))
+marked tells m h rs at = shows_marked (config_of m) h rs at.legal at.may m.parts at.shows
+
+-- it stands where it shows that
+pub stands_at : {P R : Type 0} (tells : R → List Entry → List ℕ → Type 0) (m : Seen P R) (h : List Entry) (rs : List ℕ) → tells m.noted h rs → Legal (config_of m) h → MayAll rs (state (config_of m) h) →
+    Shows m.parts (mark rs (state (config_of m) h)) → At tells m h rs
+stands_at tells m h rs told legal may shows = record { told = told; legal = legal; may = may; shows = shows_left (config_of m) h rs legal may m.parts shows }
 
 -- a number that no slot has
 pub free_here : (c : Config) (h : List Entry) (a : Ask) → IsFreeTo (state c h) a (length (slot_rows h))

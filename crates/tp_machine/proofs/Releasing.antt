@@ -24,6 +24,7 @@ use Rattle.tp_parts.specs.Tied.{IsTied}
 use Rattle.tp_parts.proofs.Forgetting.{may_here}
 use Rattle.tp_machine.specs.Readings.{EachState}
 use Rattle.tp_machine.specs.Seen.{Seen, At, IsSound, config_of}
+use Rattle.tp_machine.proofs.Released.{marked, stands_at}
 
 -- a task that is kept where tasks are marked is so in what is left
 pub kept_left : (c : Config) (h : List Entry) (rs : List ℕ) (t : ℕ) (e : PoolError) → IsKept (mark rs (state c h)) t e → IsKept (left rs (state c h)) t e
@@ -51,24 +52,25 @@ module _ {P R : Type 0} (tells : R → List Entry → List ℕ → Type 0) (plac
   steps = ap (λ x. x.steps) rest
 
   may : (h : List Entry) (rs : List ℕ) → At tells before h rs → MayRelease (left rs (state p.config h)) t.0
-  may h rs at = may_marked p.config h rs t.0 (may_here p h rs at.legal at.shows t.0 r row owes)
+  may h rs at = may_marked p.config h rs t.0 (may_here p h rs at.legal (marked tells before h rs at) t.0 r row owes)
 
   shows : (h : List Entry) (rs : List ℕ) → At tells before h rs → Shows new (mark (t.0 ∷ rs) (state p.config h))
-  shows h rs at = record {
-    entries = at.shows.entries ∙ sym steps;
-    seen = views (view (mark rs (state p.config h))) at.shows.seen;
-    taken = at.shows.taken ∙ sym (ap (λ x. count_by is_some x.slots.slots) rest);
-    live = at.shows.live ∙ sym (ap (λ x. count_by is_live x.slots.slots) rest);
-    owed = at.shows.owed ∙ sym (ap (λ x. x.due) rest);
-  }
+  shows h rs at =
+      let shown = marked tells before h rs at in
+      record {
+        entries = shown.entries ∙ sym steps;
+        seen = views (view (mark rs (state p.config h))) shown.seen;
+        taken = shown.taken ∙ sym (ap (λ x. count_by is_some x.slots.slots) rest);
+        live = shown.live ∙ sym (ap (λ x. count_by is_live x.slots.slots) rest);
+        owed = shown.owed ∙ sym (ap (λ x. x.due) rest);
+      }
 
   stands : (h : List Entry) (rs : List ℕ) → At tells before h rs → At tells after h (t.0 ∷ rs)
-  stands h rs at = record {
-    told = free h rs at.told;
-    legal = subst (λ c. Legal c h) (sym config) at.legal;
-    may = subst (λ c. MayAll (t.0 ∷ rs) (state c h)) (sym config) (may_more rs (state p.config h) t.0 at.may (may h rs at));
-    shows = subst (λ c. Shows new (mark (t.0 ∷ rs) (state c h))) (sym config) (shows h rs at);
-  }
+  stands h rs at =
+      stands_at tells after h (t.0 ∷ rs) (free h rs at.told)
+      (subst (λ c. Legal c h) (sym config) at.legal)
+      (subst (λ c. MayAll (t.0 ∷ rs) (state c h)) (sym config) (may_more rs (state p.config h) t.0 at.may (may h rs at)))
+      (subst (λ c. Shows new (mark (t.0 ∷ rs) (state c h))) (sym config) (shows h rs at))
 
   pub released : (m : Seen P R) → before ≡ m → (h : List Entry) (rs : List ℕ) → At tells m h rs → MayRelease (left rs (state (config_of m) h)) t.0 × At tells after h (t.0 ∷ rs)
   released m is = subst (λ (x : Seen P R). (h : List Entry) (rs : List ℕ) → At tells x h rs → MayRelease (left rs (state (config_of x) h)) t.0 × At tells after h (t.0 ∷ rs)) is (λ h rs at. (may h rs at, stands h rs at))
@@ -76,7 +78,7 @@ module _ {P R : Type 0} (tells : R → List Entry → List ℕ → Type 0) (plac
   pub released_sound : IsSound tells places before → IsSound tells places after
   released_sound sound =
       let s = sound.stands in
-      let x = stands s.history s.released (record { told = sound.told; legal = s.legal; may = s.may; shows = s.shows }) in
+      let x = stands s.history s.released (stands_at tells before s.history s.released sound.told s.legal s.may s.shows) in
       let room = sound.room in
       let c = ap (λ k. k.record_limit) config in
       record {
@@ -85,7 +87,7 @@ module _ {P R : Type 0} (tells : R → List Entry → List ℕ → Type 0) (plac
           released = t.0 ∷ s.released;
           legal = x.legal;
           may = x.may;
-          shows = x.shows;
+          shows = marked tells after s.history (t.0 ∷ s.released) x;
           tied = subst (λ k. IsTied k new.steps new) (sym config) (subst (λ k. IsTied p.config k new) (sym steps) (tied _ _ s.tied));
         };
         told = x.told;
@@ -118,7 +120,7 @@ left_counted (t ∷ rs) s = let e = left_counted rs s in omega (arith, e)
 pub kept_counted : {P R : Type 0} (tells : R → List Entry → List ℕ → Type 0) (p : Parts P) (noted : R) (m : Seen P R) → record { parts = p; noted = noted } ≡ m → (n : ℕ) →
     ((rs : List ℕ) → AreReleased p.tasks rs → n + length rs ≡ p.tasks.submitted) → EachState tells m (λ s. n + length s.left_out ≡ length s.tasks)
 kept_counted tells p noted m is n counted = subst (λ x. EachState tells x (λ s. n + length s.left_out ≡ length s.tasks)) is (λ h rs at.
-    let e = counted rs (are_released p h rs at.may at.shows) in
+    let e = counted rs (are_released p h rs at.may (marked tells (record { parts = p; noted = noted }) h rs at)) in
     let tasks = left_length rs (state p.config h) in
     let out = left_counted rs (state p.config h) in
     let all = at.shows.seen.submitted in

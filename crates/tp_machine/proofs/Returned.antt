@@ -34,6 +34,7 @@ use Rattle.tp_submitters.specs.Verdicts.{Yields}
 use Rattle.tp_machine.specs.declared.answers.Judged.{Judged}
 use Rattle.tp_machine.specs.Answers.{own_payload, dropped_payload, IsPaidAt, ReturnsAt, IsReturnedAt}
 use Rattle.tp_machine.specs.Seen.{Seen, At}
+use Rattle.tp_machine.proofs.Released.{marked}
 use Rattle.tp_machine.proofs.Stopping.{handed_all}
 
 module _ {P : Type 0} (p : Parts P) (tied : IsTied p.config p.steps p) (h : List Entry) (rs : List ℕ) (legal : Legal p.config h) (may : MayAll rs (state p.config h)) (shows : Shows p (mark rs (state p.config h))) where
@@ -78,15 +79,15 @@ module _ {P R : Type 0} (tells : R → List Entry → List ℕ → Type 0) (p : 
       (j : Judged P) → j ≡ record { did = did.Verdict t v r; payload = own_payload r o; dropped = dropped_payload r o } → (h : List Entry) (rs : List ℕ) → At tells m h rs → IsReturnedAt t j h
   judged_returns tied t v r o new yields fits j same =
       subst (λ x. (h : List Entry) (rs : List ℕ) → At tells x h rs → IsReturnedAt t j h) is
-      (λ h rs at. subst (λ x. IsReturnedAt t x h) (sym same) (returned p tied h rs at.legal at.may at.shows t v r o new yields fits))
+      (λ h rs at. subst (λ x. IsReturnedAt t x h) (sym same) (returned p tied h rs at.legal at.may (marked tells (record { parts = p; noted = noted }) h rs at) t v r o new yields fits))
 
   pub removal_pays : IsTied p.config p.steps p → (t : TaskId) (o : Option P) → payload_of p.tasks t.0 ≡ o → Fits p (ask.Remove t) (did.Remove t true) → (h : List Entry) (rs : List ℕ) → At tells m h rs → IsPaidAt h (t, o)
   removal_pays tied t o was fits =
       subst (λ x. (h : List Entry) (rs : List ℕ) → At tells x h rs → IsPaidAt h (t, o)) is
       (λ h rs at. ap is_some (sym was)
-      ∙ paid_at p tied h rs at.legal at.may at.shows t.0 places.Queued (given_fitting p.config h rs (ask.Remove t) (did.Remove t true) at.legal (fits h rs at.legal at.may at.shows)) refl refl)
+      ∙ paid_at p tied h rs at.legal at.may (marked tells (record { parts = p; noted = noted }) h rs at) t.0 places.Queued (given_fitting p.config h rs (ask.Remove t) (did.Remove t true) at.legal (fits h rs at.legal at.may (marked tells (record { parts = p; noted = noted }) h rs at))) refl refl)
 
   pub stop_pays : IsTied p.config p.steps p → (first handed : List (TaskId × Option P)) → first ≡ [] → handed ≡ first ++ handed_back p → (h : List Entry) (rs : List ℕ) → At tells m h rs → All (IsPaidAt h) handed
   stop_pays tied first handed none are =
       subst (λ x. (h : List Entry) (rs : List ℕ) → At tells x h rs → All (IsPaidAt h) handed) is
-      (λ h rs at. subst (All (IsPaidAt h)) (sym (handed_all p first handed none are)) (all_paid p tied h rs at.legal at.may at.shows))
+      (λ h rs at. subst (All (IsPaidAt h)) (sym (handed_all p first handed none are)) (all_paid p tied h rs at.legal at.may (marked tells (record { parts = p; noted = noted }) h rs at)))

@@ -1,4 +1,4 @@
--- Structures that show a state of which tasks are marked show what is left of it too.
+-- Structures that show a state of which tasks are marked show what is left of it too, and the other way.
 use Rattle.std.proofs.Common.{◌≡◌, ℕ, Bool, true, false, not, ◌||◌, ◌&&◌, cond, List, [], ◌∷◌, length, Some, arith, refl, sym, ap, ◌∙◌}
 use mathlib.Core.Path.{ap₂}
 use Rattle.std.specs.Prelude.{◌==◌, filter, nat_lt, count_by, is_some}
@@ -57,10 +57,16 @@ module _ (c : Config) (h : List Entry) (rs : List ℕ) (legal : Legal c h) (may 
       ap (filter (λ t. is_of_group g (task_at (left rs s) t).kind)) (ap (λ (x : State). x.done) (left_else rs s))
       ∙ filter_same _ _ s.done (λ t done. ap (λ (r : TaskRow). is_of_group g r.kind) (left_row rs s t (kept_done t done (is_among t rs) refl)))
 
-  module _ {P : Type 0} (p : Parts P) (sh : Shows p (mark rs s)) where
-    pub shows_left : Shows p (left rs s)
-    shows_left =
-        let e = left_else rs s in
+  -- the same fields
+  e : left rs s ≡ record s { tasks = (left rs s).tasks; left_out = (left rs s).left_out; forgotten = (left rs s).forgotten }
+  e = left_else rs s
+
+  among_left : (t : ℕ) → is_among t (left rs s).left_out ≡ is_among t rs
+  among_left t = left_out_of rs s t ∙ or_false (is_among t rs)
+
+  module _ {P : Type 0} (p : Parts P) where
+    pub shows_left : Shows p (mark rs s) → Shows p (left rs s)
+    shows_left sh =
         let n = left_length rs s in
         record {
           entries = ap (λ (x : State). x.steps) e ∙ sh.entries;
@@ -76,7 +82,7 @@ module _ (c : Config) (h : List Entry) (rs : List ℕ) (legal : Legal c h) (may 
                 let known : is_known (mark rs s) t ≡ true = sym (known_marked c h rs t) ∙ held in
                 sh.seen.rows t known ∙ ap (λ r. Some r) (sym (row_marked c h rs t known));
             unknown = λ t off. sh.seen.unknown t (sym (known_marked c h rs t) ∙ off);
-            issued = λ t among. let below = sh.seen.issued t (sym (left_out_of rs s t ∙ or_false (is_among t rs)) ∙ among) in omega (arith, below, n);
+            issued = λ t among. let below = sh.seen.issued t (sym (among_left t) ∙ among) in omega (arith, below, n);
             fates = λ f. fated_left f ∙ sh.seen.fates f;
             queued = ap (λ (x : State). x.queue) e ∙ sh.seen.queued;
             seats = λ w. ap (λ (x : State). slot_at x.slots w) e ∙ sh.seen.seats w;
@@ -88,4 +94,34 @@ module _ (c : Config) (h : List Entry) (rs : List ℕ) (legal : Legal c h) (may 
           taken = ap (λ (x : State). count_by is_some x.slots) e ∙ sh.taken;
           live = ap (λ (x : State). count_by is_live x.slots) e ∙ sh.live;
           owed = due_legal c h legal rs may ∙ sh.owed;
+        }
+
+    -- and the other way
+    pub shows_marked : Shows p (left rs s) → Shows p (mark rs s)
+    shows_marked sh =
+        let n = left_length rs s in
+        record {
+          entries = ap (λ (x : State). x.steps) (sym e) ∙ sh.entries;
+          seen = record {
+            rank = ap (λ (x : State). x.rank) (sym e) ∙ sh.seen.rank;
+            core_size = ap (λ (x : State). x.core) (sym e) ∙ sh.seen.core_size;
+            maximum_size = ap (λ (x : State). x.maximum) (sym e) ∙ sh.seen.maximum_size;
+            keep_alive = ap (λ (x : State). x.keep) (sym e) ∙ sh.seen.keep_alive;
+            times_out = ap (λ (x : State). x.core_timeout) (sym e) ∙ sh.seen.times_out;
+            present = ap (λ (x : State). x.now) (sym e) ∙ sh.seen.present;
+            submitted = sym n ∙ sh.seen.submitted;
+            rows = λ t held. sh.seen.rows t (known_marked c h rs t ∙ held) ∙ ap (λ r. Some r) (row_marked c h rs t held);
+            unknown = λ t off. sh.seen.unknown t (known_marked c h rs t ∙ off);
+            issued = λ t among. let below = sh.seen.issued t (among_left t ∙ among) in omega (arith, below, n);
+            fates = λ f. sym (fated_left f) ∙ sh.seen.fates f;
+            queued = ap (λ (x : State). x.queue) (sym e) ∙ sh.seen.queued;
+            seats = λ w. ap (λ (x : State). slot_at x.slots w) (sym e) ∙ sh.seen.seats w;
+            order = ap (λ (x : State). x.idling) (sym e) ∙ sh.seen.order;
+            done = λ g. sym (done_left g) ∙ sh.seen.done g;
+            completed = ap (λ (x : State). x.completions) (sym e) ∙ sh.seen.completed;
+            most = ap (λ (x : State). x.largest) (sym e) ∙ sh.seen.most;
+          };
+          taken = ap (λ (x : State). count_by is_some x.slots) (sym e) ∙ sh.taken;
+          live = ap (λ (x : State). count_by is_live x.slots) (sym e) ∙ sh.live;
+          owed = sym (due_legal c h legal rs may) ∙ sh.owed;
         }

@@ -1,17 +1,18 @@
 use Rattle.std.proofs.Common.{refl, sym, ◌∙◌}
 use Rattle.tp_parts.proofs.Forgetting.{unknown_here, kept_here, ended_here, unqueued_here}
+use Rattle.tp_machine.proofs.Released.{marked}
 use Rattle.tp_machine.proofs.Releasing.{kept_at, released, released_sound}
 use Rattle.tp_machine.proofs.machine.Machine+P+Tally.release.Goals as goal
 
 pub returns-in_default-clause-refused : goal.returns-in_default-clause-refused
 returns-in_default-clause-refused g c =
     kept_at _ c.self.inside.parts c.self.inside.noted c.args.self.now c.args.t.0 _ c.self.view_is
-    (λ h rs at. unknown_here c.self.inside.parts h rs at.shows c.args.t.0 (sym c.row.ensures ∙ c.in_default.is))
+    (λ h rs at. unknown_here c.self.inside.parts h rs (marked _ _ h rs at) c.args.t.0 (sym c.row.ensures ∙ c.in_default.is))
 
 pub returns-then-not-owes_nothing-clause-refused : goal.returns-then-not-owes_nothing-clause-refused
 returns-then-not-owes_nothing-clause-refused g c =
     kept_at _ c.self.inside.parts c.self.inside.noted c.args.self.now c.args.t.0 _ c.self.view_is
-    (λ h rs at. kept_here c.self.inside.parts h rs at.legal at.shows c.args.t.0 c.in-Some.row (sym c.row.ensures ∙ c.in-Some.is) (λ owes. c.if-not-owes_nothing.true (c.owes_nothing.ensures.1 owes)))
+    (λ h rs at. kept_here c.self.inside.parts h rs at.legal (marked _ _ h rs at) c.args.t.0 c.in-Some.row (sym c.row.ensures ∙ c.in-Some.is) (λ owes. c.if-not-owes_nothing.true (c.owes_nothing.ensures.1 owes)))
 
 pub forget_task-requires : goal.forget_task-requires
 forget_task-requires g c =
