@@ -14,7 +14,7 @@ use Rattle.tp_record.specs.declared.entries.Did.TheVariants as did
 use Rattle.tp_record.specs.declared.recorders.Full.{Full}
 use Rattle.tp_record.specs.Effects.{Outcome}
 use Rattle.tp_record.specs.State.{State, state}
-use Rattle.tp_record.specs.Step.{Gives, IsRefused, fitting}
+use Rattle.tp_record.specs.Step.{Gives, IsRefused, is_known, fitting}
 use Rattle.tp_model.proofs.Weak.{within, submits_next}
 use Rattle.tp_parts.specs.Payloads.{PutsIn}
 use Rattle.tp_machine.specs.declared.steps.Stepped.{Stepped}
@@ -41,9 +41,9 @@ quiet c s h a (did.Stop n) gives other b = absurd (other (stop_asked c s _ a n (
 quiet c s h a _ gives other b = refl
 
 -- the tasks that the machine hands back are those of the history's queue
-module _ {P R : Type 0} (tells : R → List Entry → Type 0) (m : Seen P R) (h : List Entry) (at : At tells m h) (c : Config) (s : State) where
+module _ {P R : Type 0} (tells : R → List Entry → List ℕ → Type 0) (m : Seen P R) (h : List Entry) (at : At tells m h []) (c : Config) (s : State) where
   drains : (a : Ask) (x : Stepped P) → IsAnswer a x → Gives c s a (did_of a x) → IsInOrder tells m x → handed_back x ≡ drained (config_of m) h (did_of a x)
-  drains a (stepped.Stop handed) answer gives order = order h at
+  drains a (stepped.Stop handed) answer gives order = order h [] at
   drains a (stepped.Submit t d) answer gives order = sym (quiet c s h a _ gives (λ e. let no = sym e ∙ answer.2 in cc) (config_of m))
   drains a (stepped.Look d) answer gives order = sym (quiet c s h a _ gives (λ e. let no = sym e ∙ answer.1 in cc) (config_of m))
   drains a (stepped.Offer d) answer gives order = sym (quiet c s h a _ gives (λ e. let no = sym e ∙ answer.1 in cc) (config_of m))
@@ -135,36 +135,40 @@ module _ (m n : Seen (Unit {0}) Full) (os : Outcomes) (c : Config) (s : State) w
   promised_after a (stepped.Prestart w) (Some o) promised paid answer gives moves law = let no = sym paid.2 ∙ answer in absurd cc
   promised_after a (stepped.Stop handed) (Some o) promised paid answer gives moves law = let no = sym paid.2 ∙ answer.0 in absurd cc
 
+-- what a recorder that keeps every entry tells
+abbrev pub told_whole : Full → List Entry → List ℕ → Type 0
+told_whole f h rs = (reverse f.entries ≡ h) × (rs ≡ [])
+
 abbrev pub playing : Seen (Unit {0}) Full → Outcomes → Playing
 playing m os = record { config = config_of m; history = reverse m.noted.entries; outcomes = os }
 
 -- a machine whose record is told whole, seen from outside
-module _ (tells : Full → List Entry → Type 0) (whole : (f : Full) (h : List Entry) → tells f h → reverse f.entries ≡ h) (m : Seen (Unit {0}) Full) (os : Outcomes) (p : Playing)
-    (is : playing m os ≡ p) (at : At tells m (reverse m.noted.entries)) where
+module _ (tells : Full → List Entry → List ℕ → Type 0) (whole : (f : Full) (h : List Entry) → tells f h [] → reverse f.entries ≡ h) (m : Seen (Unit {0}) Full) (os : Outcomes) (p : Playing)
+    (is : playing m os ≡ p) (at : At tells m (reverse m.noted.entries) []) where
   asked : (l : ScenarioLine) (a : Ask) → EachState tells m (λ s. a ≡ ask_of s os l) → a ≡ ask_of (state p.config p.history) p.outcomes l
-  asked l a asks = subst (λ (q : Playing). a ≡ ask_of (state q.config q.history) q.outcomes l) is (asks (reverse m.noted.entries) at)
+  asked l a asks = subst (λ (q : Playing). a ≡ ask_of (state q.config q.history) q.outcomes l) is (asks (reverse m.noted.entries) [] at)
 
   pub given : (l : ScenarioLine) (a : Ask) (d : Did) (n : Seen (Unit {0}) Full) → EachState tells m (λ s. a ≡ ask_of s os l) → IsStep tells m n 0 a d →
       Answers p.config p.history (ask_of (state p.config p.history) p.outcomes l) (Ok (record { by = 0; ask = a; did = d }))
   given l a d n asks step =
       subst (λ b. Answers p.config p.history b (Ok (record { by = 0; ask = a; did = d }))) (asked l a asks)
-      (refl, subst (λ (q : Playing). Gives q.config (state q.config q.history) a d) is (step.gives (reverse m.noted.entries) at))
+      (refl, subst (λ (q : Playing). Gives q.config (state q.config q.history) a d) is (step.gives (reverse m.noted.entries) [] at))
 
   pub refused : (l : ScenarioLine) (a : Ask) (e : PoolError) → EachState tells m (λ s. a ≡ ask_of s os l) → IsRefusedBy tells m a e → IsRefused p.config (state p.config p.history) (ask_of (state p.config p.history) p.outcomes l) e
   refused l a e asks says =
-      subst (λ b. IsRefused p.config (state p.config p.history) b e) (asked l a asks) (subst (λ (q : Playing). IsRefused q.config (state q.config q.history) a e) is (refused_as (config_of m) (state (config_of m) (reverse m.noted.entries)) a e (says (reverse m.noted.entries) at)))
+      subst (λ b. IsRefused p.config (state p.config p.history) b e) (asked l a asks) (subst (λ (q : Playing). IsRefused q.config (state q.config q.history) a e) is (refused_as (config_of m) (state (config_of m) (reverse m.noted.entries)) a e (says (reverse m.noted.entries) [] at)))
 
   pub back : (a : Ask) (x : Stepped (Unit {0})) (n : Seen (Unit {0}) Full) → IsAnswer a x → IsStep tells m n 0 a (did_of a x) → IsInOrder tells m x → handed_back x ≡ drained p.config p.history (did_of a x)
   back a x n answer step order =
-      drains tells m (reverse m.noted.entries) at (config_of m) (state (config_of m) (reverse m.noted.entries)) a x answer (step.gives (reverse m.noted.entries) at) order
+      drains tells m (reverse m.noted.entries) at (config_of m) (state (config_of m) (reverse m.noted.entries)) a x answer (step.gives (reverse m.noted.entries) [] at) order
       ∙ ap (λ (q : Playing). drained q.config q.history (did_of a x)) is
 
   -- the machine stands at its record again
-  pub stands_after : (n : Seen (Unit {0}) Full) (a : Ask) (d : Did) → IsStep tells m n 0 a d → At tells n (reverse n.noted.entries)
-  stands_after n a d step = let w = step.writes (reverse m.noted.entries) at in subst (At tells n) (sym (whole n.noted _ w.told)) w
+  pub stands_after : (n : Seen (Unit {0}) Full) (a : Ask) (d : Did) → IsStep tells m n 0 a d → At tells n (reverse n.noted.entries) []
+  stands_after n a d step = let w = step.writes (reverse m.noted.entries) [] at in subst (λ h. At tells n h []) (sym (whole n.noted _ w.told)) w
 
   pub promised_step : (n : Seen (Unit {0}) Full) (a : Ask) (x : Stepped (Unit {0})) (o : Option Outcome) (ys : Outcomes) → ArePromised m os → IsPaid a (submission o) → IsAnswer a x → IsStep tells m n 0 a (did_of a x) →
-      Moves x a (submission o) m.parts.tasks n.parts.tasks → EachState tells m (λ s. (t : ℕ) → is_some (promise m t) ≡ nat_lt t (length s.tasks)) → ys ≡ os ++ option_to_list o → ArePromised n ys
+      Moves x a (submission o) m.parts.tasks n.parts.tasks → EachState tells m (λ s. (t : ℕ) → is_some (promise m t) ≡ is_known s t) → ys ≡ os ++ option_to_list o → ArePromised n ys
   promised_step n a x o ys promised paid answer step moves law grows =
       let h = reverse m.noted.entries in
-      subst (λ zs. ArePromised n zs) (sym grows) (promised_after m n os (config_of m) (state (config_of m) h) a x o promised paid answer (step.gives h at) moves (law h at))
+      subst (λ zs. ArePromised n zs) (sym grows) (promised_after m n os (config_of m) (state (config_of m) h) a x o promised paid answer (step.gives h [] at) moves (law h [] at))

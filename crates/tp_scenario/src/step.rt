@@ -35,7 +35,7 @@ pub struct Runner {
 }
 
 impl Model for Runner {
-    ghost use Rattle.std.specs.Prelude.{reverse};
+    ghost use Rattle.std.specs.Prelude.{[], reverse};
     ghost use Rattle.tp_machine.specs.Seen.{At, config_of};
     ghost use Rattle.tp_scenario.specs.Answered.{Playing, ArePromised};
 
@@ -43,7 +43,7 @@ impl Model for Runner {
 
     ghost view = { λ r. record { config = config_of r.machine; history = reverse r.machine.noted.entries; outcomes = r.outcomes.items } };
 
-    ghost invariant = { λ r. At ⟦<Full as Recorder>⟧.tells r.machine (reverse r.machine.noted.entries) × ArePromised r.machine r.outcomes.items };
+    ghost invariant = { λ r. At ⟦<Full as Recorder>⟧.tells r.machine (reverse r.machine.noted.entries) [] × ArePromised r.machine r.outcomes.items };
 }
 
 /// What a job promises that ends with this outcome.

@@ -3,7 +3,7 @@ use Rattle.std.specs.Option.{option_to_list}
 use Rattle.tp_machine.specs.Steps.{IsStep}
 use Rattle.tp_machine.specs.Stepped.{IsPaid, Moves}
 use Rattle.tp_scenario.specs.Answered.{ArePromised, submission}
-use Rattle.tp_scenario.proofs.StepLaws.{playing, given, refused, back, stands_after, promised_step}
+use Rattle.tp_scenario.proofs.StepLaws.{told_whole, playing, given, refused, back, stands_after, promised_step}
 use Rattle.tp_scenario.proofs.step.Runner.step.Goals as goal
 
 pub invariant_of-self-in-Ok : goal.invariant_of-self-in-Ok
@@ -16,8 +16,8 @@ invariant_of-self-in-Ok c =
     let os = c.as_slice.result.now in
     let same : os ≡ c.self.inside.outcomes.items = c.as_slice.ensures.value ∙ c.make_room.ensures.same in
     let is = ap (playing m) same ∙ c.self.view_is in (
-      stands_after (λ f h. reverse f.entries ≡ h) (λ f h told. told) m os c.args.self.now is c.self.invariant.0 n a _ c.in-Ok.ensures.step,
-      promised_step (λ f h. reverse f.entries ≡ h) (λ f h told. told) m os c.args.self.now is c.self.invariant.0 n a x o c.keep.new.outcomes.items
+      stands_after told_whole (λ f h told. told.0) m os c.args.self.now is c.self.invariant.0 n a _ c.in-Ok.ensures.step,
+      promised_step told_whole (λ f h told. told.0) m os c.args.self.now is c.self.invariant.0 n a x o c.keep.new.outcomes.items
           (subst (ArePromised m) (sym same) c.self.invariant.1)
           (subst (λ y. IsPaid a (submission y)) (sym c.outcome_said-outcome.ensures) c.ask_of-ask.ensures.paid)
           c.in-Ok.ensures.answer c.in-Ok.ensures.step
@@ -31,9 +31,9 @@ returns-in-Ok-clause-answers c =
     let m = c.self.inside.machine in
     let os = c.as_slice.result.now in
     let same : os ≡ c.self.inside.outcomes.items = c.as_slice.ensures.value ∙ c.make_room.ensures.same in
-    given (λ f h. reverse f.entries ≡ h) (λ f h told. told) m os c.args.self.now (ap (playing m) same ∙ c.self.view_is) c.self.invariant.0
+    given told_whole (λ f h told. told.0) m os c.args.self.now (ap (playing m) same ∙ c.self.view_is) c.self.invariant.0
     c.args.line.now c.ask_of-ask.result c.did-did.result c.step.new.self c.ask_of-ask.ensures.asks
-    (subst (λ d. IsStep (λ f h. reverse f.entries ≡ h) m c.step.new.self 0 c.ask_of-ask.result d) (sym c.did-did.ensures) c.in-Ok.ensures.step)
+    (subst (λ d. IsStep told_whole m c.step.new.self 0 c.ask_of-ask.result d) (sym c.did-did.ensures) c.in-Ok.ensures.step)
 
 pub returns-in-Ok-clause-back : goal.returns-in-Ok-clause-back
 returns-in-Ok-clause-back c =
@@ -41,7 +41,7 @@ returns-in-Ok-clause-back c =
     let os = c.as_slice.result.now in
     let same : os ≡ c.self.inside.outcomes.items = c.as_slice.ensures.value ∙ c.make_room.ensures.same in
     rw c.did-did.ensures
-    (back (λ f h. reverse f.entries ≡ h) (λ f h told. told) m os c.args.self.now (ap (playing m) same ∙ c.self.view_is) c.self.invariant.0
+    (back told_whole (λ f h told. told.0) m os c.args.self.now (ap (playing m) same ∙ c.self.view_is) c.self.invariant.0
     c.ask_of-ask.result c.in-Ok.stepped c.step.new.self c.in-Ok.ensures.answer c.in-Ok.ensures.step c.in-Ok.ensures.order)
 
 pub returns-in-Err-clause-answers : goal.returns-in-Err-clause-answers
@@ -49,5 +49,5 @@ returns-in-Err-clause-answers c =
     let m = c.self.inside.machine in
     let os = c.as_slice.result.now in
     let same : os ≡ c.self.inside.outcomes.items = c.as_slice.ensures.value ∙ c.make_room.ensures.same in
-    refused (λ f h. reverse f.entries ≡ h) (λ f h told. told) m os c.args.self.now (ap (playing m) same ∙ c.self.view_is) c.self.invariant.0
+    refused told_whole (λ f h told. told.0) m os c.args.self.now (ap (playing m) same ∙ c.self.view_is) c.self.invariant.0
     c.args.line.now c.ask_of-ask.result c.in-Err.error c.ask_of-ask.ensures.asks c.in-Err.ensures.refused
