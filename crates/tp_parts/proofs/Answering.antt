@@ -1,5 +1,5 @@
 -- The answers of steps that look at the room.
-use Rattle.std.proofs.Common.{◌≡◌, ℕ, Bool, true, false, List, Ok, Err, cond, sym, ap, ◌∙◌}
+use Rattle.std.proofs.Common.{◌≡◌, ℕ, Bool, true, false, List, Ok, Err, cond, refl, sym, ap, ◌∙◌}
 use Rattle.std.specs.Prelude.{unwrap_or, IfSome}
 use Rattle.tp_types.specs.declared.refusals.PoolError.TheVariants.{BookFull}
 use Rattle.tp_record.specs.declared.entries.Entry.{Entry}

@@ -1,7 +1,7 @@
 -- What is read of a task that is to be forgotten is what the state says.
-use Rattle.std.proofs.Common.{◌≡◌, ℕ, ◌<◌, Bool, true, false, not, ◌&&◌, List, [], ◌∷◌, length, Option, Some, None, refl, arith, sym, ap, ◌∙◌, inl, inr}
+use Rattle.std.proofs.Common.{◌≡◌, ℕ, zero, suc, ◌<◌, Bool, true, false, not, ◌&&◌, ◌||◌, List, [], ◌∷◌, length, Option, Some, None, refl, arith, sym, ap, ◌∙◌, inl, inr}
 use mathlib.Core.Path.{ap₂}
-use Rattle.std.specs.Prelude.{is_some, is_none, unwrap_or, nat_lt, if◌then◌else◌}
+use Rattle.std.specs.Prelude.{◌==◌, slice_index_or, is_some, is_none, unwrap_or, nat_lt, if◌then◌else◌}
 use Rattle.std.specs.List.{Contains}
 use Rattle.std.proofs.lemmas.Bool.{and_parts, ltb-true, true≢false, eq-eqb}
 use Rattle.std.proofs.lemmas.Bool.Decides.{nat_tests}
@@ -29,10 +29,9 @@ use Rattle.tp_model.proofs.Told.{told_legal}
 use Rattle.tp_queue.specs.Queues.{waiting_of}
 use Rattle.tp_tasks.specs.Tasks.{row_of, done_of, IsListed}
 use Rattle.tp_parts.specs.declared.parts.Parts.{Parts}
-use Rattle.tp_parts.specs.Shows.{Shows}
+use Rattle.tp_parts.specs.Shows.{Shows, numbers}
 use Rattle.tp_parts.specs.Releases.{OwesNothing, IsKept}
 use Rattle.tp_parts.proofs.Reading.{row_shown}
-use Rattle.tp_parts.proofs.Purging.{waits_at}
 
 -- what is done is of a group
 grouped_by : (d : Did) (t : ℕ) (kind_of : ℕ → Kind) (cancelled_of : ℕ → Bool) (was : Bool) → (was ≡ true → is_group (kind_of t) ≡ true) →
@@ -42,6 +41,19 @@ grouped_by d t kind_of cancelled_of was before is = grind (arith, nat_tests)
 done_grouped : (h : List Entry) (t : ℕ) → is_done h t ≡ true → is_group (kind h t) ≡ true
 done_grouped [] t is = absurd (true≢false (sym is))
 done_grouped (e ∷ h) t is = grouped_by e.did t (kind h) (is_cancelled h) (is_done h t) (done_grouped h t) is
+
+-- who waits at a place waits
+waits_at : (xs : List (TaskId × ℕ)) (x : TaskId × ℕ) → Contains xs x → is_among x.0.0 (numbers xs) ≡ true
+waits_at [] x has = absurd (omega (arith, has.1))
+waits_at (y ∷ ys) x has = at_index has.0 has.1 has.2 (waits_at ys x)
+  where
+    or_true : (b : Bool) → (b || true) ≡ true
+    or_true true = refl
+    or_true false = refl
+
+    at_index : (k : ℕ) → k < suc (length ys) → slice_index_or (y ∷ ys) k x ≡ x → (Contains ys x → is_among x.0.0 (numbers ys) ≡ true) → is_among x.0.0 (numbers (y ∷ ys)) ≡ true
+    at_index zero within found rest = rw (eq-eqb x.0.0 y.0.0 (ap (λ z. z.0.0) (sym found))) refl
+    at_index (suc k) within found rest = rw (rest (k, omega arith, found)) (or_true (x.0.0 == y.0.0))
 
 module _ {P : Type 0} (p : Parts P) (h : List Entry) (rs : List ℕ) (legal : Legal p.config h) (sh : Shows p (mark rs (state p.config h))) (t : ℕ) (r : TaskRow) (row : row_of p.tasks t ≡ Some r) where
   shown : (is_known (mark rs (state p.config h)) t ≡ true) × (task_at (state p.config h) t ≡ r)

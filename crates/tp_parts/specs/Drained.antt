@@ -1,5 +1,5 @@
 -- The tasks that a stop hands back.
-use Rattle.std.specs.Prelude.{ℕ, ◌≡◌, ◌+◌, true, List, [], map, drop, sum_by, Option, Some, None, if◌then◌else◌}
+use Rattle.std.specs.Prelude.{ℕ, ◌≡◌, ◌+◌, true, List, [], ◌∷◌, map, drop, sum_by, Option, Some, None, if◌then◌else◌}
 use Rattle.tp_types.specs.declared.ids.TaskId.{TaskId}
 use Rattle.tp_types.specs.declared.tasks.Fate.{Fate}
 use Rattle.tp_types.specs.declared.tasks.Fate.TheVariants as fate
