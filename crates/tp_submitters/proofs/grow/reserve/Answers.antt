@@ -11,7 +11,7 @@ use Rattle.tp_shapes.specs.View.{view, put}
 use Rattle.tp_shapes.proofs.Rows.{moved_to, for_maximum}
 use Rattle.tp_shapes.proofs.Submitters.Grow.{grow_reserve}
 use Rattle.tp_parts.proofs.Ties.{tied_more}
-use Rattle.tp_parts.proofs.Standing.{entry_here, given_here}
+use Rattle.tp_parts.proofs.Standing.{entry_here, given_here, known_here}
 use Rattle.tp_parts.proofs.Leading.{leads_by}
 use Rattle.tp_parts.proofs.Slots.{seats_left, views_numbered}
 use Rattle.tp_submitters.proofs.grow.reserve.Goals as goal
@@ -59,3 +59,10 @@ returns-clause-leads g c =
     ))
     (cc) (cc) (omega (arith, due, here))
     (c.reserve.ensures.tied old.config (suc old.steps) (c.place_task.ensures.tied old.config (suc old.steps) (c.count_entry.ensures.tied old.config (suc old.steps) (tied_more old.config old.steps old stands.tied))))
+
+pub place_task-requires : goal.place_task-requires
+place_task-requires g c =
+    let old = c.args.parts.now in
+    let stands = c.requires.stands in
+    let given = given_here old stands (ask.Grow c.args.t) (did.Grow c.args.t (grown.Reserve c.args.w)) c.requires.fits in
+    record { known = known_here old stands c.count_entry.new.self.tasks c.args.t.0 at.ToGrow (at.Held c.args.w) (ap (λ p. p.tasks) c.count_entry.ensures.rest) given.0 refl refl }

@@ -11,7 +11,7 @@ use Rattle.tp_shapes.specs.View.{view, put}
 use Rattle.tp_shapes.proofs.Rows.{moved_to, for_core}
 use Rattle.tp_shapes.proofs.Submitters.Look.{look_reserve}
 use Rattle.tp_parts.proofs.Slots.{seats_left, views_numbered}
-use Rattle.tp_parts.proofs.Standing.{entry_here, given_here}
+use Rattle.tp_parts.proofs.Standing.{entry_here, given_here, known_here}
 use Rattle.tp_parts.proofs.Leading.{leads_from}
 use Rattle.tp_submitters.proofs.look.reserve.Goals as goal
 
@@ -56,3 +56,10 @@ returns-clause-leads g c =
     (ap (λ p. p.steps) r.rest ∙ ap (λ p. p.steps) m.rest ∙ ap (λ p. p.steps) k.rest)
     (ap (λ p. p.due) r.rest ∙ ap (λ p. p.due) m.rest ∙ ap (λ p. p.due) k.rest)
     (λ tied. r.tied _ _ (m.tied _ _ (k.tied _ _ tied)))
+
+pub place_task-requires : goal.place_task-requires
+place_task-requires g c =
+    let old = c.args.parts.now in
+    let stands = c.requires.stands in
+    let given = given_here old stands (ask.Look c.args.t) (did.Look c.args.t (looked.Reserve c.args.w)) c.requires.fits in
+    record { known = known_here old stands c.count_entry.new.self.tasks c.args.t.0 at.Looking (at.Held c.args.w) (ap (λ p. p.tasks) c.count_entry.ensures.rest) given.0 refl refl }

@@ -14,9 +14,11 @@ use Rattle.tp_shapes.proofs.Submitters.Offer.{offer_queued}
 use Rattle.tp_parts.specs.Offers.{HasRoom}
 use Rattle.tp_parts.specs.Shows.{Views, numbers}
 use Rattle.tp_parts.proofs.Ties.{tied_more}
-use Rattle.tp_parts.proofs.Standing.{entry_here, few_steps, given_here}
+use Rattle.tp_parts.proofs.Standing.{entry_here, few_steps, given_here, task_here}
 use Rattle.tp_parts.proofs.Leading.{leads_from}
 use Rattle.tp_submitters.proofs.Offering.{absent_here, room_here}
+use Rattle.tp_tasks.specs.Tasks.{row_of}
+use Rattle.tp_parts.specs.Tied.{is_before}
 use Rattle.tp_submitters.proofs.offer.queue.Goals as goal
 
 -- what is seen with the task in the queue
@@ -69,3 +71,11 @@ returns-clause-leads g c =
     (λ h rs legal given sh. (_, offer_queued old.config h c.args.t legal given, subst (λ b. Views c.enqueue.new.self (joined b (mark rs (state old.config h)) c.args.t.0)) ranked (m.views _ (k.views _ sh.seen))))
     refl (ap (λ p. p.config) m.rest ∙ ap (λ p. p.config) k.rest) (ap (λ p. p.steps) m.rest ∙ ap (λ p. p.steps) k.rest) (ap (λ p. p.due) m.rest ∙ ap (λ p. p.due) k.rest)
     (λ tied. m.tied old.config (suc old.steps) (k.tied _ _ tied) (omega (arith, offers, same)))
+
+pub enqueue-requires-clause-known : goal.enqueue-requires-clause-known
+enqueue-requires-clause-known g c =
+    let old = c.args.parts.now in
+    let stands = c.requires.stands in
+    let given = given_here old stands (ask.Offer c.args.t) (did.Offer c.args.t offered.Queued) c.requires.fits in
+    let there = task_here old stands c.args.t.0 at.ToOffer given.0 refl in
+    (task_at (state old.config stands.history) c.args.t.0, ap (λ p. row_of p.tasks c.args.t.0) c.count_entry.ensures.rest ∙ there.0, ap is_before there.1)

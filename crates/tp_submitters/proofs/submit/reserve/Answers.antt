@@ -16,6 +16,7 @@ use Rattle.tp_parts.proofs.Ties.{tied_more}
 use Rattle.tp_parts.proofs.Standing.{few_steps, given_here}
 use Rattle.tp_parts.proofs.Leading.{leads_by}
 use Rattle.tp_parts.proofs.Slots.{seats_left, views_numbered}
+use Rattle.tp_parts.proofs.Few.{few_tasks}
 use Rattle.tp_submitters.proofs.submit.reserve.Goals as goal
 
 pub count_rising_entry-requires : goal.count_rising_entry-requires
@@ -58,3 +59,9 @@ returns-clause-leads g c =
     ))
     (ap (λ p. p.config) r ∙ ap (λ p. p.config) m ∙ ap (λ p. p.config) k) (ap (λ p. p.steps) r ∙ ap (λ p. p.steps) m ∙ ap (λ p. p.steps) k) (omega (arith, due))
     (c.reserve.ensures.tied old.config (suc old.steps) (c.put_task-t.ensures.tied old.config (suc old.steps) (c.count_rising_entry.ensures.tied old.config (suc old.steps) (tied_more old.config old.steps old c.requires.stands.tied))))
+
+pub put_task-t-requires-clause-few : goal.put_task-t-requires-clause-few
+put_task-t-requires-clause-few g c =
+    let few = few_tasks c.args.parts.now c.requires.stands in
+    let same = ap (λ p. submissions p.tasks) c.count_rising_entry.ensures.rest in
+    omega (arith, few, same)

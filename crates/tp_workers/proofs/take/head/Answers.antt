@@ -4,7 +4,7 @@ use Rattle.tp_types.specs.declared.tasks.Place.TheVariants as at
 use Rattle.tp_record.specs.declared.entries.Ask.TheVariants as ask
 use Rattle.tp_record.specs.declared.entries.Did.TheVariants as did
 use Rattle.tp_record.specs.declared.entries.Took.TheVariants as took
-use Rattle.tp_record.specs.State.{task_at, state}
+use Rattle.tp_record.specs.State.{task_at, state, slot_at}
 use Rattle.tp_tasks.specs.Tasks.{row_of}
 use Rattle.tp_shapes.proofs.Workers.Take.{take_head}
 use Rattle.tp_parts.specs.Tied.{is_before}
@@ -12,6 +12,7 @@ use Rattle.tp_parts.proofs.Standing.{entry_here, given_here, task_here}
 use Rattle.tp_parts.proofs.Leading.{leads_from}
 use Rattle.tp_workers.proofs.Falls.{falls_at_take}
 use Rattle.tp_workers.proofs.Waiting.{taking_row}
+use Rattle.tp_slots.specs.Table.{is_awake}
 use Rattle.tp_workers.proofs.take.head.Goals as goal
 
 pub count_entry-requires : goal.count_entry-requires
@@ -56,3 +57,11 @@ returns-clause-leads g c =
     (ap (λ p. p.steps) r.rest ∙ ap (λ p. p.steps) m.rest ∙ ap (λ p. p.steps) q.rest ∙ ap (λ p. p.steps) k.rest)
     (ap (λ p. p.due) r.rest ∙ ap (λ p. p.due) m.rest ∙ ap (λ p. p.due) q.rest ∙ ap (λ p. p.due) k.rest)
     (λ tied. r.tied _ _ (m.tied _ _ (q.tied _ _ (k.tied _ _ tied))))
+
+pub set_slot-requires-clause-slot : goal.set_slot-requires-clause-slot
+set_slot-requires-clause-slot g c =
+    let old = c.args.parts.now in
+    let stands = c.requires.stands in
+    let given = given_here old stands (ask.Take c.args.w) (did.Take c.args.w (took.Head c.args.t)) c.requires.fits in
+    ap (λ p. is_awake (slot_at p.slots.slots c.args.w.0)) c.place_task.ensures.rest ∙ ap (λ p. is_awake (slot_at p.slots.slots c.args.w.0)) c.dequeue.ensures.rest ∙ ap (λ p. is_awake (slot_at p.slots.slots c.args.w.0)) c.count_entry.ensures.rest
+    ∙ ap is_awake (taking_row old stands c.args.w.0 given.0 c.requires.busy)

@@ -4,12 +4,13 @@ use Rattle.tp_types.specs.declared.tasks.Place.TheVariants as at
 use Rattle.tp_record.specs.declared.entries.Ask.TheVariants as ask
 use Rattle.tp_record.specs.declared.entries.Did.TheVariants as did
 use Rattle.tp_record.specs.declared.entries.Took.TheVariants as took
-use Rattle.tp_record.specs.State.{task_at, state}
+use Rattle.tp_record.specs.State.{task_at, state, slot_at}
 use Rattle.tp_tasks.specs.Tasks.{row_of}
 use Rattle.tp_shapes.proofs.Workers.Take.{take_held}
 use Rattle.tp_parts.specs.Tied.{is_before}
-use Rattle.tp_parts.proofs.Standing.{entry_here, given_here, task_here}
+use Rattle.tp_parts.proofs.Standing.{entry_here, given_here, task_here, seat_here}
 use Rattle.tp_parts.proofs.Leading.{leads_from}
+use Rattle.tp_slots.specs.Table.{is_awake}
 use Rattle.tp_workers.proofs.take.held.Goals as goal
 
 pub count_entry-requires : goal.count_entry-requires
@@ -41,3 +42,11 @@ returns-clause-leads g c =
     (ap (λ p. p.steps) r.rest ∙ ap (λ p. p.steps) m.rest ∙ ap (λ p. p.steps) k.rest)
     (ap (λ p. p.due) r.rest ∙ ap (λ p. p.due) m.rest ∙ ap (λ p. p.due) k.rest)
     (λ tied. r.tied _ _ (m.tied _ _ (k.tied _ _ tied)))
+
+pub set_slot-requires-clause-slot : goal.set_slot-requires-clause-slot
+set_slot-requires-clause-slot g c =
+    let old = c.args.parts.now in
+    let stands = c.requires.stands in
+    let given = given_here old stands (ask.Take c.args.w) (did.Take c.args.w (took.Held c.args.t)) c.requires.fits in
+    ap (λ p. is_awake (slot_at p.slots.slots c.args.w.0)) c.place_task.ensures.rest ∙ ap (λ p. is_awake (slot_at p.slots.slots c.args.w.0)) c.count_entry.ensures.rest
+    ∙ ap is_awake (seat_here old stands c.args.w.0 _ _ given.0)
