@@ -1,5 +1,5 @@
 use Rattle.std.proofs.Common.{◌≡◌, ◌+◌, Some, suc, arith, sym, subst, ap, ◌∙◌}
-use Rattle.std.specs.Prelude.{ℕ}
+use Rattle.std.specs.Prelude.{ℕ, count_by, is_some}
 use Rattle.tp_record.specs.declared.entries.Ask.TheVariants as ask
 use Rattle.tp_record.specs.declared.entries.Did.TheVariants as did
 use Rattle.tp_record.specs.Left.{mark}
@@ -10,8 +10,9 @@ use Rattle.tp_shapes.proofs.Rows.{bare}
 use Rattle.tp_shapes.proofs.Controllers.Prestart.{prestart as prestart_effect}
 use Rattle.tp_parts.specs.Shows.{Views}
 use Rattle.tp_parts.proofs.Ties.{tied_more}
-use Rattle.tp_parts.proofs.Standing.{few_steps}
+use Rattle.tp_parts.proofs.Standing.{few_steps, given_here}
 use Rattle.tp_parts.proofs.Leading.{leads_by}
+use Rattle.tp_parts.proofs.Slots.{seats_left}
 use Rattle.tp_controllers.proofs.prestart.reserve.Goals as goal
 
 pub count_rising_entry-requires-clause-few : goal.count_rising_entry-requires-clause-few
@@ -39,3 +40,17 @@ returns-clause-leads g c =
     ))
     (cc) (cc) (omega (arith, due))
     (c.reserve.ensures.tied old.config (suc old.steps) (c.count_rising_entry.ensures.tied old.config (suc old.steps) (tied_more old.config old.steps old c.requires.stands.tied)))
+
+pub reserve-requires-clause-room : goal.reserve-requires-clause-room
+reserve-requires-clause-room g c =
+    let old = c.args.parts.now in
+    let stands = c.requires.stands in
+    let given = given_here old stands ask.Prestart (did.Prestart (Some c.args.w)) c.requires.fits in
+    let below = given.0 in
+    let core = stands.shows.seen.core_size in
+    let sizes = stands.tied.sizes in
+    let left = seats_left old stands old.core (omega (arith, sizes)) (omega (arith, below, core)) in
+    let same = ap (λ p. p.slots) c.count_rising_entry.ensures.rest in
+    let taken = ap (λ s. count_by is_some s.slots) same in
+    let places = ap (λ s. s.places) same in
+    omega (arith, left, taken, places)
