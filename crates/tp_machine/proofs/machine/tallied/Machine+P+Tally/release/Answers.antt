@@ -1,30 +1,26 @@
 use Rattle.std.proofs.Common.{refl, sym, ◌∙◌}
-use Rattle.tp_parts.proofs.Forgetting.{unknown_here, kept_here, ended_here, unqueued_here}
+use Rattle.std.proofs.lemmas.Bool.{true≢false}
+use Rattle.tp_parts.proofs.Forgetting.{kept_here, ended_here, unqueued_here}
 use Rattle.tp_machine.proofs.Released.{marked}
 use Rattle.tp_machine.proofs.Releasing.{kept_at, released, released_sound}
-use Rattle.tp_machine.proofs.machine.Machine+P+Tally.release.Goals as goal
-
-pub returns-in_default-clause-refused : goal.returns-in_default-clause-refused
-returns-in_default-clause-refused g c =
-    kept_at _ c.self.inside.parts c.self.inside.noted c.args.self.now c.args.t.0 _ c.self.view_is
-    (λ h rs at. unknown_here c.self.inside.parts h rs (marked _ _ h rs at) c.args.t.0 (sym c.row.ensures ∙ c.in_default.is))
+use Rattle.tp_machine.proofs.machine.tallied.Machine+P+Tally.release.Goals as goal
 
 pub returns-then-not-owes_nothing-clause-refused : goal.returns-then-not-owes_nothing-clause-refused
 returns-then-not-owes_nothing-clause-refused g c =
     kept_at _ c.self.inside.parts c.self.inside.noted c.args.self.now c.args.t.0 _ c.self.view_is
-    (λ h rs at. kept_here c.self.inside.parts h rs at.legal (marked _ _ h rs at) c.args.t.0 c.in-Some.row (sym c.row.ensures ∙ c.in-Some.is) (λ owes. c.if-not-owes_nothing.true (c.owes_nothing.ensures.1 owes)))
+    (λ h rs at. kept_here c.self.inside.parts h rs at.legal (marked _ _ h rs at) c.args.t.0 c.in-Some.row (sym c.row.ensures ∙ c.in-Some.is) (λ owes. true≢false (sym (c.owes_nothing.ensures.1 owes) ∙ c.if-not-owes_nothing.true)))
 
-pub forget_task-requires : goal.forget_task-requires
-forget_task-requires g c =
+pub forget_task-requires-clause-ended : goal.forget_task-requires-clause-ended
+forget_task-requires-clause-ended g c =
     let s = c.self.invariant.stands in
-    let p = c.self.inside.parts in
     let row = sym c.row.ensures ∙ c.in-Some.is in
-    let owes = c.owes_nothing.ensures.0 c.if-not-owes_nothing.false in
-    record {
-      ended = (c.in-Some.row, row, ended_here p s.history s.released s.legal s.shows c.args.t.0 c.in-Some.row row owes);
-      handed_out = owes.handed_out;
-      unqueued = unqueued_here p s.history s.released s.legal s.shows c.args.t.0 c.in-Some.row row owes c.args.t refl;
-    }
+    (c.in-Some.row, row, ended_here c.self.inside.parts s.history s.released s.legal s.shows c.args.t.0 c.in-Some.row row (c.owes_nothing.ensures.0 c.if-not-owes_nothing.false))
+
+pub forget_task-requires-clause-unqueued : goal.forget_task-requires-clause-unqueued
+forget_task-requires-clause-unqueued g c =
+    let s = c.self.invariant.stands in
+    let row = sym c.row.ensures ∙ c.in-Some.is in
+    unqueued_here c.self.inside.parts s.history s.released s.legal s.shows c.args.t.0 c.in-Some.row row (c.owes_nothing.ensures.0 c.if-not-owes_nothing.false) c.args.t refl
 
 pub invariant_of-self : goal.invariant_of-self
 invariant_of-self g c =
