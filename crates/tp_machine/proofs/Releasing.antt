@@ -114,7 +114,7 @@ module _ {P : Type 0} (p : Parts P) (h : List Entry) (rs : List ℕ) (may : MayA
 
 -- so many are left out
 left_counted : (rs : List ℕ) (s : State) → length (left rs s).left_out ≡ length rs + length s.left_out
-left_counted [] s = refl
+left_counted [] s = omega arith
 left_counted (t ∷ rs) s = let e = left_counted rs s in omega (arith, e)
 
 pub kept_counted : {P R : Type 0} (tells : R → List Entry → List ℕ → Type 0) (p : Parts P) (noted : R) (m : Seen P R) → record { parts = p; noted = noted } ≡ m → (n : ℕ) →

@@ -1,4 +1,4 @@
-use Rattle.std.proofs.Common.{◌≡◌, ◌∙◌, Ok, arith, sym, subst, ap}
+use Rattle.std.proofs.Common.{rules, ◌≡◌, ◌∙◌, Ok, arith, sym, subst, ap}
 use Rattle.std.specs.Option.{ok_or}
 use Rattle.tp_types.specs.declared.refusals.PoolError.TheVariants.{UnknownSlot}
 use Rattle.tp_types.specs.declared.tasks.Place.TheVariants as at
@@ -82,4 +82,4 @@ returns-in_err-row_of-in-Second g c =
     let s = g.S.Readings.shown c.args.state.now in
     let t = c.in-Second.t in
     let missing = of_task-missing s t c.in_err-row_of-in-Second.field-0.0 (second_answer s c.args.w.0 t) (sym c.row_of-in-Second.ensures ∙ c.in_err-row_of-in-Second.was) in
-    rw c.in-Second.is (IsAnswer-same c.from_residual-in_err-row_of-in-Second.result _ (c.from_residual-in_err-row_of-in-Second.ensures ∙ sym missing))
+    rw c.in-Second.is (rw missing (search rules))
