@@ -8,11 +8,11 @@ use Rattle.tp_record.specs.declared.entries.Did.TheVariants as did
 use Rattle.tp_record.specs.declared.entries.Looked.{Looked}
 use Rattle.tp_record.specs.declared.entries.Looked.TheVariants as looked
 use Rattle.tp_record.specs.declared.rows.TaskRow.{TaskRow}
-use Rattle.tp_record.specs.Lists.{said_of, put_behind, join_line, change_each}
+use Rattle.tp_record.specs.Lists.{said_of, put_behind, join_line, change_each, is_among}
 use Rattle.tp_record.specs.Effects.{is_submit, priorities_said, place_looked}
 use Rattle.tp_record.specs.Fields.{is_queued_place}
 use Rattle.tp_record.specs.State.{row_at, no_row, row_after, tasks_after, queue_after, stays_queued}
-use Rattle.tp_model.proofs.Queues.{is_among, among-filter}
+use Rattle.tp_model.proofs.Queues.{among-filter}
 use Rattle.tp_shapes.proofs.Names.{is_wide}
 use Rattle.tp_line.specs.Line.{ids}
 use Rattle.tp_line.specs.Ranks.{key, enter}

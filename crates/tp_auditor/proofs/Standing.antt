@@ -13,7 +13,7 @@ use Rattle.tp_record.specs.declared.entries.Offered.TheVariants as offered
 use Rattle.tp_record.specs.declared.entries.Took.TheVariants as took
 use Rattle.tp_record.specs.declared.entries.Ruled.TheVariants as ruled
 use Rattle.tp_record.specs.declared.rows.Stage.TheVariants as stages
-use Rattle.tp_record.specs.Lists.{is_it}
+use Rattle.tp_record.specs.Lists.{is_it, is_among, IsOnce}
 use Rattle.tp_record.specs.Effects.{queues, idles}
 use Rattle.tp_record.specs.Fields.{queue, idling, is_queued, is_queued_place, is_idle_row, slot_row, rank, submitted, retries}
 use Rattle.tp_record.specs.State.{State, state, slot_at, task_at, due}
@@ -23,7 +23,7 @@ use Rattle.tp_model.proofs.Places.{head_queued}
 use Rattle.tp_plain.proofs.Sizes.{length-queue}
 use Rattle.tp_model.proofs.Given.{Given, GivenRuled}
 use Rattle.tp_model.proofs.Told.{sound_legal}
-use Rattle.tp_model.proofs.Queues.{is_among, IsOnce, among-queue, once-queue, among-idling, among_from_Contains}
+use Rattle.tp_model.proofs.Queues.{among-queue, once-queue, among-idling, among_from_Contains}
 use Rattle.tp_shapes.proofs.Names.{names, drops}
 use Rattle.tp_shapes.proofs.Next.{row_sound}
 use Rattle.tp_auditor.specs.declared.tables.Tables.{Tables}

@@ -22,4 +22,6 @@ read moment tasks slots =
       done = [];
       completions = zero;
       largest = zero;
+      left_out = [];
+      forgotten = λ f. zero;
     }

@@ -8,12 +8,11 @@ use Rattle.tp_record.specs.declared.entries.Entry.{Entry}
 use Rattle.tp_record.specs.declared.entries.Did.{Did}
 use Rattle.tp_record.specs.declared.entries.Did.TheVariants as did
 use Rattle.tp_record.specs.declared.rows.SlotRow.{SlotRow}
-use Rattle.tp_record.specs.Lists.{is_it, join_line, long_enough}
+use Rattle.tp_record.specs.Lists.{is_it, join_line, long_enough, is_among, IsOnce}
 use Rattle.tp_record.specs.Effects.{queues, idles, completes, reserves, reaches, is_completion, sets_core, sets_maximum, sets_keep, sets_core_timeout, sets_now}
 use Rattle.tp_record.specs.Fields.{is_idle_row, is_live, is_queued_place}
 use Rattle.tp_record.specs.State.{State, state, row_at, task_at, slot_at, due, tasks_after, stays_queued, slot_after}
 use Rattle.tp_record.specs.Step.{Legal, done_of}
-use Rattle.tp_model.proofs.Queues.{is_among, IsOnce}
 use Rattle.tp_shapes.proofs.Names.{names, drops}
 use Rattle.tp_auditor.specs.declared.tables.Tables.{Tables}
 use Rattle.tp_auditor.specs.Changed.{change_at}
@@ -40,6 +39,8 @@ shown t =
       done = [];
       completions = t.completions;
       largest = t.largest;
+      left_out = [];
+      forgotten = λ f. 0;
     }
 
 -- the queue has its tasks' priorities
@@ -114,6 +115,8 @@ settled d awake s =
       done = [];
       completions = if is_completion d then suc s.completions else s.completions;
       largest = max (count_by is_live (change_at (slot_after d s) None (turns d) s.slots)) s.largest;
+      left_out = s.left_out;
+      forgotten = s.forgotten;
     }
 
 -- the state in which the slot is made that an entry reserves, and what it puts in a list is there

@@ -2,7 +2,7 @@
 
 ghost use Rattle.std.specs.Prelude.{◌≡◌, ◌<◌, ◌^◌, count_by, length, if◌then◌else◌};
 ghost use Rattle.tp_record.specs.State as states;
-ghost use Rattle.tp_model.proofs.Queues.{IsOnce};
+ghost use Rattle.tp_record.specs.Lists.{IsOnce};
 ghost use Rattle.tp_auditor.specs.Queued.{tasks_of};
 
 use crate::queue::Queue;

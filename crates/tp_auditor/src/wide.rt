@@ -2,10 +2,9 @@
 
 ghost use Rattle.std.specs.Prelude.{ℕ, ◌≡◌, ◌<◌, ◌-◌, ◌^◌, [], true, false, None, Some, not, filter, count_by, is_some, vec_len};
 ghost use Rattle.tp_record.specs.Effects as effects;
-ghost use Rattle.tp_record.specs.Lists.{change_each};
+ghost use Rattle.tp_record.specs.Lists.{change_each, is_among, IsOnce};
 ghost use Rattle.tp_record.specs.State as states;
 ghost use Rattle.tp_shapes.proofs.Names as entry;
-ghost use Rattle.tp_model.proofs.Queues.{is_among, IsOnce};
 ghost use Rattle.tp_auditor.specs.Changed.{leave_out};
 ghost use Rattle.tp_auditor.specs.Queued.{tasks_of, Keeps};
 ghost use Rattle.tp_auditor.specs.Readings.{read};

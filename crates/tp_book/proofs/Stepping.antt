@@ -1,5 +1,5 @@
 -- What a machine's step does, as a step of the book, whichever step it is.
-use Rattle.std.proofs.Common.{◌≡◌, ℕ, ◌+◌, List, ◌∷◌, length, reverse, sym, ap, subst, refl, ◌∙◌, inl, inr, ⊎_elim}
+use Rattle.std.proofs.Common.{◌≡◌, ℕ, ◌+◌, List, [], ◌∷◌, length, reverse, sym, ap, subst, refl, ◌∙◌, inl, inr, ⊎_elim}
 use Rattle.std.proofs.lemmas.List.{length-reverse, reverse-reverse}
 use Rattle.tp_types.specs.declared.refusals.PoolError.{PoolError}
 use Rattle.tp_record.specs.declared.entries.Entry.{Entry}
@@ -17,24 +17,24 @@ use Rattle.tp_book.specs.PassView.{AccountsView}
 use Rattle.tp_book.specs.BookView.{BookView, tells, Advances, IsUnmoved, IsDenied}
 
 -- a record that is kept whole is the history, the oldest entry first
-pub kept_is : (kept : Kept) (h : List Entry) → tells kept h → kept.entries ≡ reverse h
-kept_is kept h told = sym (reverse-reverse kept.entries) ∙ ap reverse told
+pub kept_is : (kept : Kept) (h : List Entry) → tells kept h [] → kept.entries ≡ reverse h
+kept_is kept h told = sym (reverse-reverse kept.entries) ∙ ap reverse told.0
 
 -- and it is as long
-pub counted : (kept : Kept) (h es : List Entry) → tells kept h → es ≡ kept.entries → length h ≡ length es
+pub counted : (kept : Kept) (h es : List Entry) → tells kept h [] → es ≡ kept.entries → length h ≡ length es
 counted kept h es told is = sym (ap (λ es. length es) (is ∙ kept_is kept h told) ∙ length-reverse h)
 
 module _ {P : Type 0} where
   -- after a step the machine stands at the history with its entry, whatever that was put together from
-  pub grown : (mid new : Seen P Kept) (h : List Entry) (by : ℕ) (a asked : Ask) (d said : Did) → At tells mid h → IsStep tells mid new by a d →
-      asked ≡ a → said ≡ d → At tells new (record { by = by; ask = asked; did = said } ∷ h)
+  pub grown : (mid new : Seen P Kept) (h : List Entry) (by : ℕ) (a asked : Ask) (d said : Did) → At tells mid h [] → IsStep tells mid new by a d →
+      asked ≡ a → said ≡ d → At tells new (record { by = by; ask = asked; did = said } ∷ h) []
   grown mid new h by a asked d said here step is made =
-      subst (λ x. At tells new (record { by = by; ask = x; did = said } ∷ h)) (sym is)
-      (subst (λ x. At tells new (record { by = by; ask = a; did = x } ∷ h)) (sym made) (step.writes h here))
+      subst (λ x. At tells new (record { by = by; ask = x; did = said } ∷ h) []) (sym is)
+      (subst (λ x. At tells new (record { by = by; ask = a; did = x } ∷ h) []) (sym made) (step.writes h [] here))
 
   -- a machine that stands at the history has its rank
-  pub rank_at : (m : Seen P Kept) (h : List Entry) (n : ℕ) → At tells m h → EachState tells m (λ s. n ≡ s.rank) → n ≡ rank h
-  rank_at m h n here is = is h here
+  pub rank_at : (m : Seen P Kept) (h : List Entry) (n : ℕ) → At tells m h [] → EachState tells m (λ s. n ≡ s.rank) → n ≡ rank h
+  rank_at m h n here is = is h [] here
 
   module _ (old : BookView P) (mid : Seen P Kept) (accounts : AccountsView) (history : List Entry)
       (is : record { machine = mid; accounts = accounts; history = history } ≡ old) where
@@ -60,7 +60,7 @@ module _ {P : Type 0} where
         record { machine = stays; accounts = refl; history = same } in
         subst (λ b. IsUnmoved b (record { machine = new; accounts = accounts; history = history' })) is whole
 
-    pub denies : (a : Ask) (e : PoolError) → At tells mid history → IsDeniedBy tells mid a e → IsDenied old a e
+    pub denies : (a : Ask) (e : PoolError) → At tells mid history [] → IsDeniedBy tells mid a e → IsDenied old a e
     denies a e here denied =
-        let whole : IsDenied (record { machine = mid; accounts = accounts; history = history }) a e = ⊎_elim (λ t. inl t) (λ t. inr (t.0, t.1 history here)) denied in
+        let whole : IsDenied (record { machine = mid; accounts = accounts; history = history }) a e = ⊎_elim (λ t. inl t) (λ t. inr (t.0, t.1 history [] here)) denied in
         subst (λ b. IsDenied b a e) is whole

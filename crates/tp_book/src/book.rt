@@ -47,7 +47,7 @@ impl<G: Naming, P> Model for Book<G, P> {
 
     ghost view = { λ b. record { machine = b.machine; accounts = b.accounts; history = b.seat } };
 
-    ghost invariant = { λ b. At tells b.machine b.seat × (b.accounts.total ≡ length b.seat) };
+    ghost invariant = { λ b. At tells b.machine b.seat [] × (b.accounts.total ≡ length b.seat) };
 }
 
 impl<G: Naming, P> Book<G, P> {
@@ -161,7 +161,7 @@ impl<G: Naming, P> Book<G, P> {
     /// The law that the machine stands at the history, which is legal, and that each of its entries was
     /// accounted for.
     pub fn is_balanced(&self)
-        ensures stands { At tells self.now.machine self.now.history }
+        ensures stands { At tells self.now.machine self.now.history [] }
         ensures legal { Legal (config self.now) self.now.history }
         ensures accounted { self.now.accounts.total ≡ length self.now.history }
     {

@@ -23,8 +23,8 @@ pub remove_moves : {P : Type 0} (p : Parts P) (t : TaskId) (queued : Bool) (n : 
 remove_moves p t queued n is = let Q : ℕ → Type 0 = λ k. Moves p (6 * k) 0 (did.Remove t queued) in subst Q (sym is) (by queued)
   where
     by : (b : Bool) → Moves p (6 * bool_byte b) 0 (did.Remove t b)
-    by true = λ h legal sh given. (_, remove p.config h t legal given)
-    by false = λ h legal sh given. (_, remove_absent p.config h t legal given)
+    by true = λ h rs legal sh given. (_, remove p.config h t legal given)
+    by false = λ h rs legal sh given. (_, remove_absent p.config h t legal given)
 
 module _ {P : Type 0} (p : Parts P) (stands : Stands p) (t : TaskId) (fits : Fits p (ask.Remove t) (did.Remove t true)) where
   -- it waits in the queue
@@ -40,4 +40,4 @@ module _ {P : Type 0} (p : Parts P) (stands : Stands p) (t : TaskId) (fits : Fit
   removed_row =
       let h = stands.history in
       let given = given_here p stands (ask.Remove t) (did.Remove t true) fits in
-      (task_at (state p.config h) t.0, (task_here p stands t.0 at.Queued given).0, open_here p stands t.0 at.Queued given refl)
+      (task_at (state p.config h) t.0, (task_here p stands t.0 at.Queued given refl).0, open_here p stands t.0 at.Queued given refl)

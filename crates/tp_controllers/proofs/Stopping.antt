@@ -4,6 +4,7 @@ use Rattle.std.specs.Prelude.{◌==◌, count_by, if◌then◌else◌}
 use Rattle.std.proofs.lemmas.List.{length-map}
 use Rattle.tp_types.specs.RunState.{state_rank}
 use Rattle.tp_record.specs.declared.entries.Did.TheVariants as did
+use Rattle.tp_record.specs.Left.{mark}
 use Rattle.tp_record.specs.State.{State, state}
 use Rattle.tp_queue.specs.Queues.{waiting_of}
 use Rattle.tp_slots.specs.Table.{is_at_take}
@@ -21,7 +22,7 @@ module _ {P : Type 0} (p : Parts P) where
   stop_read n fall is s sh = let e = owed_read p s 2 sh in omega (arith, e, is)
 
   pub moves : (n fall : ℕ) → fall ≡ fall_of n → Moves p fall 0 (did.Stop n)
-  moves n fall is = λ h legal sh given. (_, effect_by (state p.config h) (did.Stop n) _ _ fall 0 (stop_read n fall is (state p.config h) sh) (stop_effect p.config h n legal given))
+  moves n fall is = λ h rs legal sh given. (_, effect_by (state p.config h) (did.Stop n) _ _ fall 0 (stop_read n fall is (mark rs (state p.config h)) sh) (stop_effect p.config h n legal given))
 
   -- as many tasks are queued
   pub queued_read : (s : State) → Shows p s → length s.queue ≡ length (waiting_of p.queue).items

@@ -1,24 +1,24 @@
 -- Fates: they are disjoint, and none changes.
-use Rattle.std.proofs.Common.{◌≡◌, ℕ, ◌<◌, ◌≤◌, Bool, true, false, not, ◌&&◌, cond, suc, List, [], ◌∷◌, ◌++◌, Some, None, Option, refl, arith, sym, ap, ◌∙◌, inl, inr}
+use Rattle.std.proofs.Common.{◌≡◌, ℕ, ◌<◌, Bool, true, false, not, ◌&&◌, List, [], ◌∷◌, ◌++◌, Some, None, Option, refl, arith, sym, ap, ◌∙◌, inl, inr}
 use mathlib.Core.Path.{ap₂}
 use Rattle.std.specs.Prelude.{◌==◌, nat_lt, unwrap_or, is_some, is_none, if◌then◌else◌}
 use Rattle.std.proofs.lemmas.Bool.{false≢true, cases_lt}
 use Rattle.std.proofs.lemmas.Bool.Decides.{nat_tests}
 use Rattle.tp_types.specs.declared.configs.Config.{Config}
 use Rattle.tp_types.specs.declared.tasks.Place.{Place}
+use Rattle.tp_types.specs.declared.tasks.Place.TheVariants as places
 use Rattle.tp_types.specs.declared.tasks.Fate.{Fate}
 use Rattle.tp_types.specs.declared.tasks.Fate.TheVariants as fate
 use Rattle.tp_record.specs.declared.entries.Entry.{Entry}
 use Rattle.tp_record.specs.declared.entries.Did.{Did}
 use Rattle.tp_record.specs.declared.entries.Did.TheVariants as did
 use Rattle.tp_record.specs.Lists.{said_of}
-use Rattle.tp_record.specs.Effects.{moved, is_submit, cancels, endings}
+use Rattle.tp_record.specs.Effects.{moved, cancels, endings}
 use Rattle.tp_record.specs.Fields.{submitted, place, swept, is_cancelled, ending, handed_back, task_row}
 use Rattle.tp_record.specs.State.{is_fate, fate_of}
 use Rattle.tp_record.specs.Words.{has_fate}
 use Rattle.tp_model.proofs.Given.{Given, Told}
-use Rattle.tp_record.specs.declared.entries.Ruled.TheVariants as ruled
-use Rattle.tp_record.specs.declared.entries.Started.TheVariants as started
+use Rattle.tp_model.proofs.Fated.{gone_fated}
 use Rattle.tp_laws.specs.Laws.{GoneHasFate, FatedIsGone}
 use Rattle.tp_words.proofs.WordsFates.{fate_agrees}
 use Rattle.tp_words.proofs.WordsTasks.{gone_agrees, cancelled_agrees}
@@ -117,60 +117,6 @@ pub never_changes : (c : Config) (later h : List Entry) → Told c (later ++ h) 
 never_changes c later h told f t is =
     fate_agrees c (later ++ h) told f t ∙ fate_for_good c later h told f t (sym (fate_agrees c h (told_front c later h told) f t) ∙ is)
 
--- a task that an entry skips was cancelled
-abbrev fits_skip : Did → ℕ → Bool → Bool
-fits_skip (did.Begin w (started.Skip u)) t c = if t == u.0 then c else true
-fits_skip (did.Verdict u v ruled.Skip) t c = if t == u.0 then c else true
-fits_skip d t c = true
-
-skip_fits : (t u : ℕ) (c : ℕ → Bool) → c u ≡ true → (if t == u then c t else true) ≡ true
-skip_fits t u c is = grind (arith, nat_tests)
-
-skip_given : (c : Config) (h : List Entry) (d : Did) (t : ℕ) → Given c h d → fits_skip d t (is_cancelled h t) ≡ true
-skip_given c h (did.Begin w (started.Skip u)) t given = skip_fits t u.0 (is_cancelled h) given.2
-skip_given c h (did.Verdict u v ruled.Skip) t given = skip_fits t u.0 (is_cancelled h) given.1.1
-skip_given c h _ t given = refl
-
-just_dead : (d : Did) (n t : ℕ) (p : Place) → fits_place d t n p ≡ true → is_gone_place p ≡ false → is_gone_place (unwrap_or (said_of t (moved d)) (swept d true p)) ≡ true →
-    unwrap_or (said_of t (cancels d)) true ≡ true
-just_dead d n t p fits there gone = grind (arith, nat_tests)
-
-just_ended : (d : Did) (n t : ℕ) (p : Place) (o : Option Fate) → fits_place d t n p ≡ true → fits_skip d t false ≡ true → is_gone_place p ≡ false →
-    is_gone_place (unwrap_or (said_of t (moved d)) (swept d false p)) ≡ true → is_some (unwrap_or (said_of t (endings d)) (handed_back d p o)) ≡ true
-just_ended d n t p o fits skips there gone = grind (arith, nat_tests)
-
-cancelled_some : (c : Bool) (o : Option Fate) → c ≡ true → is_some (fate_by c o) ≡ true
-cancelled_some c o is = rw is refl
-
-ending_some : (c : Bool) (o : Option Fate) → is_some o ≡ true → is_some (fate_by c o) ≡ true
-ending_some true o is = refl
-ending_some false o is = is
-
--- an entry by which a task is gone gives it a fate, unless it was cancelled
-just_gone : (d : Did) (n t : ℕ) (p : Place) (c : Bool) (o : Option Fate) → fits_place d t n p ≡ true → fits_skip d t c ≡ true → is_gone_place p ≡ false →
-    is_gone_place (unwrap_or (said_of t (moved d)) (swept d c p)) ≡ true → is_some (fate_by (unwrap_or (said_of t (cancels d)) c) (unwrap_or (said_of t (endings d)) (handed_back d p o))) ≡ true
-just_gone d n t p true o fits skips there gone = cancelled_some _ _ (just_dead d n t p fits there gone)
-just_gone d n t p false o fits skips there gone = ending_some _ _ (just_ended d n t p o fits skips there gone)
-
--- a task that an entry submits is not gone
-new_there : (d : Did) (n t : ℕ) (p : Place) (c : Bool) → fits_place d t n p ≡ true → n ≤ t → t < cond (is_submit d) (suc n) n → is_gone_place (unwrap_or (said_of t (moved d)) (swept d c p)) ≡ false
-new_there d n t p c fits far known = grind (arith, nat_tests)
-
--- a submitted task that is gone has a fate
-gone_fated : (c : Config) (h : List Entry) → Told c h → (t : ℕ) → t < submitted h → is_gone_place (place h t) ≡ true → is_some (fate_of (task_row h t)) ≡ true
-gone_fated c [] told t known gone = absurd (omega arith)
-gone_fated c (e ∷ h) told t known gone = by_gone (is_gone_place (place h t)) refl (gone_fated c h told.1 t)
-  where
-    fits : fits_place e.did t (submitted h) (place h t) ≡ true
-    fits = fits_given c h e.did t told.0
-
-    by_gone : (b : Bool) → is_gone_place (place h t) ≡ b → (t < submitted h → is_gone_place (place h t) ≡ true → is_some (fate_of (task_row h t)) ≡ true) → is_some (fate_of (task_row (e ∷ h) t)) ≡ true
-    by_gone true was rest = elim (cases_lt t (submitted h)) [
-      | inl below ↦ ap is_some (fate_stays c e h told t (rest below was)) ∙ rest below was
-      | inr far ↦ absurd (false≢true (sym (new_there e.did (submitted h) t (place h t) (is_cancelled h t) fits far known) ∙ gone))
-    ]
-    by_gone false there rest = just_gone e.did (submitted h) t (place h t) (is_cancelled h t) (ending h t) fits (skip_given c h e.did t told.0) there gone
-
 some_fate : (o : Option Fate) → is_some o ≡ true → (f : Fate) × (is_fate f o ≡ true)
 some_fate None is = absurd (false≢true is)
 some_fate (Some f) is = (f, own f)
@@ -187,10 +133,13 @@ known_gone n t b is = (below, there)
     there : b ≡ true
     there = grind (arith, nat_tests)
 
+is_gone : (p : Place) → is_gone_place p ≡ true → p ≡ places.Gone
+is_gone p is = grind arith
+
 pub gone_has_fate : (c : Config) (h : List Entry) → Told c h → GoneHasFate h
 gone_has_fate c h told t gone =
     let at = known_gone (submitted h) t (is_gone_place (place h t)) (sym (gone_agrees c h told t) ∙ gone) in
-    let found = some_fate (fate_of (task_row h t)) (gone_fated c h told t at.0 at.1) in
+    let found = some_fate (fate_of (task_row h t)) (gone_fated c h told t at.0 (is_gone (place h t) at.1)) in
     (found.0, fate_agrees c h told found.0 t ∙ found.1)
 
 ended_some : (f : Fate) (c : Bool) (o : Option Fate) → c ≡ false → is_fate f (fate_by c o) ≡ true → is_some o ≡ true

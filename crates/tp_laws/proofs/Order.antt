@@ -12,11 +12,11 @@ use Rattle.tp_record.specs.declared.entries.Did.TheVariants as did
 use Rattle.tp_record.specs.declared.entries.Took.TheVariants as took
 use Rattle.tp_record.specs.declared.entries.Ruled.TheVariants as ruled
 use Rattle.tp_record.specs.Fields.{queue, queued, priority, place, is_queued_place}
-use Rattle.tp_record.specs.Lists.{arrange, in_line}
+use Rattle.tp_record.specs.Lists.{arrange, in_line, is_among, IsOnce}
 use Rattle.tp_record.specs.Words.{queued_by, waits_in_queue, offers_in_order}
 use Rattle.tp_model.proofs.Given.{Given, Told}
 use Rattle.tp_model.proofs.Arranged.{AllPass, least-first, equal-first}
-use Rattle.tp_model.proofs.Queues.{is_among, IsOnce, among-append, among-queue, once-queued, once-filter}
+use Rattle.tp_model.proofs.Queues.{among-append, among-queue, once-queued, once-filter}
 use Rattle.tp_words.proofs.WordsTasks.{queued_agrees}
 use Rattle.tp_words.proofs.WordsQueue.{queue_words, waiting_words, priority_agrees}
 use Rattle.tp_laws.specs.Laws.{leaves_in_turn, FirstLeaves, QueueOrder, NoneBefore, FirstOfEquals}

@@ -36,7 +36,7 @@ module _ {J : Type 0} (c : Config) where
       Makes J c by before a d moves after → Legal c after
   legal_made by before a d moves after made =
       let settings : config made.new ≡ c = made.step.step.config ∙ made.is.settings in
-      let legal = (made.step.step.writes made.old.history made.is.stands).legal in
+      let legal = (made.step.step.writes made.old.history [] made.is.stands).legal in
       subst (λ h. Legal c h) (sym (made.shown ∙ made.step.notes)) (subst (λ k. Legal k (record { by = by; ask = a; did = d } ∷ made.old.history)) settings legal)
 
   -- and that at which it was refused

@@ -1,5 +1,5 @@
 -- What is so at a moment of a pool's life: at a history of it, the latest entry first, or of the book that stands there.
-use Rattle.std.specs.Prelude.{◌≡◌, List, length}
+use Rattle.std.specs.Prelude.{◌≡◌, [], List, length}
 use Rattle.tp_types.specs.declared.configs.Config.{Config}
 use Rattle.tp_record.specs.declared.entries.Entry.{Entry}
 use Rattle.tp_record.specs.State.{State, state}
@@ -20,7 +20,7 @@ pub record AtSome (c : Config) (F : State → Type 0) : Type 0 where
 -- the book of a pool with these settings, while no step is under way: it stands at its history, each entry of which is accounted for
 pub record IsBook (P : Type 0) (c : Config) (b : BookView P) : Type 0 where
   pub settings : config b ≡ c
-  pub stands : At tells b.machine b.history
+  pub stands : At tells b.machine b.history []
   pub accounted : b.accounts.total ≡ length b.history
 
 -- at this history the pool's book is such

@@ -15,6 +15,7 @@ use Rattle.tp_record.specs.declared.rows.SlotRow.{SlotRow}
 use Rattle.tp_record.specs.declared.rows.Stage.{Stage}
 use Rattle.tp_record.specs.declared.rows.Stage.TheVariants as stages
 use Rattle.tp_record.specs.Fields.{is_idle_stage}
+use Rattle.tp_record.specs.Left.{left}
 use Rattle.tp_record.specs.State.{State, slot_at, task_at, state}
 use Rattle.tp_record.specs.Step.{Answer, slot_count, timed_out, held_answer, next_of_queue, take_next, take_answer, of_row, since}
 use Rattle.tp_slots.specs.Table.{first_slot}
@@ -100,9 +101,11 @@ module _ (s : State) (v : SlotId) (kept : ((s.rank == 0 && nat_le (slot_count s)
   row_keeps None e = cc
   row_keeps (Some r) e = answer_keeps r.stage r.task e
 
-module _ {P R : Type 0} (tells : R → List Entry → Type 0) (p : Parts P) (noted : R) (m : Seen P R) (is : record { parts = p; noted = noted } ≡ m)
+module _ {P R : Type 0} (tells : R → List Entry → List ℕ → Type 0) (p : Parts P) (noted : R) (m : Seen P R) (is : record { parts = p; noted = noted } ≡ m)
     (kept : (s : State) → Shows p s → ((s.rank == 0 && nat_le (slot_count s) s.maximum) && (nat_le (slot_count s) s.core && not s.core_timeout)) ≡ true) where
   pub none_leaves : EachState tells m (λ s. (v : SlotId) → first_slot s.idling ≡ Some v → IsFitting (config_of m) s (ask.Take v) (did.Take v took.Leave) → ⊥)
   none_leaves =
       subst (λ x. EachState tells x (λ s. (v : SlotId) → first_slot s.idling ≡ Some v → IsFitting (config_of x) s (ask.Take v) (did.Take v took.Leave) → ⊥)) is
-      (λ h at v first leaves. let s = state p.config h in row_keeps s v (kept s at.shows) (slot_at s.slots v.0) leaves.0)
+      (λ h rs at v first leaves.
+      let s = left rs (state p.config h) in
+      row_keeps s v (kept s at.shows) (slot_at s.slots v.0) leaves.0)

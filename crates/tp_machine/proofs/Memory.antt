@@ -6,6 +6,7 @@ use Rattle.tp_types.specs.declared.refusals.PoolError.{PoolError}
 use Rattle.tp_types.specs.declared.refusals.PoolError.TheVariants.{NoMemory}
 use Rattle.tp_record.specs.declared.entries.Ask.{Ask}
 use Rattle.tp_record.specs.declared.entries.Ask.TheVariants as ask
+use Rattle.tp_record.specs.Left.{mark}
 use Rattle.tp_record.specs.State.{State, state}
 use Rattle.tp_record.specs.Step.{Refuses as StepRefuses}
 use Rattle.tp_queue.specs.Queues.{waiting_of}
@@ -14,7 +15,7 @@ use Rattle.tp_parts.specs.Shows.{Shows}
 use Rattle.tp_parts.specs.Steps.{Stands, Refuses}
 use Rattle.tp_parts.specs.Tied.{IsTied}
 use Rattle.tp_machine.specs.Steps.{NeedsMemory}
-use Rattle.tp_machine.proofs.Refusals.{never_wanted}
+use Rattle.tp_machine.proofs.Refusals.{never_wanted_marked}
 
 positive : (n : ℕ) → ¬ (n ≡ 0) → 0 < n
 positive n none = omega arith
@@ -42,5 +43,5 @@ module _ {P : Type 0} (p : Parts P) where
   -- what a step refuses is not for want of memory
   pub refuses_other : Stands p → (a : Ask) (e : PoolError) → Refuses p a e → e ≢ NoMemory
   refuses_other stands a e refuses wants =
-      never_wanted p.config stands.history a
-      (subst (StepRefuses p.config (state p.config stands.history) a) wants (refuses stands.history stands.legal stands.shows))
+      never_wanted_marked p.config stands.history stands.released a
+      (subst (StepRefuses p.config (mark stands.released (state p.config stands.history)) a) wants (refuses stands.history stands.released stands.legal stands.may stands.shows))

@@ -1,15 +1,17 @@
 -- The queue is handed back task by task: what is left to hand back leads to the same end.
-use Rattle.std.proofs.Common.{◌≡◌, ℕ, ◌+◌, ◌<◌, Bool, true, false, cond, List, [], ◌∷◌, ◌++◌, drop, map, length, append_assoc, Option, Some, None, refl, arith, sym, ap, subst, ◌∙◌, inl, inr}
-use mathlib.Core.Path.{fun_ext}
+use Rattle.std.proofs.Common.{◌≡◌, ℕ, ◌+◌, Bool, true, false, not, ◌&&◌, cond, List, [], ◌∷◌, ◌++◌, drop, map, length, append_assoc, Option, Some, None, refl, arith, sym, ap, subst, ◌∙◌, inl, inr}
+use mathlib.Core.Path.{ap₂, fun_ext}
 use Rattle.std.specs.Prelude.{◌==◌, ◌||◌, option_map, slice_get, sum_by}
-use Rattle.std.proofs.lemmas.Bool.{eq-eqb, ne_eqb, cases_eq, false≢true}
+use Rattle.std.proofs.lemmas.Bool.{eq-eqb, ne_eqb, lt-ltb, cases_eq, false≢true}
 use Rattle.std.proofs.lemmas.List.Sums.{sum_by-cons}
 use Rattle.tp_types.specs.declared.configs.Config.{Config}
 use Rattle.tp_types.specs.declared.ids.TaskId.{TaskId}
 use Rattle.tp_types.specs.declared.tasks.Fate.{Fate}
 use Rattle.tp_types.specs.declared.tasks.Place.{Place}
 use Rattle.tp_record.specs.declared.entries.Entry.{Entry}
+use Rattle.tp_record.specs.Lists.{is_among, IsOnce}
 use Rattle.tp_record.specs.Fields.{queue, place, is_queued, is_queued_place}
+use Rattle.tp_record.specs.Left.{mark, MayAll}
 use Rattle.tp_record.specs.State.{state, task_at}
 use Rattle.tp_record.specs.Step.{Legal}
 use Rattle.tp_model.proofs.NextState.{queue_known}
@@ -24,9 +26,9 @@ use Rattle.tp_queue.specs.declared.queues.Queue.{Queue}
 use Rattle.tp_queue.specs.Queues.{waiting_of}
 use Rattle.tp_tasks.specs.declared.tasks.Tasks.{Tasks}
 use Rattle.tp_tasks.specs.Tasks.{payload_of}
-use Rattle.tp_shapes.specs.View.{View, put}
+use Rattle.tp_shapes.specs.View.{View, view, is_held, put}
 use Rattle.tp_parts.specs.declared.parts.Parts.{Parts}
-use Rattle.tp_parts.specs.Drained.{is_among, IsOnce, gone, gains, drained, handed_back, DrainsHead}
+use Rattle.tp_parts.specs.Drained.{gone, gains, drained, handed_back, DrainsHead}
 use Rattle.tp_parts.specs.Payloads.{HandsOut}
 use Rattle.tp_parts.specs.Shows.{Views, numbers}
 use Rattle.tp_parts.specs.Tied.{IsTied}
@@ -117,6 +119,7 @@ drained_all p v none views =
       submitted = w.submitted;
       rows = w.rows;
       unknown = w.unknown;
+      issued = w.issued;
       fates = λ f. let n = w.fates f in omega (arith, n);
       queued = w.queued;
       seats = w.seats;
@@ -219,12 +222,21 @@ module _ (c : Config) (h : List Entry) (legal : Legal c h) where
   pub queued_once : IsOnce (queue c h)
   queued_once = once-queue c h
 
-  pub queued_open : (t : ℕ) → is_among t (queue c h) ≡ true → (t < length (state c h).tasks) × ((task_at (state c h) t).ending ≡ None)
-  queued_open t there =
-      let is : is_queued h t ≡ true = sym (among-queue c h t) ∙ there in
+  -- a queued task is known, also where tasks were released
+  pub queued_held : (rs : List ℕ) → MayAll rs (state c h) → (t : ℕ) → is_queued h t ≡ true → is_held (view (mark rs (state c h))) t ≡ true
+  queued_held rs may t is =
       let known = queue_known c h legal t is in
       let n = tasks_counted h in
-      (omega (arith, n, known), ap (λ r. r.ending) (row_sound h (sound_legal c h legal) c t) ∙ unended c h (told_legal c h legal) t (not_gone (place h t) is))
+      ap₂ (λ a b. not a && b) (kept (is_among t rs) refl) (lt-ltb t (length (state c h).tasks) (omega (arith, n, known)))
+    where
+      kept : (b : Bool) → is_among t rs ≡ b → is_among t rs ≡ false
+      kept true among = absurd (false≢true (ap is_queued_place (sym (may.each t among).gone ∙ ap (λ r. r.place) (row_sound h (sound_legal c h legal) c t)) ∙ is))
+      kept false off = off
+
+  pub queued_open : (rs : List ℕ) → MayAll rs (state c h) → (t : ℕ) → is_among t (queue c h) ≡ true → (is_held (view (mark rs (state c h))) t ≡ true) × ((task_at (state c h) t).ending ≡ None)
+  queued_open rs may t there =
+      let is : is_queued h t ≡ true = sym (among-queue c h t) ∙ there in
+      (queued_held rs may t is, ap (λ r. r.ending) (row_sound h (sound_legal c h legal) c t) ∙ unended c h (told_legal c h legal) t (not_gone (place h t) is))
     where
       not_gone : (p : Place) → is_queued_place p ≡ true → is_gone p ≡ false
       not_gone p is = grind arith

@@ -1,16 +1,18 @@
 -- How a step leads from structures that show a state to structures that show the next: what is seen of the next state, and what the changes of the
 -- structures keep in view, are the same.
-use Rattle.std.proofs.Common.{◌≡◌, ℕ, suc, ◌+◌, ◌-◌, cond, List, Some, refl, arith, sym, ap, ◌∙◌}
-use Rattle.std.specs.Prelude.{is_some}
+use Rattle.std.proofs.Common.{◌≡◌, ℕ, suc, ◌+◌, ◌-◌, not, ◌&&◌, cond, List, Some, refl, arith, sym, ap, ◌∙◌}
+use Rattle.std.specs.Prelude.{nat_lt, is_some}
 use Rattle.tp_record.specs.declared.entries.Entry.{Entry}
 use Rattle.tp_record.specs.declared.entries.Ask.{Ask}
 use Rattle.tp_record.specs.declared.entries.Did.{Did}
+use Rattle.tp_record.specs.Lists.{is_among}
 use Rattle.tp_record.specs.Fields.{is_live}
-use Rattle.tp_record.specs.State.{State, state, next}
+use Rattle.tp_record.specs.State.{State, state, next, due}
+use Rattle.tp_record.specs.Left.{mark, MayAll}
 use Rattle.tp_record.specs.Step.{Legal}
 use Rattle.tp_model.proofs.Given.{Given}
 use Rattle.tp_parts.specs.declared.parts.Parts.{Parts}
-use Rattle.tp_shapes.specs.View.{View, view, Reads, Effect}
+use Rattle.tp_shapes.specs.View.{View, view, is_held, Reads, Effect}
 use Rattle.tp_parts.specs.Shows.{Views, Shows}
 use Rattle.tp_parts.specs.Tied.{IsTied}
 use Rattle.tp_parts.specs.Steps.{Stands, Fits, Leads}
@@ -20,8 +22,8 @@ use Rattle.tp_parts.proofs.Ties.{tied_more}
 
 module _ {P : Type 0} where
   -- what is read of a state is what is seen of it
-  pub views_read : (p : Parts P) (s : State) (v : View) → Reads s v → Views p v → Views p (view s)
-  views_read p s v reads views =
+  pub views_read : (p : Parts P) (rs : List ℕ) (s : State) (v : View) → Reads s v → Views p (record v { left_out = rs }) → Views p (view (mark rs s))
+  views_read p rs s v reads views =
       let n = reads.submitted in
       record {
         rank = reads.rank ∙ views.rank;
@@ -31,8 +33,9 @@ module _ {P : Type 0} where
         times_out = reads.core_timeout ∙ views.times_out;
         present = reads.now ∙ views.present;
         submitted = reads.submitted ∙ views.submitted;
-        rows = λ t known. views.rows t (omega (arith, n, known)) ∙ ap (λ r. Some r) (sym (reads.tasks t));
-        unknown = λ t past. views.unknown t (omega (arith, n, past));
+        rows = λ t known. views.rows t (sym (held t) ∙ known) ∙ ap (λ r. Some r) (sym (reads.tasks t));
+        unknown = λ t off. views.unknown t (sym (held t) ∙ off);
+        issued = λ t is. let below = views.issued t is in omega (arith, n, below);
         fates = λ f. reads.fates f ∙ views.fates f;
         queued = reads.queue ∙ views.queued;
         seats = λ w. reads.slots w ∙ views.seats w;
@@ -41,14 +44,18 @@ module _ {P : Type 0} where
         completed = reads.completions ∙ views.completed;
         most = reads.largest ∙ views.most;
       }
+    where
+      -- the same tasks are held
+      held : (t : ℕ) → is_held (view (mark rs s)) t ≡ is_held (record v { left_out = rs }) t
+      held t = ap (λ n. not (is_among t rs) && nat_lt t n) reads.submitted
 
   -- so structures that keep in view what is seen of the next state, count one entry more and owe what it leaves owed show it
-  pub shows_next : (old new : Parts P) (s : State) (d : Did) (v : View) (fall rise : ℕ) → Shows old s → Effect s d v fall rise → Views new v →
-      new.steps ≡ suc old.steps → new.due + fall ≡ old.due + rise → Shows new (next s d)
-  shows_next old new s d v fall rise sh effect views counted owes =
-      let seen = views_read new (next s d) v effect.reads views in
+  pub shows_next : (old new : Parts P) (rs : List ℕ) (s : State) (d : Did) (v : View) (fall rise : ℕ) → Shows old (mark rs s) → Effect s d v fall rise → Views new (record v { left_out = rs }) →
+      new.steps ≡ suc old.steps → new.due + fall ≡ old.due + rise → Shows new (mark rs (next s d))
+  shows_next old new rs s d v fall rise sh effect views counted owes =
+      let seen = views_read new rs (next s d) v effect.reads views in
       let e = effect.owes in
-      let o = sh.owed in
+      let o : due s ≡ old.due = sh.owed in
       record {
         entries = ap suc sh.entries ∙ sym counted;
         seen = seen;
@@ -58,23 +65,29 @@ module _ {P : Type 0} where
       }
 
   -- the whole of what a step does: the effect of its entry, in view of the new structures
-  pub leads_by : (old new : Parts P) (a : Ask) (d : Did) (fall rise : ℕ) → Fits old a d →
-      ((h : List Entry) → Legal old.config h → Given old.config h d → Shows old (state old.config h) → (v : View) × Effect (state old.config h) d v fall rise × Views new v) →
+  pub leads_where : (old new : Parts P) (a : Ask) (d : Did) (fall rise : ℕ) → Fits old a d →
+      ((h : List Entry) (rs : List ℕ) → Legal old.config h → MayAll rs (state old.config h) → Given old.config h d → Shows old (mark rs (state old.config h)) → (v : View) × Effect (state old.config h) d v fall rise × Views new (record v { left_out = rs })) →
       new.config ≡ old.config → new.steps ≡ suc old.steps → new.due + fall ≡ old.due + rise → IsTied old.config (suc old.steps) new → Leads old d new
-  leads_by old new a d fall rise fits effects config steps owes tied = record {
-    shows = λ h legal sh.
-        let e = effects h legal (given_fitting old.config h a d legal (fits h legal sh)) sh in
-        shows_next old new (state old.config h) d e.0 fall rise sh e.1 e.2 steps owes;
+  leads_where old new a d fall rise fits effects config steps owes tied = record {
+    shows = λ h rs legal may sh.
+        let e = effects h rs legal may (given_fitting old.config h rs a d legal (fits h rs legal may sh)) sh in
+        shows_next old new rs (state old.config h) d e.0 fall rise sh e.1 e.2 steps owes;
     tied = tied;
     config = config;
     steps = steps;
   }
 
-  -- the same, of structures that stand, where one entry was counted by which n fewer are owed
+  -- the same, where the effect does not depend on what was released
+  pub leads_by : (old new : Parts P) (a : Ask) (d : Did) (fall rise : ℕ) → Fits old a d →
+      ((h : List Entry) (rs : List ℕ) → Legal old.config h → Given old.config h d → Shows old (mark rs (state old.config h)) → (v : View) × Effect (state old.config h) d v fall rise × Views new (record v { left_out = rs })) →
+      new.config ≡ old.config → new.steps ≡ suc old.steps → new.due + fall ≡ old.due + rise → IsTied old.config (suc old.steps) new → Leads old d new
+  leads_by old new a d fall rise fits effects = leads_where old new a d fall rise fits (λ h rs legal may. effects h rs legal)
+
+  -- and of structures that stand, where one entry was counted by which n fewer are owed
   pub leads_from : (old new : Parts P) (a : Ask) (d : Did) (fall rise n : ℕ) → Stands old → Fits old a d →
-      ((h : List Entry) → Legal old.config h → Given old.config h d → Shows old (state old.config h) → (v : View) × Effect (state old.config h) d v fall rise × Views new v) →
+      ((h : List Entry) (rs : List ℕ) → Legal old.config h → Given old.config h d → Shows old (mark rs (state old.config h)) → (v : View) × Effect (state old.config h) d v fall rise × Views new (record v { left_out = rs })) →
       fall ≡ n + rise → new.config ≡ old.config → new.steps ≡ suc old.steps → new.due ≡ old.due - n → (IsTied old.config (suc old.steps) old → IsTied old.config (suc old.steps) new) → Leads old d new
   leads_from old new a d fall rise n stands fits effects net config steps due tied =
-      let e = effects stands.history stands.legal (given_here old stands a d fits) stands.shows in
+      let e = effects stands.history stands.released stands.legal (given_here old stands a d fits) stands.shows in
       let owed = owed_here old stands d e.0 fall rise e.1 in
       leads_by old new a d fall rise fits effects config steps (omega (arith, due, owed, net)) (tied (tied_more old.config old.steps old stands.tied))

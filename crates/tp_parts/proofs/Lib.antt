@@ -14,3 +14,6 @@ pub mod Purging
 pub mod Falls
 pub mod Drains
 pub mod Reading
+pub mod Rows
+pub mod Forgetting
+pub mod Leaving

@@ -1,6 +1,7 @@
 -- The structures of a pool without tasks show the state of the empty history, and are tied.
-use Rattle.std.proofs.Common.{◌≡◌, ℕ, Bool, true, false, cond, List, [], refl, arith, sym, ap, subst, ◌∙◌}
+use Rattle.std.proofs.Common.{◌≡◌, ℕ, ◌<◌, Bool, true, false, cond, List, [], refl, arith, sym, ap, subst, ◌∙◌}
 use Rattle.std.specs.Prelude.{is_some, count_by}
+use Rattle.std.proofs.lemmas.Bool.{ltb-true, false≢true}
 use Rattle.std.specs.List.{Contains}
 use Rattle.tp_types.specs.Config.{IsConfig}
 use Rattle.tp_types.specs.declared.configs.Config.{Config}
@@ -59,8 +60,9 @@ module _ {P : Type 0} where
             times_out = refl;
             present = refl;
             submitted = sym nothing.submitted;
-            rows = λ t known. absurd (let n : ⊥ = omega (arith, known) in n);
-            unknown = λ t past. ap row_of_task (nothing.tasks t);
+            rows = λ t known. absurd (let below : t < 0 = ltb-true t 0 known in let n : ⊥ = omega (arith, below) in n);
+            unknown = λ t off. ap row_of_task (nothing.tasks t);
+            issued = λ t is. absurd (false≢true is);
             fates = λ f. sym (nothing.fates f);
             queued = empty_line (is_ranked c.queue) ∙ sym (ap (λ w. numbers w.items) first);
             seats = λ w. ap (λ xs. slot_at xs w) (sym none);

@@ -1,8 +1,8 @@
 -- What ties the structures together lasts where a task comes into the queue.
-use Rattle.std.proofs.Common.{◌≡◌, ℕ, ◌+◌, ◌<◌, List, ◌∷◌, Some, Option, refl, arith, sym, ap, subst, ◌∙◌, ◌⊎◌, inl, inr}
+use Rattle.std.proofs.Common.{◌≡◌, ℕ, ◌+◌, ◌<◌, Bool, false, List, ◌∷◌, Some, Option, refl, arith, sym, ap, subst, ◌∙◌, ◌⊎◌, inl, inr}
 use Rattle.std.specs.Prelude.{is_some, true, not, ◌&&◌, filter, nat_le, nat_lt}
 use Rattle.std.specs.List.{Contains}
-use Rattle.std.proofs.lemmas.Bool.{ne_eqb, cases_eq, cases_lt}
+use Rattle.std.proofs.lemmas.Bool.{ne_eqb, cases_eq}
 use Rattle.std.proofs.lemmas.Option.{none-some}
 use Rattle.std.proofs.lemmas.List.{length-map}
 use Rattle.std.proofs.lemmas.List.Elements.{Contains-append_cases}
@@ -21,7 +21,7 @@ use Rattle.tp_tasks.specs.declared.table.Task.{Task}
 use Rattle.tp_tasks.specs.Table.{row_of_task, promise_of_task, payload_of_task}
 use Rattle.tp_tasks.specs.Tasks.{task_of, row_of, promise_of, number_of, payload_of, submissions, KeepsOthers}
 use Rattle.tp_parts.specs.declared.parts.Parts.{Parts}
-use Rattle.tp_shapes.specs.View.{View}
+use Rattle.tp_shapes.specs.View.{View, is_held}
 use Rattle.tp_parts.specs.Shows.{Views, numbers}
 use Rattle.tp_parts.specs.Tied.{AreKeyed, IsTied, is_before, is_waiting, priority_in, waits, KeepsPromise}
 use Rattle.tp_parts.proofs.Joins.{Keyed, keyed_all}
@@ -37,10 +37,11 @@ keyed_seen {P} p v views keyed =
   where
     -- a task with a place number is one of those that are seen
     seen : (u m : ℕ) → number_of p.tasks u ≡ Some m → priority_in (row_of p.tasks u) ≡ (v.tasks u).priority
-    seen u m known = elim (cases_lt u v.submitted) [
-      | inl within ↦ ap priority_in (views.rows u within)
-      | inr past ↦ let r = row_kept (task_of p.tasks u) m known in absurd (none-some r.0 (sym (views.unknown u past) ∙ r.1))
-    ]
+    seen u m known = by (is_held v u) refl
+      where
+        by : (b : Bool) → is_held v u ≡ b → priority_in (row_of p.tasks u) ≡ (v.tasks u).priority
+        by true held = ap priority_in (views.rows u held)
+        by false off = let r = row_kept (task_of p.tasks u) m known in absurd (none-some r.0 (sym (views.unknown u off) ∙ r.1))
 
 -- a row of a task that has not begun waits as one does that is in another such place
 pub waits_on : (r y : TaskRow) → Some r ≡ Some y → is_before r.place ≡ true → not y.cancelled ≡ is_waiting y

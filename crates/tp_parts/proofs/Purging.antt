@@ -1,5 +1,5 @@
 -- A purge: what a pass over the queue takes out of it is gone, and all else stays.
-use Rattle.std.proofs.Common.{◌≡◌, ℕ, suc, ◌+◌, Bool, true, false, not, ◌&&◌, ◌||◌, cond, List, [], ◌∷◌, length, map, Option, Some, None, Contains, refl, arith, sym, ap, subst, ◌∙◌, ◌<◌, inl, inr}
+use Rattle.std.proofs.Common.{◌≡◌, ℕ, suc, ◌+◌, Bool, true, false, not, ◌&&◌, ◌||◌, cond, List, [], ◌∷◌, length, map, Option, Some, None, Contains, refl, arith, sym, ap, subst, ◌∙◌, inl, inr}
 use Rattle.std.specs.Prelude.{◌==◌, nat_eq, filter, count_by, sum_by, is_some, option_map}
 use Rattle.std.specs.List.{FoldsTo}
 use Rattle.std.proofs.lemmas.Bool.{cases_eq, eq-eqb, ne_eqb, false≢true}
@@ -11,15 +11,16 @@ use Rattle.tp_types.specs.declared.tasks.Place.{Place}
 use Rattle.tp_types.specs.declared.tasks.Place.TheVariants as at
 use Rattle.tp_types.specs.declared.tasks.Promise.{Promise}
 use Rattle.tp_record.specs.declared.rows.TaskRow.{TaskRow}
+use Rattle.tp_record.specs.Lists.{is_among}
 use Rattle.tp_record.specs.Fields.{is_queued_place}
-use Rattle.tp_model.proofs.Queues.{is_among, among-filter, Contains-from_among, among_from_Contains}
+use Rattle.tp_model.proofs.Queues.{among-filter, Contains-from_among, among_from_Contains}
 use Rattle.tp_queue.specs.declared.queues.Queue.{Queue}
 use Rattle.tp_queue.specs.Queues.{waiting_of}
 use Rattle.tp_tasks.specs.declared.tasks.Tasks.{Tasks}
 use Rattle.tp_tasks.specs.declared.table.Task.{Task}
 use Rattle.tp_tasks.specs.Table.{row_of_task, number_of_task, payload_of_task, promise_of_task}
 use Rattle.tp_tasks.specs.Tasks.{task_of, row_of, number_of, payload_of, promise_of, submissions, KeepsDone, KeepsFates, Purges, was_cancelled}
-use Rattle.tp_shapes.specs.View.{View}
+use Rattle.tp_shapes.specs.View.{View, is_held}
 use Rattle.tp_shapes.proofs.Controllers.Purge.{purged}
 use Rattle.tp_parts.specs.declared.parts.Parts.{Parts}
 use Rattle.tp_parts.specs.Purges.{HoldsQueued}
@@ -167,7 +168,7 @@ module _ {P : Type 0} (p : Parts P) (v : View) (views : Views p v) (holds : Hold
       ∙ sym (numbers-filter (λ u. not (flag p.tasks u)) (waiting_of p.queue).items)
 
   -- the row of a task after the purge
-  pub row_left : (tasks : Tasks P) → AreGone p.tasks tasks (filter (flag p.tasks) (numbers (waiting_of p.queue).items)) → (u : ℕ) → u < v.submitted → row_of tasks u ≡ Some (purged (v.tasks u))
+  pub row_left : (tasks : Tasks P) → AreGone p.tasks tasks (filter (flag p.tasks) (numbers (waiting_of p.queue).items)) → (u : ℕ) → is_held v u ≡ true → row_of tasks u ≡ Some (purged (v.tasks u))
   row_left tasks are u known =
       let row = views.rows u known in
       are.rows u

@@ -134,6 +134,7 @@ views_queue p v views queue ts is =
       submitted = views.submitted;
       rows = views.rows;
       unknown = views.unknown;
+      issued = views.issued;
       fates = views.fates;
       queued = is;
       seats = views.seats;

@@ -1,20 +1,19 @@
 -- What ties the structures together lasts where a completion is handed out.
-use Rattle.std.proofs.Common.{◌≡◌, ℕ, Option, arith, sym, ap, subst, ◌∙◌}
+use Rattle.std.proofs.Common.{◌≡◌, ℕ, arith, sym, ap, subst, ◌∙◌}
 use Rattle.std.specs.Prelude.{is_some}
 use Rattle.tp_types.specs.declared.configs.Config.{Config}
 use Rattle.tp_tasks.specs.declared.tasks.Tasks.{Tasks}
-use Rattle.tp_tasks.specs.declared.table.Task.{Task}
 use Rattle.tp_queue.specs.Queues.{waiting_of}
-use Rattle.tp_tasks.specs.Table.{row_of_task, promise_of_task, payload_of_task}
-use Rattle.tp_tasks.specs.Tasks.{task_of, submissions}
+use Rattle.tp_tasks.specs.Tasks.{row_of, promise_of, number_of, payload_of, submissions}
 use Rattle.tp_parts.specs.declared.parts.Parts.{Parts}
-use Rattle.tp_parts.specs.Tied.{IsTied, waits, KeepsPromise}
-use Rattle.tp_parts.proofs.Ties.{keyed_same}
+use Rattle.tp_parts.specs.Tied.{IsTied, waits, priority_in, KeepsPromise}
+use Rattle.tp_parts.proofs.Ties.{keyed_row}
 
--- each task as it was
-pub tied_same : {P : Type 0} (c : Config) (n : ℕ) (old : Parts P) → IsTied c n old → (tasks : Tasks P) → ((t : ℕ) → task_of tasks t ≡ task_of old.tasks t) → submissions tasks ≡ submissions old.tasks →
-    IsTied c n (record old { tasks = tasks })
-tied_same {P} c n old tied tasks same counted =
+-- each task's row, promise, place number and payload as they were
+pub tied_same : {P : Type 0} (c : Config) (n : ℕ) (old : Parts P) → IsTied c n old → (tasks : Tasks P) → ((t : ℕ) → row_of tasks t ≡ row_of old.tasks t) →
+    ((t : ℕ) → promise_of tasks t ≡ promise_of old.tasks t) → ((t : ℕ) → number_of tasks t ≡ number_of old.tasks t) → ((t : ℕ) → payload_of tasks t ≡ payload_of old.tasks t) →
+    submissions tasks ≡ submissions old.tasks → IsTied c n (record old { tasks = tasks })
+tied_same {P} c n old tied tasks rows promises numbers payloads counted =
     let e = counted in
     record {
       made_with = tied.made_with;
@@ -26,7 +25,7 @@ tied_same {P} c n old tied tasks same counted =
       queue_places = λ is. let k = tied.queue_places is in omega (arith, e, k);
       offers = tied.offers;
       idlings = tied.idlings;
-      keyed = λ t k has. keyed_same (waiting_of old.queue) _ _ k (same t.0) (tied.keyed t k has);
-      payloads = λ t. ap (λ k. is_some (payload_of_task k)) (same t) ∙ tied.payloads t ∙ ap (λ k. waits (row_of_task k)) (sym (same t));
-      promises = λ t. let Q : Option (Task P) → Type 0 = λ k. KeepsPromise (promise_of_task k) (row_of_task k) in subst Q (sym (same t)) (tied.promises t);
+      keyed = λ t k has. keyed_row (waiting_of old.queue) _ _ _ _ k (ap priority_in (rows t.0)) (numbers t.0) (tied.keyed t k has);
+      payloads = λ t. ap is_some (payloads t) ∙ tied.payloads t ∙ ap waits (sym (rows t));
+      promises = λ t. subst (λ p. KeepsPromise p (row_of tasks t)) (sym (promises t)) (subst (λ r. KeepsPromise (promise_of old.tasks t) r) (sym (rows t)) (tied.promises t));
     }

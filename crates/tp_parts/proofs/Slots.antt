@@ -4,10 +4,10 @@ use Rattle.std.specs.Prelude.{◌==◌, ◌&&◌, count_by, is_some}
 use Rattle.tp_record.specs.declared.entries.Entry.{Entry}
 use Rattle.tp_record.specs.declared.rows.SlotRow.{SlotRow}
 use Rattle.tp_record.specs.Fields.{idling, idled, is_idle}
-use Rattle.tp_record.specs.Lists.{without}
+use Rattle.tp_record.specs.Lists.{without, is_among}
 use Rattle.tp_record.specs.State.{state}
 use Rattle.tp_record.specs.Step.{slot_count}
-use Rattle.tp_model.proofs.Queues.{is_among, among-filter}
+use Rattle.tp_model.proofs.Queues.{among-filter}
 use Rattle.tp_shapes.proofs.Lists.{without_absent}
 use Rattle.tp_shapes.specs.View.{View, put}
 use Rattle.tp_parts.specs.declared.parts.Parts.{Parts}
@@ -27,6 +27,7 @@ views_slots p v slots order taken live same idle views = record {
   submitted = views.submitted;
   rows = views.rows;
   unknown = views.unknown;
+  issued = views.issued;
   fates = views.fates;
   queued = views.queued;
   seats = λ w. same w ∙ views.seats w;

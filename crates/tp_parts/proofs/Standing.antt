@@ -1,19 +1,23 @@
 -- What is known where structures stand.
-use Rattle.std.proofs.Common.{◌≡◌, ℕ, ◌+◌, ◌-◌, ◌^◌, ◌<◌, ◌≤◌, Bool, true, false, List, Option, Some, None, Ok, Err, cond, arith, sym, ap, subst, ◌∙◌}
+use Rattle.std.proofs.Common.{◌≡◌, ℕ, ◌+◌, ◌-◌, ◌^◌, ◌<◌, ◌≤◌, Bool, true, false, List, length, Option, Some, None, Ok, Err, cond, arith, refl, sym, ap, ap₂, subst, ◌∙◌}
 use Rattle.std.specs.Prelude.{unwrap_or, ◌↔◌, ◌&&◌, not}
-use Rattle.std.proofs.lemmas.Bool.{le-leb}
+use Rattle.std.proofs.lemmas.Bool.{le-leb, lt-ltb, true≢false}
 use Rattle.tp_types.specs.Config.{IsConfig}
 use Rattle.tp_types.specs.declared.configs.Config.{Config}
 use Rattle.tp_types.specs.declared.ids.TaskId.{TaskId}
 use Rattle.tp_types.specs.declared.tasks.Place.{Place}
+use Rattle.tp_types.specs.declared.tasks.Place.TheVariants as at
 use Rattle.tp_types.specs.declared.refusals.PoolError.TheVariants.{BookFull}
 use Rattle.tp_record.specs.declared.entries.Entry.{Entry}
 use Rattle.tp_record.specs.declared.entries.Ask.{Ask}
 use Rattle.tp_record.specs.declared.entries.Did.{Did}
 use Rattle.tp_record.specs.declared.rows.Stage.{Stage}
 use Rattle.tp_record.specs.Effects.{reserves}
-use Rattle.tp_record.specs.Fields.{rank, submitted, is_cancelled}
-use Rattle.tp_record.specs.State.{State, state, slot_at, task_at}
+use Rattle.tp_record.specs.Lists.{is_among}
+use Rattle.tp_record.specs.Fields.{rank, submitted, is_cancelled, owes_second}
+use Rattle.tp_record.specs.Left.{mark, MayAll, asked, is_one_of}
+use Rattle.tp_left.proofs.Marks.{fits_whole}
+use Rattle.tp_record.specs.State.{State, state, slot_at, task_at, due}
 use Rattle.tp_record.specs.declared.rows.TaskRow.{TaskRow}
 use Rattle.tp_record.specs.Step.{Gives, Legal, fitting, within_room, leaves_room}
 use Rattle.tp_model.proofs.Weak.{within}
@@ -33,28 +37,30 @@ use Rattle.tp_parts.specs.Shows.{Shows}
 use Rattle.tp_parts.specs.Steps.{Stands, Fits, Accepts, IsFitting}
 
 -- what is given where an answer fits
-pub given_fitting : (c : Config) (h : List Entry) (a : Ask) (d : Did) → Legal c h → IsFitting c (state c h) a d → Given c h d
-given_fitting c h a d legal fits = given_answer c h (unwrap_or (reserves d) 0) a d (sound_legal c h legal) fits.0 fits.1
+pub given_fitting : (c : Config) (h : List Entry) (rs : List ℕ) (a : Ask) (d : Did) → Legal c h → IsFitting c (mark rs (state c h)) a d → Given c h d
+given_fitting c h rs a d legal fits =
+    given_answer c h (unwrap_or (reserves d) 0) a d (sound_legal c h legal) (fits_whole c h rs (unwrap_or (reserves d) 0) a d fits.0).1 fits.1
 
 -- a step that is owed is given where it fits: there is room for it
-pub gives_owed : (c : Config) (h : List Entry) (a : Ask) (d : Did) → IsConfig c → Legal c h → IsFitting c (state c h) a d → lowers (rank h) d ≡ true → Gives c (state c h) a d
-gives_owed c h a d config legal fits low =
-    let falls = owed_falls c h (unwrap_or (reserves d) 0) a d legal fits.0 fits.1 low in
+pub gives_owed : (c : Config) (h : List Entry) (rs : List ℕ) (a : Ask) (d : Did) → IsConfig c → Legal c h → IsFitting c (mark rs (state c h)) a d → lowers (rank h) d ≡ true → Gives c (mark rs (state c h)) a d
+gives_owed c h rs a d config legal fits low =
+    let whole = fits_whole c h rs (unwrap_or (reserves d) 0) a d fits.0 in
+    let falls = owed_falls c h (unwrap_or (reserves d) 0) a d legal whole.1 fits.1 low in
     let room = room_is_enough c h config legal in
     let leaves : leaves_room c (state c h) d ≡ true = le-leb _ _ (omega (arith, falls, room)) in
-    (ap (within_room c (state c h)) fits.0 ∙ ap (λ b. cond b (Ok d) (Err BookFull)) leaves, fits.1)
+    (ap (within_room c (mark rs (state c h))) fits.0 ∙ ap (λ b. cond b (Ok d) (Err BookFull)) leaves, fits.1)
 
 module _ {P : Type 0} (p : Parts P) (stands : Stands p) where
   -- so is each that is owed at every run state
   pub accepts_owed : (a : Ask) (d : Did) → ((n : ℕ) → lowers n d ≡ true) → Fits p a d → Accepts p a d
-  accepts_owed a d low fits = λ h legal sh. gives_owed p.config h a d stands.tied.config legal (fits h legal sh) (low (rank h))
+  accepts_owed a d low fits = λ h rs legal may sh. gives_owed p.config h rs a d stands.tied.config legal (fits h rs legal may sh) (low (rank h))
 
   -- there is room for all that is owed
   pub room_left : p.steps + p.due ≤ p.config.record_limit
   room_left =
       let room = room_is_enough p.config stands.history stands.tied.config stands.legal in
       let e = stands.shows.entries in
-      let f = stands.shows.owed in
+      let f : due (state p.config stands.history) ≡ p.due = stands.shows.owed in
       omega (arith, room, e, f)
 
   pub few_steps : p.steps + p.due < 2 ^ 32 - 1
@@ -62,16 +68,44 @@ module _ {P : Type 0} (p : Parts P) (stands : Stands p) where
 
   -- what is given at its history
   pub given_here : (a : Ask) (d : Did) → Fits p a d → Given p.config stands.history d
-  given_here a d fits = given_fitting p.config stands.history a d stands.legal (fits stands.history stands.legal stands.shows)
+  given_here a d fits = given_fitting p.config stands.history stands.released a d stands.legal (fits stands.history stands.released stands.legal stands.may stands.shows)
 
-  -- a submitted task's row in the structures
-  pub row_here : (t : ℕ) → t < submitted stands.history → row_of p.tasks t ≡ Some (task_at (state p.config stands.history) t)
-  row_here t known = let n = tasks_counted stands.history in stands.shows.seen.rows t (omega (arith, n, known))
+  -- a task that was released is gone, and owes no second look
+  pub gone_here : (t : ℕ) → is_among t stands.released ≡ true → ((task_at (state p.config stands.history) t).place ≡ at.Gone) × ((task_at (state p.config stands.history) t).second ≡ false)
+  gone_here t is = let may = stands.may.each t is in (may.gone, may.paid)
+
+  -- an ask that fits names no task that was released
+  pub named_here : (a : Ask) (d : Did) → Fits p a d → is_one_of (asked a) stands.released ≡ false
+  named_here a d fits =
+      (fits_whole p.config stands.history stands.released (unwrap_or (reserves d) 0) a d (fits stands.history stands.released stands.legal stands.may stands.shows).0).0
+
+  -- a submitted task's row in the structures, where it was not released
+  pub row_here : (t : ℕ) → t < submitted stands.history → is_among t stands.released ≡ false → row_of p.tasks t ≡ Some (task_at (state p.config stands.history) t)
+  row_here t known off =
+      let n = tasks_counted stands.history in
+      stands.shows.seen.rows t (ap₂ (λ a b. not a && b) off (lt-ltb t _ (omega (arith, n, known))))
+
+  -- one that owes a second look was not
+  pub owing_here : (t : ℕ) → t < submitted stands.history → owes_second stands.history t ≡ true → is_among t stands.released ≡ false
+  owing_here t known owes = by (is_among t stands.released) refl
+    where
+      by : (b : Bool) → is_among t stands.released ≡ b → is_among t stands.released ≡ false
+      by true is = absurd (true≢false (sym owes ∙ sym (ap (λ r. r.second) (row_read stands.history t known)) ∙ (gone_here t is).1))
+      by false is = is
+
+  -- nor was one that is not gone
+  pub placed_here : (t : ℕ) (place : Place) → IsAt stands.history t place → is_gone place ≡ false → is_among t stands.released ≡ false
+  placed_here t place is there = by (is_among t stands.released) refl
+    where
+      by : (b : Bool) → is_among t stands.released ≡ b → is_among t stands.released ≡ false
+      by true among =
+          absurd (true≢false (sym (ap is_gone (gone_here t among).0) ∙ ap (λ r. is_gone r.place) (row_read stands.history t is.0) ∙ ap is_gone is.1 ∙ there))
+      by false among = among
 
   -- a task that is there: its row in the structures, and its place
-  pub task_here : (t : ℕ) (place : Place) → IsAt stands.history t place →
+  pub task_here : (t : ℕ) (place : Place) → IsAt stands.history t place → is_gone place ≡ false →
       (row_of p.tasks t ≡ Some (task_at (state p.config stands.history) t)) × ((task_at (state p.config stands.history) t).place ≡ place)
-  task_here t place is = (row_here t is.0, ap (λ r. r.place) (row_read stands.history t is.0) ∙ is.1)
+  task_here t place is there = (row_here t is.0 (placed_here t place is there), ap (λ r. r.place) (row_read stands.history t is.0) ∙ is.1)
 
   -- where it is not gone it has no ending
   pub open_here : (t : ℕ) (place : Place) → IsAt stands.history t place → is_gone place ≡ false → (task_at (state p.config stands.history) t).ending ≡ None
@@ -89,7 +123,7 @@ module _ {P : Type 0} (p : Parts P) (stands : Stands p) where
   pub owed_here : (d : Did) (v : View) (fall rise : ℕ) → Effect (state p.config stands.history) d v fall rise → fall ≤ p.due + rise
   owed_here d v fall rise effect =
       let e = effect.owes in
-      let f = stands.shows.owed in
+      let f : due (state p.config stands.history) ≡ p.due = stands.shows.owed in
       omega (arith, e, f)
 
   -- what it takes to count an entry by which n fewer are owed
@@ -101,33 +135,35 @@ module _ {P : Type 0} (p : Parts P) (stands : Stands p) where
       (omega (arith, few), omega (arith, owed, net))
 
   -- a task that is there, and that waits in another place just as in this one
-  pub known_here : (tasks : Tasks P) (t : ℕ) (from to : Place) → tasks ≡ p.tasks → IsAt stands.history t from → is_before to ≡ is_before from →
+  pub known_here : (tasks : Tasks P) (t : ℕ) (from to : Place) → tasks ≡ p.tasks → IsAt stands.history t from → is_gone from ≡ false → is_before to ≡ is_before from →
       (r : TaskRow) × (row_of tasks t ≡ Some r) × (is_waiting (record r { place = to }) ≡ is_waiting r)
-  known_here tasks t from to same is alike =
-      let there = task_here t from is in
+  known_here tasks t from to same is placed alike =
+      let there = task_here t from is placed in
       let r = task_at (state p.config stands.history) t in
       (r, ap (λ x. row_of x t) same ∙ there.0, ap (λ b. b && not r.cancelled) (alike ∙ sym (ap is_before there.1)))
 
 -- what is accepted fits
 pub fits_accepted : {P : Type 0} (p : Parts P) (a : Ask) (d : Did) → Accepts p a d → Fits p a d
-fits_accepted p a d accepts = λ h legal sh.
-    let s = state p.config h in
-    let gives = accepts h legal sh in
+fits_accepted p a d accepts = λ h rs legal may sh.
+    let s = mark rs (state p.config h) in
+    let gives = accepts h rs legal may sh in
     (within p.config s (fitting p.config s (unwrap_or (reserves d) 0) a) d gives.0, gives.1)
 
 -- structures that show the same states, with the same settings, stand and accept alike
 module _ {P : Type 0} (old new : Parts P) (config : new.config ≡ old.config) (same : (s : State) → Shows old s ↔ Shows new s) where
-  before : (h : List Entry) → Shows new (state new.config h) → Shows old (state old.config h)
-  before h sh = subst (λ c. Shows old (state c h)) config ((same (state new.config h)).1 sh)
+  before : (h : List Entry) (rs : List ℕ) → Shows new (mark rs (state new.config h)) → Shows old (mark rs (state old.config h))
+  before h rs sh = subst (λ c. Shows old (mark rs (state c h))) config ((same (mark rs (state new.config h))).1 sh)
 
   pub stands_same : new.steps ≡ old.steps → ((c : Config) (n : ℕ) → IsTied c n old → IsTied c n new) → Stands old → Stands new
   stands_same steps tied stands = record {
     history = stands.history;
+    released = stands.released;
+    may = subst (λ c. MayAll stands.released (state c stands.history)) (sym config) stands.may;
     legal = subst (λ c. Legal c stands.history) (sym config) stands.legal;
-    shows = subst (λ c. Shows new (state c stands.history)) (sym config) ((same (state old.config stands.history)).0 stands.shows);
+    shows = subst (λ c. Shows new (mark stands.released (state c stands.history))) (sym config) ((same (mark stands.released (state old.config stands.history))).0 stands.shows);
     tied = subst (λ n. IsTied new.config n new) (sym steps) (subst (λ c. IsTied c old.steps new) (sym config) (tied old.config old.steps stands.tied));
   }
 
   pub accepts_same : (a : Ask) (d : Did) → Accepts old a d → Accepts new a d
-  accepts_same a d accepts = λ h legal sh.
-      subst (λ c. Gives c (state c h) a d) (sym config) (accepts h (subst (λ c. Legal c h) config legal) (before h sh))
+  accepts_same a d accepts = λ h rs legal may sh.
+      subst (λ c. Gives c (mark rs (state c h)) a d) (sym config) (accepts h rs (subst (λ c. Legal c h) config legal) (subst (λ c. MayAll rs (state c h)) config may) (before h rs sh))

@@ -1,6 +1,6 @@
 -- What ties the structures together lasts through a change of one of them.
 use Rattle.std.proofs.Common.{◌≡◌, ℕ, suc, List, [], ◌∷◌, drop, Some, None, Option, arith, sym, ap, subst, ◌∙◌, false, inl, inr, ◌<◌, ◌≤◌, true, refl}
-use Rattle.std.specs.Prelude.{is_some, nat_eq, ◌&&◌, IfSome, IsTrue, filter}
+use Rattle.std.specs.Prelude.{is_some, IfSome, IsTrue}
 use Rattle.std.specs.List.{Contains}
 use Rattle.std.proofs.lemmas.List.Elements.{Contains-append_right}
 use Rattle.std.proofs.lemmas.Bool.{ne_eqb, cases_eq, false≢true}

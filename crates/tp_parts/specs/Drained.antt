@@ -1,30 +1,21 @@
 -- The tasks that a stop hands back.
-use Rattle.std.specs.Prelude.{ℕ, ◌≡◌, ◌+◌, ◌<◌, ◌==◌, ◌||◌, Bool, true, false, List, [], ◌∷◌, map, drop, sum_by, Option, Some, None, if◌then◌else◌}
+use Rattle.std.specs.Prelude.{ℕ, ◌≡◌, ◌+◌, true, List, [], ◌∷◌, map, drop, sum_by, Option, Some, None, if◌then◌else◌}
 use Rattle.tp_types.specs.declared.ids.TaskId.{TaskId}
 use Rattle.tp_types.specs.declared.tasks.Fate.{Fate}
 use Rattle.tp_types.specs.declared.tasks.Fate.TheVariants as fate
 use Rattle.tp_types.specs.declared.tasks.Place.TheVariants as at
 use Rattle.tp_types.specs.declared.configs.Config.{Config}
 use Rattle.tp_record.specs.declared.rows.TaskRow.{TaskRow}
+use Rattle.tp_record.specs.Lists.{is_among, IsOnce}
 use Rattle.tp_record.specs.State.{is_fate}
 use Rattle.tp_queue.specs.Queues.{waiting_of}
 use Rattle.tp_tasks.specs.declared.tasks.Tasks.{Tasks}
 use Rattle.tp_tasks.specs.Tasks.{payload_of, promise_of}
-use Rattle.tp_shapes.specs.View.{View, put}
+use Rattle.tp_shapes.specs.View.{View, is_held, put}
 use Rattle.tp_parts.specs.declared.parts.Parts.{Parts}
 use Rattle.tp_parts.specs.Payloads.{HandsOut}
 use Rattle.tp_parts.specs.Shows.{Views}
 use Rattle.tp_parts.specs.Tied.{IsTied}
-
--- t is one of these
-abbrev pub is_among : ℕ → List ℕ → Bool
-is_among t [] = false
-is_among t (u ∷ us) = t == u || is_among t us
-
--- none of them is there twice
-abbrev pub IsOnce : List ℕ → Type 0
-IsOnce [] = Unit {0}
-IsOnce (u ∷ us) = (is_among u us ≡ false) × IsOnce us
 
 -- a task that is handed back
 abbrev pub gone : TaskRow → TaskRow
@@ -49,7 +40,7 @@ module _ {P : Type 0} where
     pub seen : View
     pub views : Views p seen
     pub once : IsOnce seen.queue
-    pub unended : (t : ℕ) → is_among t seen.queue ≡ true → (t < seen.submitted) × ((seen.tasks t).ending ≡ None)
+    pub unended : (t : ℕ) → is_among t seen.queue ≡ true → (is_held seen t ≡ true) × ((seen.tasks t).ending ≡ None)
 
   -- the queued tasks in order, each with its payload, if it waited
   abbrev pub handed_back : Parts P → List (TaskId × Option P)

@@ -7,3 +7,4 @@ pub mod Memory
 pub mod Room
 pub mod Drained
 pub mod Purges
+pub mod Releases

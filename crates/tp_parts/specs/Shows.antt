@@ -1,14 +1,15 @@
 -- The state that a pool's structures show.
-use Rattle.std.specs.Prelude.{ℕ, ◌≡◌, ◌<◌, ◌≤◌, List, map, count_by, is_some, Some, None}
+use Rattle.std.specs.Prelude.{ℕ, ◌≡◌, ◌<◌, true, false, List, map, count_by, is_some, Some, None}
 use Rattle.tp_types.specs.RunState.{state_rank}
 use Rattle.tp_types.specs.declared.ids.TaskId.{TaskId}
 use Rattle.tp_types.specs.declared.tasks.Fate.{Fate}
+use Rattle.tp_record.specs.Lists.{is_among}
 use Rattle.tp_record.specs.Fields.{is_live}
 use Rattle.tp_record.specs.State.{State, due, slot_at}
 use Rattle.tp_queue.specs.Queues.{waiting_of}
 use Rattle.tp_tasks.specs.Tasks.{row_of, done_of, fated_of, submissions}
 use Rattle.tp_parts.specs.declared.parts.Parts.{Parts}
-use Rattle.tp_shapes.specs.View.{View, view}
+use Rattle.tp_shapes.specs.View.{View, view, is_held}
 
 -- the tasks that wait, by their numbers
 abbrev pub numbers : List (TaskId × ℕ) → List ℕ
@@ -24,8 +25,10 @@ module _ {P : Type 0} where
     pub times_out : v.core_timeout ≡ p.core_timeout
     pub present : v.now ≡ p.moment
     pub submitted : v.submitted ≡ submissions p.tasks
-    pub rows : (t : ℕ) → t < v.submitted → row_of p.tasks t ≡ Some (v.tasks t)
-    pub unknown : (t : ℕ) → v.submitted ≤ t → row_of p.tasks t ≡ None
+    pub rows : (t : ℕ) → is_held v t ≡ true → row_of p.tasks t ≡ Some (v.tasks t)
+    pub unknown : (t : ℕ) → is_held v t ≡ false → row_of p.tasks t ≡ None
+    -- only tasks that were submitted are left out, so a new one is not
+    pub issued : (t : ℕ) → is_among t v.left_out ≡ true → t < v.submitted
     pub fates : (f : Fate) → v.fates f ≡ fated_of p.tasks f
     pub queued : v.queue ≡ numbers (waiting_of p.queue).items
     pub seats : (w : ℕ) → v.slots w ≡ slot_at p.slots.slots w

@@ -1,5 +1,5 @@
 -- What a step does to a pool's structures.
-use Rattle.std.specs.Prelude.{suc, ◌≡◌, true, List, Ok, unwrap_or, IfSome}
+use Rattle.std.specs.Prelude.{ℕ, suc, ◌≡◌, true, List, Ok, unwrap_or, IfSome}
 use Rattle.tp_types.specs.declared.configs.Config.{Config}
 use Rattle.tp_types.specs.declared.refusals.PoolError.{PoolError}
 use Rattle.tp_record.specs.declared.entries.Entry.{Entry}
@@ -9,6 +9,7 @@ use Rattle.tp_record.specs.Effects.{reserves}
 use Rattle.tp_record.specs.State.{State, state, next}
 use Rattle.tp_record.specs.Step.{Legal, Gives, fitting, is_free_for, Refuses as StepRefuses}
 use Rattle.tp_parts.specs.declared.parts.Parts.{Parts}
+use Rattle.tp_record.specs.Left.{mark, MayAll}
 use Rattle.tp_parts.specs.Shows.{Shows}
 use Rattle.tp_parts.specs.Tied.{IsTied}
 
@@ -17,28 +18,30 @@ abbrev pub IsFitting : Config → State → Ask → Did → Type 0
 IsFitting c s a d = (fitting c s (unwrap_or (reserves d) 0) a ≡ Ok d) × IfSome (reserves d) (λ w. is_free_for s d w ≡ true)
 
 module _ {P : Type 0} where
-  -- the structures show the state of a legal history, and are tied
+  -- the structures show the state of a legal history, but for tasks that were released, and are tied
   pub record Stands (p : Parts P) : Type 0 where
     pub history : List Entry
+    pub released : List ℕ
     pub legal : Legal p.config history
-    pub shows : Shows p (state p.config history)
+    pub may : MayAll released (state p.config history)
+    pub shows : Shows p (mark released (state p.config history))
     pub tied : IsTied p.config p.steps p
 
-  -- at each legal history whose state they show, d is the answer that fits this ask, before the room is looked at
+  -- at each legal history whose state they show, whatever was released, d is the answer that fits this ask, before the room is looked at
   abbrev pub Fits : Parts P → Ask → Did → Type 0
-  Fits p a d = (h : List Entry) → Legal p.config h → Shows p (state p.config h) → IsFitting p.config (state p.config h) a d
+  Fits p a d = (h : List Entry) (rs : List ℕ) → Legal p.config h → MayAll rs (state p.config h) → Shows p (mark rs (state p.config h)) → IsFitting p.config (mark rs (state p.config h)) a d
 
-  -- at each legal history whose state they show, the step gives d for this ask
+  -- at each legal history whose state they show, whatever was released, the step gives d for this ask
   abbrev pub Accepts : Parts P → Ask → Did → Type 0
-  Accepts p a d = (h : List Entry) → Legal p.config h → Shows p (state p.config h) → Gives p.config (state p.config h) a d
+  Accepts p a d = (h : List Entry) (rs : List ℕ) → Legal p.config h → MayAll rs (state p.config h) → Shows p (mark rs (state p.config h)) → Gives p.config (mark rs (state p.config h)) a d
 
-  -- at each legal history whose state they show, the step refuses this ask so
+  -- at each legal history whose state they show, whatever was released, the step refuses this ask so
   abbrev pub Refuses : Parts P → Ask → PoolError → Type 0
-  Refuses p a e = (h : List Entry) → Legal p.config h → Shows p (state p.config h) → StepRefuses p.config (state p.config h) a e
+  Refuses p a e = (h : List Entry) (rs : List ℕ) → Legal p.config h → MayAll rs (state p.config h) → Shows p (mark rs (state p.config h)) → StepRefuses p.config (mark rs (state p.config h)) a e
 
   -- where the old ones show a legal history's state, the new ones show the state after the entry d, and are tied
   pub record Leads (old : Parts P) (d : Did) (new : Parts P) : Type 0 where
-    pub shows : (h : List Entry) → Legal old.config h → Shows old (state old.config h) → Shows new (next (state old.config h) d)
+    pub shows : (h : List Entry) (rs : List ℕ) → Legal old.config h → MayAll rs (state old.config h) → Shows old (mark rs (state old.config h)) → Shows new (mark rs (next (state old.config h) d))
     pub tied : IsTied old.config (suc old.steps) new
     pub config : new.config ≡ old.config
     pub steps : new.steps ≡ suc old.steps

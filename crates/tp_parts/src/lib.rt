@@ -9,6 +9,7 @@ pub mod owing;
 pub mod parts;
 pub mod queue_changes;
 pub mod readings;
+pub mod releases;
 pub mod removal_changes;
 pub mod room;
 pub mod setting_changes;

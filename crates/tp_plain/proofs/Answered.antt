@@ -1,7 +1,8 @@
 -- When a program's answer is the step's.
-use Rattle.std.proofs.Common.{◌≡◌, ℕ, List, length, Option, Some, None, Ok, Err, inl, refl, sym, ap, subst}
-use Rattle.std.specs.Prelude.{nat_lt, if◌then◌else◌}
+use Rattle.std.proofs.Common.{◌≡◌, ℕ, Bool, true, false, List, Option, Some, None, Result, Ok, Err, inl, refl, sym, ap, subst}
+use Rattle.std.specs.Prelude.{if◌then◌else◌}
 use Rattle.std.specs.Option.{ok_or}
+use Rattle.tp_types.specs.declared.refusals.PoolError.{PoolError}
 use Rattle.tp_types.specs.declared.refusals.PoolError.TheVariants.{UnknownSlot, UnknownTask}
 use Rattle.tp_types.specs.declared.configs.Config.{Config}
 use Rattle.tp_types.specs.declared.configs.QueueKind.{QueueKind}
@@ -12,8 +13,9 @@ use Rattle.tp_types.specs.declared.tasks.Place.TheVariants as at
 use Rattle.tp_record.specs.declared.entries.Ask.{Ask}
 use Rattle.tp_record.specs.declared.entries.Ask.TheVariants as ask
 use Rattle.tp_record.specs.declared.rows.SlotRow.{SlotRow}
+use Rattle.tp_record.specs.declared.rows.TaskRow.{TaskRow}
 use Rattle.tp_record.specs.State.{State, task_at}
-use Rattle.tp_record.specs.Step.{Answer, of_row, fitting, offer_to, offer_answer}
+use Rattle.tp_record.specs.Step.{Answer, is_known, of_row, of_task, fitting, offer_to, offer_answer}
 use Rattle.tp_plain.specs.Snapshot.{IsAnswer}
 
 IsAnswer-self : (Lacks : Type 0) (a : Answer) → IsAnswer Lacks a a
@@ -28,6 +30,22 @@ IsAnswer-same Lacks x a e = subst (λ (y : Answer). IsAnswer Lacks y a) (sym e) 
 pub of_row-found : (o : Option SlotRow) (r : SlotRow) (f : SlotRow → Answer) → ok_or o UnknownSlot ≡ Ok r → of_row o f ≡ f r
 of_row-found None r f e = cc
 of_row-found (Some q) r f e = cc
+
+-- the answer to a task that was found
+pub of_task-found : (s : State) (t : TaskId) (r : TaskRow) (f : TaskRow → Answer) → ◌≡◌ {A = Result TaskRow PoolError} (if is_known s t.0 then Ok (task_at s t.0) else Err UnknownTask) (Ok r) → of_task s t f ≡ f r
+of_task-found s t r f found = by (is_known s t.0) found
+  where
+    by : (b : Bool) → ◌≡◌ {A = Result TaskRow PoolError} (if b then Ok (task_at s t.0) else Err UnknownTask) (Ok r) → (if b then f (task_at s t.0) else Err UnknownTask) ≡ f r
+    by true e = ap f (let same : task_at s t.0 ≡ r = cc in same)
+    by false e = cc
+
+-- and to one that was not
+pub of_task-missing : (s : State) (t : TaskId) (e : PoolError) (f : TaskRow → Answer) → ◌≡◌ {A = Result TaskRow PoolError} (if is_known s t.0 then Ok (task_at s t.0) else Err UnknownTask) (Err e) → of_task s t f ≡ Err e
+of_task-missing s t e f missing = by (is_known s t.0) missing
+  where
+    by : (b : Bool) → ◌≡◌ {A = Result TaskRow PoolError} (if b then Ok (task_at s t.0) else Err UnknownTask) (Err e) → ◌≡◌ {A = Answer} (if b then f (task_at s t.0) else Err UnknownTask) (Err e)
+    by true is = cc
+    by false is = cc
 
 offer_to_same : (q : QueueKind) (s : State) (done : List ℕ) (t : TaskId) → offer_to q (record s { done = done }) t ≡ offer_to q s t
 offer_to_same Handoff s done t = refl
@@ -44,7 +62,7 @@ pub other_fitting : (c : Config) (s : State) (done : List ℕ) (w : ℕ) (a : As
 other_fitting c s done w (ask.Submit k p) other = refl
 other_fitting c s done w (ask.Look t) other = refl
 other_fitting c s done w (ask.Offer t) other =
-    ap (λ x. if nat_lt t.0 (length s.tasks) then x else Err UnknownTask) (offer_same c s done t (task_at s t.0).place)
+    ap (λ x. if is_known s t.0 then x else Err UnknownTask) (offer_same c s done t (task_at s t.0).place)
 other_fitting c s done w (ask.Second t) other = refl
 other_fitting c s done w (ask.Grow t) other = refl
 other_fitting c s done w (ask.Verdict t v) other = refl

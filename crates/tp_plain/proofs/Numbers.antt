@@ -149,7 +149,7 @@ module _ (c : Config) (s : State) (w : ℕ) where
   cancel_makes t flag r = either w (is_plain r.kind) _ _ _ _ (refused w _ _) (none w _ refl)
 
   of_task_makes : (t : TaskId) (f g : TaskRow → Answer) → ((r : TaskRow) → Makes w (f r) (g r)) → Makes w (steps.of_task s t f) (steps.of_task s t g)
-  of_task_makes t f g h = either w (nat_lt t.0 (length s.tasks)) _ _ _ _ (h (task_at s t.0)) (refused w _ _)
+  of_task_makes t f g h = either w (steps.is_known s t.0) _ _ _ _ (h (task_at s t.0)) (refused w _ _)
 
   of_slot_makes : (o : Option SlotRow) (f g : SlotRow → Answer) → ((r : SlotRow) → Makes w (f r) (g r)) → Makes w (steps.of_row o f) (steps.of_row o g)
   of_slot_makes None f g h = refused w _ _

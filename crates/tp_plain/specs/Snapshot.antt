@@ -30,6 +30,8 @@ shown s =
       done = s.done.items;
       completions = s.completions;
       largest = s.largest;
+      left_out = [];
+      forgotten = λ f. 0;
     }
 
 -- each count of the state is at most n, and its slots fit a table

@@ -18,7 +18,7 @@ use tp_types::tasks::{Kind, Place};
 
 /// What is read of a pool at one moment.
 pub trait Readings {
-    ghost use Rattle.std.specs.Prelude.{◌≡◌, ◌≤◌, ◌<◌, count_by, length, slice_get, IfOk, IsOkUnless, OnErr};
+    ghost use Rattle.std.specs.Prelude.{ℕ, ◌≡◌, ◌≤◌, ◌<◌, count_by, length, nat_lt, slice_get, IfOk, IsOkUnless, OnErr};
     ghost use Rattle.tp_record.specs.State as states;
     ghost use Rattle.tp_record.specs.Step as steps;
     ghost use Rattle.tp_types.specs.declared.configs.Config.{Config as Settings};
@@ -61,9 +61,10 @@ pub trait Readings {
     fn moment(&self) -> u64
         ensures { result ≡ (shown self.now).now };
 
-    /// How many tasks were submitted.
+    /// How many tasks were submitted. Each of them is known.
     fn submitted(&self) -> usize
-        ensures { result ≡ length (shown self.now).tasks };
+        ensures count { result ≡ length (shown self.now).tasks }
+        ensures known { (t : ℕ) → steps.is_known (shown self.now) t ≡ nat_lt t result };
 
     /// The row of task `t`.
     fn task(&self, t: TaskId) -> TaskRow

@@ -50,10 +50,10 @@ pub fn leaves_room(
     Ok(has_room(config, &after))
 }
 
-/// The row of task `t`, where it was submitted.
+/// The row of task `t`, where it is known.
 pub fn row_of<S: Readings>(state: &S, t: TaskId) -> Result<TaskRow, PoolError>
     ensures { result
-        ≡ (if nat_lt t.0 (length (S.shown state.now).tasks) then Ok (states.task_at (S.shown state.now) t.0)
+        ≡ (if steps.is_known (S.shown state.now) t.0 then Ok (states.task_at (S.shown state.now) t.0)
         else Err PoolError.UnknownTask) }
 {
     if (t.0 as usize) < state.submitted() {

@@ -7,4 +7,5 @@ mod memory;
 mod priorities;
 mod stage;
 mod submitters;
+mod tallied;
 mod workers;

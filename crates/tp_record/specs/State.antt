@@ -1,5 +1,5 @@
 -- The state that a history gives, the state after one more entry, and what is owed and counted in a state.
-use Rattle.std.specs.Prelude.{ℕ, suc, ◌+◌, ◌-◌, ◌==◌, max, Bool, true, false, List, [], ◌∷◌, ◌++◌, filter, length, sum_by, count_by, Option, Some, None, Result, Ok, Err, unwrap_or, is_some, option_to_list, slice_index_or, if◌then◌else◌}
+use Rattle.std.specs.Prelude.{ℕ, zero, suc, ◌+◌, ◌-◌, ◌==◌, max, Bool, true, false, List, [], ◌∷◌, ◌++◌, filter, length, sum_by, count_by, Option, Some, None, Result, Ok, Err, unwrap_or, is_some, option_to_list, slice_index_or, if◌then◌else◌}
 use Rattle.tp_types.specs.declared.tasks.Kind.TheVariants as kinds
 use Rattle.tp_types.specs.declared.tasks.Place.{Place}
 use Rattle.tp_types.specs.declared.tasks.Place.TheVariants as at
@@ -39,8 +39,11 @@ pub record State : Type 0 where
   pub done : List ℕ
   pub completions : ℕ
   pub largest : ℕ
+  -- the tasks that are left out, and how many of them had each fate
+  pub left_out : List ℕ
+  pub forgotten : Fate → ℕ
 
--- the state of a history of a pool that was made with c
+-- the state of a history of a pool that was made with c: no task is left out
 abbrev pub state : Config → List Entry → State
 state c h =
     record {
@@ -59,6 +62,8 @@ state c h =
       done = done h;
       completions = completions h;
       largest = largest h;
+      left_out = [];
+      forgotten = λ f. 0;
     }
 
 -- what is read of a task that was never submitted
@@ -161,6 +166,8 @@ next s d =
       done = done_after d s;
       completions = if is_completion d then suc s.completions else s.completions;
       largest = max (count_by is_live (slots_after d s)) s.largest;
+      left_out = s.left_out;
+      forgotten = s.forgotten;
     }
 
 -- what is owed: the entries that accepted tasks, slots and the pool still need, a rule of our own
@@ -244,9 +251,14 @@ result_of r = by_fate (fate_of r)
     by_fate (Some fate.RunByCaller) = result_of_outcome r.outcome
     by_fate (Some f) = Some (Err (Lost f))
 
--- the number of tasks with this fate
+-- the sum of two counts, by the first alone: with no task left out it computes to the second
+abbrev pub more_by : ℕ → ℕ → ℕ
+more_by zero n = n
+more_by (suc k) n = suc (more_by k n)
+
+-- the number of tasks with this fate, those that are left out among them
 abbrev pub fated : Fate → State → ℕ
-fated f s = count_by (λ r. is_fate f (fate_of r)) s.tasks
+fated f s = more_by (s.forgotten f) (count_by (λ r. is_fate f (fate_of r)) s.tasks)
 
 -- the twelve counters, those of `ThreadPoolExecutor` among them
 abbrev pub counts : State → Counts

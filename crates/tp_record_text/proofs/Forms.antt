@@ -25,7 +25,7 @@ use Rattle.tp_record.specs.declared.rows.TaskRow.{TaskRow}
 use Rattle.tp_record.specs.Effects.{Outcome, is_plain, reserves}
 use Rattle.tp_record.specs.Fields.{is_idle_stage, is_queued_place}
 use Rattle.tp_record.specs.State.{State, slot_at, state, task_at}
-use Rattle.tp_record.specs.Step.{Answer, Legal, allows, begin_answer, begin_task, caller_end_answer, cancel_answer, done_of, end_answer, end_task, fail_answer, first_done, fitting, grow_answer, hand_answer, held_answer, is_refused_place, is_reserved, leave_answer, look_answer, next_of_queue, of_row, of_slot, of_task, offer_answer, offer_to, open_answer, second_answer, slot_count, take_answer, take_next, timed_out, verdict_answer, wants_worker}
+use Rattle.tp_record.specs.Step.{Answer, Legal, allows, begin_answer, begin_task, caller_end_answer, cancel_answer, done_of, end_answer, end_task, fail_answer, first_done, fitting, grow_answer, hand_answer, held_answer, is_refused_place, is_reserved, leave_answer, look_answer, next_of_queue, of_row, of_slot, of_task, offer_answer, offer_to, open_answer, second_answer, slot_count, take_answer, take_next, timed_out, verdict_answer, wants_worker, is_known}
 use Rattle.tp_model.proofs.Weak.{within}
 use Rattle.tp_room.proofs.OwedLaws.{room_is_enough}
 use Rattle.tp_text.specs.Fits.{Fits32, Fits64}
@@ -50,7 +50,7 @@ form_slot : (a : Ask) (s : State) (v : SlotId) (answer : SlotRow → Answer) →
 form_slot a s v answer forms = form_row a (slot_at s.slots v.0) answer forms
 
 form_task : (a : Ask) (s : State) (t : TaskId) (answer : TaskRow → Answer) → ((r : TaskRow) → HasForm a (answer r)) → HasForm a (of_task s t answer)
-form_task a s t answer forms = form_if a (nat_lt t.0 (length s.tasks)) (answer (task_at s t.0)) (Err UnknownTask) (forms (task_at s t.0)) tt
+form_task a s t answer forms = form_if a (is_known s t.0) (answer (task_at s t.0)) (Err UnknownTask) (forms (task_at s t.0)) tt
 
 -- steps of tasks
 

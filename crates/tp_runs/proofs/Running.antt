@@ -27,8 +27,8 @@ use Rattle.tp_machine.proofs.Refusals.{refused_as}
 use Rattle.tp_runs.specs.Runs.{AllPromise, IfOutcome}
 
 -- what a recorder that keeps every entry tells
-abbrev pub told_by : Kept → List Entry → Type 0
-told_by f h = reverse f.entries ≡ h
+abbrev pub told_by : Kept → List Entry → List ℕ → Type 0
+told_by f h rs = (reverse f.entries ≡ h) × (rs ≡ [])
 
 -- one ask more, which adds an entry
 pub run_more : (c : Config) (h : List Entry) (asks : List (ℕ × Ask)) (answers : List Answer) (mid : List Entry) (by : ℕ) (a : Ask) (d : Did) →
@@ -77,7 +77,7 @@ all_kept p old new same all u = subst (λ o. IfSome o (λ x. x ≡ p)) (sym (sam
 
 -- so far, the asks were answered so, and the machine stands at its record, which is their run
 pub record HasRun {P : Type 0} (c : Config) (asks : List (ℕ × Ask)) (answers : List Answer) (m : Seen P Kept) : Type 0 where
-  pub stands : At told_by m (reverse m.noted.entries)
+  pub stands : At told_by m (reverse m.noted.entries) []
   pub config : config_of m ≡ c
   pub run : Run c asks answers (reverse m.noted.entries)
 
@@ -87,22 +87,22 @@ module _ {P : Type 0} (c : Config) (asks : List (ℕ × Ask)) (answers : List An
 
   after_step : (d : Did) → IsStep told_by old new by a d → HasRun c (asks ++ (by, a) ∷ []) (answers ++ Ok d ∷ []) new
   after_step d step =
-      let at = step.writes h so_far.stands in
-      let gives : Gives c (state c h) a d = subst (λ k. Gives k (state k h) a d) so_far.config (step.gives h so_far.stands) in
+      let at = step.writes h [] so_far.stands in
+      let gives : Gives c (state c h) a d = subst (λ k. Gives k (state k h) a d) so_far.config (step.gives h [] so_far.stands) in
       record {
-        stands = subst (λ x. At told_by new x) (sym at.told) at;
+        stands = subst (λ x. At told_by new x []) (sym at.told.0) at;
         config = step.config ∙ so_far.config;
-        run = subst (λ x. Run c (asks ++ (by, a) ∷ []) (answers ++ Ok d ∷ []) x) (sym at.told) (run_more c [] asks answers h by a d so_far.run gives);
+        run = subst (λ x. Run c (asks ++ (by, a) ∷ []) (answers ++ Ok d ∷ []) x) (sym at.told.0) (run_more c [] asks answers h by a d so_far.run gives);
       }
 
   after_refusal : (e : PoolError) → IsRefusedBy told_by old a e → Stays told_by old new → HasRun c (asks ++ (by, a) ∷ []) (answers ++ Err e ∷ []) new
   after_refusal e refused stays =
-      let at = stays.stands h so_far.stands in
-      let given : IsRefused c (state c h) a e = subst (λ k. IsRefused k (state k h) a e) so_far.config (refused_as (config_of old) (state (config_of old) h) a e (refused h so_far.stands)) in
+      let at = stays.stands h [] so_far.stands in
+      let given : IsRefused c (state c h) a e = subst (λ k. IsRefused k (state k h) a e) so_far.config (refused_as (config_of old) (state (config_of old) h) a e (refused h [] so_far.stands)) in
       record {
-        stands = subst (λ x. At told_by new x) (sym at.told) at;
+        stands = subst (λ x. At told_by new x []) (sym at.told.0) at;
         config = stays.config ∙ so_far.config;
-        run = subst (λ x. Run c (asks ++ (by, a) ∷ []) (answers ++ Err e ∷ []) x) (sym at.told) (run_refused c [] asks answers h by a e so_far.run given);
+        run = subst (λ x. Run c (asks ++ (by, a) ∷ []) (answers ++ Err e ∷ []) x) (sym at.told.0) (run_refused c [] asks answers h by a e so_far.run given);
       }
 
   pub has_run_on : (r : Answer) → IfOk r (λ d. IsStep told_by old new by a d) → IfErr r (λ e. IsRefusedBy told_by old a e) → OnErr r (Stays told_by old new) →
@@ -111,8 +111,8 @@ module _ {P : Type 0} (c : Config) (asks : List (ℕ × Ask)) (answers : List An
   has_run_on (Err e) step refused stays = after_refusal e refused stays
 
 -- a machine that stands at no entry has run no asks
-pub none_run : {P : Type 0} (c : Config) (m : Seen P Kept) → At told_by m [] → config_of m ≡ c → HasRun c [] [] m
-none_run c m stands config = record { stands = subst (λ h. At told_by m h) (sym stands.told) stands; config = config; run = stands.told }
+pub none_run : {P : Type 0} (c : Config) (m : Seen P Kept) → At told_by m [] [] → config_of m ≡ c → HasRun c [] [] m
+none_run c m stands config = record { stands = subst (λ h. At told_by m h []) (sym stands.told.0) stands; config = config; run = stands.told.0 }
 
 -- and no task of it has promised anything
 pub none_promised : {P R : Type 0} (p : Promise) (m : Seen P R) → ((t : ℕ) → promise m t ≡ None) → AllPromise p m

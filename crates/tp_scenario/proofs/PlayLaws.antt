@@ -76,7 +76,7 @@ stands_on c lines answers r p out out' l a so_far more grows =
     kept_line os l a ∙ sym (outcomes_on [] lines answers l a (one_each c [] [] lines answers so_far.plays)) in
     record {
       plays = plays_on c [] [] lines answers l a so_far.plays more.answers;
-      runner = record { at = subst (At notes p.machine) history more.leads.at; config = more.leads.config; outcomes = more.leads.outcomes ∙ outcomes };
+      runner = record { at = subst (λ h. At notes p.machine h []) history more.leads.at; config = more.leads.config; outcomes = more.leads.outcomes ∙ outcomes };
       output = grows ∙ ap (λ x. x ++ answer_lines c h a) so_far.output ∙ sym (run_lines-push c [] answers a);
     }
 

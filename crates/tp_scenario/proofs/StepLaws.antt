@@ -13,7 +13,7 @@ use Rattle.tp_record.specs.declared.entries.Did.{Did}
 use Rattle.tp_record.specs.declared.entries.Did.TheVariants as did
 use Rattle.tp_record.specs.Effects.{Outcome, submits}
 use Rattle.tp_record.specs.State.{State, state}
-use Rattle.tp_record.specs.Step.{Gives, IsRefused, fitting}
+use Rattle.tp_record.specs.Step.{Gives, IsRefused, is_known, fitting}
 use Rattle.tp_model.proofs.Weak.{within, submits_next}
 use Rattle.tp_parts.specs.Payloads.{PutsIn}
 use Rattle.tp_machine.specs.Seen.{Seen, At, config_of, promise}
@@ -61,7 +61,7 @@ more_at (x ∷ os) o (suc u) =
     ap (λ b. if b then Some (promise_of o) else option_map promise_of (slice_get os u)) same ∙ more_at os o u
 
 -- a step that fits with its task's promise is refused as the machine's call is
-pub not_torn : {P R : Type 0} (tells : R → List Entry → Type 0) (m : Seen P R) (a : Ask) (e : PoolError) → FitsOutcome m a → IsDeniedBy tells m a e → IsRefusedBy tells m a e
+pub not_torn : {P R : Type 0} (tells : R → List Entry → List ℕ → Type 0) (m : Seen P R) (a : Ask) (e : PoolError) → FitsOutcome m a → IsDeniedBy tells m a e → IsRefusedBy tells m a e
 not_torn tells m a e fits (inl torn) = absurd (torn.1 fits)
 not_torn tells m a e fits (inr refused) = refused.1
 
@@ -70,25 +70,25 @@ module _ (m n : Seen (Unit {0}) Counted) (os : Outcomes) (p : Playing) (is : IsA
   pub accepted : (zs : Outcomes) (o : Option Outcome) (a : Ask) (d : Did) → IsStep notes m n 0 a d → zs ≡ os ++ option_to_list o
       → AnswersAsk p a o (Ok (record { by = 0; ask = a; did = d })) (record { machine = n; outcomes = zs })
   accepted zs o a d step grows = record {
-    answers = (refl, subst (λ c. Gives c (state c p.history) a d) is.config (step.gives p.history is.at));
-    leads = record { at = step.writes p.history is.at; config = step.config ∙ is.config; outcomes = grows ∙ ap (λ ys. ys ++ option_to_list o) is.outcomes };
+    answers = (refl, subst (λ c. Gives c (state c p.history) a d) is.config (step.gives p.history [] is.at));
+    leads = record { at = step.writes p.history [] is.at; config = step.config ∙ is.config; outcomes = grows ∙ ap (λ ys. ys ++ option_to_list o) is.outcomes };
   }
 
   -- a refused one with its refusal, and nothing has changed
   pub denied : (o : Option Outcome) (a : Ask) (e : PoolError) → Stays notes m n → IsRefusedBy notes m a e → AnswersAsk p a o (Err e) (record { machine = n; outcomes = os })
   denied o a e stays says = record {
-    answers = subst (λ c. IsRefused c (state c p.history) a e) is.config (refused_as (config_of m) (state (config_of m) p.history) a e (says p.history is.at));
-    leads = record { at = stays.stands p.history is.at; config = stays.config ∙ is.config; outcomes = is.outcomes };
+    answers = subst (λ c. IsRefused c (state c p.history) a e) is.config (refused_as (config_of m) (state (config_of m) p.history) a e (says p.history [] is.at));
+    leads = record { at = stays.stands p.history [] is.at; config = stays.config ∙ is.config; outcomes = is.outcomes };
   }
 
   -- a step that is no stop hands no task back
   pub none_back : (a : Ask) (d : Did) → IsStep notes m n 0 a d → a ≢ ask.Stop → [] ≡ drained p.config p.history d
-  none_back a d step other = sym (quiet (config_of m) (state (config_of m) p.history) p.history a d (step.gives p.history is.at) other p.config)
+  none_back a d step other = sym (quiet (config_of m) (state (config_of m) p.history) p.history a d (step.gives p.history [] is.at) other p.config)
 
   -- what a line asks there
   pub asked : (l : ScenarioLine) (a : Ask) → EachState notes m (λ s. a ≡ ask_of s os l) → a ≡ ask_of (state p.config p.history) p.outcomes l
   asked l a asks =
-      let there : a ≡ ask_of (state p.config p.history) os l = subst (λ c. a ≡ ask_of (state c p.history) os l) is.config (asks p.history is.at) in
+      let there : a ≡ ask_of (state p.config p.history) os l = subst (λ c. a ≡ ask_of (state c p.history) os l) is.config (asks p.history [] is.at) in
       there ∙ ap (λ ys. ask_of (state p.config p.history) ys l) is.outcomes
 
 -- promises stay, or one more comes
@@ -96,11 +96,11 @@ module _ (m n : Seen (Unit {0}) Counted) (os : Outcomes) (promised : ArePromised
   pub promised_on : ((t : ℕ) → promise n t ≡ promise m t) → ArePromised n os
   promised_on stay t = stay t ∙ promised t
 
-  pub promised_more : (h : List Entry) (a : Ask) (d : Did) (t : ℕ) (o : Outcome) → At notes m h → IsStep notes m n 0 a d → submits d ≡ Some t → PutsIn m.parts.tasks n.parts.tasks t (promise_of o) tt
-      → EachState notes m (λ s. (u : ℕ) → is_some (promise m u) ≡ nat_lt u (length s.tasks)) → ArePromised n (os ++ o ∷ [])
+  pub promised_more : (h : List Entry) (a : Ask) (d : Did) (t : ℕ) (o : Outcome) → At notes m h [] → IsStep notes m n 0 a d → submits d ≡ Some t → PutsIn m.parts.tasks n.parts.tasks t (promise_of o) tt
+      → EachState notes m (λ s. (u : ℕ) → is_some (promise m u) ≡ is_known s u) → ArePromised n (os ++ o ∷ [])
   promised_more h a d t o at step names puts law u =
       let c = config_of m in
       let s = state c h in
-      let many : length s.tasks ≡ length os = same_bound (length s.tasks) (length os) (λ v. sym (law h at v) ∙ ap is_some (promised v) ∙ known_at os v) in
-      let number : t ≡ length os = submits_next c s _ a d t (within c s _ _ (step.gives h at).0) names ∙ many in
+      let many : length s.tasks ≡ length os = same_bound (length s.tasks) (length os) (λ v. sym (law h [] at v) ∙ ap is_some (promised v) ∙ known_at os v) in
+      let number : t ≡ length os = submits_next c s _ a d t (within c s _ _ (step.gives h [] at).0) names ∙ many in
       puts.promises u ∙ ap (λ x. if u == x then Some (promise_of o) else promise m u) number ∙ ap (λ x. if u == length os then Some (promise_of o) else x) (promised u) ∙ more_at os o u

@@ -48,8 +48,8 @@ abbrev pub KeepsPromises : {P : Type 0} → Tasks P → Tasks P → Type 0
 KeepsPromises old new = (t : ℕ) → promise_in new t ≡ promise_in old t
 
 -- the histories that a recorder may have counted
-abbrev pub notes : Counted → List Entry → Type 0
-notes f h = length h ≡ f.noted
+abbrev pub notes : Counted → List Entry → List ℕ → Type 0
+notes f h rs = length h ≡ f.noted
 
 -- what a runner keeps: the pool, and how its tasks end
 pub record Running : Type 0 where
@@ -62,7 +62,7 @@ settings_of r = config_of r.machine
 
 -- a runner stands there: its pool at this record, which it does not keep
 pub record IsAt (r : Running) (p : Playing) : Type 0 where
-  pub at : At notes r.machine p.history
+  pub at : At notes r.machine p.history []
   pub config : settings_of r ≡ p.config
   pub outcomes : r.outcomes ≡ p.outcomes
 

@@ -29,7 +29,7 @@ impl Counted {
 }
 
 impl Recorder for Counted {
-    ghost tells = { λ f h. length h ≡ f.noted };
+    ghost tells = { λ f h rs. length h ≡ f.noted };
 
     ghost places = { λ f. f.places };
 

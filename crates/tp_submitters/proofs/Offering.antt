@@ -1,8 +1,8 @@
 -- A task that is to be offered is not in the queue, and a queue that always has room has a place for it.
 use Rattle.std.proofs.Common.{◌≡◌, ℕ, ◌<◌, ◌≤◌, true, false, ◌||◌, List, [], ◌∷◌, length, refl, arith, sym, ap, subst, ◌∙◌, inl, inr}
 use Rattle.std.specs.Prelude.{nat_eq, IsTrue}
-use Rattle.std.specs.List.{Contains, IsDistinct, list_any, AllByRecursion}
-use Rattle.std.proofs.lemmas.Bool.{eqb-true, or_cases, or_parts}
+use Rattle.std.specs.List.{Contains}
+use Rattle.std.proofs.lemmas.Bool.{eqb-true, or_cases}
 use Rattle.std.proofs.lemmas.List.{length-map}
 use Rattle.std.proofs.lemmas.Map.Steps.{length-le_from_distinct_below}
 use Rattle.tp_types.specs.declared.ids.TaskId.{TaskId}
@@ -10,31 +10,20 @@ use Rattle.tp_types.specs.declared.configs.QueueKind.{QueueKind}
 use Rattle.tp_types.specs.declared.configs.QueueKind.TheVariants.{Handoff, Unbounded, Bounded, Priority}
 use Rattle.tp_types.specs.declared.tasks.Place.TheVariants as at
 use Rattle.tp_types.specs.Queues.{is_open}
+use Rattle.tp_record.specs.Lists.{is_among, IsOnce}
 use Rattle.tp_record.specs.Fields.{queue, submitted, is_queued_place}
 use Rattle.tp_queue.specs.Queues.{waiting_of}
 use Rattle.tp_model.proofs.Given.{HasQueueRoom, IsAt}
 use Rattle.tp_model.proofs.Places.{queue_at}
-use Rattle.tp_model.proofs.Queues.{is_among, IsOnce, once-queue, among-queue, Contains-from_among}
+use Rattle.tp_model.proofs.Queues.{once-queue, among-queue, Contains-from_among}
 use Rattle.tp_model.proofs.Readings.{tasks_counted}
+use Rattle.tp_tasks.proofs.Away.{IsDistinct-once, among_any}
 use Rattle.tp_parts.specs.declared.parts.Parts.{Parts}
 use Rattle.tp_parts.specs.Offers.{RoomBy, HasRoom}
 use Rattle.tp_parts.specs.Shows.{numbers}
 use Rattle.tp_parts.specs.Steps.{Stands}
 
 -- numbers below n, each of them once, are at most n
-apart : (x : ℕ) (xs : List ℕ) → is_among x xs ≡ false → AllByRecursion (λ y. nat_eq x y ≡ false) xs
-apart x [] out = tt
-apart x (y ∷ ys) out = let parts = or_parts (nat_eq x y) (is_among x ys) out in (parts.0, apart x ys parts.1)
-
-IsDistinct-once : (xs : List ℕ) → IsOnce xs → IsDistinct nat_eq xs
-unfolding IsDistinct
-IsDistinct-once [] once = tt
-IsDistinct-once (x ∷ xs) once = (apart x xs once.0, IsDistinct-once xs once.1)
-
-among_any : (x : ℕ) (xs : List ℕ) → list_any (nat_eq x) xs ≡ is_among x xs
-among_any x [] = refl
-among_any x (y ∷ ys) = ap (λ b. nat_eq x y || b) (among_any x ys)
-
 once_few : (xs : List ℕ) (n : ℕ) → IsOnce xs → ((x : ℕ) → is_among x xs ≡ true → x < n) → length xs ≤ n
 once_few xs n once below = length-le_from_distinct_below xs n (IsDistinct-once xs once) (λ x is. below x (sym (among_any x xs) ∙ is))
 

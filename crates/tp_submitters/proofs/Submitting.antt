@@ -2,6 +2,7 @@
 use Rattle.std.proofs.Common.{◌≡◌, ℕ, Bool, true, false, cond, List, None, Ok, Err, refl, arith, ap, ◌∙◌}
 use Rattle.std.specs.Prelude.{◌^◌, ◌-◌, ◌||◌, length, nat_lt, is_none, unwrap_or, IfSome}
 use Rattle.std.proofs.lemmas.Bool.{lt-ltb}
+use Rattle.tp_record.specs.Left.{mark}
 use Rattle.tp_types.specs.declared.configs.Config.{Config}
 use Rattle.tp_types.specs.declared.ids.TaskId.{TaskId}
 use Rattle.tp_types.specs.declared.tasks.Kind.{Kind}
@@ -59,10 +60,10 @@ submit_moves c h t k r looked.Queue legal given = (_, submit_queue c h t k r leg
 submit_moves c h t k r looked.Refuse legal given = (_, submit_refuse c h t k r legal given)
 
 -- a submission fits always, and gets the next number
-pub submit_fits : {P : Type 0} (p : Parts P) → Stands p → (k : Kind) (r : ℕ) (h : List Entry) → Shows p (state p.config h) → (w : ℕ) →
-    fitting p.config (state p.config h) w (ask.Submit k r) ≡ Ok (did.Submit (record { 0 = submissions p.tasks }) k r (look (state p.config h) w))
-submit_fits p stands k r h sh w =
-    let s = state p.config h in
+pub submit_fits : {P : Type 0} (p : Parts P) → Stands p → (k : Kind) (r : ℕ) (h : List Entry) (rs : List ℕ) → Shows p (mark rs (state p.config h)) → (w : ℕ) →
+    fitting p.config (mark rs (state p.config h)) w (ask.Submit k r) ≡ Ok (did.Submit (record { 0 = submissions p.tasks }) k r (look (mark rs (state p.config h)) w))
+submit_fits p stands k r h rs sh w =
+    let s = mark rs (state p.config h) in
     let few = few_tasks p stands in
     let counted = sh.seen.submitted in
     let below : nat_lt (length s.tasks) (2 ^ 32 - 1) ≡ true = lt-ltb _ _ (omega (arith, few, counted)) in

@@ -1,7 +1,8 @@
 //! What becomes of a task that the pool refused, as its `RejectedExecutionHandler` says.
 
-ghost use Rattle.std.specs.Prelude.{◌≡◌, ◌≤◌, true, List, is_some, IfOk, IfErr, Some, None};
+ghost use Rattle.std.specs.Prelude.{ℕ, ◌≡◌, ◌≤◌, true, List, is_some, IfOk, IfErr, Some, None};
 ghost use Rattle.tp_record.specs.declared.entries.Entry.{Entry};
+ghost use Rattle.tp_record.specs.Left.{mark};
 ghost use Rattle.tp_record.specs.State.{State, state};
 ghost use Rattle.tp_record.specs.Step.{Legal, allows, rule, retried, retry_of};
 ghost use Rattle.tp_tasks.specs.Tasks.{row_of};
@@ -86,7 +87,8 @@ fn rule<P>(parts: &Parts<P>, t: TaskId, row: TaskRow, verdict: Verdict) -> Ruled
     requires stands { Stands parts.now }
     requires known { row_of parts.now.tasks t.0 ≡ Some row }
     requires refused { row.place ≡ Place.Refused }
-    ensures { (h : List Entry) → Legal parts.now.config h → Shows parts.now (state parts.now.config h) → result ≡ rule parts.now.config (state parts.now.config h) t row verdict }
+    ensures { (h : List Entry) (rs : List ℕ) → Legal parts.now.config h → Shows parts.now (mark rs (state parts.now.config h)) →
+        result ≡ rule parts.now.config (mark rs (state parts.now.config h)) t row verdict }
 {
     match verdict {
         Verdict::Abort => Ruled::Rejected,
@@ -104,7 +106,8 @@ fn retried<P>(parts: &Parts<P>, t: TaskId, row: TaskRow) -> Ruled
     requires stands { Stands parts.now }
     requires known { row_of parts.now.tasks t.0 ≡ Some row }
     requires refused { row.place ≡ Place.Refused }
-    ensures { (h : List Entry) → Legal parts.now.config h → Shows parts.now (state parts.now.config h) → result ≡ retried parts.now.config (state parts.now.config h) t row }
+    ensures { (h : List Entry) (rs : List ℕ) → Legal parts.now.config h → Shows parts.now (mark rs (state parts.now.config h)) →
+        result ≡ retried parts.now.config (mark rs (state parts.now.config h)) t row }
 {
     let RunState::Running = parts.state else {
         return Ruled::Discarded;

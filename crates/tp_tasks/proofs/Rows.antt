@@ -45,20 +45,21 @@ module _ {P S : Type 0} (old new : IndexMap ℕ (Task P) S) (t : ℕ) (v w : Tas
     pub grouped_stays : {Z : Type 0} (groups : IndexMap ℕ Group Z) → AreGrouped groups old → AreGrouped groups new
     grouped_stays groups grouped g = grouped g ∙ sym (group-kept old new t v.row w.row (ap row_of_task was) kind counts_of fate g)
 
--- the count of rows, where the task has F of its row
-pub ended_counts : {P S : Type 0} (old new : IndexMap ℕ (Task P) S) (t : ℕ) (v : Task P) (from : TaskRow) → get nat_eq old t ≡ Some v → v.row ≡ from → (F : TaskRow → TaskRow) →
-    SetsTask old new t v (record v { row = F v.row }) → (p : TaskRow → Bool) (r : TaskRow) → row_in old t ≡ Some r → row_count p new + cond (p r) 1 0 ≡ row_count p old + cond (p (F from)) 1 0
-ended_counts old new t v from was same F set p r is = counts_of old new t v _ was set p r is ∙ ap (λ q. row_count p old + cond (p (F q)) 1 0) same
+-- the count of rows, where the task has F of its row and this mark
+pub ended_counts : {P S : Type 0} (old new : IndexMap ℕ (Task P) S) (t : ℕ) (v : Task P) (from : TaskRow) → get nat_eq old t ≡ Some v → v.row ≡ from → (F : TaskRow → TaskRow) (b : Bool) →
+    SetsTask old new t v (record v { row = F v.row; listed = b }) → (p : TaskRow → Bool) (r : TaskRow) → row_in old t ≡ Some r → row_count p new + cond (p r) 1 0 ≡ row_count p old + cond (p (F from)) 1 0
+ended_counts old new t v from was same F b set p r is = counts_of old new t v _ was set p r is ∙ ap (λ q. row_count p old + cond (p (F q)) 1 0) same
 
 -- a task that is gone has a fate, whether or not it was cancelled
 pub gone_fated : (b : Bool) (f : Fate) → is_none (if b then Some fate.Cancelled else Some f) ≡ false
 gone_fated true f = refl
 gone_fated false f = refl
 
--- a write of the row alone, seen of the tasks
-pub sets_row : {P : Type 0} (old new : Tasks P) (t : ℕ) (F : TaskRow → TaskRow) (v : Task P) → get nat_eq old.tasks t ≡ Some v → SetsTask old.tasks new.tasks t v (record v { row = F v.row }) →
+-- a write of the row and the mark alone, seen of the tasks
+pub sets_row : {P : Type 0} (old new : Tasks P) (t : ℕ) (F : TaskRow → TaskRow) (v : Task P) (b : Bool) → get nat_eq old.tasks t ≡ Some v →
+    SetsTask old.tasks new.tasks t v (record v { row = F v.row; listed = b }) →
     submissions new ≡ submissions old → (r : TaskRow) → row_of old t ≡ Some r → SetsRow old new t (F r)
-sets_row old new t F v was set same r is =
+sets_row old new t F v b was set same r is =
     let e : v.row ≡ r = same_Some v.row r (sym (ap row_of_task was) ∙ is) in
     record {
       row = ap row_of_task set.task ∙ ap (λ q. Some (F q)) e;

@@ -1,11 +1,11 @@
 //! The tasks of a pool, by number.
 
-ghost use Rattle.std.specs.Prelude.{ℕ, ◌≡◌, ◌↔◌, ◌+◌, ◌-◌, ◌<◌, ◌^◌, ◌&&◌, ◌++◌, ◌∷◌, [], true, false, not, drop, length, slice_get, option_map, nat_eq, IsTrue, IsSome, IsOkUnless, IfOk, OnOk, Some, None, if◌then◌else◌};
+ghost use Rattle.std.specs.Prelude.{ℕ, ◌≡◌, ◌↔◌, ◌+◌, ◌-◌, ◌<◌, ◌^◌, ◌&&◌, ◌++◌, ◌∷◌, [], true, false, not, drop, List, length, slice_get, option_map, nat_eq, is_none, IsTrue, IsSome, IsOkUnless, IfOk, OnOk, Some, None, if◌then◌else◌};
 ghost use Rattle.tp_types.specs.declared.tasks.Fate.{Fate};
 ghost use Rattle.tp_record.specs.declared.rows.TaskRow.{TaskRow};
 ghost use Rattle.tp_record.specs.State.{fate_of, is_fate, no_row};
 ghost use Rattle.tp_record.specs.Step.{is_of_group};
-ghost use Rattle.tp_tasks.specs.Kept.{AreSubmitted, AreCounted, AreGrouped};
+ghost use Rattle.tp_tasks.specs.Kept.{AreSubmitted, AreCounted, AreGrouped, AreListed};
 
 use crate::fates::Fates;
 use crate::group::Group;
@@ -20,7 +20,8 @@ use tp_types::refusals::PoolError;
 use tp_types::tasks::{Fate, Kind, Outcome, Place, Promise};
 
 /// The tasks of a pool: of each its row, its promise, its payload and its place number; of each group the completed tasks
-/// that are not handed out; of each fate how many tasks came to it. Only `reserve` takes memory.
+/// that are not handed out; of each fate how many tasks came to it. Only `reserve` takes memory. Each task is marked where it is
+/// one of those completed tasks, so that `release` looks through no list.
 #[derive(Drop)]
 pub struct Tasks<P> {
     alloc: Global,
@@ -32,10 +33,11 @@ pub struct Tasks<P> {
     ghost below: { AreSubmitted submitted tasks },
     ghost counted: { AreCounted fates tasks submitted },
     ghost grouped: { AreGrouped groups tasks },
+    ghost listed: { AreListed groups tasks },
 }
 
 impl<P> Tasks<P> {
-    ghost use Rattle.tp_tasks.specs.Tasks.{task_of, row_of, promise_of, number_of, payload_of, done_of, fated_of, submissions, HasNone, IsReady, IsOpenIn, KeepsOthers, KeepsDone, KeepsFates, SetsRow, IsUnchanged};
+    ghost use Rattle.tp_tasks.specs.Tasks.{task_of, row_of, promise_of, number_of, payload_of, done_of, fated_of, submissions, HasNone, IsReady, IsOpenIn, IsListed, AreReleased, KeepsOthers, KeepsDone, KeepsFates, SetsRow, IsUnchanged};
 
     /// No tasks. It takes no memory.
     pub fn new(alloc: Global) -> Tasks<P>
@@ -124,6 +126,7 @@ impl<P> Tasks<P> {
             promise,
             number: None,
             payload: Some(payload),
+            listed: false,
         };
         table::put(&mut self.tasks, t, task);
         groups::enter(&mut self.groups, kind);
@@ -243,13 +246,9 @@ impl<P> Tasks<P> {
         ensures done { (g : ℕ) → done_of self.new g ≡ done_of self.old g ++ (if is_of_group g from.kind && completed then t.0 ∷ [] else []) }
         ensures fates { (f : Fate) → fated_of self.new f ≡ fated_of self.old f + (if is_fate f (Some fate) then 1 else 0) }
     {
-        groups::close(
-            &mut self.groups,
-            from.kind,
-            if completed { Some(t.0) } else { None },
-        );
+        groups::close(&mut self.groups, from.kind, t.0, completed);
         self.fates.raise(fate);
-        table::set_row(&mut self.tasks, t.0, to);
+        table::finish(&mut self.tasks, t.0, to, completed);
     }
 
     /// An open task has run to its end, with this fate and outcome: it is gone, and completed where it is of a group.
@@ -261,7 +260,7 @@ impl<P> Tasks<P> {
         ensures done { (g : ℕ) → done_of self.new g ≡ done_of self.old g ++ (if is_of_group g from.kind then t.0 ∷ [] else []) }
         ensures fates { (f : Fate) → fated_of self.new f ≡ fated_of self.old f + (if is_fate f (Some fate) then 1 else 0) }
     {
-        groups::close(&mut self.groups, from.kind, Some(t.0));
+        groups::close(&mut self.groups, from.kind, t.0, true);
         self.fates.raise(fate);
         table::conclude(&mut self.tasks, t.0, fate, outcome);
     }
@@ -324,6 +323,28 @@ impl<P> Tasks<P> {
         self.end(t, row, to, Fate::Cancelled, true);
     }
 
+    /// Forgets a task that has a fate, unless it is a completed task of a group that is not handed out. It takes no memory.
+    pub fn release(&mut self, t: TaskId)
+    where
+        P: Drop,
+        requires ended { (r : TaskRow) × (row_of self.old t.0 ≡ Some r) × (is_none (fate_of r) ≡ false) }
+        requires handed_out { ¬ IsListed self.old t.0 }
+        ensures gone { task_of self.new t.0 ≡ None }
+        ensures others { KeepsOthers self.old self.new t.0 }
+        ensures done { KeepsDone self.old self.new }
+        ensures fates { KeepsFates self.old self.new }
+        ensures submitted { submissions self.new ≡ submissions self.old }
+    {
+        table::remove(&mut self.tasks, t.0);
+    }
+
+    /// How many tasks are kept: those that were submitted and not released.
+    pub fn kept(&self) -> u32
+        ensures { (rs : List ℕ) → AreReleased self.now rs → result + length rs ≡ submissions self.now }
+    {
+        self.tasks.len() as u32
+    }
+
     /// How many tasks came to this fate.
     #[inline(always)]
     pub fn fated(&self, fate: Fate) -> u32
@@ -338,11 +359,20 @@ impl<P> Tasks<P> {
         ensures first { option_map (λ t. t.0) result ≡ slice_get (done_of self.old g) 0 }
         ensures done { done_of self.new g ≡ drop 1 (done_of self.old g) }
         ensures other_groups { (h : ℕ) → nat_eq g h ≡ false → done_of self.new h ≡ done_of self.old h }
-        ensures tasks { (t : ℕ) → task_of self.new t ≡ task_of self.old t }
+        ensures rows { (t : ℕ) → row_of self.new t ≡ row_of self.old t }
+        ensures promises { (t : ℕ) → promise_of self.new t ≡ promise_of self.old t }
+        ensures numbers { (t : ℕ) → number_of self.new t ≡ number_of self.old t }
+        ensures payloads { (t : ℕ) → payload_of self.new t ≡ payload_of self.old t }
         ensures fates { KeepsFates self.old self.new }
         ensures submitted { submissions self.new ≡ submissions self.old }
     {
-        groups::take_done(&mut self.groups, g).map(TaskId)
+        match groups::take_done(&mut self.groups, g) {
+            Some(t) => {
+                table::unmark(&mut self.tasks, t);
+                Some(TaskId(t))
+            }
+            None => None,
+        }
     }
 
     /// The task of the group that `take_done` would hand out, None where none is left.
@@ -357,6 +387,13 @@ impl<P> Tasks<P> {
         ensures { IsTrue result ↔ (0 < length (done_of self.now g)) }
     {
         groups::has_done(&self.groups, g)
+    }
+
+    /// Whether this is a completed task of a group that is not handed out. It looks at the task alone.
+    pub fn is_listed(&self, t: TaskId) -> bool
+        ensures { IsTrue result ↔ IsListed self.now t.0 }
+    {
+        table::is_listed(&self.tasks, t.0)
     }
 
     /// Whether a task of the group has no fate yet.

@@ -1,10 +1,10 @@
-//! A recorder that keeps its entries.
+//! A recorder that keeps its entries, and one that counts them.
 
 use crate::compare::same;
 use std::process::Abort;
 use std::test::Fail;
 use tp_record::entries::{Ask, Did, Entry};
-use tp_record::recorders::{Full, Recorder};
+use tp_record::recorders::{Full, Recorder, Tally};
 
 fn tick(moment: u64) -> Entry {
     Entry {
@@ -40,4 +40,16 @@ fn notes_in_order(rt: HostRuntime) -> Result<(), Fail> {
     has_ticks(&rt, record.entries());
     has_ticks(&rt, &record.into_entries());
     Ok(())
+}
+
+#[test]
+fn counts_alone(rt: HostRuntime) {
+    let mut record = Tally::new();
+    same(&rt, 0, &(record.len(), record.room()), &(0, u64::MAX));
+    for moment in 0..3 {
+        if record.room() > 0 {
+            record.note(tick(moment));
+        }
+    }
+    same(&rt, 3, &(record.len(), record.room()), &(3, u64::MAX - 3));
 }

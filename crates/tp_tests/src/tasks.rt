@@ -47,6 +47,8 @@ enum Call {
     HasDone(u32),
     FirstDone(u32),
     TakeDone(u32),
+    IsListed(u32),
+    Release(u32),
 }
 
 /// What a call reads of the tasks.
@@ -60,6 +62,7 @@ fn read(tasks: &Tasks<u64>, call: Call) -> Answer {
         Call::IsOpen(g) => Holds(tasks.is_open(g)),
         Call::HasDone(g) => Holds(tasks.has_done(g)),
         Call::FirstDone(g) => Task(tasks.first_done(g)),
+        Call::IsListed(t) => Holds(tasks.is_listed(TaskId(t))),
         _ => Refused,
     }
 }
@@ -79,6 +82,7 @@ fn perform(rt: &impl Abort, tasks: &mut Tasks<u64>, call: Call) -> Answer {
         Call::Submit(kind, payload) => submit(rt, tasks, kind, payload),
         Call::TakePayload(t) => Number(tasks.take_payload(TaskId(t))),
         Call::TakeDone(g) => Task(tasks.take_done(g)),
+        Call::Release(t) => release(tasks, TaskId(t)),
         Call::Fate(t) | Call::Result(t) => read_row(tasks, TaskId(t), call),
         Call::SetPlaceNumber(t, _)
         | Call::Place(t, _, _)
@@ -104,6 +108,17 @@ fn submit(rt: &impl Abort, tasks: &mut Tasks<u64>, kind: Kind, payload: u64) -> 
         return Refused;
     }
     Task(Some(tasks.put(kind, PRIORITY, Place::ToOffer, ANY, payload)))
+}
+
+/// Forgets a task that has a fate and is not listed.
+fn release(tasks: &mut Tasks<u64>, t: TaskId) -> Answer {
+    match tasks.row(t) {
+        Some(row) if !row.is_open() && !tasks.is_listed(t) => {
+            tasks.release(t);
+            Done
+        }
+        _ => Refused,
+    }
 }
 
 /// Makes the call that changes the task with this row.
@@ -288,6 +303,40 @@ fn take_thousands(rt: &impl Abort, tasks: &mut Tasks<u64>) {
         asks(rt, 6, tasks, Call::IsOpen(group), Holds(false));
         asks(rt, 7, tasks, Call::HasDone(group), Holds(false));
     }
+}
+
+const RELEASED: [(Call, Answer); 25] = [
+    (Call::Submit(Kind::Plain, 1), Task(Some(TaskId(0)))),
+    (Call::Submit(Kind::Group(4), 2), Task(Some(TaskId(1)))),
+    (Call::Submit(Kind::Plain, 3), Task(Some(TaskId(2)))),
+    (Call::Release(0), Refused),
+    (Call::Run(0, Ok(1)), Done),
+    (Call::Run(1, Ok(2)), Done),
+    (Call::IsListed(0), Holds(false)),
+    (Call::IsListed(1), Holds(true)),
+    (Call::Release(1), Refused),
+    (Call::Release(0), Done),
+    (Call::Release(0), Refused),
+    (Call::IsListed(0), Holds(false)),
+    (Call::Row(0), Row(None)),
+    (Call::Row(2), Row(Some(NEW))),
+    (Call::TakePayload(2), Number(Some(3))),
+    (Call::TakeDone(4), Task(Some(TaskId(1)))),
+    (Call::IsListed(1), Holds(false)),
+    (Call::Release(1), Done),
+    (Call::Row(1), Row(None)),
+    (Call::Submit(Kind::Plain, 5), Task(Some(TaskId(3)))),
+    (Call::Row(3), Row(Some(NEW))),
+    (Call::TakePayload(2), Number(None)),
+    (Call::Run(2, Ok(3)), Done),
+    (Call::Fated(Fate::Run), Count(3)),
+    (Call::Submitted, Count(4)),
+];
+
+/// The tasks that are left keep their numbers, and a new task gets none of those that were forgotten.
+#[test]
+fn forgets_ended_tasks(rt: HostRuntime) {
+    plays(&rt, rt.alloc(), &RELEASED);
 }
 
 /// 4,000 tasks of seven groups, which complete with the last first.

@@ -9,10 +9,11 @@ use Rattle.tp_record.specs.declared.entries.Entry.{Entry}
 use Rattle.tp_record.specs.declared.entries.Ask.{Ask}
 use Rattle.tp_record.specs.declared.entries.Did.{Did}
 use Rattle.tp_record.specs.declared.rows.SlotRow.{SlotRow}
+use Rattle.tp_record.specs.declared.rows.Stage.TheVariants as stages
 use Rattle.tp_record.specs.State.{state, task_at, slot_at}
 use Rattle.tp_record.specs.Step.{Legal, slot_count}
 use Rattle.tp_slots.specs.Table.{is_reserved_row}
-use Rattle.tp_model.proofs.Given.{Given, IsAt, ReservedWith}
+use Rattle.tp_model.proofs.Given.{Given, IsAt, HasRow, ReservedWith}
 use Rattle.tp_shapes.specs.View.{view, Effect, put}
 use Rattle.tp_shapes.proofs.Rows.{moved_to, for_core, for_maximum}
 use Rattle.tp_shapes.proofs.Workers.Fail.{fail_bare, fail_refuse_core, fail_refuse_maximum}
@@ -32,6 +33,11 @@ Back c h w d =
 pub given_back : (c : Config) (h : List Entry) (w : SlotId) (a : Ask) (d : Did) → GivesBack w a d → Legal c h → Given c h d → Back c h w d
 given_back c h w a d (inl is) legal given = subst (Back c h w) (sym is.1) (fail_bare c h w legal (subst (Given c h) is.1 given))
 given_back c h w a d (inr is) legal given = subst (Back c h w) (sym is.1) (open_given_up c h w legal (subst (Given c h) is.1 given))
+
+-- the slot is bare
+pub back_here : (c : Config) (h : List Entry) (w : SlotId) (a : Ask) (d : Did) → GivesBack w a d → Given c h d → HasRow h w.0 stages.ReservedBare None
+back_here c h w a d (inl is) given = subst (Given c h) is.1 given
+back_here c h w a d (inr is) given = (subst (Given c h) is.1 given).0
 
 -- the first task of a slot with this row, and what is no longer owed once it is refused
 abbrev pub IsFirst : Option SlotRow → TaskId → ℕ → Type 0

@@ -2,3 +2,4 @@ pub mod Reserved
 pub mod Falls
 pub mod Waiting
 pub mod GivenBack
+pub mod Gone

@@ -1,10 +1,10 @@
 //! A worker has run its task, as where the task's `run` returns in `runWorker`, and `afterExecute` ran.
 
-ghost use Rattle.std.specs.Prelude.{ℕ, ◌≡◌, true, false, IfOk, IfErr, IfSome};
+ghost use Rattle.std.specs.Prelude.{ℕ, ◌≡◌, true, false, IfOk, IfErr, IfSome, IsSome};
 ghost use Rattle.tp_types.specs.Promise.{FitsPromise};
 ghost use Rattle.tp_record.specs.Effects.{Outcome, is_plain_fault};
 ghost use Rattle.tp_record.specs.State.{State, task_at};
-ghost use Rattle.tp_tasks.specs.Tasks.{promise_of};
+ghost use Rattle.tp_tasks.specs.Tasks.{promise_of, row_of};
 ghost use Rattle.tp_parts.specs.Payloads.{Keeps};
 ghost use Rattle.tp_parts.specs.Shows.{Shows};
 ghost use Rattle.tp_parts.specs.Steps.{Stands, Fits, Refuses, Leads};
@@ -62,14 +62,14 @@ pub fn apply<P>(parts: &mut Parts<P>, w: SlotId, t: TaskId, outcome: Outcome)
 /// leaves `run` does.
 #[inline(always)]
 fn is_plain_fault<P>(parts: &Parts<P>, t: TaskId, outcome: Outcome) -> bool
+    requires known { IsSome (row_of parts.now.tasks t.0) }
     ensures { (s : State) (w : SlotId) → Shows parts.now s →
         result ≡ is_plain_fault (Did.End w t outcome) (λ u. (task_at s u).kind) }
 {
-    let kind = match parts.tasks.row(t) {
-        Some(row) => row.kind,
-        None => Kind::Plain,
+    let Some(row) = parts.tasks.row(t) else {
+        unreachable!()
     };
-    kind == Kind::Plain && outcome.is_err()
+    row.kind == Kind::Plain && outcome.is_err()
 }
 
 /// The worker ends its task, and is about to take.

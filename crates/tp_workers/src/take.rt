@@ -8,6 +8,7 @@ ghost use Rattle.tp_record.specs.Step.{held_answer, take_next, slot_count};
 ghost use Rattle.tp_parts.specs.Payloads.{Keeps};
 ghost use Rattle.tp_parts.specs.Shows.{Shows};
 ghost use Rattle.tp_parts.specs.Steps.{Stands, Fits, Refuses, Leads};
+ghost use Rattle.tp_workers.specs.Taken.{AreGone};
 
 use crate::owed::owed_at_take;
 use tp_parts::parts::Parts;
@@ -40,7 +41,7 @@ pub fn answer<P>(parts: &Parts<P>, w: SlotId) -> Result<Took, PoolError>
 /// What a worker takes whose slot holds this task.
 #[inline(always)]
 fn first_task<P>(parts: &Parts<P>, t: TaskId) -> Result<Took, PoolError>
-    ensures { (s : State) (w : SlotId) → Shows parts.now s →
+    ensures { (s : State) (w : SlotId) → Shows parts.now s → AreGone s →
         held_answer w t (task_at s t.0).place ≡ result_map_both (λ k. Did.Take w k) (λ e. e) result }
 {
     let Some(row) = parts.tasks.row(t) else {

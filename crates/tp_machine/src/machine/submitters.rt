@@ -1,6 +1,6 @@
 //! Submitters' steps.
 
-ghost use Rattle.std.specs.Prelude.{◌≡◌, List, IfOk, IfErr, OnOk, OnErr, Some};
+ghost use Rattle.std.specs.Prelude.{ℕ, ◌≡◌, List, IfOk, IfErr, OnOk, OnErr, Some};
 ghost use Rattle.tp_record.specs.declared.entries.Entry.{Entry};
 ghost use Rattle.tp_record.specs.Effects.{submits};
 ghost use Rattle.tp_parts.specs.Payloads.{Keeps, PutsIn};
@@ -213,7 +213,7 @@ impl<P, R: Recorder> Machine<P, R> {
     pub fn verdict(&mut self, by: u32, t: TaskId, verdict: Verdict) -> Result<Judged<P>, PoolError>
         ensures step { IfOk result (λ j. IsStep R.tells self.old self.new by (Ask.Verdict t verdict) j.did) }
         ensures payloads { IfOk result (λ j. IsJudged self.old.parts.tasks self.new.parts.tasks t j) }
-        ensures returned { IfOk result (λ j. (h : List Entry) → At R.tells self.old h → IsReturnedAt t j h) }
+        ensures returned { IfOk result (λ j. (h : List Entry) (rs : List ℕ) → At R.tells self.old h rs → IsReturnedAt t j h) }
         ensures refused { IfErr result (λ e. IsRefusedBy R.tells self.old (Ask.Verdict t verdict) e) }
         ensures unchanged { OnErr result (self.new ≡ self.old) }
     {

@@ -2,9 +2,8 @@ use Rattle.std.proofs.Common.{◌≡◌, ℕ, ◌+◌, Bool, true, cond, length,
 use Rattle.std.specs.Prelude.{count_by}
 use Rattle.std.proofs.lemmas.Bool.{eq-eqb}
 use Rattle.std.proofs.lemmas.List.Sums.{count_by-le-length, sum_by-cons}
-use Rattle.tp_record.specs.Lists.{is_it}
+use Rattle.tp_record.specs.Lists.{is_it, is_among}
 use Rattle.tp_record.specs.State.{row_at}
-use Rattle.tp_model.proofs.Queues.{is_among}
 use Rattle.tp_auditor.specs.Orders.{from_on}
 use Rattle.tp_auditor.specs.Queued.{tasks_of}
 use Rattle.tp_auditor.proofs.Walking.{head_is, from_head, from_next, from_cons, length-from, counted_next, next_among}

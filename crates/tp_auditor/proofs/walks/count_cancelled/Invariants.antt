@@ -1,8 +1,7 @@
 use Rattle.std.proofs.Common.{ℕ, ◌≡◌, ◌+◌, true, length}
 use Rattle.std.specs.Prelude.{count_by}
-use Rattle.tp_record.specs.Lists.{is_it}
+use Rattle.tp_record.specs.Lists.{is_it, is_among}
 use Rattle.tp_record.specs.State.{row_at}
-use Rattle.tp_model.proofs.Queues.{is_among}
 use Rattle.tp_auditor.specs.Orders.{from_on}
 use Rattle.tp_auditor.specs.Queued.{tasks_of}
 use Rattle.tp_auditor.proofs.walks.count_cancelled.Given as goal

@@ -1,9 +1,8 @@
 use Rattle.std.proofs.Common.{◌≡◌, ℕ, Bool, List, true, false, not, cond, length, drop, ◌^◌, ◌-◌, Option, Some, None, arith, refl, sym, ap, subst, ◌∙◌}
 use Rattle.std.specs.Prelude.{filter}
 use Rattle.std.proofs.lemmas.Bool.{eq-eqb}
-use Rattle.tp_record.specs.Lists.{is_it, without}
+use Rattle.tp_record.specs.Lists.{is_it, without, is_among, IsOnce}
 use Rattle.tp_record.specs.State.{row_after, row_at, no_row}
-use Rattle.tp_model.proofs.Queues.{is_among, IsOnce}
 use Rattle.tp_auditor.specs.Changed.{leave_out}
 use Rattle.tp_auditor.specs.Orders.{next_of, from_on}
 use Rattle.tp_auditor.specs.Queued.{tasks_of}

@@ -1,8 +1,7 @@
 use Rattle.std.proofs.Common.{ℕ, ◌≡◌, ◌<◌, ◌-◌, ◌^◌, true, false, not, length}
 use Rattle.std.specs.Prelude.{vec_len, filter}
-use Rattle.tp_record.specs.Lists.{is_it}
+use Rattle.tp_record.specs.Lists.{is_it, is_among, IsOnce}
 use Rattle.tp_record.specs.State.{row_after, row_at, no_row}
-use Rattle.tp_model.proofs.Queues.{is_among, IsOnce}
 use Rattle.tp_auditor.specs.Orders.{from_on}
 use Rattle.tp_auditor.specs.Queued.{tasks_of, Keeps}
 use Rattle.tp_auditor.proofs.Sweeping.{Swept}

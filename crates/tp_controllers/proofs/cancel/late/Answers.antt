@@ -18,7 +18,7 @@ returns-clause-leads g c =
     let k = c.count_entry.ensures in
     let due = ap (λ p. p.due) k.rest in
     leads_by old c.count_entry.new.self (ask.Cancel c.args.t c.args.flag) (did.Cancel c.args.t c.args.flag false) 0 0 c.requires.fits
-    (λ h legal given sh. (_, cancel_late old.config h c.args.t c.args.flag legal given, k.views _ sh.seen))
+    (λ h rs legal given sh. (_, cancel_late old.config h c.args.t c.args.flag legal given, k.views _ sh.seen))
     (ap (λ p. p.config) k.rest) (ap (λ p. p.steps) k.rest) (omega (arith, due))
     (k.tied old.config (suc old.steps) (tied_more old.config old.steps old c.requires.stands.tied))
 

@@ -5,6 +5,7 @@ use Rattle.std.proofs.lemmas.Bool.{le-leb}
 use Rattle.tp_record.specs.declared.entries.Ask.TheVariants as ask
 use Rattle.tp_record.specs.declared.entries.Did.TheVariants as did
 use Rattle.tp_types.specs.declared.refusals.PoolError.TheVariants.{BadSizes}
+use Rattle.tp_record.specs.Left.{mark}
 use Rattle.tp_record.specs.State.{state}
 use Rattle.tp_record.specs.Step.{added}
 use Rattle.tp_queue.specs.Queues.{waiting_of}
@@ -20,9 +21,9 @@ asked p n = min (n - p.core) (length (waiting_of p.queue).items)
 
 module _ {P : Type 0} (p : Parts P) (n : ℕ) where
   fits : n ≤ p.maximum → Fits p (ask.Core n) (did.Core n (asked p n))
-  fits within = λ h legal sh.
+  fits within = λ h rs legal may sh.
       let m = sh.seen.maximum_size in
-      let s = state p.config h in (
+      let s = mark rs (state p.config h) in (
         ap (λ b. cond b (Ok (did.Core n (added s n))) (Err BadSizes)) (le-leb n s.maximum (omega (arith, m, within)))
             ∙ ap (λ k. Ok (did.Core n (min (n - k) (length s.queue)))) sh.seen.core_size
             ∙ ap (λ k. Ok (did.Core n (min (n - p.core) k))) (ap length sh.seen.queued ∙ length-map (waiting_of p.queue).items (λ x. x.0.0)),
@@ -30,7 +31,7 @@ module _ {P : Type 0} (p : Parts P) (n : ℕ) where
       )
 
   moves : (k : ℕ) → Moves p 0 0 (did.Core n k)
-  moves k = λ h legal sh given. (_, core_effect p.config h n k legal given)
+  moves k = λ h rs legal sh given. (_, core_effect p.config h n k legal given)
 
 pub returns-then-not-has_room-clause-refuses : goal.returns-then-not-has_room-clause-refuses
 returns-then-not-has_room-clause-refuses g c =

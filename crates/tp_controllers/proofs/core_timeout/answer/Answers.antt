@@ -13,11 +13,11 @@ use Rattle.tp_controllers.proofs.core_timeout.answer.Goals.{else-on-via-then-on+
 
 module _ {P : Type 0} (p : Parts P) (on : Bool) where
   fits : (on && p.keep == 0) ≡ false → Fits p (ask.CoreTimeout on) (did.CoreTimeout on)
-  fits good = λ h legal sh.
+  fits good = λ h rs legal may sh.
       (ap (λ n. cond (on && n == 0) (Err KeepZero) (Ok (did.CoreTimeout on))) sh.seen.keep_alive ∙ ap (λ b. cond b (Err KeepZero) (Ok (did.CoreTimeout on))) good, tt)
 
   moves : Moves p 0 0 (did.CoreTimeout on)
-  moves = λ h legal sh given. (_, core_timeout_effect p.config h on legal given)
+  moves = λ h rs legal sh given. (_, core_timeout_effect p.config h on legal given)
 
 good : (on : Bool) (n : ℕ) → (on ≡ true → n ≡ 0 → ⊥) → (on && n == 0) ≡ false
 good true n is = grind (arith, nat_tests)

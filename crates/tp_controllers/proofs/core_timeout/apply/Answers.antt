@@ -15,6 +15,6 @@ returns-clause-leads g c =
     let k = c.count_entry.ensures.rest in
     let r = c.set_core_timeout.ensures.rest in
     setting_leads old c.requires.stands c.set_core_timeout.new.self (ask.CoreTimeout n) (did.CoreTimeout n) c.requires.fits
-    (λ h legal given sh. (_, core_timeout_effect old.config h n legal given, c.set_core_timeout.ensures.views _ (c.count_entry.ensures.views _ sh.seen)))
+    (λ h rs legal given sh. (_, core_timeout_effect old.config h n legal given, c.set_core_timeout.ensures.views _ (c.count_entry.ensures.views _ sh.seen)))
     (cc) (cc) (cc)
     (λ tied. c.set_core_timeout.ensures.tied old.config (suc old.steps) (c.count_entry.ensures.tied old.config (suc old.steps) tied))

@@ -1,6 +1,7 @@
 use Rattle.std.proofs.Common.{◌≡◌, ℕ, max, suc, arith, refl, subst}
 use Rattle.tp_record.specs.declared.entries.Ask.TheVariants as ask
 use Rattle.tp_record.specs.declared.entries.Did.TheVariants as did
+use Rattle.tp_record.specs.Left.{mark}
 use Rattle.tp_record.specs.State.{state}
 use Rattle.tp_shapes.specs.View.{view}
 use Rattle.tp_shapes.proofs.Controllers.Tidy.{ended as ended_effect}
@@ -22,8 +23,8 @@ returns-clause-leads g c =
     let k = c.count_entry.ensures.rest in
     let r = c.reach.ensures.rest in
     leads_from old c.reach.new.self ask.Ended did.Ended 1 0 1 c.requires.stands c.requires.fits
-    (λ h legal given sh.
-    let s = state old.config h in
+    (λ h rs legal given sh.
+    let s = mark rs (state old.config h) in
     let V : ℕ → Type 0 = λ n. Views c.reach.new.self (record (view s) { rank = n }) in
     let four : max 4 s.rank ≡ 4 = omega (arith, given) in
     (_, ended_effect old.config h legal given, subst V four (c.reach.ensures.views _ (c.count_entry.ensures.views _ sh.seen))))

@@ -13,10 +13,10 @@ use Rattle.tp_controllers.proofs.keep.answer.Goals.{else-keep-eq0-via-then-keep-
 
 module _ {P : Type 0} (p : Parts P) (n : ℕ) where
   fits : (n == 0 && p.core_timeout) ≡ false → Fits p (ask.Keep n) (did.Keep n)
-  fits good = λ h legal sh. (ap (λ b. cond (n == 0 && b) (Err KeepZero) (Ok (did.Keep n))) sh.seen.times_out ∙ ap (λ b. cond b (Err KeepZero) (Ok (did.Keep n))) good, tt)
+  fits good = λ h rs legal may sh. (ap (λ b. cond (n == 0 && b) (Err KeepZero) (Ok (did.Keep n))) sh.seen.times_out ∙ ap (λ b. cond b (Err KeepZero) (Ok (did.Keep n))) good, tt)
 
   moves : Moves p 0 0 (did.Keep n)
-  moves = λ h legal sh given. (_, keep_effect p.config h n legal given)
+  moves = λ h rs legal sh given. (_, keep_effect p.config h n legal given)
 
 good : (n : ℕ) (b : Bool) → (n ≡ 0 → b ≡ false) → (n == 0 && b) ≡ false
 good n true is = grind (arith, nat_tests)

@@ -14,5 +14,5 @@ returns-clause-leads g c =
     let old = c.args.parts.now in
     let k = c.count_entry.ensures.rest in
     leads_from old c.count_entry.new.self ask.Prestart (did.Prestart None) 0 0 0 c.requires.stands c.requires.fits
-    (λ h legal given sh. (_, prestart_none old.config h legal given, c.count_entry.ensures.views _ sh.seen))
+    (λ h rs legal given sh. (_, prestart_none old.config h legal given, c.count_entry.ensures.views _ sh.seen))
     refl (cc) (cc) (cc) (λ tied. c.count_entry.ensures.tied old.config (suc old.steps) tied)

@@ -4,7 +4,7 @@ use Rattle.tp_record.specs.declared.entries.Did.TheVariants as did
 use Rattle.tp_shapes.proofs.Controllers.Purge.{purge}
 use Rattle.tp_parts.proofs.Ties.{tied_more}
 use Rattle.tp_parts.proofs.Standing.{entry_here}
-use Rattle.tp_parts.proofs.Leading.{leads_by}
+use Rattle.tp_parts.proofs.Leading.{leads_where}
 use Rattle.tp_controllers.proofs.Purges.{holds_queued}
 use Rattle.tp_controllers.proofs.purge.apply.Goals as goal
 
@@ -31,7 +31,7 @@ returns-clause-leads g c =
     let same = c.from.ensures in
     let before = ap (λ p. p.due) q.rest in
     let due = ap (λ p. p.due) k.rest in
-    leads_by old c.count_entry.new.self ask.Purge (did.Purge c.args.cancelled) (6 * c.args.cancelled) 0 c.requires.fits
-    (λ h legal given sh. (_, purge old.config h c.args.cancelled legal given, k.views _ (q.views _ sh.seen (holds_queued old.config h legal))))
+    leads_where old c.count_entry.new.self ask.Purge (did.Purge c.args.cancelled) (6 * c.args.cancelled) 0 c.requires.fits
+    (λ h rs legal may given sh. (_, purge old.config h c.args.cancelled legal given, k.views _ (q.views _ sh.seen (holds_queued old.config h rs legal may))))
     (ap (λ p. p.config) k.rest ∙ ap (λ p. p.config) q.rest) (ap (λ p. p.steps) k.rest ∙ ap (λ p. suc p.steps) q.rest) (omega (arith, due, before, fall, same))
     (k.tied old.config (suc old.steps) (q.tied old.config (suc old.steps) (tied_more old.config old.steps old stands.tied)))

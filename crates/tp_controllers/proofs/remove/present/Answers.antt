@@ -44,6 +44,6 @@ returns-clause-leads g c =
     let fall = e.1 in
     let due = ap (λ p. p.due) m.rest ∙ ap (λ p. p.due) q.rest ∙ ap (λ p. p.due) k.rest in
     leads_by old c.finish_task.new.self (ask.Remove c.args.t) (did.Remove c.args.t true) 6 0 c.requires.fits
-    (λ h legal given sh. (_, remove old.config h c.args.t legal given, m.views _ (q.views _ (k.views _ sh.seen))))
+    (λ h rs legal given sh. (_, remove old.config h c.args.t legal given, m.views _ (q.views _ (k.views _ sh.seen))))
     (ap (λ p. p.config) m.rest ∙ ap (λ p. p.config) q.rest ∙ ap (λ p. p.config) k.rest) (ap (λ p. p.steps) m.rest ∙ ap (λ p. p.steps) q.rest ∙ ap (λ p. p.steps) k.rest) (omega (arith, due, fall))
     (m.tied old.config (suc old.steps) (q.tied old.config (suc old.steps) (k.tied old.config (suc old.steps) (tied_more old.config old.steps old c.requires.stands.tied))))

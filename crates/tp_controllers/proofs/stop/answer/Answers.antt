@@ -1,6 +1,7 @@
 use Rattle.std.proofs.Common.{◌≡◌, ℕ, Ok, refl, arith, sym, ap, ◌∙◌}
 use Rattle.tp_record.specs.declared.entries.Ask.TheVariants as ask
 use Rattle.tp_record.specs.declared.entries.Did.TheVariants as did
+use Rattle.tp_record.specs.Left.{mark}
 use Rattle.tp_record.specs.State.{state}
 use Rattle.tp_queue.specs.Queues.{waiting_of}
 use Rattle.tp_parts.specs.declared.parts.Parts.{Parts}
@@ -13,7 +14,7 @@ use Rattle.tp_controllers.proofs.stop.answer.Goals as goal
 
 module _ {P : Type 0} (p : Parts P) where
   fits : (n : ℕ) → n ≡ length (waiting_of p.queue).items → Fits p ask.Stop (did.Stop n)
-  fits n is = λ h legal sh. (ap (λ k. Ok (did.Stop k)) (queued_read p (state p.config h) sh ∙ sym is), tt)
+  fits n is = λ h rs legal may sh. (ap (λ k. Ok (did.Stop k)) (queued_read p (mark rs (state p.config h)) sh ∙ sym is), tt)
 
 pub overflow_cast-count : goal.overflow_cast-count
 overflow_cast-count g c = let few = few_queued c.args.parts.now c.requires.stands in let n = c.len-count.ensures in omega (arith, few, n)

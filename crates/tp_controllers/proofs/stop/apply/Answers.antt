@@ -3,6 +3,7 @@ use mathlib.Core.Path.{fun_ext}
 use Rattle.tp_record.specs.declared.entries.Ask.TheVariants as ask
 use Rattle.tp_record.specs.declared.entries.Did.TheVariants as did
 use Rattle.tp_record.specs.declared.rows.TaskRow.{TaskRow}
+use Rattle.tp_record.specs.Left.{mark}
 use Rattle.tp_record.specs.State.{state}
 use Rattle.tp_shapes.specs.View.{View, view}
 use Rattle.tp_shapes.proofs.Controllers.Shutdown.{woken_slot}
@@ -22,7 +23,7 @@ count_entry-requires g c =
     let old = c.args.parts.now in
     let stands = c.requires.stands in
     let n = c.fall.result in
-    let e = entry_here old stands ask.Stop (did.Stop c.args.count) _ n 0 n c.requires.fits (λ given. effect_by (state old.config stands.history) (did.Stop c.args.count) _ _ n 0 (stop_read old c.args.count n c.fall.ensures (state old.config stands.history) stands.shows) (stop_effect old.config stands.history c.args.count stands.legal given)) (omega arith) in
+    let e = entry_here old stands ask.Stop (did.Stop c.args.count) _ n 0 n c.requires.fits (λ given. effect_by (state old.config stands.history) (did.Stop c.args.count) _ _ n 0 (stop_read old c.args.count n c.fall.ensures (mark stands.released (state old.config stands.history)) stands.shows) (stop_effect old.config stands.history c.args.count stands.legal given)) (omega arith) in
     record { few = e.0; fall = e.1 }
 
 pub drain_queue-requires-clause-known : goal.drain_queue-requires-clause-known
@@ -33,7 +34,7 @@ drain_queue-requires-clause-known g c =
       seen = _;
       views = c.wake_all.ensures.views _ (c.reach.ensures.views _ (c.count_entry.ensures.views _ stands.shows.seen));
       once = queued_once old.config stands.history stands.legal;
-      unended = queued_open old.config stands.history stands.legal;
+      unended = queued_open old.config stands.history stands.legal stands.released stands.may;
     }
 
 pub returns-clause-leads : goal.returns-clause-leads
@@ -46,10 +47,10 @@ returns-clause-leads g c =
     let r = c.wake_all.ensures.rest in
     let q = c.drain_queue.ensures.rest in
     leads_from old new ask.Stop (did.Stop c.args.count) n 0 n c.requires.stands c.requires.fits
-    (λ h legal given sh.
-    let s = state old.config h in
+    (λ h rs legal given sh.
+    let s = mark rs (state old.config h) in
     let v : View = drained (record (view s) { rank = max 2 s.rank; slots = λ w. woken_slot (slot_at s.slots w); idling = [] }) in
     let V : (ℕ → TaskRow) → Type 0 = λ rows. Views new (record v { tasks = rows }) in
-    (_, effect_by s (did.Stop c.args.count) _ _ n 0 (stop_read old c.args.count n c.fall.ensures s sh) (stop_effect old.config h c.args.count legal given), subst V (fun_ext (gone_queued old.config h legal)) (c.drain_queue.ensures.views _ (c.wake_all.ensures.views _ (c.reach.ensures.views _ (c.count_entry.ensures.views _ sh.seen))))))
+    (_, effect_by (state old.config h) (did.Stop c.args.count) _ _ n 0 (stop_read old c.args.count n c.fall.ensures s sh) (stop_effect old.config h c.args.count legal given), subst V (fun_ext (gone_queued old.config h legal)) (c.drain_queue.ensures.views _ (c.wake_all.ensures.views _ (c.reach.ensures.views _ (c.count_entry.ensures.views _ sh.seen))))))
     (omega arith) (cc) (cc) (cc)
     (λ tied. c.drain_queue.ensures.tied old.config (suc old.steps) (c.wake_all.ensures.tied old.config (suc old.steps) (c.reach.ensures.tied old.config (suc old.steps) (c.count_entry.ensures.tied old.config (suc old.steps) tied))))

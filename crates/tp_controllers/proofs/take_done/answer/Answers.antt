@@ -10,11 +10,11 @@ returns-then-not-has_room-clause-refuses g c =
     let p = c.args.parts.now in
     let t = c.in_ok-t.t in
     refuses_fitting p (ask.TakeDone c.args.g) (did.TakeDone c.args.g t) 0 0 _ c.has_room.ensures c.if-not-has_room.true c.in_ok-t.ensures.fits (λ s w. refl)
-    (λ h legal sh given. (_, take_done p.config h c.args.g t legal given))
+    (λ h rs legal sh given. (_, take_done p.config h c.args.g t legal given))
 
 pub returns-clause-accepts : goal.returns-clause-accepts
 returns-clause-accepts g c =
     let p = c.args.parts.now in
     let t = c.in_ok-t.t in
     accepts_room p (ask.TakeDone c.args.g) (did.TakeDone c.args.g t) 0 0 _ c.has_room.ensures c.if-not-has_room.false c.in_ok-t.ensures.fits
-    (λ h legal sh given. (_, take_done p.config h c.args.g t legal given))
+    (λ h rs legal sh given. (_, take_done p.config h c.args.g t legal given))

@@ -17,6 +17,6 @@ returns-clause-leads g c =
     let m = c.take_done.ensures in
     let due = ap (λ p. p.due) m.rest ∙ ap (λ p. p.due) k.rest in
     leads_by old c.take_done.new.self (ask.TakeDone c.args.g) (did.TakeDone c.args.g c.args.t) 0 0 c.requires.fits
-    (λ h legal given sh. (_, take_done old.config h c.args.g c.args.t legal given, m.views _ (k.views _ sh.seen)))
+    (λ h rs legal given sh. (_, take_done old.config h c.args.g c.args.t legal given, m.views _ (k.views _ sh.seen)))
     (ap (λ p. p.config) m.rest ∙ ap (λ p. p.config) k.rest) (ap (λ p. p.steps) m.rest ∙ ap (λ p. p.steps) k.rest) (omega (arith, due))
     (m.tied old.config (suc old.steps) (k.tied old.config (suc old.steps) (tied_more old.config old.steps old c.requires.stands.tied)))

@@ -15,6 +15,6 @@ returns-clause-leads g c =
     let k = c.count_entry.ensures.rest in
     let r = c.set_moment.ensures.rest in
     setting_leads old c.requires.stands c.set_moment.new.self (ask.Tick n) (did.Tick n) c.requires.fits
-    (λ h legal given sh. (_, tick_effect old.config h n legal given, c.set_moment.ensures.views _ (c.count_entry.ensures.views _ sh.seen)))
+    (λ h rs legal given sh. (_, tick_effect old.config h n legal given, c.set_moment.ensures.views _ (c.count_entry.ensures.views _ sh.seen)))
     (cc) (cc) (cc)
     (λ tied. c.set_moment.ensures.tied old.config (suc old.steps) (c.count_entry.ensures.tied old.config (suc old.steps) tied))

@@ -6,6 +6,7 @@ use Rattle.tp_record.specs.declared.entries.Entry.{Entry}
 use Rattle.tp_record.specs.declared.entries.Ask.TheVariants as ask
 use Rattle.tp_record.specs.declared.entries.Did.TheVariants as did
 use Rattle.tp_record.specs.Fields.{rank, queue}
+use Rattle.tp_record.specs.Left.{mark}
 use Rattle.tp_record.specs.State.{state}
 use Rattle.tp_slots.specs.Table.{is_at_take}
 use Rattle.tp_shapes.specs.View.{view}
@@ -32,7 +33,7 @@ count_entry-requires g c =
     let s = state old.config stands.history in
     let given = given_here old stands ask.Tidy did.Tidy c.requires.fits in
     let n = c.owed_until.result in
-    let falls = alone s.rank (count_by is_at_take s.slots) (between old.config stands.history given.1).0 ∙ owed_read old s 3 stands.shows ∙ sym c.owed_until.ensures.falls in
+    let falls = alone s.rank (count_by is_at_take s.slots) (between old.config stands.history given.1).0 ∙ owed_read old (mark stands.released s) 3 stands.shows ∙ sym c.owed_until.ensures.falls in
     let e = entry_here old stands ask.Tidy did.Tidy _ n 0 n c.requires.fits (λ given. effect_by s did.Tidy _ _ n 0 falls (tidy_effect old.config stands.history stands.legal given)) (omega arith) in
     record { few = e.0; fall = e.1 }
 
@@ -43,13 +44,13 @@ returns-clause-leads g c =
     let k = c.count_entry.ensures.rest in
     let r = c.reach.ensures.rest in
     leads_from old c.reach.new.self ask.Tidy did.Tidy n 0 n c.requires.stands c.requires.fits
-    (λ h legal given sh.
-    let s = state old.config h in
+    (λ h rs legal given sh.
+    let s = mark rs (state old.config h) in
     let low = between old.config h given.1 in
     let V : ℕ → Type 0 = λ m. Views c.reach.new.self (record (view s) { rank = m }) in
     let three : max 3 s.rank ≡ 3 = omega (arith, low.1) in (
       _,
-      effect_by s did.Tidy _ _ n 0 (alone s.rank (count_by is_at_take s.slots) low.0 ∙ owed_read old s 3 sh ∙ sym c.owed_until.ensures.falls) (tidy_effect old.config h legal given),
+      effect_by (state old.config h) did.Tidy _ _ n 0 (alone s.rank (count_by is_at_take s.slots) low.0 ∙ owed_read old s 3 sh ∙ sym c.owed_until.ensures.falls) (tidy_effect old.config h legal given),
       subst V three (c.reach.ensures.views _ (c.count_entry.ensures.views _ sh.seen)),
     ))
     (omega arith) (cc) (cc) (cc) (λ tied. c.reach.ensures.tied old.config (suc old.steps) (c.count_entry.ensures.tied old.config (suc old.steps) tied))

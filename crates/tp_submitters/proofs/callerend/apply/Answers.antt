@@ -1,4 +1,4 @@
-use Rattle.std.proofs.Common.{◌≡◌, ◌-◌, suc, arith, ap, ◌∙◌}
+use Rattle.std.proofs.Common.{◌≡◌, ◌-◌, suc, refl, arith, ap, ◌∙◌}
 use Rattle.tp_types.specs.declared.tasks.Place.TheVariants as at
 use Rattle.tp_record.specs.declared.entries.Ask.TheVariants as ask
 use Rattle.tp_record.specs.declared.entries.Did.TheVariants as did
@@ -25,7 +25,7 @@ complete_task-requires-clause-known g c =
     let old = c.args.parts.now in
     let stands = c.requires.stands in
     let given = given_here old stands (ask.CallerEnd c.args.t c.args.outcome) (did.CallerEnd c.args.t c.args.outcome) c.requires.fits in
-    let there = task_here old stands c.args.t.0 at.Caller given in
+    let there = task_here old stands c.args.t.0 at.Caller given refl in
     (task_at (state old.config stands.history) c.args.t.0, ap (λ p. row_of p.tasks c.args.t.0) c.count_entry.ensures.rest ∙ there.0, open_row old.config stands.history stands.legal c.args.t.0 (ap is_gone given.1), ap is_before there.1)
 
 pub returns-clause-leads : goal.returns-clause-leads
@@ -39,6 +39,6 @@ returns-clause-leads g c =
     let here = entry_here old stands (ask.CallerEnd t o) (did.CallerEnd t o) _ 1 0 1 c.requires.fits (caller_end old.config stands.history t o stands.legal) (omega arith) in
     let due : c.complete_task.new.self.due ≡ old.due - 1 = cc in
     leads_by old c.complete_task.new.self (ask.CallerEnd t o) (did.CallerEnd t o) 1 0 c.requires.fits
-    (λ h legal given sh. (_, caller_end old.config h t o legal given, c.complete_task.ensures.views _ (c.count_entry.ensures.views _ sh.seen)))
+    (λ h rs legal given sh. (_, caller_end old.config h t o legal given, c.complete_task.ensures.views _ (c.count_entry.ensures.views _ sh.seen)))
     (cc) (cc) (omega (arith, due, here))
     (c.complete_task.ensures.tied old.config (suc old.steps) (c.count_entry.ensures.tied old.config (suc old.steps) (tied_more old.config old.steps old stands.tied)))

@@ -4,13 +4,14 @@ use Rattle.tp_types.specs.declared.tasks.Place.TheVariants as at
 use Rattle.tp_record.specs.declared.entries.Ask.TheVariants as ask
 use Rattle.tp_record.specs.declared.entries.Did.TheVariants as did
 use Rattle.tp_record.specs.declared.entries.Grown.TheVariants as grown
+use Rattle.tp_record.specs.Left.{mark}
 use Rattle.tp_record.specs.State.{state, task_at}
 use Rattle.tp_record.specs.Step.{slot_count}
 use Rattle.tp_shapes.specs.View.{view, put}
 use Rattle.tp_shapes.proofs.Rows.{moved_to, for_maximum}
 use Rattle.tp_shapes.proofs.Submitters.Grow.{grow_reserve}
 use Rattle.tp_parts.proofs.Ties.{tied_more}
-use Rattle.tp_parts.proofs.Standing.{entry_here, given_here}
+use Rattle.tp_parts.proofs.Standing.{entry_here, given_here, known_here}
 use Rattle.tp_parts.proofs.Leading.{leads_by}
 use Rattle.tp_parts.proofs.Slots.{seats_left, views_numbered}
 use Rattle.tp_submitters.proofs.grow.reserve.Goals as goal
@@ -49,8 +50,8 @@ returns-clause-leads g c =
     let due : c.reserve.new.self.due ≡ old.due - 1 = cc in
     let number = c.reserve.ensures.number ∙ ap (λ p. p.slots.next) m ∙ ap (λ p. p.slots.next) k ∙ sym c.requires.next in
     leads_by old c.reserve.new.self (ask.Grow t) d 1 0 c.requires.fits
-    (λ h legal given sh.
-    let s = state old.config h in
+    (λ h rs legal given sh.
+    let s = mark rs (state old.config h) in
     let v = record (view s) { tasks = put t.0 (moved_to (at.Held w) (task_at s t.0)) (task_at s) } in (
       _,
       grow_reserve old.config h t w legal given,
@@ -58,3 +59,10 @@ returns-clause-leads g c =
     ))
     (cc) (cc) (omega (arith, due, here))
     (c.reserve.ensures.tied old.config (suc old.steps) (c.place_task.ensures.tied old.config (suc old.steps) (c.count_entry.ensures.tied old.config (suc old.steps) (tied_more old.config old.steps old stands.tied))))
+
+pub place_task-requires : goal.place_task-requires
+place_task-requires g c =
+    let old = c.args.parts.now in
+    let stands = c.requires.stands in
+    let given = given_here old stands (ask.Grow c.args.t) (did.Grow c.args.t (grown.Reserve c.args.w)) c.requires.fits in
+    record { known = known_here old stands c.count_entry.new.self.tasks c.args.t.0 at.ToGrow (at.Held c.args.w) (ap (λ p. p.tasks) c.count_entry.ensures.rest) given.0 refl refl }

@@ -1,5 +1,6 @@
 use Rattle.std.proofs.Common.{Ok, ap, sym, ◌∙◌}
 use Rattle.std.specs.Prelude.{unwrap_or}
+use Rattle.tp_record.specs.Left.{mark}
 use Rattle.tp_record.specs.declared.entries.Did.TheVariants as did
 use Rattle.tp_record.specs.Effects.{reserved_looked}
 use Rattle.tp_record.specs.State.{state}
@@ -9,9 +10,9 @@ use Rattle.tp_submitters.proofs.Submitting.{look_again}
 use Rattle.tp_submitters.proofs.look.answer.Goals as goal
 
 pub returns-clause-fits : goal.returns-clause-fits
-returns-clause-fits g c = λ h legal sh.
+returns-clause-fits g c = λ h rs legal may sh.
     let p = c.args.parts.now in
-    let s = state p.config h in
+    let s = mark rs (state p.config h) in
     let is = c.look.ensures.looked s sh in
     let w = unwrap_or (reserved_looked c.look.result) 0 in (
       task_answers p s sh c.args.t c.in-Some.row (λ r. look_answer s w c.args.t r.place) (sym c.row.ensures ∙ c.in-Some.is)

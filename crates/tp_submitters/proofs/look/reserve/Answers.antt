@@ -5,12 +5,13 @@ use Rattle.tp_record.specs.declared.entries.Ask.TheVariants as ask
 use Rattle.tp_record.specs.declared.entries.Did.TheVariants as did
 use Rattle.tp_record.specs.declared.entries.Looked.TheVariants as looked
 use Rattle.tp_record.specs.Step.{slot_count}
+use Rattle.tp_record.specs.Left.{mark}
 use Rattle.tp_record.specs.State.{state, task_at}
 use Rattle.tp_shapes.specs.View.{view, put}
 use Rattle.tp_shapes.proofs.Rows.{moved_to, for_core}
 use Rattle.tp_shapes.proofs.Submitters.Look.{look_reserve}
 use Rattle.tp_parts.proofs.Slots.{seats_left, views_numbered}
-use Rattle.tp_parts.proofs.Standing.{entry_here, given_here}
+use Rattle.tp_parts.proofs.Standing.{entry_here, given_here, known_here}
 use Rattle.tp_parts.proofs.Leading.{leads_from}
 use Rattle.tp_submitters.proofs.look.reserve.Goals as goal
 
@@ -43,8 +44,8 @@ returns-clause-leads g c =
     let r = c.reserve.ensures in
     let number = r.number ∙ ap (λ p. p.slots.next) m.rest ∙ ap (λ p. p.slots.next) k.rest ∙ sym c.requires.next in
     leads_from old c.reserve.new.self (ask.Look c.args.t) (did.Look c.args.t (looked.Reserve c.args.w)) 1 0 1 c.requires.stands c.requires.fits
-    (λ h legal given sh.
-    let s = state old.config h in
+    (λ h rs legal given sh.
+    let s = mark rs (state old.config h) in
     let v = record (view s) { tasks = put c.args.t.0 (moved_to (at.Held w) (task_at s c.args.t.0)) (task_at s) } in (
       _,
       look_reserve old.config h c.args.t w legal given,
@@ -55,3 +56,10 @@ returns-clause-leads g c =
     (ap (λ p. p.steps) r.rest ∙ ap (λ p. p.steps) m.rest ∙ ap (λ p. p.steps) k.rest)
     (ap (λ p. p.due) r.rest ∙ ap (λ p. p.due) m.rest ∙ ap (λ p. p.due) k.rest)
     (λ tied. r.tied _ _ (m.tied _ _ (k.tied _ _ tied)))
+
+pub place_task-requires : goal.place_task-requires
+place_task-requires g c =
+    let old = c.args.parts.now in
+    let stands = c.requires.stands in
+    let given = given_here old stands (ask.Look c.args.t) (did.Look c.args.t (looked.Reserve c.args.w)) c.requires.fits in
+    record { known = known_here old stands c.count_entry.new.self.tasks c.args.t.0 at.Looking (at.Held c.args.w) (ap (λ p. p.tasks) c.count_entry.ensures.rest) given.0 refl refl }

@@ -6,6 +6,7 @@ use Rattle.tp_record.specs.declared.entries.Offered.TheVariants as offered
 use Rattle.tp_types.specs.declared.tasks.Place.TheVariants as at
 use Rattle.tp_types.specs.Queues.{is_ranked}
 use Rattle.tp_record.specs.Lists.{join_line}
+use Rattle.tp_record.specs.Left.{mark}
 use Rattle.tp_record.specs.State.{State, state, task_at}
 use Rattle.tp_queue.specs.Queues.{waiting_of}
 use Rattle.tp_shapes.specs.View.{View, view, put}
@@ -13,9 +14,11 @@ use Rattle.tp_shapes.proofs.Submitters.Offer.{offer_queued}
 use Rattle.tp_parts.specs.Offers.{HasRoom}
 use Rattle.tp_parts.specs.Shows.{Views, numbers}
 use Rattle.tp_parts.proofs.Ties.{tied_more}
-use Rattle.tp_parts.proofs.Standing.{entry_here, few_steps, given_here}
+use Rattle.tp_parts.proofs.Standing.{entry_here, few_steps, given_here, task_here}
 use Rattle.tp_parts.proofs.Leading.{leads_from}
 use Rattle.tp_submitters.proofs.Offering.{absent_here, room_here}
+use Rattle.tp_tasks.specs.Tasks.{row_of}
+use Rattle.tp_parts.specs.Tied.{is_before}
 use Rattle.tp_submitters.proofs.offer.queue.Goals as goal
 
 -- what is seen with the task in the queue
@@ -65,6 +68,14 @@ returns-clause-leads g c =
     let same = ap (λ p. (waiting_of p.queue).offers) k.rest in
     let ranked = ap (λ p. is_ranked (waiting_of p.queue).kind) k.rest ∙ ap is_ranked c.requires.stands.tied.kind in
     leads_from old c.enqueue.new.self (ask.Offer c.args.t) (did.Offer c.args.t offered.Queued) 1 0 1 c.requires.stands c.requires.fits
-    (λ h legal given sh. (_, offer_queued old.config h c.args.t legal given, subst (λ b. Views c.enqueue.new.self (joined b (state old.config h) c.args.t.0)) ranked (m.views _ (k.views _ sh.seen))))
+    (λ h rs legal given sh. (_, offer_queued old.config h c.args.t legal given, subst (λ b. Views c.enqueue.new.self (joined b (mark rs (state old.config h)) c.args.t.0)) ranked (m.views _ (k.views _ sh.seen))))
     refl (ap (λ p. p.config) m.rest ∙ ap (λ p. p.config) k.rest) (ap (λ p. p.steps) m.rest ∙ ap (λ p. p.steps) k.rest) (ap (λ p. p.due) m.rest ∙ ap (λ p. p.due) k.rest)
     (λ tied. m.tied old.config (suc old.steps) (k.tied _ _ tied) (omega (arith, offers, same)))
+
+pub enqueue-requires-clause-known : goal.enqueue-requires-clause-known
+enqueue-requires-clause-known g c =
+    let old = c.args.parts.now in
+    let stands = c.requires.stands in
+    let given = given_here old stands (ask.Offer c.args.t) (did.Offer c.args.t offered.Queued) c.requires.fits in
+    let there = task_here old stands c.args.t.0 at.ToOffer given.0 refl in
+    (task_at (state old.config stands.history) c.args.t.0, ap (λ p. row_of p.tasks c.args.t.0) c.count_entry.ensures.rest ∙ there.0, ap is_before there.1)

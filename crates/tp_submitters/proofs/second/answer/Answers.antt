@@ -1,4 +1,5 @@
 use Rattle.std.proofs.Common.{true, false, Some, refl, ap, sym, ◌∙◌}
+use Rattle.tp_record.specs.Left.{mark}
 use Rattle.tp_record.specs.declared.entries.Did.TheVariants as did
 use Rattle.tp_record.specs.declared.entries.Seconded.TheVariants as seconded
 use Rattle.tp_record.specs.State.{state, slot_at}
@@ -8,9 +9,9 @@ use Rattle.tp_submitters.proofs.Seconds.{second_tested}
 use Rattle.tp_submitters.proofs.second.answer.Goals as goal
 
 pub returns-then-comes_back-clause-fits : goal.returns-then-comes_back-clause-fits
-returns-then-comes_back-clause-fits g c = λ h legal sh.
+returns-then-comes_back-clause-fits g c = λ h rs legal may sh.
     let p = c.args.parts.now in
-    let s = state p.config h in
+    let s = mark rs (state p.config h) in
     let t = c.args.t in
     let r = c.in-Some.row in (
       task_answers p s sh t r (second_answer s 0 t) (sym c.row.ensures ∙ c.in-Some.is)
@@ -19,9 +20,9 @@ returns-then-comes_back-clause-fits g c = λ h legal sh.
     )
 
 pub returns-then-is_deserted-clause-fits : goal.returns-then-is_deserted-clause-fits
-returns-then-is_deserted-clause-fits g c = λ h legal sh.
+returns-then-is_deserted-clause-fits g c = λ h rs legal may sh.
     let p = c.args.parts.now in
-    let s = state p.config h in
+    let s = mark rs (state p.config h) in
     let t = c.args.t in
     let r = c.in-Some.row in
     let w = c.next_number.result in (
@@ -31,9 +32,9 @@ returns-then-is_deserted-clause-fits g c = λ h legal sh.
     )
 
 pub returns-else-is_deserted-clause-fits : goal.returns-else-is_deserted-clause-fits
-returns-else-is_deserted-clause-fits g c = λ h legal sh.
+returns-else-is_deserted-clause-fits g c = λ h rs legal may sh.
     let p = c.args.parts.now in
-    let s = state p.config h in
+    let s = mark rs (state p.config h) in
     let t = c.args.t in
     let r = c.in-Some.row in (
       task_answers p s sh t r (second_answer s 0 t) (sym c.row.ensures ∙ c.in-Some.is)

@@ -6,11 +6,12 @@ use Rattle.tp_record.specs.declared.entries.Did.TheVariants as did
 use Rattle.tp_record.specs.declared.entries.Seconded.TheVariants as seconded
 use Rattle.tp_record.specs.Step.{slot_count}
 use Rattle.tp_record.specs.State.{state, task_at}
+use Rattle.tp_record.specs.Left.{mark}
 use Rattle.tp_shapes.specs.View.{view, put}
 use Rattle.tp_shapes.proofs.Rows.{bare}
 use Rattle.tp_shapes.proofs.Submitters.Second.{second_reserve}
 use Rattle.tp_parts.proofs.Slots.{seats_left, views_numbered}
-use Rattle.tp_parts.proofs.Standing.{entry_here, given_here, row_here}
+use Rattle.tp_parts.proofs.Standing.{entry_here, given_here, row_here, owing_here}
 use Rattle.tp_parts.proofs.Leading.{leads_from}
 use Rattle.tp_submitters.proofs.second.reserve.Goals as goal
 
@@ -26,7 +27,7 @@ settle_task-requires g c =
     let old = c.args.parts.now in
     let stands = c.requires.stands in
     let given = given_here old stands (ask.Second c.args.t) (did.Second c.args.t (seconded.StayReserve c.args.w)) c.requires.fits in
-    record { known = (task_at (state old.config stands.history) c.args.t.0, ap (λ p. row_of p.tasks c.args.t.0) c.count_entry.ensures.rest ∙ row_here old stands c.args.t.0 given.0) }
+    record { known = (task_at (state old.config stands.history) c.args.t.0, ap (λ p. row_of p.tasks c.args.t.0) c.count_entry.ensures.rest ∙ row_here old stands c.args.t.0 given.0 (owing_here old stands c.args.t.0 given.0 given.1)) }
 
 pub reserve-requires-clause-room : goal.reserve-requires-clause-room
 reserve-requires-clause-room g c =
@@ -49,9 +50,9 @@ returns-clause-leads g c =
     let r = c.reserve.ensures in
     let number = r.number ∙ ap (λ p. p.slots.next) m.rest ∙ ap (λ p. p.slots.next) k.rest ∙ sym c.requires.next in
     leads_from old c.reserve.new.self (ask.Second c.args.t) (did.Second c.args.t (seconded.StayReserve c.args.w)) 1 0 1 c.requires.stands c.requires.fits
-    (λ h legal given sh.
-    let s = state old.config h in
-    let v = record (view s) { tasks = put c.args.t.0 (record (task_at s c.args.t.0) { second = false }) (task_at s) } in (
+    (λ h rs legal given sh.
+    let s = mark rs (state old.config h) in
+    let v = record (view (mark rs s)) { tasks = put c.args.t.0 (record (task_at s c.args.t.0) { second = false }) (task_at s) } in (
       _,
       second_reserve old.config h c.args.t w legal given,
       views_numbered c.reserve.new.self v _ w.0 (Some bare) (suc (slot_count s)) number (r.views v (m.views _ (k.views _ sh.seen))),

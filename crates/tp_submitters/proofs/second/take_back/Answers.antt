@@ -6,9 +6,13 @@ use Rattle.tp_record.specs.declared.entries.Seconded.TheVariants as seconded
 use Rattle.tp_queue.specs.Queues.{waiting_of}
 use Rattle.tp_model.proofs.Places.{queued_in}
 use Rattle.tp_shapes.proofs.Submitters.Second.{second_back}
+use Rattle.tp_types.specs.declared.tasks.Place.TheVariants as at
+use Rattle.tp_record.specs.State.{task_at, state}
+use Rattle.tp_tasks.specs.Tasks.{row_of}
+use Rattle.tp_parts.specs.Tied.{is_before}
 use Rattle.tp_parts.specs.Shows.{numbers}
 use Rattle.tp_parts.proofs.Ties.{tied_more}
-use Rattle.tp_parts.proofs.Standing.{entry_here, given_here}
+use Rattle.tp_parts.proofs.Standing.{entry_here, given_here, task_here}
 use Rattle.tp_parts.proofs.Leading.{leads_from}
 use Rattle.tp_submitters.proofs.second.take_back.Goals as goal
 
@@ -36,9 +40,23 @@ returns-clause-leads g c =
     let q = c.unqueue.ensures in
     let m = c.return_task.ensures in
     leads_from old c.return_task.new.self (ask.Second c.args.t) (did.Second c.args.t seconded.Back) 8 0 8 c.requires.stands c.requires.fits
-    (λ h legal given sh. (_, second_back old.config h c.args.t legal given, m.views _ (q.views _ (k.views _ sh.seen))))
+    (λ h rs legal given sh. (_, second_back old.config h c.args.t legal given, m.views _ (q.views _ (k.views _ sh.seen))))
     refl
     (ap (λ p. p.config) m.rest ∙ ap (λ p. p.config) q.rest ∙ ap (λ p. p.config) k.rest)
     (ap (λ p. p.steps) m.rest ∙ ap (λ p. p.steps) q.rest ∙ ap (λ p. p.steps) k.rest)
     (ap (λ p. p.due) m.rest ∙ ap (λ p. p.due) q.rest ∙ ap (λ p. p.due) k.rest)
     (λ tied. m.tied _ _ (q.tied _ _ (k.tied _ _ tied)))
+
+pub return_task-requires : goal.return_task-requires
+return_task-requires g c =
+    let old = c.args.parts.now in
+    let stands = c.requires.stands in
+    let given = given_here old stands (ask.Second c.args.t) (did.Second c.args.t seconded.Back) c.requires.fits in
+    let there = task_here old stands c.args.t.0 at.Queued given.0 refl in
+    record {
+      known = (
+        task_at (state old.config stands.history) c.args.t.0,
+        ap (λ p. row_of p.tasks c.args.t.0) c.unqueue.ensures.rest ∙ ap (λ p. row_of p.tasks c.args.t.0) c.count_entry.ensures.rest ∙ there.0,
+        ap is_before there.1,
+      );
+    }

@@ -1,5 +1,6 @@
 use Rattle.std.proofs.Common.{◌≡◌, Ok, sym, ap, subst, ◌∙◌, inl, inr}
 use Rattle.std.specs.Prelude.{unwrap_or}
+use Rattle.tp_record.specs.Left.{mark}
 use Rattle.tp_record.specs.declared.entries.Ask.TheVariants as ask
 use Rattle.tp_record.specs.declared.entries.Did.TheVariants as did
 use Rattle.tp_record.specs.Effects.{reserved_looked}
@@ -21,14 +22,14 @@ returns-then-has_room-clause-accepts g c =
     let k = c.args.kind in
     let r = c.args.priority in
     accepts_room p (ask.Submit k r) (did.Submit (record { 0 = submissions p.tasks }) k r l) 0 (rise_of l) c.has_room.result (subst (λ n. TellsRoom p 0 n c.has_room.result) c.rise.ensures.rise c.has_room.ensures) c.if-has_room.true
-    (λ h legal sh.
-    let s = state p.config h in
+    (λ h rs legal may sh.
+    let s = mark rs (state p.config h) in
     let is = c.look-looked.ensures.looked s sh in
     let again = ap (λ x. look s (unwrap_or (reserved_looked x) 0)) is ∙ look_again s p.slots.next ∙ sym is in (
-      submit_fits p c.requires.stands k r h sh (unwrap_or (reserved_looked l) 0) ∙ ap (λ x. Ok (did.Submit (record { 0 = submissions p.tasks }) k r x)) again,
+      submit_fits p c.requires.stands k r h rs sh (unwrap_or (reserved_looked l) 0) ∙ ap (λ x. Ok (did.Submit (record { 0 = submissions p.tasks }) k r x)) again,
       number_free p s sh (did.Submit (record { 0 = submissions p.tasks }) k r l) (reserved_looked l) c.look-looked.ensures.free,
     ))
-    (λ h legal sh given. submit_moves p.config h (record { 0 = submissions p.tasks }) k r l legal given)
+    (λ h rs legal sh given. submit_moves p.config h (record { 0 = submissions p.tasks }) k r l legal given)
 
 pub returns-else-has_room-clause-refuses : goal.returns-else-has_room-clause-refuses
 returns-else-has_room-clause-refuses g c =
@@ -37,12 +38,12 @@ returns-else-has_room-clause-refuses g c =
     let k = c.args.kind in
     let r = c.args.priority in
     refuses_room p (ask.Submit k r) 0 (rise_of l) c.has_room.result (subst (λ n. TellsRoom p 0 n c.has_room.result) c.rise.ensures.rise c.has_room.ensures) c.if-has_room.false
-    (λ h legal sh w free.
-    let s = state p.config h in
+    (λ h rs legal may sh w free.
+    let s = mark rs (state p.config h) in
     let d = did.Submit (record { 0 = submissions p.tasks }) k r (look s w) in
     let rise : rise_of (look s w) ≡ rise_of l = same_rise s p.slots.next w ∙ ap rise_of (sym (c.look-looked.ensures.looked s sh)) in (
       d,
-      submit_fits p c.requires.stands k r h sh w,
+      submit_fits p c.requires.stands k r h rs sh w,
       look_free s w (elim free [ inl f ↦ f | inr leave ↦ absurd (let n : ⊥ = cc in n) ]),
-      λ i lawful shown given. subst (λ n. (v : View) × Effect (state p.config i) d v 0 n) rise (submit_moves p.config i (record { 0 = submissions p.tasks }) k r (look s w) lawful given),
+      λ i xs lawful shown given. subst (λ n. (v : View) × Effect (state p.config i) d v 0 n) rise (submit_moves p.config i (record { 0 = submissions p.tasks }) k r (look s w) lawful given),
     ))

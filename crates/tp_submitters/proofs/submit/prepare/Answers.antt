@@ -1,4 +1,5 @@
 use Rattle.std.proofs.Common.{sym, ap, ◌∙◌}
+use Rattle.tp_record.specs.Left.{mark}
 use Rattle.tp_record.specs.State.{state}
 use Rattle.tp_parts.proofs.Standing.{stands_same, accepts_same}
 use Rattle.tp_submitters.proofs.submit.prepare.Goals as goal
@@ -16,5 +17,5 @@ returns-clause-accepts g c = λ a d accepts.
 pub returns-clause-submitted : goal.returns-clause-submitted
 returns-clause-submitted g c =
     let stands = c.requires.stands in
-    let shown = (c.make_room.ensures.same (state c.args.parts.now.config stands.history)).0 stands.shows in
+    let shown = (c.make_room.ensures.same (mark stands.released (state c.args.parts.now.config stands.history))).0 stands.shows in
     sym shown.seen.submitted ∙ stands.shows.seen.submitted

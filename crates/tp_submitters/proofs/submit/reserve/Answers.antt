@@ -4,6 +4,7 @@ use Rattle.tp_types.specs.declared.tasks.Place.TheVariants as at
 use Rattle.tp_record.specs.declared.entries.Ask.TheVariants as ask
 use Rattle.tp_record.specs.declared.entries.Did.TheVariants as did
 use Rattle.tp_record.specs.declared.entries.Looked.TheVariants as looked
+use Rattle.tp_record.specs.Left.{mark}
 use Rattle.tp_record.specs.State.{state, task_at}
 use Rattle.tp_record.specs.Step.{slot_count}
 use Rattle.tp_tasks.specs.Tasks.{submissions}
@@ -15,6 +16,7 @@ use Rattle.tp_parts.proofs.Ties.{tied_more}
 use Rattle.tp_parts.proofs.Standing.{few_steps, given_here}
 use Rattle.tp_parts.proofs.Leading.{leads_by}
 use Rattle.tp_parts.proofs.Slots.{seats_left, views_numbered}
+use Rattle.tp_parts.proofs.Few.{few_tasks}
 use Rattle.tp_submitters.proofs.submit.reserve.Goals as goal
 
 pub count_rising_entry-requires : goal.count_rising_entry-requires
@@ -48,8 +50,8 @@ returns-clause-leads g c =
     let slot = c.reserve.ensures.number ∙ ap (λ p. p.slots.next) m ∙ ap (λ p. p.slots.next) k ∙ sym c.requires.next in
     let due = ap (λ p. p.due) r ∙ ap (λ p. p.due) m ∙ ap (λ p. p.due) k in
     leads_by old c.reserve.new.self (ask.Submit kind priority) (did.Submit t kind priority (looked.Reserve w)) 0 12 (subst (λ n. Fits old (ask.Submit kind priority) (did.Submit (record { 0 = n }) kind priority (looked.Reserve w))) (sym number) c.requires.fits)
-    (λ h legal given sh.
-    let s = state old.config h in
+    (λ h rs legal given sh.
+    let s = mark rs (state old.config h) in
     let v = record (view s) { submitted = suc (length s.tasks); tasks = put t.0 (new_row kind priority (at.Held w)) (task_at s) } in (
       _,
       submit_reserve old.config h t kind priority w legal given,
@@ -57,3 +59,9 @@ returns-clause-leads g c =
     ))
     (ap (λ p. p.config) r ∙ ap (λ p. p.config) m ∙ ap (λ p. p.config) k) (ap (λ p. p.steps) r ∙ ap (λ p. p.steps) m ∙ ap (λ p. p.steps) k) (omega (arith, due))
     (c.reserve.ensures.tied old.config (suc old.steps) (c.put_task-t.ensures.tied old.config (suc old.steps) (c.count_rising_entry.ensures.tied old.config (suc old.steps) (tied_more old.config old.steps old c.requires.stands.tied))))
+
+pub put_task-t-requires-clause-few : goal.put_task-t-requires-clause-few
+put_task-t-requires-clause-few g c =
+    let few = few_tasks c.args.parts.now c.requires.stands in
+    let same = ap (λ p. submissions p.tasks) c.count_rising_entry.ensures.rest in
+    omega (arith, few, same)

@@ -1,4 +1,4 @@
-use Rattle.std.proofs.Common.{suc, arith, ap, ◌∙◌}
+use Rattle.std.proofs.Common.{suc, refl, arith, ap, ◌∙◌}
 use Rattle.tp_types.specs.declared.tasks.Place.TheVariants as at
 use Rattle.tp_record.specs.declared.entries.Ask.TheVariants as ask
 use Rattle.tp_record.specs.declared.entries.Did.TheVariants as did
@@ -25,7 +25,7 @@ finish_task-requires g c =
     let old = c.args.parts.now in
     let stands = c.requires.stands in
     let given = given_here old stands (ask.Verdict c.args.t c.args.verdict) (did.Verdict c.args.t c.args.verdict ruled.Rejected) c.requires.fits in
-    let there = task_here old stands c.args.t.0 at.Refused given.0 in
+    let there = task_here old stands c.args.t.0 at.Refused given.0 refl in
     record { known = (task_at (state old.config stands.history) c.args.t.0, ap (λ p. row_of p.tasks c.args.t.0) c.count_entry.ensures.rest ∙ there.0, open_row old.config stands.history stands.legal c.args.t.0 (ap is_gone given.0.1)) }
 
 pub returns-clause-leads : goal.returns-clause-leads
@@ -40,6 +40,6 @@ returns-clause-leads g c =
     let here = entry_here old stands a d _ 2 0 2 c.requires.fits (verdict_rejected old.config stands.history t c.args.verdict stands.legal) (omega arith) in
     let due = ap (λ p. p.due) m ∙ ap (λ p. p.due) k in
     leads_by old c.finish_task.new.self a d 2 0 c.requires.fits
-    (λ h legal given sh. (_, verdict_rejected old.config h t c.args.verdict legal given, c.finish_task.ensures.views _ (c.count_entry.ensures.views _ sh.seen)))
+    (λ h rs legal given sh. (_, verdict_rejected old.config h t c.args.verdict legal given, c.finish_task.ensures.views _ (c.count_entry.ensures.views _ sh.seen)))
     (ap (λ p. p.config) m ∙ ap (λ p. p.config) k) (ap (λ p. p.steps) m ∙ ap (λ p. p.steps) k) (omega (arith, due, here))
     (c.finish_task.ensures.tied old.config (suc old.steps) (c.count_entry.ensures.tied old.config (suc old.steps) (tied_more old.config old.steps old stands.tied)))

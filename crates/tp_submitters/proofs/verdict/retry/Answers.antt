@@ -1,4 +1,4 @@
-use Rattle.std.proofs.Common.{suc, arith, ap, ◌∙◌}
+use Rattle.std.proofs.Common.{suc, refl, arith, ap, ◌∙◌}
 use Rattle.tp_types.specs.declared.tasks.Place.TheVariants as at
 use Rattle.tp_record.specs.declared.entries.Ask.TheVariants as ask
 use Rattle.tp_record.specs.declared.entries.Did.TheVariants as did
@@ -21,7 +21,7 @@ retry_task-requires g c =
     let old = c.args.parts.now in
     let stands = c.requires.stands in
     let given = given_here old stands (ask.Verdict c.args.t c.args.verdict) (did.Verdict c.args.t c.args.verdict ruled.Retry) c.requires.fits in
-    let there = task_here old stands c.args.t.0 at.Refused given.0 in
+    let there = task_here old stands c.args.t.0 at.Refused given.0 refl in
     let few = given.1.1 in
     let read = ap (λ r. r.retries) (row_read stands.history c.args.t.0 given.0.0) in
     record { known = (task_at (state old.config stands.history) c.args.t.0, ap (λ p. row_of p.tasks c.args.t.0) c.count_rising_entry.ensures.rest ∙ there.0, ap is_before there.1, omega (arith, few, read)) }
@@ -34,6 +34,6 @@ returns-clause-leads g c =
     let m = c.retry_task.ensures.rest in
     let due = ap (λ p. p.due) m ∙ ap (λ p. p.due) k in
     leads_by old c.retry_task.new.self (ask.Verdict t c.args.verdict) (did.Verdict t c.args.verdict ruled.Retry) 0 11 c.requires.fits
-    (λ h legal given sh. (_, verdict_retry old.config h t c.args.verdict legal given, c.retry_task.ensures.views _ (c.count_rising_entry.ensures.views _ sh.seen)))
+    (λ h rs legal given sh. (_, verdict_retry old.config h t c.args.verdict legal given, c.retry_task.ensures.views _ (c.count_rising_entry.ensures.views _ sh.seen)))
     (ap (λ p. p.config) m ∙ ap (λ p. p.config) k) (ap (λ p. p.steps) m ∙ ap (λ p. p.steps) k) (omega (arith, due))
     (c.retry_task.ensures.tied old.config (suc old.steps) (c.count_rising_entry.ensures.tied old.config (suc old.steps) (tied_more old.config old.steps old c.requires.stands.tied)))

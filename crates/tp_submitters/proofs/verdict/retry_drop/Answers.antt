@@ -1,11 +1,14 @@
-use Rattle.std.proofs.Common.{suc, ◌+◌, cond, Some, None, arith, ap, subst, ◌∙◌}
+use Rattle.std.proofs.Common.{suc, ◌+◌, not, ◌&&◌, cond, length, Some, None, arith, refl, ap, subst, ◌∙◌}
+use mathlib.Core.Path.{ap₂}
 use Rattle.std.specs.Prelude.{drop, if◌then◌else◌}
+use Rattle.std.proofs.lemmas.Bool.{lt-ltb}
 use Rattle.tp_types.specs.declared.tasks.Fate.TheVariants as fate
 use Rattle.tp_types.specs.declared.tasks.Place.TheVariants as at
 use Rattle.tp_record.specs.declared.entries.Ask.TheVariants as ask
 use Rattle.tp_record.specs.declared.entries.Did.TheVariants as did
 use Rattle.tp_record.specs.declared.entries.Ruled.TheVariants as ruled
 use Rattle.tp_record.specs.declared.rows.TaskRow.{TaskRow}
+use Rattle.tp_record.specs.Left.{mark}
 use Rattle.tp_record.specs.State.{state, task_at, fated, is_fate}
 use Rattle.tp_model.proofs.Readings.{row_read, tasks_counted}
 use Rattle.tp_tasks.specs.Tasks.{row_of}
@@ -16,7 +19,7 @@ use Rattle.tp_shapes.proofs.Submitters.Verdict.{verdict_retry_drop}
 use Rattle.tp_parts.specs.Shows.{Views}
 use Rattle.tp_parts.specs.Tied.{is_before}
 use Rattle.tp_parts.proofs.Ties.{tied_more}
-use Rattle.tp_parts.proofs.Standing.{few_steps, given_here, task_here}
+use Rattle.tp_parts.proofs.Standing.{few_steps, given_here, task_here, placed_here}
 use Rattle.tp_parts.proofs.Leading.{leads_by}
 use Rattle.tp_submitters.proofs.Retrying.{places_apart, put_other}
 use Rattle.tp_submitters.proofs.verdict.retry_drop.Goals as goal
@@ -30,7 +33,7 @@ finish_task-payload-requires g c =
     let stands = c.requires.stands in
     let u = c.args.head in
     let given = given_here old stands (ask.Verdict c.args.t c.args.verdict) (did.Verdict c.args.t c.args.verdict (ruled.RetryDrop u)) c.requires.fits in
-    let there = task_here old stands u.0 at.Queued given.1.3 in
+    let there = task_here old stands u.0 at.Queued given.1.3 refl in
     record {
       known = (
         task_at (state old.config stands.history) u.0,
@@ -47,8 +50,8 @@ retry_task-requires g c =
     let u = c.args.head in
     let s = state old.config stands.history in
     let given = given_here old stands (ask.Verdict t c.args.verdict) (did.Verdict t c.args.verdict (ruled.RetryDrop u)) c.requires.fits in
-    let there = task_here old stands t.0 at.Refused given.0 in
-    let seen = c.finish_task-payload.ensures.views _ (c.dequeue.ensures.views _ (c.count_rising_entry.ensures.views (view s) stands.shows.seen)) in
+    let there = task_here old stands t.0 at.Refused given.0 refl in
+    let seen = c.finish_task-payload.ensures.views _ (c.dequeue.ensures.views _ (c.count_rising_entry.ensures.views _ stands.shows.seen)) in
     let counted = tasks_counted stands.history in
     let known = given.0.0 in
     let few = given.1.1 in
@@ -56,7 +59,7 @@ retry_task-requires g c =
     record {
       known = (
         task_at s t.0,
-        seen.rows t.0 (omega (arith, counted, known)) ∙ ap (λ r. Some r) (put_other u.0 _ (task_at s) t.0 (places_apart stands.history t.0 u.0 at.Refused at.Queued given.0 given.1.3 (λ e. let n : ⊥ = cc in n))),
+        seen.rows t.0 (ap₂ (λ a b. not a && b) (placed_here old stands t.0 at.Refused given.0 refl) (lt-ltb t.0 (length s.tasks) (omega (arith, counted, known)))) ∙ ap (λ r. Some r) (put_other u.0 _ (task_at s) t.0 (places_apart stands.history t.0 u.0 at.Refused at.Queued given.0 given.1.3 (λ e. let n : ⊥ = cc in n))),
         ap is_before there.1,
         omega (arith, few, read),
       );
@@ -73,8 +76,8 @@ returns-clause-leads g c =
     let r = c.retry_task.ensures.rest in
     let due = ap (λ p. p.due) r ∙ ap (λ p. p.due) m ∙ ap (λ p. p.due) q ∙ ap (λ p. p.due) k in
     leads_by old c.retry_task.new.self (ask.Verdict t c.args.verdict) (did.Verdict t c.args.verdict (ruled.RetryDrop u)) 0 5 c.requires.fits
-    (λ h legal given sh.
-    let s = state old.config h in
+    (λ h rs legal given sh.
+    let s = mark rs (state old.config h) in
     let v = record (view s) {
       tasks = put u.0 (record (task_at s u.0) { place = at.Gone; ending = Some fate.Discarded }) (task_at s);
       fates = λ f. fated f s + cond (is_fate f (if (task_at s u.0).cancelled then None else Some fate.Discarded)) 1 0;

@@ -4,12 +4,13 @@ use Rattle.tp_types.specs.declared.tasks.Place.TheVariants as at
 use Rattle.tp_record.specs.declared.entries.Ask.TheVariants as ask
 use Rattle.tp_record.specs.declared.entries.Did.TheVariants as did
 use Rattle.tp_record.specs.declared.entries.Started.TheVariants as started
-use Rattle.tp_record.specs.State.{task_at, state}
+use Rattle.tp_record.specs.State.{task_at, state, slot_at}
 use Rattle.tp_tasks.specs.Tasks.{row_of, payload_of}
 use Rattle.tp_shapes.proofs.Workers.Begin.{begin_run}
 use Rattle.tp_parts.specs.Tied.{is_before, waits}
-use Rattle.tp_parts.proofs.Standing.{entry_here, given_here, task_here, cancelled_here}
+use Rattle.tp_parts.proofs.Standing.{entry_here, given_here, task_here, cancelled_here, seat_here}
 use Rattle.tp_parts.proofs.Leading.{leads_from}
+use Rattle.tp_slots.specs.Table.{is_awake}
 use Rattle.tp_workers.proofs.begin.run.Goals as goal
 
 pub count_entry-requires : goal.count_entry-requires
@@ -24,7 +25,7 @@ begin_task-payload-requires g c =
     let old = c.args.parts.now in
     let stands = c.requires.stands in
     let given = given_here old stands (ask.Begin c.args.w) (did.Begin c.args.w (started.Run c.args.t)) c.requires.fits in
-    let there = task_here old stands c.args.t.0 (at.Taken c.args.w) given.1 in
+    let there = task_here old stands c.args.t.0 (at.Taken c.args.w) given.1 refl in
     let alive = cancelled_here old stands c.args.t.0 false given.1.0 given.2 in
     record {
       known = (task_at (state old.config stands.history) c.args.t.0, ap (λ p. row_of p.tasks c.args.t.0) c.count_entry.ensures.rest ∙ there.0);
@@ -39,9 +40,17 @@ returns-clause-leads g c =
     let m = c.begin_task-payload.ensures in
     let r = c.set_slot.ensures in
     leads_from old c.set_slot.new.self (ask.Begin c.args.w) (did.Begin c.args.w (started.Run c.args.t)) 1 0 1 c.requires.stands c.requires.fits
-    (λ h legal given sh. (_, begin_run old.config h c.args.w c.args.t legal given, r.views _ (m.views _ (k.views _ sh.seen))))
+    (λ h rs legal given sh. (_, begin_run old.config h c.args.w c.args.t legal given, r.views _ (m.views _ (k.views _ sh.seen))))
     refl
     (ap (λ p. p.config) r.rest ∙ ap (λ p. p.config) m.rest ∙ ap (λ p. p.config) k.rest)
     (ap (λ p. p.steps) r.rest ∙ ap (λ p. p.steps) m.rest ∙ ap (λ p. p.steps) k.rest)
     (ap (λ p. p.due) r.rest ∙ ap (λ p. p.due) m.rest ∙ ap (λ p. p.due) k.rest)
     (λ tied. r.tied _ _ (m.tied _ _ (k.tied _ _ tied)))
+
+pub set_slot-requires-clause-slot : goal.set_slot-requires-clause-slot
+set_slot-requires-clause-slot g c =
+    let old = c.args.parts.now in
+    let stands = c.requires.stands in
+    let given = given_here old stands (ask.Begin c.args.w) (did.Begin c.args.w (started.Run c.args.t)) c.requires.fits in
+    ap (λ p. is_awake (slot_at p.slots.slots c.args.w.0)) c.begin_task-payload.ensures.rest ∙ ap (λ p. is_awake (slot_at p.slots.slots c.args.w.0)) c.count_entry.ensures.rest
+    ∙ ap is_awake (seat_here old stands c.args.w.0 _ _ given.0)

@@ -4,8 +4,10 @@ use Rattle.tp_record.specs.declared.entries.Did.TheVariants as did
 use Rattle.tp_types.specs.declared.tasks.Place.TheVariants as at
 use Rattle.tp_record.specs.declared.entries.Failed.TheVariants as failed
 use Rattle.tp_shapes.proofs.Workers.Fail.{fail_offer}
-use Rattle.tp_parts.proofs.Standing.{given_here, known_here, entry_here}
+use Rattle.tp_parts.proofs.Standing.{given_here, known_here, entry_here, seat_here}
 use Rattle.tp_parts.proofs.Leading.{leads_from}
+use Rattle.tp_record.specs.State.{slot_at}
+use Rattle.tp_slots.specs.Table.{is_reserved_row}
 use Rattle.tp_workers.proofs.fail.offer.Goals as goal
 
 pub count_entry-requires : goal.count_entry-requires
@@ -19,7 +21,7 @@ pub place_task-requires : goal.place_task-requires
 place_task-requires g c =
     let old = c.args.parts.now in
     let given = given_here old c.requires.stands (ask.Fail c.args.w) (did.Fail c.args.w (failed.Offer c.args.t)) c.requires.fits in
-    record { known = known_here old c.requires.stands c.count_entry.new.self.tasks c.args.t.0 (at.Held c.args.w) at.ToOffer (ap (λ p. p.tasks) c.count_entry.ensures.rest) given.1 refl }
+    record { known = known_here old c.requires.stands c.count_entry.new.self.tasks c.args.t.0 (at.Held c.args.w) at.ToOffer (ap (λ p. p.tasks) c.count_entry.ensures.rest) given.1 refl refl }
 
 pub returns-clause-leads : goal.returns-clause-leads
 returns-clause-leads g c =
@@ -28,6 +30,14 @@ returns-clause-leads g c =
     let m = c.place_task.ensures.rest in
     let r = c.give_up.ensures.rest in
     leads_from old c.give_up.new.self (ask.Fail c.args.w) (did.Fail c.args.w (failed.Offer c.args.t)) 1 0 1 c.requires.stands c.requires.fits
-    (λ h legal given sh. (_, fail_offer old.config h c.args.w c.args.t legal given, c.give_up.ensures.views _ (c.place_task.ensures.views _ (c.count_entry.ensures.views _ sh.seen))))
+    (λ h rs legal given sh. (_, fail_offer old.config h c.args.w c.args.t legal given, c.give_up.ensures.views _ (c.place_task.ensures.views _ (c.count_entry.ensures.views _ sh.seen))))
     refl (ap (λ p. p.config) r ∙ ap (λ p. p.config) m ∙ ap (λ p. p.config) k) (ap (λ p. p.steps) r ∙ ap (λ p. p.steps) m ∙ ap (λ p. p.steps) k) (ap (λ p. p.due) r ∙ ap (λ p. p.due) m ∙ ap (λ p. p.due) k)
     (λ tied. c.give_up.ensures.tied old.config (suc old.steps) (c.place_task.ensures.tied old.config (suc old.steps) (c.count_entry.ensures.tied old.config (suc old.steps) tied)))
+
+pub give_up-requires : goal.give_up-requires
+give_up-requires g c =
+    let old = c.args.parts.now in
+    let stands = c.requires.stands in
+    let given = given_here old stands (ask.Fail c.args.w) (did.Fail c.args.w (failed.Offer c.args.t)) c.requires.fits in
+    ap (λ p. is_reserved_row (slot_at p.slots.slots c.args.w.0)) c.place_task.ensures.rest ∙ ap (λ p. is_reserved_row (slot_at p.slots.slots c.args.w.0)) c.count_entry.ensures.rest
+    ∙ ap is_reserved_row (seat_here old stands c.args.w.0 _ _ given.0)

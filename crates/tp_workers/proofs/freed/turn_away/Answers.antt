@@ -26,7 +26,7 @@ place_task-requires g c =
     let stands = c.requires.stands in
     let f = c.requires.fits in
     let was = reserved_with old.config stands.history c.args.w c.args.t f.0 f.1 f.2 (given_here old stands f.0 f.1 f.3) in
-    record { known = known_here old stands c.count_entry.new.self.tasks c.args.t.0 (at.Held c.args.w) at.Refused (ap (λ p. p.tasks) c.count_entry.ensures.rest) was.1 refl }
+    record { known = known_here old stands c.count_entry.new.self.tasks c.args.t.0 (at.Held c.args.w) at.Refused (ap (λ p. p.tasks) c.count_entry.ensures.rest) was.1 refl refl }
 
 pub give_up-requires : goal.give_up-requires
 give_up-requires g c =
@@ -50,7 +50,7 @@ returns-clause-leads g c =
     let r = c.give_up.ensures.rest in
     λ a d is fits.
     leads_from old c.give_up.new.self a d n 0 n stands fits
-    (λ h legal given sh. (
+    (λ h rs legal given sh. (
       _,
       turned_away old.config h c.args.w c.args.t n a d is (subst (λ o. IsFirst o c.args.t n) (sym (sh.seen.seats c.args.w.0)) first) legal given,
       c.give_up.ensures.views _ (c.place_task.ensures.views _ (c.count_entry.ensures.views _ sh.seen)),

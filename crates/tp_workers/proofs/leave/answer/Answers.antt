@@ -7,6 +7,7 @@ use Rattle.tp_record.specs.declared.entries.Ask.TheVariants as ask
 use Rattle.tp_record.specs.declared.entries.Did.TheVariants as did
 use Rattle.tp_record.specs.declared.rows.SlotRow.{SlotRow}
 use Rattle.tp_record.specs.declared.rows.Stage.TheVariants as stages
+use Rattle.tp_record.specs.Left.{mark}
 use Rattle.tp_record.specs.State.{State, state, slot_at}
 use Rattle.tp_record.specs.Step.{slot_count, wants_worker}
 use Rattle.tp_parts.specs.Steps.{IsFitting}
@@ -24,9 +25,9 @@ both_false : (a b : Bool) → a ≡ true → b ≡ false → (a && b) ≡ false
 both_false a b is not = rw is not
 
 pub returns-then-others-parts-clause-fits : goal.returns-then-others-parts-clause-fits
-returns-then-others-parts-clause-fits g c = λ h legal sh.
+returns-then-others-parts-clause-fits g c = λ h rs legal may sh.
     let config = c.args.parts.now.config in
-    let s = state config h in
+    let s = mark rs (state config h) in
     let seat = sh.seen.seats c.args.w.0 ∙ sym c.get.ensures ∙ c.in-Some.is in
     let n = sh.taken ∙ sym c.len.ensures.count in
     let m = sh.seen.maximum_size in
@@ -36,9 +37,9 @@ returns-then-others-parts-clause-fits g c = λ h legal sh.
     renewed config s c.args.w c.in-Some.slot seat c.in-Dying.is (sym (c.wants_worker.ensures s sh) ∙ c.if-wants_worker.true) (lt-ltb (slot_count s - 1) s.maximum few)
 
 pub returns-else-wants_worker-clause-fits : goal.returns-else-wants_worker-clause-fits
-returns-else-wants_worker-clause-fits g c = λ h legal sh.
+returns-else-wants_worker-clause-fits g c = λ h rs legal may sh.
     let config = c.args.parts.now.config in
-    let s = state config h in
+    let s = mark rs (state config h) in
     let seat = sh.seen.seats c.args.w.0 ∙ sym c.get.ensures ∙ c.in-Some.is in
     let n = sh.taken ∙ sym c.len.ensures.count in
     let m = sh.seen.maximum_size in

@@ -2,12 +2,12 @@ use Rattle.std.proofs.Common.{suc, Some, None, arith, refl, sym, ap, ◌∙◌}
 use Rattle.std.specs.Prelude.{count_by, is_some}
 use Rattle.tp_record.specs.declared.entries.Ask.TheVariants as ask
 use Rattle.tp_record.specs.declared.entries.Did.TheVariants as did
-use Rattle.tp_record.specs.Fields.{is_idle_row}
+use Rattle.tp_record.specs.Fields.{is_idle_row, is_live}
 use Rattle.tp_record.specs.State.{state, slot_at}
 use Rattle.tp_shapes.specs.View.{put}
 use Rattle.tp_shapes.proofs.Rows.{bare}
 use Rattle.tp_shapes.proofs.Workers.Leave.{leave_renewed}
-use Rattle.tp_parts.proofs.Standing.{entry_here, given_here}
+use Rattle.tp_parts.proofs.Standing.{entry_here, given_here, seat_here}
 use Rattle.tp_parts.proofs.Leading.{leads_from}
 use Rattle.tp_parts.proofs.Slots.{views_slots, put_again, busy_order}
 use Rattle.tp_workers.proofs.leave.renewed.Goals as goal
@@ -40,7 +40,7 @@ returns-clause-leads g c =
     let r = c.reserve.ensures.rest in
     let number = c.reserve.ensures.number ∙ ap (λ t. t.next) c.free.ensures.table in
     leads_from old c.reserve.new.self (ask.Leave c.args.w) (did.Leave c.args.w (Some c.args.w)) 1 0 1 c.requires.stands c.requires.fits
-    (λ h legal given sh. (
+    (λ h rs legal given sh. (
       _,
       leave_renewed old.config h c.args.w legal given,
       views_slots _ _ _ _ _ _
@@ -49,3 +49,11 @@ returns-clause-leads g c =
     ))
     refl (ap (λ p. p.config) r ∙ ap (λ p. p.config) m ∙ ap (λ p. p.config) k) (ap (λ p. p.steps) r ∙ ap (λ p. p.steps) m ∙ ap (λ p. p.steps) k) (ap (λ p. p.due) r ∙ ap (λ p. p.due) m ∙ ap (λ p. p.due) k)
     (λ tied. c.reserve.ensures.tied old.config (suc old.steps) (c.free.ensures.tied old.config (suc old.steps) (c.count_entry.ensures.tied old.config (suc old.steps) tied)))
+
+pub free-requires : goal.free-requires
+free-requires g c =
+    let old = c.args.parts.now in
+    let stands = c.requires.stands in
+    let given = given_here old stands (ask.Leave c.args.w) (did.Leave c.args.w (Some c.args.w)) c.requires.fits in
+    ap (λ p. is_live (slot_at p.slots.slots c.args.w.0)) c.count_entry.ensures.rest
+    ∙ ap is_live (seat_here old stands c.args.w.0 _ _ given.0)

@@ -11,6 +11,7 @@ use Rattle.tp_parts.specs.declared.parts.Parts.{Parts}
 use Rattle.tp_parts.specs.Steps.{Stands, Fits}
 use Rattle.tp_parts.proofs.Standing.{given_here, seat_here}
 use Rattle.tp_workers.proofs.Reserved.{IsFor, reserved_here, is_core, is_maximum, is_bare}
+use Rattle.std.proofs.lemmas.Option.{none-some}
 use Rattle.tp_workers.proofs.open.go_live.Goals as goal
 
 -- what the slot was reserved for whose worker is made
@@ -40,3 +41,15 @@ live_bare-requires g c =
       fits = c.requires.fits;
       seat = is_bare _ c.in-Some.slot (sym c.get.ensures ∙ c.in-Some.is) c.in_default-stage.not-ReservedCore c.in_default-stage.not-ReservedMaximum (opened_here p c.requires.stands c.args.w c.requires.fits);
     }
+
+pub unreachable-requires : goal.unreachable-requires
+unreachable-requires g c =
+    let p = c.args.parts.now in
+    let none = sym c.get.ensures ∙ c.in_default.is in
+    elim (opened_here p c.requires.stands c.args.w c.requires.fits) [
+      | inl bare ↦ none-some _ (sym none ∙ bare)
+      | inr first ↦ elim first.1 [
+        | inl core ↦ none-some _ (sym none ∙ core)
+        | inr most ↦ none-some _ (sym none ∙ most)
+      ]
+    ]

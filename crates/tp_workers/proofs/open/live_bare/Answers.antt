@@ -23,7 +23,7 @@ count_entry-requires g c =
     let small = c.owed_at_take-owed.ensures.bound in
     let seat = stands.shows.seen.seats c.args.w.0 ∙ c.requires.seat in
     let e = entry_here old stands (ask.Open c.args.w) d _ 3 n (3 - n) c.requires.fits
-    (λ given. rises_at_take old _ d _ stands.shows n 3 c.owed_at_take-owed.ensures.owed (open_bare old.config stands.history c.args.w stands.legal given seat)) (omega (arith, small)) in
+    (λ given. rises_at_take old _ d _ stands.shows.seen.rank n 3 c.owed_at_take-owed.ensures.owed (open_bare old.config stands.history c.args.w stands.legal given seat)) (omega (arith, small)) in
     record { few = e.0; fall = e.1 }
 
 pub returns-clause-leads : goal.returns-clause-leads
@@ -36,9 +36,9 @@ returns-clause-leads g c =
     let r = c.open.ensures in
     let row = ap (λ p. working_row (slot_at p.slots.slots c.args.w.0)) k.rest ∙ ap working_row c.requires.seat in
     leads_from old c.open.new.self (ask.Open c.args.w) d 3 n (3 - n) c.requires.stands c.requires.fits
-    (λ h legal given sh. (
+    (λ h rs legal given sh. (
       _,
-      rises_at_take old _ d _ sh n 3 c.owed_at_take-owed.ensures.owed (open_bare old.config h c.args.w legal given (sh.seen.seats c.args.w.0 ∙ c.requires.seat)),
+      rises_at_take old _ d _ sh.seen.rank n 3 c.owed_at_take-owed.ensures.owed (open_bare old.config h c.args.w legal given (sh.seen.seats c.args.w.0 ∙ c.requires.seat)),
       views_slots _ _ _ _ _ _ (λ x. ap (λ o. put c.args.w.0 o (slot_at (state old.config h).slots) x) (sym row)) refl
           (r.views _ (sh.live ∙ sym (ap (λ p. count_by is_live p.slots.slots) k.rest)) (k.views _ sh.seen)),
     ))

@@ -28,7 +28,7 @@ returns-clause-leads g c =
     let r = c.open.ensures.rest in
     let row = ap (λ p. working_row (slot_at p.slots.slots c.args.w.0)) k ∙ ap working_row c.requires.seat.1 in
     leads_from old c.open.new.self (ask.Open c.args.w) (did.Open c.args.w opened.Live) 1 0 1 c.requires.stands c.requires.fits
-    (λ h legal given sh. (
+    (λ h rs legal given sh. (
       _,
       open_maximum old.config h c.args.w c.requires.seat.0 legal given (sh.seen.seats c.args.w.0 ∙ c.requires.seat.1),
       views_slots _ _ _ _ _ _ (λ x. ap (λ o. put c.args.w.0 o (slot_at (state old.config h).slots) x) (sym row)) refl

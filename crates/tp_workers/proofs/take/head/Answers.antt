@@ -1,10 +1,10 @@
-use Rattle.std.proofs.Common.{sym, ap, arith, ◌∙◌}
+use Rattle.std.proofs.Common.{sym, ap, arith, ◌∙◌, refl}
 use Rattle.std.specs.Prelude.{◌&&◌, not}
 use Rattle.tp_types.specs.declared.tasks.Place.TheVariants as at
 use Rattle.tp_record.specs.declared.entries.Ask.TheVariants as ask
 use Rattle.tp_record.specs.declared.entries.Did.TheVariants as did
 use Rattle.tp_record.specs.declared.entries.Took.TheVariants as took
-use Rattle.tp_record.specs.State.{task_at, state}
+use Rattle.tp_record.specs.State.{task_at, state, slot_at}
 use Rattle.tp_tasks.specs.Tasks.{row_of}
 use Rattle.tp_shapes.proofs.Workers.Take.{take_head}
 use Rattle.tp_parts.specs.Tied.{is_before}
@@ -12,6 +12,7 @@ use Rattle.tp_parts.proofs.Standing.{entry_here, given_here, task_here}
 use Rattle.tp_parts.proofs.Leading.{leads_from}
 use Rattle.tp_workers.proofs.Falls.{falls_at_take}
 use Rattle.tp_workers.proofs.Waiting.{taking_row}
+use Rattle.tp_slots.specs.Table.{is_awake}
 use Rattle.tp_workers.proofs.take.head.Goals as goal
 
 pub count_entry-requires : goal.count_entry-requires
@@ -22,7 +23,7 @@ count_entry-requires g c =
     let n = c.owed_at_take.result in
     let row = taking_row old stands c.args.w.0 (given_here old stands (ask.Take c.args.w) d c.requires.fits).0 c.requires.busy in
     let entry = entry_here old stands (ask.Take c.args.w) d _ n 0 n c.requires.fits
-    (λ given. falls_at_take old _ d _ stands.shows n 0 c.owed_at_take.ensures.owed (take_head old.config stands.history c.args.w c.args.t stands.legal given (stands.shows.seen.seats c.args.w.0 ∙ row))) (omega arith) in
+    (λ given. falls_at_take old _ d _ stands.shows.seen.rank n 0 c.owed_at_take.ensures.owed (take_head old.config stands.history c.args.w c.args.t stands.legal given (stands.shows.seen.seats c.args.w.0 ∙ row))) (omega arith) in
     record { few = entry.0; fall = entry.1 }
 
 pub place_task-requires : goal.place_task-requires
@@ -30,7 +31,7 @@ place_task-requires g c =
     let old = c.args.parts.now in
     let stands = c.requires.stands in
     let given = given_here old stands (ask.Take c.args.w) (did.Take c.args.w (took.Head c.args.t)) c.requires.fits in
-    let there = task_here old stands c.args.t.0 at.Queued given.2 in
+    let there = task_here old stands c.args.t.0 at.Queued given.2 refl in
     let r = task_at (state old.config stands.history) c.args.t.0 in
     record { known = (r, ap (λ p. row_of p.tasks c.args.t.0) c.dequeue.ensures.rest ∙ ap (λ p. row_of p.tasks c.args.t.0) c.count_entry.ensures.rest ∙ there.0, ap (λ b. b && not r.cancelled) (sym (ap is_before there.1))) }
 
@@ -46,9 +47,9 @@ returns-clause-leads g c =
     let r = c.set_slot.ensures in
     let row = taking_row old stands c.args.w.0 (given_here old stands (ask.Take c.args.w) d c.requires.fits).0 c.requires.busy in
     leads_from old c.set_slot.new.self (ask.Take c.args.w) d n 0 n stands c.requires.fits
-    (λ h legal given sh. (
+    (λ h rs legal given sh. (
       _,
-      falls_at_take old _ d _ sh n 0 c.owed_at_take.ensures.owed (take_head old.config h c.args.w c.args.t legal given (sh.seen.seats c.args.w.0 ∙ row)),
+      falls_at_take old _ d _ sh.seen.rank n 0 c.owed_at_take.ensures.owed (take_head old.config h c.args.w c.args.t legal given (sh.seen.seats c.args.w.0 ∙ row)),
       r.views _ (m.views _ (q.views _ (k.views _ sh.seen))),
     ))
     (omega arith)
@@ -56,3 +57,11 @@ returns-clause-leads g c =
     (ap (λ p. p.steps) r.rest ∙ ap (λ p. p.steps) m.rest ∙ ap (λ p. p.steps) q.rest ∙ ap (λ p. p.steps) k.rest)
     (ap (λ p. p.due) r.rest ∙ ap (λ p. p.due) m.rest ∙ ap (λ p. p.due) q.rest ∙ ap (λ p. p.due) k.rest)
     (λ tied. r.tied _ _ (m.tied _ _ (q.tied _ _ (k.tied _ _ tied))))
+
+pub set_slot-requires-clause-slot : goal.set_slot-requires-clause-slot
+set_slot-requires-clause-slot g c =
+    let old = c.args.parts.now in
+    let stands = c.requires.stands in
+    let given = given_here old stands (ask.Take c.args.w) (did.Take c.args.w (took.Head c.args.t)) c.requires.fits in
+    ap (λ p. is_awake (slot_at p.slots.slots c.args.w.0)) c.place_task.ensures.rest ∙ ap (λ p. is_awake (slot_at p.slots.slots c.args.w.0)) c.dequeue.ensures.rest ∙ ap (λ p. is_awake (slot_at p.slots.slots c.args.w.0)) c.count_entry.ensures.rest
+    ∙ ap is_awake (taking_row old stands c.args.w.0 given.0 c.requires.busy)

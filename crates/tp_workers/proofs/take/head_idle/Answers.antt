@@ -27,7 +27,7 @@ place_task-requires g c =
     let old = c.args.parts.now in
     let stands = c.requires.stands in
     let given = given_here old stands (ask.Take c.args.w) (did.Take c.args.w (took.Head c.args.t)) c.requires.fits in
-    let there = task_here old stands c.args.t.0 at.Queued given.2 in
+    let there = task_here old stands c.args.t.0 at.Queued given.2 refl in
     let r = task_at (state old.config stands.history) c.args.t.0 in
     record { known = (r, ap (λ p. row_of p.tasks c.args.t.0) c.dequeue.ensures.rest ∙ ap (λ p. row_of p.tasks c.args.t.0) c.count_entry.ensures.rest ∙ there.0, ap (λ b. b && not r.cancelled) (sym (ap is_before there.1))) }
 
@@ -42,7 +42,7 @@ returns-clause-leads g c =
     let r = c.wake.ensures in
     let row = idle_row old stands c.args.w.0 (given_here old stands (ask.Take c.args.w) d c.requires.fits).0 c.requires.idle in
     leads_from old c.wake.new.self (ask.Take c.args.w) d 1 0 1 stands c.requires.fits
-    (λ h legal given sh. (_, take_head_idle old.config h c.args.w c.args.t row.0 legal given (sh.seen.seats c.args.w.0 ∙ row.1), r.views _ (m.views _ (q.views _ (k.views _ sh.seen)))))
+    (λ h rs legal given sh. (_, take_head_idle old.config h c.args.w c.args.t row.0 legal given (sh.seen.seats c.args.w.0 ∙ row.1), r.views _ (m.views _ (q.views _ (k.views _ sh.seen)))))
     refl
     (ap (λ p. p.config) r.rest ∙ ap (λ p. p.config) m.rest ∙ ap (λ p. p.config) q.rest ∙ ap (λ p. p.config) k.rest)
     (ap (λ p. p.steps) r.rest ∙ ap (λ p. p.steps) m.rest ∙ ap (λ p. p.steps) q.rest ∙ ap (λ p. p.steps) k.rest)

@@ -26,6 +26,6 @@ returns-clause-leads g c =
     let r = c.free.ensures in
     let row = idle_row old stands c.args.w.0 (given_here old stands (ask.Take c.args.w) d c.requires.fits).0 c.requires.idle in
     leads_from old c.free.new.self (ask.Take c.args.w) d 1 0 1 stands c.requires.fits
-    (λ h legal given sh. (_, take_leave_idle old.config h c.args.w row.0 legal given (sh.seen.seats c.args.w.0 ∙ row.1), r.views _ (k.views _ sh.seen)))
+    (λ h rs legal given sh. (_, take_leave_idle old.config h c.args.w row.0 legal given (sh.seen.seats c.args.w.0 ∙ row.1), r.views _ (k.views _ sh.seen)))
     refl (ap (λ p. p.config) r.rest ∙ ap (λ p. p.config) k.rest) (ap (λ p. p.steps) r.rest ∙ ap (λ p. p.steps) k.rest) (ap (λ p. p.due) r.rest ∙ ap (λ p. p.due) k.rest)
     (λ tied. r.tied _ _ (k.tied _ _ tied))

@@ -37,6 +37,6 @@ returns-clause-leads g c =
     let idlings = c.requires.stands.tied.idlings in
     let same = ap (λ p. p.slots.idlings) k.rest in
     leads_from old c.idle.new.self (ask.Take c.args.w) (did.Take c.args.w took.Idle) 1 0 1 c.requires.stands c.requires.fits
-    (λ h legal given sh. (_, take_idle old.config h c.args.w legal given, r.views _ (k.views _ sh.seen)))
+    (λ h rs legal given sh. (_, take_idle old.config h c.args.w legal given, r.views _ (k.views _ sh.seen)))
     refl (ap (λ p. p.config) r.rest ∙ ap (λ p. p.config) k.rest) (ap (λ p. p.steps) r.rest ∙ ap (λ p. p.steps) k.rest) (ap (λ p. p.due) r.rest ∙ ap (λ p. p.due) k.rest)
     (λ tied. r.tied old.config (suc old.steps) (k.tied old.config (suc old.steps) tied) (omega (arith, same, idlings)))

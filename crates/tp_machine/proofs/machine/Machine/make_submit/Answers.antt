@@ -6,7 +6,8 @@ use Rattle.tp_tasks.specs.Tasks.{submissions}
 use Rattle.tp_parts.specs.Steps.{Accepts, Leads}
 use Rattle.tp_parts.proofs.Standing.{fits_accepted}
 use Rattle.tp_machine.specs.Steps.{IsStep}
-use Rattle.tp_machine.proofs.Stepping.{step_made, step_sound, same_sound, same_stays, step_after, refused_memory}
+use Rattle.tp_machine.proofs.Stepping.{step_made, step_sound, same_sound, same_stays, step_after, refused_memory, refused_step, puts_after}
+use Rattle.tp_parts.specs.Payloads.{PutsIn}
 use Rattle.tp_machine.proofs.machine.Machine.make_submit.Goals as goal
 
 pub invariant_of-self : goal.invariant_of-self
@@ -56,3 +57,11 @@ returns-clause-step g c =
     (same_stays g.R.Recorder.tells c.self.inside.parts c.prepare.new.parts c.self.inside.noted (ap (λ x. x.config) p.rest) p.same p.payloads c.args.self.now c.self.view_is)
     (step_made g.R.Recorder.tells g.R.Recorder.places c.prepare.new.parts c.self.inside.noted _ c.args.by (ask.Submit c.args.kind c.args.priority) (D c.submitted.result)
     accepts (subst (λ n. Leads c.prepare.new.parts (D n) c.apply-t.new.parts) (c.apply-t.ensures.number ∙ sym c.submitted.ensures) c.apply-t.ensures.leads) c.note.ensures.tells _ refl))
+
+pub returns-in-Err-clause-refused : goal.returns-in-Err-clause-refused
+returns-in-Err-clause-refused g c = refused_step g.R.Recorder.tells c.self.inside.parts c.self.inside.noted c.args.self.now (ask.Submit c.args.kind c.args.priority) c.in-Err.error c.self.view_is c.in-Err.ensures.refuses
+
+pub returns-clause-payloads : goal.returns-clause-payloads
+returns-clause-payloads g c =
+    subst (λ m. PutsIn m.parts.tasks c.apply-t.new.parts.tasks c.apply-t.result.0 c.args.promise c.args.payload) c.self.view_is
+    (puts_after c.self.inside.parts.tasks c.prepare.new.parts.tasks c.apply-t.new.parts.tasks c.apply-t.result.0 c.args.promise c.args.payload c.prepare.ensures.payloads c.apply-t.ensures.payloads)

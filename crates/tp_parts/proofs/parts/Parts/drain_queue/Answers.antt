@@ -1,5 +1,6 @@
 use Rattle.std.proofs.Common.{length, arith, ap, subst, ◌∙◌}
-use Rattle.tp_parts.specs.Drained.{IsOnce, handed_back}
+use Rattle.tp_record.specs.Lists.{IsOnce}
+use Rattle.tp_parts.specs.Drained.{handed_back}
 use Rattle.tp_parts.proofs.Drains.{handed_more, handed_on, paid_more, seen_more, rest_more, views_end, tied_end}
 use Rattle.tp_parts.proofs.parts.Parts.drain_queue.Goals as goal
 

@@ -3,7 +3,8 @@ use Rattle.tp_types.specs.declared.configs.Config.{Config}
 use Rattle.tp_queue.specs.Queues.{waiting_of}
 use Rattle.tp_tasks.specs.Tasks.{payload_of, promise_of}
 use Rattle.tp_shapes.specs.View.{View}
-use Rattle.tp_parts.specs.Drained.{CanDrain, handed_back, drained, is_among}
+use Rattle.tp_record.specs.Lists.{is_among}
+use Rattle.tp_parts.specs.Drained.{CanDrain, handed_back, drained}
 use Rattle.tp_parts.specs.Shows.{Views, numbers}
 use Rattle.tp_parts.specs.Tied.{IsTied}
 use Rattle.tp_parts.proofs.parts.Parts.drain_queue.Given as goal

@@ -1,6 +1,6 @@
-use Rattle.std.proofs.Common.{◌<◌, true, Option, Some, refl, arith, sym, ap, ◌∙◌, inl, inr}
-use Rattle.std.proofs.lemmas.Bool.{cases_eq, cases_lt, eq-eqb, ne_eqb}
-use Rattle.std.proofs.lemmas.Option.{same_Some, none-some}
+use Rattle.std.proofs.Common.{true, Option, Some, refl, arith, sym, ap, ◌∙◌, inl, inr}
+use Rattle.std.proofs.lemmas.Bool.{cases_eq, eq-eqb, ne_eqb}
+use Rattle.std.proofs.lemmas.Option.{none-some}
 use Rattle.tp_types.specs.declared.tasks.Place.TheVariants as at
 use Rattle.tp_types.specs.Queues.{is_ranked}
 use Rattle.tp_line.specs.Ranks.{enter}
@@ -13,6 +13,7 @@ use Rattle.tp_tasks.specs.Tasks.{row_of}
 use Rattle.tp_parts.specs.Shows.{numbers}
 use Rattle.tp_parts.proofs.Joins.{joins}
 use Rattle.tp_parts.proofs.Ties.{tied_row}
+use Rattle.tp_parts.proofs.Rows.{held_row}
 use Rattle.tp_parts.proofs.Offers.{waits_on, tied_number, tied_longer, keyed_seen}
 use Rattle.tp_parts.proofs.parts.Parts.enqueue.Goals as goal
 
@@ -29,11 +30,7 @@ returns-clause-views g c = λ v views.
     let s = c.hand.ensures in
     let set = s.set c.in-Some.row (n.row ∙ there) in
     let few = c.requires.few in
-    let within : t.0 < v.submitted = elim (cases_lt t.0 v.submitted) [
-      | inl less ↦ less
-      | inr past ↦ absurd (none-some c.in-Some.row (sym (views.unknown t.0 past) ∙ there))
-    ] in
-    let shown = same_Some (v.tasks t.0) c.in-Some.row (sym (views.rows t.0 within) ∙ there) in
+    let shown = (held_row old c.hand.new.self v views t.0 c.in-Some.row there).1 in
     record {
       rank = views.rank;
       core_size = views.core_size;
@@ -42,14 +39,15 @@ returns-clause-views g c = λ v views.
       times_out = views.times_out;
       present = views.present;
       submitted = views.submitted ∙ sym (set.submitted ∙ n.submitted);
-      rows = λ u within. elim (cases_eq u t.0) [
+      rows = λ u held. elim (cases_eq u t.0) [
         | inl same ↦ rw (eq-eqb u t.0 same) (ap (row_of c.hand.new.self) same ∙ set.row ∙ ap queued_row (sym shown))
-        | inr apart ↦ rw (ne_eqb u t.0 apart) (ap row_of_task (set.others u (ne_eqb t.0 u (λ b. apart (sym b))) ∙ n.others u (ne_eqb t.0 u (λ b. apart (sym b)))) ∙ views.rows u within)
+        | inr apart ↦ rw (ne_eqb u t.0 apart) (ap row_of_task (set.others u (ne_eqb t.0 u (λ b. apart (sym b))) ∙ n.others u (ne_eqb t.0 u (λ b. apart (sym b)))) ∙ views.rows u held)
       ];
-      unknown = λ u past. elim (cases_eq u t.0) [
-        | inl same ↦ absurd (none-some c.in-Some.row (sym (views.unknown u past) ∙ ap (row_of old.tasks) same ∙ there))
-        | inr apart ↦ ap row_of_task (set.others u (ne_eqb t.0 u (λ b. apart (sym b))) ∙ n.others u (ne_eqb t.0 u (λ b. apart (sym b)))) ∙ views.unknown u past
+      unknown = λ u off. elim (cases_eq u t.0) [
+        | inl same ↦ absurd (none-some c.in-Some.row (sym (views.unknown u off) ∙ ap (row_of old.tasks) same ∙ there))
+        | inr apart ↦ ap row_of_task (set.others u (ne_eqb t.0 u (λ b. apart (sym b))) ∙ n.others u (ne_eqb t.0 u (λ b. apart (sym b)))) ∙ views.unknown u off
       ];
+      issued = views.issued;
       fates = λ f. views.fates f ∙ sym (s.fates f ∙ n.fates f);
       queued =
           ap (join_line (is_ranked w.kind) (λ u. (v.tasks u).priority) (Some t.0)) views.queued

@@ -2,6 +2,7 @@ use Rattle.std.proofs.Common.{refl}
 use Rattle.std.specs.Prelude.{nat_eq, false}
 use Rattle.indexmap.specs.IndexMap.{get}
 use Rattle.tp_tasks.proofs.Rows.{kept_task, submitted_stays, counted_stays, grouped_stays, sets_row}
+use Rattle.tp_tasks.proofs.Listed.{listed_stays}
 use Rattle.tp_tasks.proofs.tasks.Tasks.settle.Goals as goal
 
 pub invariant_of-self : goal.invariant_of-self
@@ -13,6 +14,7 @@ invariant_of-self g c =
       small = old.small;
       below = submitted_stays old.tasks c.settle.new.tasks c.args.t.0 kept.0 _ kept.1 set old.submitted old.below;
       counted = counted_stays old.tasks c.settle.new.tasks c.args.t.0 kept.0 _ kept.1 set refl refl old.fates old.submitted old.counted;
+      listed = listed_stays old.tasks c.settle.new.tasks c.args.t.0 kept.0 _ kept.1 set refl refl refl old.groups old.listed;
       grouped = grouped_stays old.tasks c.settle.new.tasks c.args.t.0 kept.0 _ kept.1 set refl refl old.groups old.grouped;
     }
 
@@ -20,4 +22,4 @@ pub returns-clause-set : goal.returns-clause-set
 returns-clause-set g c =
     let old = c.args.self.now in
     let kept = kept_task (get nat_eq old.tasks c.args.t.0) c.requires in
-    sets_row old _ c.args.t.0 (λ r. record r { second = false }) kept.0 kept.1 (c.settle.ensures kept.0 kept.1) refl
+    sets_row old _ c.args.t.0 (λ r. record r { second = false }) kept.0 kept.0.listed kept.1 (c.settle.ensures kept.0 kept.1) refl
