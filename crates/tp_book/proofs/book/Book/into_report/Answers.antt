@@ -9,7 +9,7 @@ returns-clause-record g c =
     c.into_entries-entries.ensures ∙ (whole ∙ ap (λ b. entries b) c.self.view_is)
 
 pub returns-clause-history : goal.returns-clause-history
-returns-clause-history g c = ap reverse c.into_entries-entries.ensures ∙ (c.self.invariant.0.told ∙ ap (λ b. b.history) c.self.view_is)
+returns-clause-history g c = ap reverse c.into_entries-entries.ensures ∙ (c.self.invariant.0.told.0 ∙ ap (λ b. b.history) c.self.view_is)
 
 pub returns-clause-shares : goal.returns-clause-shares
 returns-clause-shares g c =
