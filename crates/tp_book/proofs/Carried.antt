@@ -12,7 +12,7 @@ use Rattle.tp_record.specs.declared.entries.Ruled.TheVariants as ruled
 use Rattle.tp_record.specs.Effects.{submits}
 use Rattle.tp_tasks.specs.declared.tasks.Tasks.{Tasks}
 use Rattle.tp_tasks.specs.Tasks.{payload_of}
-use Rattle.tp_parts.specs.Drained.{is_among}
+use Rattle.tp_record.specs.Lists.{is_among}
 use Rattle.tp_parts.specs.Payloads.{Keeps, HandsOut, PutsIn}
 use Rattle.tp_machine.specs.declared.answers.Begun.{Begun}
 use Rattle.tp_machine.specs.declared.answers.Begun.TheVariants as begun

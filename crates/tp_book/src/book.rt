@@ -35,7 +35,7 @@ pub struct Book<G: Naming, P> {
 }
 
 impl<G: Naming, P> Model for Book<G, P> {
-    ghost use Rattle.std.specs.Prelude.{◌≡◌, length};
+    ghost use Rattle.std.specs.Prelude.{◌≡◌, [], length};
     ghost use Rattle.std.specs.Coded.{codes};
     ghost use Rattle.tp_tasks.specs.Codes.{tasks_code};
     ghost use Rattle.tp_machine.specs.Seen.{At};
