@@ -1,20 +1,22 @@
 -- What a machine's step does, as a step of the book, whichever step it is.
 use Rattle.std.proofs.Common.{◌≡◌, ℕ, ◌+◌, List, [], ◌∷◌, length, reverse, sym, ap, subst, refl, ◌∙◌, inl, inr, ⊎_elim}
 use Rattle.std.proofs.lemmas.List.{length-reverse, reverse-reverse}
+use Rattle.tp_types.specs.declared.configs.Config.{Config}
 use Rattle.tp_types.specs.declared.refusals.PoolError.{PoolError}
 use Rattle.tp_record.specs.declared.entries.Entry.{Entry}
 use Rattle.tp_record.specs.declared.entries.Ask.{Ask}
 use Rattle.tp_record.specs.declared.entries.Did.{Did}
 use Rattle.tp_record.specs.Fields.{rank}
 use Rattle.tp_record.specs.Kept.{Kept}
+use Rattle.tp_record.specs.State.{State}
 use Rattle.tp_tasks.specs.declared.tasks.Tasks.{Tasks}
-use Rattle.tp_machine.specs.Seen.{Seen, At}
+use Rattle.tp_machine.specs.Seen.{Seen, At, config_of}
 use Rattle.tp_machine.specs.Steps.{IsStep, Stays}
 use Rattle.tp_machine.specs.Stepped.{FitsOutcome}
 use Rattle.tp_machine.specs.Typed.{IsDeniedBy}
 use Rattle.tp_machine.specs.Readings.{EachState}
 use Rattle.tp_book.specs.PassView.{AccountsView}
-use Rattle.tp_book.specs.BookView.{BookView, tells, Advances, IsUnmoved, IsDenied}
+use Rattle.tp_book.specs.BookView.{BookView, tells, config, state_of, Advances, IsUnmoved, IsDenied}
 
 -- a record that is kept whole is the history, the oldest entry first
 pub kept_is : (kept : Kept) (h : List Entry) → tells kept h [] → kept.entries ≡ reverse h
@@ -35,6 +37,15 @@ module _ {P : Type 0} where
   -- a machine that stands at the history has its rank
   pub rank_at : (m : Seen P Kept) (h : List Entry) (n : ℕ) → At tells m h [] → EachState tells m (λ s. n ≡ s.rank) → n ≡ rank h
   rank_at m h n here is = is h [] here
+
+  -- what is read of a machine, said of its book
+  pub read_by : {m : Seen P Kept} {accounts : AccountsView} {h : List Entry} {b : BookView P} → record { machine = m; accounts = accounts; history = h } ≡ b →
+      (F : Config → State → Type 0) → EachState tells m (F (config_of m)) → At tells m h [] → F (config b) (state_of b)
+  read_by is F each here = subst (λ (x : BookView P). F (config x) (state_of x)) is (each _ [] here)
+
+  pub read_of : {m : Seen P Kept} {accounts : AccountsView} {h : List Entry} {b : BookView P} → record { machine = m; accounts = accounts; history = h } ≡ b →
+      (F : State → Type 0) → EachState tells m F → At tells m h [] → F (state_of b)
+  read_of is F = read_by is (λ k. F)
 
   module _ (old : BookView P) (mid : Seen P Kept) (accounts : AccountsView) (history : List Entry)
       (is : record { machine = mid; accounts = accounts; history = history } ≡ old) where

@@ -1,8 +1,25 @@
-use Rattle.std.proofs.Common.{subst, sym}
+use Rattle.std.proofs.Common.{◌∙◌, [], ap, arith, length, subst, sym}
 use Rattle.tp_glance.specs.Word.{IsFrontOf}
 use Rattle.tp_glance.proofs.Fronts.{IsFrontOf_noted}
+use Rattle.tp_machine.specs.Seen.{At}
+use Rattle.tp_book.specs.BookView.{BookView, config, tells}
 use Rattle.tp_book.proofs.Stepping.{grown, rank_at, advances, unmoved, denies}
 use Rattle.tp_book.proofs.book.Book.step_by.Goals as goal
+
+pub invariant_of-self : goal.invariant_of-self
+invariant_of-self g c =
+    let same = c.learn.ensures.same in (
+      subst (λ h. At tells c.make.new.machine h []) (sym same) (c.in-Err.ensures.unchanged.stands c.self.inside.seat [] c.self.invariant.0),
+      c.self.invariant.1 ∙ sym (ap (λ h. length h) same)
+    )
+
+pub invariant_of-self-2 : goal.invariant_of-self-2
+invariant_of-self-2 g c =
+    let noted = c.pay.ensures.noted in (
+      subst (λ h. At tells c.make.new.machine h []) (sym noted)
+          (grown c.self.inside.machine c.make.new.machine c.self.inside.seat c.payer-by.result _ c.ask.result _ c.did.result c.self.invariant.0 c.in-Ok.ensures.step c.ask.ensures c.did.ensures),
+      let before = c.self.invariant.1 in let paid = c.pay.ensures.total in let longer = ap (λ h. length h) noted in grind arith
+    )
 
 pub returns-in-Err-clause-refused : goal.returns-in-Err-clause-refused
 returns-in-Err-clause-refused g c =
@@ -29,3 +46,7 @@ returns-clause-step g c =
 
 pub returns-clause-goes_on : goal.returns-clause-goes_on
 returns-clause-goes_on g c = subst (λ h. IsFrontOf (g.A.Payer.front c.args.pass.now) h) (sym c.pay.ensures.noted) (IsFrontOf_noted _ c.pay.ensures.knew)
+
+pub returns-clause-says : goal.returns-clause-says
+returns-clause-says g c =
+    subst (λ (b : BookView g.row.P.Denot). g.S.Step.says c.args.step c.in-Ok.answer (config b) b.history) c.self.view_is (c.in-Ok.ensures.says c.self.inside.seat [] c.self.invariant.0)
