@@ -85,11 +85,14 @@ module _ (m n : Seen (Unit {0}) Counted) (os : Outcomes) (p : Playing) (is : IsA
   pub none_back : (a : Ask) (d : Did) → IsStep notes m n 0 a d → a ≢ ask.Stop → [] ≡ drained p.config p.history d
   none_back a d step other = sym (quiet (config_of m) (state (config_of m) p.history) p.history a d (step.gives p.history [] is.at) other p.config)
 
+  -- what is read of the machine, said of where the runner stands
+  pub seen : (F : State → Type 0) → EachState notes m F → F (state p.config p.history)
+  seen F each = subst (λ c. F (state c p.history)) is.config (each p.history [] is.at)
+
   -- what a line asks there
   pub asked : (l : ScenarioLine) (a : Ask) → EachState notes m (λ s. a ≡ ask_of s os l) → a ≡ ask_of (state p.config p.history) p.outcomes l
   asked l a asks =
-      let there : a ≡ ask_of (state p.config p.history) os l = subst (λ c. a ≡ ask_of (state c p.history) os l) is.config (asks p.history [] is.at) in
-      there ∙ ap (λ ys. ask_of (state p.config p.history) ys l) is.outcomes
+      seen (λ s. a ≡ ask_of s os l) asks ∙ ap (λ ys. ask_of (state p.config p.history) ys l) is.outcomes
 
 -- promises stay, or one more comes
 module _ (m n : Seen (Unit {0}) Counted) (os : Outcomes) (promised : ArePromised m os) where

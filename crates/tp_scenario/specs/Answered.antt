@@ -47,9 +47,9 @@ submission o = option_map (λ x. (promise_of x, tt)) o
 abbrev pub KeepsPromises : {P : Type 0} → Tasks P → Tasks P → Type 0
 KeepsPromises old new = (t : ℕ) → promise_in new t ≡ promise_in old t
 
--- the histories that a recorder may have counted
+-- the histories that a recorder may have counted, of which no task was released
 abbrev pub notes : Counted → List Entry → List ℕ → Type 0
-notes f h rs = length h ≡ f.noted
+notes f h rs = (length h ≡ f.noted) × (rs ≡ [])
 
 -- what a runner keeps: the pool, and how its tasks end
 pub record Running : Type 0 where

@@ -1,6 +1,6 @@
 //! A recorder that counts.
 
-ghost use Rattle.std.specs.Prelude.{◌≡◌, ◌+◌, ◌<◌, ◌^◌, length};
+ghost use Rattle.std.specs.Prelude.{◌≡◌, ◌+◌, ◌<◌, ◌^◌, [], length};
 
 use tp_record::entries::Entry;
 use tp_record::recorders::Recorder;
@@ -29,7 +29,7 @@ impl Counted {
 }
 
 impl Recorder for Counted {
-    ghost tells = { λ f h rs. length h ≡ f.noted };
+    ghost tells = { λ f h rs. (length h ≡ f.noted) × (rs ≡ []) };
 
     ghost places = { λ f. f.places };
 

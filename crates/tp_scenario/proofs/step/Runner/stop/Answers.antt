@@ -1,6 +1,7 @@
-use Rattle.std.proofs.Common.{None, length, sym, subst, append-nil}
+use Rattle.std.proofs.Common.{◌≡◌, [], None, length, map, sym, subst, append-nil}
 use Rattle.tp_record.specs.declared.entries.Ask.TheVariants as ask
 use Rattle.tp_record.specs.declared.entries.Did.TheVariants as did
+use Rattle.tp_record.specs.Fields.{queue}
 use Rattle.tp_scenario.specs.Answered.{IsAt, Running, notes}
 use Rattle.tp_scenario.proofs.StepLaws.{accepted, denied, not_torn}
 use Rattle.tp_scenario.proofs.step.Runner.stop.Goals.{in-Ok, in-Err}
@@ -15,4 +16,13 @@ returns-clause-answers c = λ p is.
     elim c.match-make.branch [
       | in-Ok w ↦ rw (w.result-is, w.did.ensures) (accepted m n os p at os None ask.Stop (did.Stop (length w.in-Ok.handed.items)) w.in-Ok.ensures.step (sym (append-nil os)))
       | in-Err w ↦ rw w.result-is (denied m n os p at None ask.Stop w.in-Err.error w.in-Err.ensures.unchanged (not_torn notes m ask.Stop w.in-Err.error tt w.in-Err.ensures.refused))
+    ]
+
+pub returns-clause-back : goal.returns-clause-back
+returns-clause-back c =
+    elim c.match-make.branch [
+      | in-Ok w ↦ rw (w.result-is, w.did.ensures) (λ p is.
+          let at = subst (λ (r : Running). IsAt r p) (sym c.self.view_is) is in
+          subst (λ k. map (λ x. x.0.0) w.in-Ok.handed.items ≡ queue k p.history) at.config (w.in-Ok.ensures.says p.history [] at.at).0)
+      | in-Err w ↦ rw w.result-is tt
     ]
