@@ -10,7 +10,7 @@ pub invariant_of-self : goal.invariant_of-self
 invariant_of-self g c =
     let same = c.learn.ensures.same in (
       subst (λ h. At tells c.make.new.machine h []) (sym same) (c.in-Err.ensures.unchanged.stands c.self.inside.seat [] c.self.invariant.0),
-      c.self.invariant.1 ∙ sym (ap (λ h. length h) same)
+      c.self.invariant.1 ∙ sym (ap (λ h. length h) same),
     )
 
 pub invariant_of-self-2 : goal.invariant_of-self-2
@@ -18,7 +18,7 @@ invariant_of-self-2 g c =
     let noted = c.pay.ensures.noted in (
       subst (λ h. At tells c.make.new.machine h []) (sym noted)
           (grown c.self.inside.machine c.make.new.machine c.self.inside.seat c.payer-by.result _ c.ask.result _ c.did.result c.self.invariant.0 c.in-Ok.ensures.step c.ask.ensures c.did.ensures),
-      let before = c.self.invariant.1 in let paid = c.pay.ensures.total in let longer = ap (λ h. length h) noted in grind arith
+      let before = c.self.invariant.1 in let paid = c.pay.ensures.total in let longer = ap (λ h. length h) noted in grind arith,
     )
 
 pub returns-in-Err-clause-refused : goal.returns-in-Err-clause-refused

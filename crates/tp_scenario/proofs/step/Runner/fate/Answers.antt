@@ -23,5 +23,5 @@ returns c = λ p is known.
     let t = c.args.task.0 in
     let at = subst (λ (r : Running). IsAt r p) (sym c.self.view_is) is in
     c.unwrap_or.ensures ∙ was_read _ c.fate.result _ (lt-ltb _ _ known)
-        (IfOk-weaker c.fate.result _ _ (λ f each. seen m m os p at (λ s. f ≡ fate_of (task_at s t)) each) c.fate.ensures.fate)
-        (IfErr-weaker c.fate.result _ _ (λ e x. seen m m os p at (λ s. is_known s t ≡ false) x.1) c.fate.ensures.unknown)
+    (IfOk-weaker c.fate.result _ _ (λ f each. seen m m os p at (λ s. f ≡ fate_of (task_at s t)) each) c.fate.ensures.fate)
+    (IfErr-weaker c.fate.result _ _ (λ e x. seen m m os p at (λ s. is_known s t ≡ false) x.1) c.fate.ensures.unknown)
