@@ -1,6 +1,6 @@
 -- What a step in a hold is to the pass that it was made with.
 use Rattle.std.proofs.Common.{◌≡◌, ℕ, ◌+◌, List, [], ◌∷◌, ◌++◌, refl, ap, sym, ◌∙◌, subst, ⊎_elim}
-use Rattle.std.specs.Prelude.{Result, Ok, Err, IfOk}
+use Rattle.std.specs.Prelude.{Result, Ok, Err, IfErr, IfOk}
 use Rattle.std.proofs.lemmas.List.Elements.{All-nil, All-cons}
 use Rattle.tp_types.specs.declared.configs.Config.{Config}
 use Rattle.tp_types.specs.declared.refusals.PoolError.{PoolError}
@@ -42,6 +42,12 @@ module _ {J : Type 0} (c : Config) where
   -- and that at which it was refused
   pub legal_refused : (before : List Entry) (a : Ask) (e : PoolError) (after : List Entry) → Refused J c before a e after → Legal c after
   legal_refused before a e after refused = subst (λ h. Legal c h) (sym refused.shown) (legal_at refused.book c refused.is)
+
+  -- and so the one that a pass knows after it
+  pub legal_after : {A : Type 0} (by : ℕ) (before : List Entry) (a : Ask) (did : A → Did) (moves : A → Tasks (Task J) → Tasks (Task J) → Type 0) (after : List Entry) (r : Result A PoolError) →
+      IfOk r (λ x. Makes J c by before a (did x) (moves x) after) → IfErr r (λ e. Refused J c before a e after) → Legal c after
+  legal_after by before a did moves after (Ok x) made refused = legal_made by before a (did x) (moves x) after made
+  legal_after by before a did moves after (Err e) made refused = legal_refused before a e after refused
 
   -- a refusal of an ask with which no outcome comes is Step's
   pub refusal : (before : List Entry) (a : Ask) (e : PoolError) (after : List Entry) → Refused J c before a e after → HasNoOutcome a → IsRefusal c after a e

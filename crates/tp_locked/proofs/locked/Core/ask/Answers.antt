@@ -1,6 +1,6 @@
 use Rattle.std.proofs.Common.{◌+◌, ◌≤◌}
 use Rattle.std.proofs.lemmas.Result.{IfErr-weaker}
-use Rattle.tp_locked.proofs.Adding.{added, refusal}
+use Rattle.tp_locked.proofs.Adding.{added, legal_after, refusal}
 use Rattle.tp_locked.proofs.locked.Core.ask.Goals as goal
 
 pub returns-clause-step : goal.returns-clause-step
@@ -13,3 +13,9 @@ returns-clause-step g c =
 pub returns-clause-refused : goal.returns-clause-refused
 returns-clause-refused g c =
     IfErr-weaker c.step.result _ _ (λ e is. refusal g.G.PoolNaming.config c.args.pass.now.front (g.S.Step.ask c.args.step) e c.step.new.pass.front is) c.step.ensures.refused
+
+pub returns-clause-legal : goal.returns-clause-legal
+returns-clause-legal g c =
+    let old = c.args.pass.now in
+    legal_after g.G.PoolNaming.config old.number old.front (g.S.Step.ask c.args.step) (λ x. g.S.Step.did c.args.step x) (λ x. g.S.Step.moves c.args.step tt x) c.step.new.pass.front c.step.result
+    c.step.ensures.makes c.step.ensures.refused
