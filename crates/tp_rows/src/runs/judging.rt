@@ -10,6 +10,7 @@ use crate::neighbours::neighbours_agree;
 use std::alloc::{AllocError, Global};
 use std::process::Abort;
 use std::test::Fail;
+use tp_audit::plain::audit_plain;
 use tp_auditor::audits::audit;
 use tp_record::entries::{Ask, Did, Entry};
 use tp_record_text::entries::read_entry;
@@ -171,8 +172,7 @@ fn asks_what_is_refused(rt: HostRuntime) -> Result<(), Fail> {
     Ok(())
 }
 
-/// Whether the auditor calls the record of a task legal that is retried 64 times and then discarded. The plain auditor isn't asked:
-/// it computes each entry from all those before it, and the record is long.
+/// Whether both auditors call the record of a task legal that is retried 64 times and then discarded.
 fn are_retries_legal(alloc: Global) -> Result<bool, Fail> {
     let text = retried(alloc)?;
     let output = retried_lines(alloc)?;
@@ -184,9 +184,14 @@ fn are_retries_legal(alloc: Global) -> Result<bool, Fail> {
     }
     let run = run_asks(alloc, config, &asks)?;
     let fates = [None, Some(Fate::Discarded)];
-    match audit(alloc, &config, &run.entries) {
-        Ok(summary) => Ok(summary.fates.as_slice() == fates.as_slice()),
-        Err(_) => Ok(false),
+    match (
+        audit(alloc, &config, &run.entries),
+        audit_plain(alloc, &config, &run.entries),
+    ) {
+        (Ok(summary), Ok(plain)) => Ok(
+            summary.fates.as_slice() == fates.as_slice() && summary == plain,
+        ),
+        _ => Ok(false),
     }
 }
 
