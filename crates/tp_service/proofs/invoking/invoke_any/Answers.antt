@@ -1,10 +1,12 @@
 use Rattle.std.proofs.Common.{◌<◌, length, arith, subst}
 use Rattle.std.proofs.lemmas.Bool.Decides.{nat_tests}
-use Rattle.std.specs.Prelude.{IfErr}
+use Rattle.std.proofs.lemmas.Result.{IfOk-weaker}
+use Rattle.std.specs.Prelude.{Any, IfErr}
 use Rattle.tp_book.specs.PassView.{PassView}
 use Rattle.tp_locked.specs.Passes.{AddsNone}
 use Rattle.tp_locked.specs.declared.tasks.Task.{Task}
-use Rattle.tp_service.specs.Futures.{HaveFailed}
+use Rattle.tp_service.specs.Futures.{HasValue, HaveFailed}
+use Rattle.tp_service.specs.Submitted.{AddsCancels}
 use Rattle.tp_service.proofs.Gathered.{no_value, turned_back}
 use Rattle.tp_service.proofs.invoking.invoke_any.Goals as goal
 
@@ -20,3 +22,15 @@ pub returns-in-Err-clause-refused : goal.returns-in-Err-clause-refused
 returns-in-Err-clause-refused g c =
     let some : 0 < length c.args.jobs.items = grind (arith, nat_tests, c.args.jobs.ok.0, c.if-is_empty.ensures) in
     turned_back g.G.PoolNaming.config g.J.Job.promised g.J.Job.urgency c.args.jobs.items c.in-Err.error c.args.pass.now c.submit_all.new.pass some c.in-Err.ensures.refused
+
+pub returns-clause-value : goal.returns-clause-value
+returns-clause-value g c =
+    IfOk-weaker c.await_any-answer.result _ _ (λ v value. record {
+      tasks = c.in-Ok.tasks.items;
+      mid = c.submit_all.new.pass;
+      told = c.await_any-answer.new.pass;
+      submits = c.in-Ok.ensures.submitted;
+      looks = c.await_any-answer.ensures.looks;
+      value = subst (Any (HasValue (Task g.row.J.Denot) g.G.PoolNaming.config v c.await_any-answer.new.pass.front)) c.as_slice.ensures.value value;
+      cancels = subst (λ ts. AddsCancels (Task g.row.J.Denot) g.G.PoolNaming.config ts c.await_any-answer.new.pass c.cancel_all.new.pass) c.as_slice-2.ensures.value c.cancel_all.ensures;
+    }) c.await_any-answer.ensures.value
