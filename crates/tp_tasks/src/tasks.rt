@@ -9,11 +9,11 @@ ghost use Rattle.tp_tasks.specs.Kept.{AreSubmitted, AreCounted, AreGrouped, AreL
 
 use crate::fates::Fates;
 use crate::group::Group;
-use crate::table::{Rows, Task};
+use crate::homes::Rows;
+use crate::table::Task;
 use crate::{groups, table};
 use indexmap::IndexMap;
 use std::alloc::{AllocError, Global};
-use std::hash::BuildHasherDefault;
 use tp_record::rows::TaskRow;
 use tp_types::ids::TaskId;
 use tp_types::refusals::PoolError;
@@ -45,7 +45,7 @@ impl<P> Tasks<P> {
     {
         Tasks {
             alloc,
-            tasks: IndexMap::with_hasher(alloc, BuildHasherDefault::new()),
+            tasks: table::none(alloc),
             groups: IndexMap::new(alloc),
             fates: Fates::none(),
             submitted: 0,
@@ -81,7 +81,7 @@ impl<P> Tasks<P> {
                 return Err(PoolError::NoMemory);
             }
         }
-        if table::make_place(&mut self.tasks).is_err() {
+        if table::make_place(&mut self.tasks, self.submitted).is_err() {
             return Err(PoolError::NoMemory);
         }
         Ok(())
@@ -342,7 +342,7 @@ impl<P> Tasks<P> {
     pub fn kept(&self) -> u32
         ensures { (rs : List ℕ) → AreReleased self.now rs → result + length rs ≡ submissions self.now }
     {
-        self.tasks.len() as u32
+        table::len(&self.tasks)
     }
 
     /// How many tasks came to this fate.
