@@ -1,10 +1,11 @@
 -- What a write at a task's home leaves of the tasks, and what a write beside leaves.
-use Rattle.std.proofs.Common.{◌≡◌, ℕ, zero, suc, ◌+◌, ◌-◌, ◌%◌, ◌^◌, ◌<◌, ◌≤◌, Bool, true, false, cond, List, [], ◌∷◌, length, set, get_or, Option, Some, None, is_some, refl, sym, ap, subst, ◌∙◌, arith, inl, inr}
+use Rattle.std.proofs.Common.{◌≡◌, ℕ, zero, suc, ◌+◌, ◌-◌, ◌%◌, ◌^◌, ◌<◌, ◌≤◌, Bool, true, false, cond, List, [], ◌∷◌, length, set, get_or, replicate, ◌||◌, Option, Some, None, is_some, refl, sym, ap, subst, ◌∙◌, arith, inl, inr}
 use mathlib.Core.Path.{ap₂}
 use Rattle.std.specs.Prelude.{nat_eq, slice_get, bit_and}
 use Rattle.std.specs.List.{sum_by}
 use Rattle.std.proofs.lemmas.Bool.{cases_eq, or_cases, ne_eqb, eq-eqb, eqb-true, false≢true}
-use Rattle.std.proofs.lemmas.List.{length-set, get_or-set_same, get_or-set_other}
+use Rattle.std.proofs.lemmas.List.{length-set, length-replicate, get_or-set_same, get_or-set_other}
+use Rattle.std.proofs.lemmas.List.Folds.{sum_by-replicate}
 use Rattle.std.proofs.lemmas.List.Sums.{sum_by-set}
 use Rattle.std.proofs.lemmas.Nat.{and_mask, pow_pos}
 use Rattle.std.proofs.Math.Nat.{mod-zero}
@@ -38,6 +39,44 @@ low_bits bits n t size small fits = elim (or_cases (nat_eq n 0) (nat_eq n (2 ^ b
 
     less : n ≡ 2 ^ bits → (n + 18446744073709551615) % 18446744073709551616 ≡ 2 ^ bits - 1
     less e = let some = pow_pos bits in omega (arith, e, small, some)
+
+pub power_size : (bits n : ℕ) → n ≡ 2 ^ bits → is_size bits n ≡ true
+power_size bits n e = ap (λ b. nat_eq n 0 || b) (eq-eqb n (2 ^ bits) e) ∙ or_true (nat_eq n 0)
+  where
+    or_true : (b : Bool) → (b || true) ≡ true
+    or_true true = refl
+    or_true false = refl
+
+-- homes that are free
+module _ {P : Type 0} where
+  pub free_at : (n i : ℕ) → home_at {P = P} (replicate {A = Option (Home P)} n None) i ≡ None
+  free_at zero i = refl
+  free_at (suc n) zero = refl
+  free_at (suc n) (suc i) = free_at n i
+
+  pub count_free : (p : TaskRow → Bool) (n : ℕ) (hs : List (Option (Home P))) → hs ≡ replicate n None → home_count p hs ≡ 0
+  count_free p n hs is =
+      let sum = ap (home_count p) is ∙ sum_by-replicate (λ (h : Option (Home P)). one (home_passes p h)) n None in
+      omega (arith, sum)
+
+  module _ {S : Type 0} (homes : List (Option (Home P))) (n : ℕ) (free : homes ≡ replicate n None) (beside : IndexMap ℕ (Task P) S) (empty : beside.entries ≡ []) where
+    no_holder : (i t : ℕ) → holder (home_at homes i) ≡ Some t → ⊥
+    no_holder i t e = none-some t (sym (ap (λ hs. holder (home_at hs i)) free ∙ ap holder (free_at n i)) ∙ e)
+
+    pub sized_free : (bits : ℕ) → n ≡ 2 ^ bits → is_size bits (length homes) ≡ true
+    sized_free bits e = power_size bits (length homes) (ap length free ∙ length-replicate n None ∙ e)
+
+    pub placed_free : ArePlaced homes
+    placed_free i t e = absurd (no_holder i t e)
+
+    pub apart_free : AreApart homes beside
+    apart_free i t e = absurd (no_holder i t e)
+
+    pub count_none : (p : TaskRow → Bool) → home_count p homes + beside_count p beside ≡ 0
+    count_none p =
+        let home = count_free p n homes free in
+        let away = ap (λ es. sum_by (λ (k : Task P). one (p k.row)) (values_of es)) empty in
+        omega (arith, home, away)
 
 module _ {P : Type 0} where
   pub a_task : (o : Option (Task P)) → is_some o ≡ true → (v : Task P) × (o ≡ Some v)

@@ -1,6 +1,8 @@
 //! Where the tasks lie.
 
-ghost use Rattle.std.specs.Prelude.{◌≡◌, true, length};
+ghost use Rattle.std.specs.Prelude.{◌≡◌, true, length, nat_eq};
+ghost use Rattle.std.proofs.Props.{props};
+ghost use Rattle.indexmap.specs.IndexMap.{IsUnique};
 ghost use Rattle.tp_tasks.specs.Homes.{is_size, ArePlaced, AreApart, AreKept};
 
 use crate::order::InOrder;
@@ -32,5 +34,6 @@ pub struct Rows<P> {
     ghost sized: { is_size bits (length homes.items) ≡ true },
     ghost placed: { ArePlaced homes.items },
     ghost apart: { AreApart homes.items beside },
+    ghost unique: { IsUnique nat_eq beside } by { Prim.hlevel props },
     ghost counted: { AreKept count homes.items beside },
 }

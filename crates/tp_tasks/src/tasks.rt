@@ -400,7 +400,6 @@ impl<P> Tasks<P> {
     pub fn is_open(&self, g: u32) -> bool
         ensures { IsTrue result ↔ ((t : ℕ) × (r : TaskRow) × IsOpenIn self.now g t r) }
     {
-        table::are_distinct(&self.tasks);
         groups::is_pending(&self.groups, g)
     }
 }

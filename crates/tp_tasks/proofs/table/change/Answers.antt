@@ -13,6 +13,7 @@ invariant_of-tasks g c =
       sized = sized_written m _ h at.0 w;
       placed = placed_written m _ h at.0 w;
       apart = apart_written m _ h at.0 w;
+      unique = m.unique;
       counted = kept_written m _ h at.0 w;
     }
 

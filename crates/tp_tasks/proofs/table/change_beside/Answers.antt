@@ -13,6 +13,7 @@ invariant_of-tasks g c =
       sized = m.sized;
       placed = m.placed;
       apart = apart_through m c.args.t away v w (sym c.in-Some.ensures.value) _ (c.get_mut.follows.holds w);
+      unique = (c.get_mut.follows.holds w).4;
       counted = kept_through m c.args.t away v w (sym c.in-Some.ensures.value) _ (c.get_mut.follows.holds w);
     }
 

@@ -15,6 +15,7 @@ invariant_of-tasks g c =
       sized = m.sized;
       placed = m.placed;
       apart = apart_other m c.args.t c.requires.away c.insert.new.self _ c.in-Ok.ensures.updates;
+      unique = c.in-Ok.ensures.unique;
       counted = kept_more m c.args.t c.requires.away c.insert.new.self c.args.task c.in-Ok.ensures.entries c.requires.absent;
     }
 

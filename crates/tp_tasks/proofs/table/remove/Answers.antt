@@ -13,6 +13,7 @@ invariant_of-tasks g c =
       sized = sized_gone m c.args.t _ c.place_of-place.ensures here;
       placed = placed_gone m c.args.t _ c.place_of-place.ensures here;
       apart = apart_gone m c.args.t _ c.place_of-place.ensures here;
+      unique = m.unique;
       counted = kept_gone m c.args.t _ c.place_of-place.ensures here;
     }
 

@@ -17,6 +17,7 @@ invariant_of-tasks g c =
       sized = m.sized;
       placed = m.placed;
       apart = apart_other m c.args.t c.requires c.swap_remove.new.self _ c.swap_remove.ensures.updates;
+      unique = c.swap_remove.ensures.unique;
       counted = kept_less m c.args.t c.requires c.swap_remove.new.self c.swap_remove.ensures.entries v.0 v.1;
     }
 
