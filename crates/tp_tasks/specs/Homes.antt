@@ -1,5 +1,5 @@
 -- Where a task lies: at its home, or beside.
-use Rattle.std.specs.Prelude.{ℕ, ◌≡◌, ◌+◌, ◌%◌, ◌^◌, ◌==◌, ◌||◌, Bool, true, false, List, length, slice_get, slice_index_or, sum_by, Option, Some, None, is_some, nat_eq, if◌then◌else◌}
+use Rattle.std.specs.Prelude.{ℕ, ◌≡◌, ◌+◌, ◌%◌, ◌^◌, ◌<◌, ◌≤◌, ◌==◌, ◌||◌, Bool, true, false, not, List, length, slice_get, slice_index_or, sum_by, Option, Some, None, is_some, nat_eq, if◌then◌else◌}
 use Rattle.std.specs.Map.{values_of}
 use Rattle.indexmap.specs.IndexMap.{IndexMap, get, values}
 use Rattle.tp_record.specs.declared.rows.TaskRow.{TaskRow}
@@ -61,6 +61,27 @@ module _ {P : Type 0} where
   -- each task at a home has it as its own
   abbrev pub ArePlaced : List (Option (Home P)) → Type 0
   ArePlaced homes = (i t : ℕ) → holder (home_at homes i) ≡ Some t → home_of (length homes) t ≡ i
+
+  -- whether the task there has another home among n
+  abbrev pub moves : ℕ → ℕ → Option (Home P) → Bool
+  moves n i None = false
+  moves n i (Some h) = not (nat_eq (home_of n h.number) i)
+
+  -- what stays at the i-th home, and what goes to another
+  abbrev pub stays : ℕ → ℕ → Option (Home P) → Option (Home P)
+  stays n i o = if moves n i o then None else o
+
+  abbrev pub goes : ℕ → ℕ → Option (Home P) → Option (Home P)
+  goes n i o = if moves n i o then o else None
+
+  -- of m homes the first k are settled among twice as many, of which the others are free
+  pub record AreSpread (k m : ℕ) (old new : List (Option (Home P))) : Type 0 where
+    pub len : length new ≡ length old
+    pub low : (i : ℕ) → i < k → home_at new i ≡ stays (length old) i (home_at old i)
+    pub high : (i : ℕ) → i < k → home_at new (i + m) ≡ goes (length old) i (home_at old i)
+    pub rest : (i : ℕ) → k ≤ i → i < m → home_at new i ≡ home_at old i
+    pub free : (i : ℕ) → k ≤ i → i < m → home_at new (i + m) ≡ None
+    pub count : (p : TaskRow → Bool) → home_count p new ≡ home_count p old
 
 module _ {P S : Type 0} where
   -- what is kept of task t
