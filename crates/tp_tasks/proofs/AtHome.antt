@@ -40,6 +40,10 @@ low_bits bits n t size small fits = elim (or_cases (nat_eq n 0) (nat_eq n (2 ^ b
     less : n ≡ 2 ^ bits → (n + 18446744073709551615) % 18446744073709551616 ≡ 2 ^ bits - 1
     less e = let some = pow_pos bits in omega (arith, e, small, some)
 
+pub is_nil : {X : Type 0} (xs : List X) → length xs ≡ 0 → xs ≡ []
+is_nil [] e = refl
+is_nil (x ∷ xs) e = absurd (omega (arith, e))
+
 pub power_size : (bits n : ℕ) → n ≡ 2 ^ bits → is_size bits n ≡ true
 power_size bits n e = ap (λ b. nat_eq n 0 || b) (eq-eqb n (2 ^ bits) e) ∙ or_true (nat_eq n 0)
   where
@@ -59,9 +63,13 @@ module _ {P : Type 0} where
       let sum = ap (home_count p) is ∙ sum_by-replicate (λ (h : Option (Home P)). one (home_passes p h)) n None in
       omega (arith, sum)
 
-  module _ {S : Type 0} (homes : List (Option (Home P))) (n : ℕ) (free : homes ≡ replicate n None) (beside : IndexMap ℕ (Task P) S) (empty : beside.entries ≡ []) where
+  module _ {S : Type 0} (homes : List (Option (Home P))) (n : ℕ) (free : homes ≡ replicate n None) (beside : IndexMap ℕ (Task P) S) where
     no_holder : (i t : ℕ) → holder (home_at homes i) ≡ Some t → ⊥
     no_holder i t e = none-some t (sym (ap (λ hs. holder (home_at hs i)) free ∙ ap holder (free_at n i)) ∙ e)
+
+    -- no task is found there
+    pub found_free : (t : ℕ) → found homes beside t ≡ get nat_eq beside t
+    found_free t = ap (λ o. or_beside o (get nat_eq beside t)) (ap (λ hs. held t (home_at hs (home_of (length homes) t))) free ∙ ap (held t) (free_at n (home_of (length homes) t)))
 
     pub sized_free : (bits : ℕ) → n ≡ 2 ^ bits → is_size bits (length homes) ≡ true
     sized_free bits e = power_size bits (length homes) (ap length free ∙ length-replicate n None ∙ e)
@@ -72,8 +80,8 @@ module _ {P : Type 0} where
     pub apart_free : AreApart homes beside
     apart_free i t e = absurd (no_holder i t e)
 
-    pub count_none : (p : TaskRow → Bool) → home_count p homes + beside_count p beside ≡ 0
-    count_none p =
+    pub count_none : beside.entries ≡ [] → (p : TaskRow → Bool) → home_count p homes + beside_count p beside ≡ 0
+    count_none empty p =
         let home = count_free p n homes free in
         let away = ap (λ es. sum_by (λ (k : Task P). one (p k.row)) (values_of es)) empty in
         omega (arith, home, away)

@@ -17,9 +17,9 @@ invariant_of-result g c =
     let beside = c.with_hasher.result in
     let empty = c.with_hasher.ensures.empty in
     record {
-      sized = sized_free homes n free beside empty bits whole;
-      placed = placed_free homes n free beside empty;
-      apart = apart_free homes n free beside empty;
+      sized = sized_free homes n free beside bits whole;
+      placed = placed_free homes n free beside;
+      apart = apart_free homes n free beside;
       unique = c.with_hasher.ensures.unique;
       counted = count_none homes n free beside empty _;
     }
