@@ -1,5 +1,5 @@
 use Rattle.std.proofs.Common.{arith}
-use Rattle.tp_tasks.proofs.AtHome.{apart_other, task_other, others_other, count_more, kept_more}
+use Rattle.tp_tasks.proofs.AtHome.{apart_other, task_other, count_more, kept_more}
 use Rattle.tp_tasks.proofs.table.put_beside.Goals as goal
 
 pub overflow_add-tasks : goal.overflow_add-tasks

@@ -1,4 +1,4 @@
-use Rattle.std.proofs.Common.{sym, refl, ◌∙◌}
+use Rattle.std.proofs.Common.{sym, ◌∙◌}
 use Rattle.tp_tasks.proofs.AtHome.{sized_gone, placed_gone, apart_gone, some_kept, kept_gone, task_gone, others_gone, count_gone}
 use Rattle.tp_tasks.proofs.table.remove.Goals as goal
 

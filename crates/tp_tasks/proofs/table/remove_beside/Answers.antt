@@ -1,6 +1,4 @@
 use Rattle.std.proofs.Common.{sym, ap, ◌∙◌, is_some}
-use Rattle.std.proofs.lemmas.Option.{none-some}
-use Rattle.tp_tasks.specs.Table.{row_of_task}
 use Rattle.tp_tasks.proofs.AtHome.{a_task, apart_other, task_other, count_less, some_beside, kept_less}
 use Rattle.tp_tasks.proofs.table.remove_beside.Goals as goal
 

@@ -1,5 +1,5 @@
 use Rattle.std.proofs.Common.{◌≡◌, ◌<◌, ◌&&◌, Bool, true, false, cond, [], ◌∷◌, ◌++◌, is_some, ap, refl, sym, subst, arith, ◌∙◌, Some}
-use Rattle.std.specs.Prelude.{nat_eq, is_none, if◌then◌else◌}
+use Rattle.std.specs.Prelude.{is_none, if◌then◌else◌}
 use Rattle.tp_types.specs.declared.tasks.Fate.{Fate}
 use Rattle.tp_types.specs.declared.tasks.Fate.TheVariants as fate
 use Rattle.tp_record.specs.declared.rows.TaskRow.{TaskRow}

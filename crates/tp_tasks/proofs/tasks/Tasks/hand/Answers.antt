@@ -1,5 +1,5 @@
 use Rattle.std.proofs.Common.{refl}
-use Rattle.std.specs.Prelude.{nat_eq, true}
+use Rattle.std.specs.Prelude.{true}
 use Rattle.tp_tasks.specs.Table.{task_in}
 use Rattle.tp_tasks.proofs.Rows.{kept_task, submitted_stays, counted_stays, grouped_stays, sets_row}
 use Rattle.tp_tasks.proofs.Listed.{listed_stays}
