@@ -1,9 +1,9 @@
 -- Tasks lie at their homes among twice as many.
-use Rattle.std.proofs.Common.{◌≡◌, ℕ, zero, suc, ◌+◌, ◌-◌, ◌%◌, ◌^◌, ◌<◌, ◌≤◌, Bool, true, false, not, cond, List, ◌++◌, length, set, replicate, get_or, Option, Some, None, is_some, refl, sym, ap, subst, ◌∙◌, arith, ◌⊎◌, inl, inr}
+use Rattle.std.proofs.Common.{◌≡◌, ℕ, suc, ◌+◌, ◌-◌, ◌%◌, ◌^◌, ◌<◌, ◌≤◌, Bool, true, false, not, cond, List, ◌++◌, length, set, replicate, Option, Some, None, refl, sym, ap, subst, ◌∙◌, arith, ◌⊎◌, inl, inr}
 use Rattle.std.specs.Prelude.{nat_eq}
 use Rattle.std.specs.List.{SwappedAt}
-use Rattle.std.proofs.lemmas.Bool.{cases_eq, cases_lt, or_cases, ne_eqb, eq-eqb, eqb-true, false≢true, true≢false}
-use Rattle.std.proofs.lemmas.List.{length-append, length-replicate, get_or-set_other, get_or_past, get_or_append_left, get_or-append-add, length-set}
+use Rattle.std.proofs.lemmas.Bool.{cases_eq, cases_lt, or_cases, ne_eqb, eq-eqb, eqb-true, false≢true}
+use Rattle.std.proofs.lemmas.List.{length-append, length-replicate, get_or-set_other, get_or_past, get_or_append_left, length-set}
 use Rattle.std.proofs.lemmas.List.Sums.{sum_by-set, sum_by-append}
 use Rattle.std.proofs.lemmas.Option.{none-some, same_Some}
 use Rattle.std.proofs.Math.Nat.{mod-lt, mod-eq_of_lt, add-mod_right, mod-mod_of_dvd, dvd-add, pow-le-pow_right, two-pow-succ}
@@ -13,7 +13,7 @@ use Rattle.tp_record.specs.declared.rows.TaskRow.{TaskRow}
 use Rattle.tp_tasks.specs.declared.homes.Home.{Home}
 use Rattle.tp_tasks.specs.declared.table.Task.{Task}
 use Rattle.tp_tasks.specs.Homes.{home_of, is_size, held, holder, home_passes, home_at, or_beside, found, home_count, moves, stays, goes, ArePlaced, AreApart, AreSpread}
-use Rattle.tp_tasks.proofs.AtHome.{one, power_size, count_free, free_at, held_other}
+use Rattle.tp_tasks.proofs.AtHome.{one, power_size, count_free}
 
 -- a number's home among twice as many is the one that it had, or so many further
 halves : (m t : ℕ) → 0 < m → (home_of (m + m) t ≡ home_of m t) ⊎ (home_of (m + m) t ≡ home_of m t + m)

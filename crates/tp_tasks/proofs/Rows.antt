@@ -1,6 +1,6 @@
 -- What is kept of the tasks is still true after a task's entry is written that has the kind and the fate that it had.
 use Rattle.std.proofs.Common.{◌≡◌, ℕ, ◌+◌, Bool, true, false, cond, Option, Some, None, refl, sym, ap, ◌∙◌, is_some}
-use Rattle.std.specs.Prelude.{nat_eq, is_none, IsSome, if◌then◌else◌}
+use Rattle.std.specs.Prelude.{is_none, IsSome, if◌then◌else◌}
 use Rattle.tp_types.specs.declared.tasks.Fate.{Fate}
 use Rattle.tp_types.specs.declared.tasks.Fate.TheVariants as fate
 use Rattle.std.proofs.lemmas.Bool.{false≢true}

@@ -1,6 +1,5 @@
 -- Where a task lies: at its home, or beside.
 use Rattle.std.specs.Prelude.{ℕ, ◌≡◌, ◌+◌, ◌%◌, ◌^◌, ◌<◌, ◌≤◌, ◌==◌, ◌||◌, Bool, true, false, not, List, length, slice_get, slice_index_or, sum_by, Option, Some, None, is_some, nat_eq, if◌then◌else◌}
-use Rattle.std.specs.Map.{values_of}
 use Rattle.indexmap.specs.IndexMap.{IndexMap, get, values}
 use Rattle.tp_record.specs.declared.rows.TaskRow.{TaskRow}
 use Rattle.tp_tasks.specs.declared.homes.Home.{Home}
