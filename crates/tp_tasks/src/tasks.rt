@@ -1,6 +1,6 @@
 //! The tasks of a pool, by number.
 
-ghost use Rattle.std.specs.Prelude.{ℕ, ◌≡◌, ◌↔◌, ◌+◌, ◌-◌, ◌<◌, ◌^◌, ◌&&◌, ◌++◌, ◌∷◌, [], true, false, not, drop, List, length, slice_get, option_map, nat_eq, is_none, IsTrue, IsSome, IsOkUnless, IfOk, OnOk, Some, None, if◌then◌else◌};
+ghost use Rattle.std.specs.Prelude.{ℕ, ◌≡◌, ◌↔◌, ◌+◌, ◌-◌, ◌<◌, ◌^◌, ◌&&◌, ◌++◌, ◌∷◌, [], true, false, not, drop, List, length, slice_get, option_map, nat_eq, is_none, option_copied, IsTrue, IsSome, IsOkUnless, IfOk, OnOk, Some, None, if◌then◌else◌};
 ghost use Rattle.tp_types.specs.declared.tasks.Fate.{Fate};
 ghost use Rattle.tp_record.specs.declared.rows.TaskRow.{TaskRow};
 ghost use Rattle.tp_record.specs.State.{fate_of, is_fate, no_row};
@@ -37,7 +37,7 @@ pub struct Tasks<P> {
 }
 
 impl<P> Tasks<P> {
-    ghost use Rattle.tp_tasks.specs.Tasks.{task_of, row_of, promise_of, number_of, payload_of, done_of, fated_of, submissions, HasNone, IsReady, IsOpenIn, IsListed, AreReleased, KeepsOthers, KeepsDone, KeepsFates, SetsRow, IsUnchanged};
+    ghost use Rattle.tp_tasks.specs.Tasks.{task_of, row_of, promise_of, number_of, payload_of, done_of, fated_of, submissions, kept_of, HasNone, IsReady, IsOpenIn, IsListed, AreReleased, KeepsOthers, KeepsDone, KeepsFates, SetsRow, IsUnchanged};
 
     /// No tasks. It takes no memory.
     pub fn new(alloc: Global) -> Tasks<P>
@@ -172,6 +172,13 @@ impl<P> Tasks<P> {
         ensures submitted { submissions self.new ≡ submissions self.old }
     {
         table::set_number(&mut self.tasks, t.0, number);
+    }
+
+    /// A task's payload, None where it was taken or the task is not kept.
+    pub fn payload(&self, t: TaskId) -> Option<&P>
+        ensures { option_copied result ≡ payload_of self.now t.0 }
+    {
+        table::payload(&self.tasks, t.0)
     }
 
     /// Takes a task's payload out, None where it was taken before or the task is not kept.
@@ -339,8 +346,10 @@ impl<P> Tasks<P> {
     }
 
     /// How many tasks are kept: those that were submitted and not released.
+    #[inline(always)]
     pub fn kept(&self) -> u32
-        ensures { (rs : List ℕ) → AreReleased self.now rs → result + length rs ≡ submissions self.now }
+        ensures count { result ≡ kept_of self.now }
+        ensures released { (rs : List ℕ) → AreReleased self.now rs → result + length rs ≡ submissions self.now }
     {
         table::len(&self.tasks)
     }
