@@ -26,8 +26,8 @@ invariant_of-tasks-2 g c =
       counted = omega (arith, same, all);
     }
 
-pub returns-clause-same : goal.returns-clause-same
-returns-clause-same g c =
+pub returns : goal.returns
+returns g c =
     let m = c.args.tasks.now in
     let homes = m.homes.items in
     let now = c.spread.new.homes.items in
