@@ -1,6 +1,5 @@
 -- What a write at a task's home leaves of the tasks, and what a write beside leaves.
 use Rattle.std.proofs.Common.{◌≡◌, ℕ, zero, suc, ◌+◌, ◌-◌, ◌%◌, ◌^◌, ◌<◌, ◌≤◌, Bool, true, false, cond, List, [], ◌∷◌, length, set, get_or, replicate, ◌||◌, Option, Some, None, is_some, refl, sym, ap, subst, ◌∙◌, arith, inl, inr}
-use mathlib.Core.Path.{ap₂}
 use Rattle.std.specs.Prelude.{nat_eq, slice_get, bit_and}
 use Rattle.std.specs.List.{sum_by}
 use Rattle.std.proofs.lemmas.Bool.{cases_eq, or_cases, ne_eqb, eq-eqb, eqb-true, false≢true}
@@ -22,7 +21,7 @@ use Rattle.tp_tasks.specs.declared.order.InOrder.{InOrder}
 use Rattle.tp_tasks.specs.declared.table.Task.{Task}
 use Rattle.tp_tasks.specs.Homes.{home_of, is_size, held, holder, home_passes, is_free, is_held, home_at, or_beside, found, home_count, beside_count, ArePlaced, AreApart, AreKept}
 use Rattle.tp_tasks.proofs.Counts.{count-put, count-removed}
-use Rattle.tp_tasks.specs.Table.{row_of_task, task_in, row_in, row_count, KeepsOtherTasks, SetsTask}
+use Rattle.tp_tasks.specs.Table.{row_of_task, task_in, row_in, row_count}
 
 abbrev pub one : Bool → ℕ
 one b = cond b 1 0
@@ -67,10 +66,6 @@ module _ {P : Type 0} where
     no_holder : (i t : ℕ) → holder (home_at homes i) ≡ Some t → ⊥
     no_holder i t e = none-some t (sym (ap (λ hs. holder (home_at hs i)) free ∙ ap holder (free_at n i)) ∙ e)
 
-    -- no task is found there
-    pub found_free : (t : ℕ) → found homes beside t ≡ get nat_eq beside t
-    found_free t = ap (λ o. or_beside o (get nat_eq beside t)) (ap (λ hs. held t (home_at hs (home_of (length homes) t))) free ∙ ap (held t) (free_at n (home_of (length homes) t)))
-
     pub sized_free : (bits : ℕ) → n ≡ 2 ^ bits → is_size bits (length homes) ≡ true
     sized_free bits e = power_size bits (length homes) (ap length free ∙ length-replicate n None ∙ e)
 
@@ -91,9 +86,14 @@ module _ {P : Type 0} where
   a_task None e = absurd (false≢true e)
   a_task (Some v) e = (v, refl)
 
-  is_nothing : (o : Option (Task P)) → is_some o ≡ false → o ≡ None
+  pub is_nothing : (o : Option (Task P)) → is_some o ≡ false → o ≡ None
   is_nothing None e = refl
   is_nothing (Some v) e = absurd (false≢true (sym e))
+
+  -- a task that is not kept lies at no home, nor beside
+  neither : (o x : Option (Task P)) → or_beside o x ≡ None → (o ≡ None) × (x ≡ None)
+  neither None x e = (refl, e)
+  neither (Some v) x e = absurd (none-some v (sym e))
 
   pub is_taken : (t : ℕ) (o : Option (Option (Home P))) → is_held t o ≡ true → (h : Home P) × (o ≡ Some (Some h)) × (h.number ≡ t)
   is_taken t None e = absurd (false≢true e)
@@ -129,6 +129,11 @@ module _ {P : Type 0} where
 
   pub held_other : (h : Home P) (t u : ℕ) → h.number ≡ t → nat_eq t u ≡ false → held u (Some h) ≡ None
   held_other h t u e ne = ap (λ n. cond (nat_eq n u) (Some h.task) None) e ∙ ap (λ b. cond b (Some h.task) None) ne
+
+  -- where no other task than t lies
+  held_none : (t : ℕ) (o : Option (Home P)) → ((u : ℕ) → holder o ≡ Some u → t ≡ u) → (u : ℕ) → nat_eq t u ≡ false → held u o ≡ None
+  held_none t None only u ne = refl
+  held_none t (Some h) only u ne = held_other h t u (sym (only h.number refl)) ne
 
   -- a task whose number is that of a home is held there
   pub holds : (o : Option (Home P)) (t : ℕ) → holder o ≡ Some t → (v : Task P) × (held t o ≡ Some v)
@@ -188,154 +193,63 @@ module _ {P : Type 0} where
   pub found_beside : {S : Type 0} (homes : List (Option (Home P))) (beside : IndexMap ℕ (Task P) S) (t : ℕ) → held t (home_at homes (home_of (length homes) t)) ≡ None → found homes beside t ≡ get nat_eq beside t
   found_beside homes beside t away = ap (λ o. or_beside o (get nat_eq beside t)) away
 
--- what is true of each table, after what is kept of a task at its home is written
-module _ {P : Type 0} (m : Rows P) (i : ℕ) (h : Home P) (there : slice_get m.homes.items i ≡ Some (Some h)) (w : Task P) where
-  abbrev o : Option (Home P)
-  o = Some (record { number = h.number; task = w })
+-- a table in which `o` lies at the home of task t, where `was` lay
+pub record IsWritten {P : Type 0} (m : Rows P) (t : ℕ) (homes : List (Option (Home P))) (was o : Option (Home P)) : Type 0 where
+  pub sized : is_size m.bits (length homes) ≡ true
+  pub placed : ArePlaced homes
+  pub apart : AreApart homes m.beside
+  pub task : found homes m.beside t ≡ or_beside (held t o) (get nat_eq m.beside t)
+  pub others : (u : ℕ) → nat_eq t u ≡ false → found homes m.beside u ≡ task_in m u
+  pub count : (p : TaskRow → Bool) → home_count p homes + one (home_passes p was) ≡ home_count p m.homes.items + one (home_passes p o)
 
-  inside : i < length m.homes.items
-  inside = slice_get_within m.homes.items i (Some h) there
-
-  same_holder : (t : ℕ) → holder o ≡ Some t → holder (home_at m.homes.items i) ≡ Some t
-  same_holder t e = ap holder (here m.homes.items i (Some h) there) ∙ e
-
-  pub sized_written : is_size m.bits (length (set m.homes.items i o)) ≡ true
-  sized_written = ap (is_size m.bits) (length-set m.homes.items i o) ∙ m.sized
-
-  pub placed_written : ArePlaced (set m.homes.items i o)
-  placed_written = placed_set m.homes.items i o inside (λ t e. m.placed i t (same_holder t e)) m.placed
-
-  pub apart_written : AreApart (set m.homes.items i o) m.beside
-  apart_written = apart_set m.homes.items i o inside m.beside (λ t e. m.apart i t (same_holder t e)) m.apart
-
-  pub kept_written : AreKept m.count (set m.homes.items i o) m.beside
-  kept_written =
-      let sum = count_set m.homes.items i o inside (λ _. true) in
-      let was = ap (λ x. one (home_passes (λ _. true) x)) (here m.homes.items i (Some h) there) in
-      let all = m.counted in
-      omega (arith, sum, was, all)
-
-module _ {P : Type 0} (old : Rows P) (t i : ℕ) (is : i ≡ home_of (length old.homes.items) t) (h : Home P) (there : slice_get old.homes.items i ≡ Some (Some h)) (number : h.number ≡ t) where
-  within : i < length old.homes.items
-  within = slice_get_within old.homes.items i (Some h) there
-
-  was_here : home_at old.homes.items i ≡ Some h
-  was_here = here old.homes.items i (Some h) there
-
-  -- a task at its home is found
-  pub found_home : task_in old t ≡ Some h.task
-  found_home = ap (λ o. or_beside o (get nat_eq old.beside t)) (ap (λ j. held t (home_at old.homes.items j)) (sym is) ∙ ap (held t) was_here ∙ held_same h t number)
-
-  module _ (new : Rows P) (beside : new.beside ≡ old.beside) (o : Option (Home P)) (homes : new.homes.items ≡ set old.homes.items i o) where
-    pub others_home : ((u : ℕ) → nat_eq t u ≡ false → held u o ≡ None) → KeepsOtherTasks old new t
-    others_home gone u ne =
-        ap₂ (λ hs (b : _). found hs b u) homes beside
-        ∙ ap (λ x. or_beside x (get nat_eq old.beside u)) (held_beyond old.homes.items i o within t (λ x apart. gone x apart ∙ sym (ap (held x) was_here ∙ held_other h t x number apart)) u ne)
-
-    pub count_home : (p : TaskRow → Bool) → row_count p new + one (p h.task.row) ≡ row_count p old + one (home_passes p o)
-    count_home p =
-        let sum = count_set old.homes.items i o within p in
-        let was = ap (λ x. one (home_passes p x)) was_here in
-        let now = ap (home_count p) homes in
-        let same = ap (beside_count p) beside in
-        omega (arith, sum, was, now, same)
-
-    pub now_here : task_in new t ≡ or_beside (held t o) (get nat_eq old.beside t)
-    now_here = ap₂ (λ hs (b : _). found hs b t) homes beside ∙ ap (λ x. or_beside x (get nat_eq old.beside t)) (held_here old.homes.items i o within t (sym is))
-
-  -- what is kept of it is written
-  pub sets_home : (new : Rows P) (w : Task P) → new.beside ≡ old.beside → new.homes.items ≡ set old.homes.items i (Some (record { number = h.number; task = w })) → SetsTask old new t h.task w
-  sets_home new w beside homes =
-      let o : Home P = record { number = h.number; task = w } in
+module _ {P : Type 0} (m : Rows P) (t i : ℕ) (is : i ≡ home_of (length m.homes.items) t) where
+  home_written : (was o : Option (Home P)) → slice_get m.homes.items i ≡ Some was → ((u : ℕ) → holder was ≡ Some u → t ≡ u) → ((u : ℕ) → holder o ≡ Some u → t ≡ u) →
+      is_some (get nat_eq m.beside t) ≡ false → IsWritten m t (set m.homes.items i o) was o
+  unfolding task_in
+  home_written was o there before after alone =
+      let within = slice_get_within m.homes.items i was there in
+      let lay = here m.homes.items i was there in
       record {
-        task = now_here new beside (Some o) homes ∙ ap (λ x. or_beside x (get nat_eq old.beside t)) (held_same o t number);
-        others = others_home new beside (Some o) homes (λ u ne. held_other o t u number ne);
-        count = count_home new beside (Some o) homes;
+        sized = ap (is_size m.bits) (length-set m.homes.items i o) ∙ m.sized;
+        placed = placed_set m.homes.items i o within (λ u e. ap (home_of (length m.homes.items)) (sym (after u e)) ∙ sym is) m.placed;
+        apart = apart_set m.homes.items i o within m.beside (λ u e. ap (λ x. is_some (get nat_eq m.beside x)) (sym (after u e)) ∙ alone) m.apart;
+        task = ap (λ x. or_beside x (get nat_eq m.beside t)) (held_here m.homes.items i o within t (sym is));
+        others = λ u ne. ap (λ x. or_beside x (get nat_eq m.beside u))
+            (held_beyond m.homes.items i o within t (λ x apart. held_none t o after x apart ∙ sym (ap (held x) lay ∙ held_none t was before x apart)) u ne);
+        count = λ p.
+            let sum = count_set m.homes.items i o within p in
+            let is = ap (λ x. one (home_passes p x)) lay in
+            omega (arith, sum, is);
       }
 
--- what is true of each table, after a task beside is written
-module _ {P : Type 0} (m : Rows P) (t : ℕ) (away : held t (home_at m.homes.items (home_of (length m.homes.items) t)) ≡ None) (v w : Task P) (there : get nat_eq m.beside t ≡ Some v) where
-  module _ (beside : IndexMap ℕ (Task P) (BuildHasherDefault InOrder)) (through : WritesThrough nat_eq (nat_eq t) m.beside w beside) where
-    updates : UpdatesBy nat_eq (nat_eq t) m.beside beside (Some w)
-    updates = through.3 (ap is_some there)
+  -- a new task lies at its home
+  pub put_home : slice_get m.homes.items i ≡ Some None → task_in m t ≡ None → (w : Task P) → IsWritten m t (set m.homes.items i (Some (record { number = t; task = w }))) None (Some (record { number = t; task = w }))
+  unfolding task_in
+  put_home free absent w = home_written None (Some (record { number = t; task = w })) free (λ u e. absurd (none-some u e)) (λ u e. same_Some t u e) (ap is_some (neither (held t (home_at m.homes.items (home_of (length m.homes.items) t))) (get nat_eq m.beside t) absent).1)
 
-    pub others_through : (u : ℕ) → nat_eq t u ≡ false → get nat_eq beside u ≡ get nat_eq m.beside u
-    others_through = updates.2
+  module _ (h : Home P) (there : slice_get m.homes.items i ≡ Some (Some h)) (number : h.number ≡ t) where
+    only : (u : ℕ) → Some h.number ≡ Some u → t ≡ u
+    only u e = sym number ∙ same_Some h.number u e
 
-    pub count_through : (p : TaskRow → Bool) → beside_count p beside + one (p v.row) ≡ beside_count p m.beside + one (p w.row)
-    count_through p = ap (λ es. sum_by (λ (k : Task P). one (p k.row)) (values_of es) + one (p v.row)) through.0 ∙ sum_by-set_value (λ (k : Task P). one (p k.row)) (nat_eq t) m.beside.entries v w there
+    pub alone : is_some (get nat_eq m.beside t) ≡ false
+    alone = m.apart i t (ap holder (here m.homes.items i (Some h) there) ∙ ap (λ n. Some n) number)
 
-    pub apart_through : AreApart m.homes.items beside
-    apart_through = apart_beside m.homes.items m.beside beside t m.placed away others_through m.apart
+    -- a task at its home is found
+    pub found_home : task_in m t ≡ Some h.task
+    unfolding task_in
+    found_home = ap (λ o. or_beside o (get nat_eq m.beside t))
+        (ap (λ j. held t (home_at m.homes.items j)) (sym is) ∙ ap (held t) (here m.homes.items i (Some h) there) ∙ held_same h t number)
 
-    pub kept_through : AreKept m.count m.homes.items beside
-    kept_through =
-        let sum = count_through (λ _. true) in
-        let all = m.counted in
-        omega (arith, sum, all)
+    -- what is kept of it is written
+    pub change_home : (w : Task P) → IsWritten m t (set m.homes.items i (Some (record { number = h.number; task = w }))) (Some h) (Some (record { number = h.number; task = w }))
+    change_home w = home_written (Some h) (Some (record { number = h.number; task = w })) there only only alone
 
-  pub found_away : task_in m t ≡ Some v
-  found_away = found_beside m.homes.items m.beside t away ∙ there
+    -- it is forgotten
+    pub remove_home : IsWritten m t (set m.homes.items i None) (Some h) None
+    remove_home = home_written (Some h) None there only (λ u e. absurd (none-some u e)) alone
 
-  pub sets_beside : (new : Rows P) → WritesThrough nat_eq (nat_eq t) m.beside w new.beside → new.homes.items ≡ m.homes.items → SetsTask m new t v w
-  sets_beside new through homes = record {
-    task = ap (λ hs. found hs new.beside t) homes ∙ found_beside m.homes.items new.beside t away ∙ (updates new.beside through).1;
-    others = λ u apart. ap (λ hs. found hs new.beside u) homes ∙ ap (or_beside (held u (home_at m.homes.items (home_of (length m.homes.items) u)))) (others_through new.beside through u apart);
-    count = λ p.
-        let sum = count_through new.beside through p in
-        let same = ap (home_count p) homes in
-        omega (arith, sum, same);
-  }
-
--- a task that is not kept lies at no home, nor beside
-pub neither : {P : Type 0} (o x : Option (Task P)) → or_beside o x ≡ None → (o ≡ None) × (x ≡ None)
-neither None x e = (refl, e)
-neither (Some v) x e = absurd (none-some v (sym e))
-
--- a new task, at its home
-module _ {P : Type 0} (m : Rows P) (t i : ℕ) (is : i ≡ home_of (length m.homes.items) t) (free : slice_get m.homes.items i ≡ Some None) (absent : task_in m t ≡ None) (w : Task P) where
-  abbrev put_here : Option (Home P)
-  put_here = Some (record { number = t; task = w })
-
-  put_within : i < length m.homes.items
-  put_within = slice_get_within m.homes.items i None free
-
-  same_put : (u : ℕ) → holder put_here ≡ Some u → t ≡ u
-  same_put u e = same_Some t u e
-
-  not_beside : get nat_eq m.beside t ≡ None
-  not_beside = (neither _ _ absent).1
-
-  pub sized_put : is_size m.bits (length (set m.homes.items i put_here)) ≡ true
-  sized_put = ap (is_size m.bits) (length-set m.homes.items i put_here) ∙ m.sized
-
-  pub placed_put : ArePlaced (set m.homes.items i put_here)
-  placed_put = placed_set m.homes.items i put_here put_within (λ u e. ap (home_of (length m.homes.items)) (sym (same_put u e)) ∙ sym is) m.placed
-
-  pub apart_put : AreApart (set m.homes.items i put_here) m.beside
-  apart_put = apart_set m.homes.items i put_here put_within m.beside (λ u e. ap (λ x. is_some (get nat_eq m.beside x)) (sym (same_put u e)) ∙ ap is_some not_beside) m.apart
-
-  pub home_count_put : (p : TaskRow → Bool) → home_count p (set m.homes.items i put_here) ≡ home_count p m.homes.items + one (p w.row)
-  home_count_put p =
-      let sum = count_set m.homes.items i put_here put_within p in
-      let was = ap (λ x. one (home_passes p x)) (here m.homes.items i None free) in
-      omega (arith, sum, was)
-
-  pub kept_put : AreKept (m.count + 1) (set m.homes.items i put_here) m.beside
-  kept_put =
-      let sum = home_count_put (λ _. true) in
-      let all = m.counted in
-      omega (arith, sum, all)
-
-  pub task_put : found (set m.homes.items i put_here) m.beside t ≡ Some w
-  task_put = ap (λ x. or_beside x (get nat_eq m.beside t)) (held_here m.homes.items i put_here put_within t (sym is) ∙ held_same (record { number = t; task = w }) t refl)
-
-  pub others_put : (u : ℕ) → nat_eq t u ≡ false → found (set m.homes.items i put_here) m.beside u ≡ task_in m u
-  others_put u ne = ap (λ x. or_beside x (get nat_eq m.beside u)) (held_beyond m.homes.items i put_here put_within t
-      (λ x apart. held_other (record { number = t; task = w }) t x refl apart ∙ sym (ap (held x) (here m.homes.items i None free))) u ne)
-
-  pub count_put : (p : TaskRow → Bool) → home_count p (set m.homes.items i put_here) + beside_count p m.beside ≡ row_count p m + one (p w.row)
-  count_put p = let sum = home_count_put p in omega (arith, sum)
+    pub row_home : (r : TaskRow) → row_in m t ≡ Some r → h.task.row ≡ r
+    row_home r is = same_Some h.task.row r (sym (ap row_of_task found_home) ∙ is)
 
 -- a table beside in which task t is another, or is not, where it lies at no home
 module _ {P : Type 0} (m : Rows P) (t : ℕ) (away : is_held t (slice_get m.homes.items (home_of (length m.homes.items) t)) ≡ false) (beside : IndexMap ℕ (Task P) (BuildHasherDefault InOrder)) where
@@ -343,6 +257,7 @@ module _ {P : Type 0} (m : Rows P) (t : ℕ) (away : is_held t (slice_get m.home
   elsewhere = not_held m.homes.items _ t away
 
   pub kept_beside : task_in m t ≡ get nat_eq m.beside t
+  unfolding task_in
   kept_beside = found_beside m.homes.items m.beside t elsewhere
 
   module _ (o : Option (Task P)) (updates : UpdatesBy nat_eq (nat_eq t) m.beside beside o) where
@@ -353,7 +268,16 @@ module _ {P : Type 0} (m : Rows P) (t : ℕ) (away : is_held t (slice_get m.home
     task_other = found_beside m.homes.items beside t elsewhere ∙ updates.1
 
     pub others_other : (u : ℕ) → nat_eq t u ≡ false → found m.homes.items beside u ≡ task_in m u
+    unfolding task_in
     others_other u ne = ap (or_beside (held u (home_at m.homes.items (home_of (length m.homes.items) u)))) (updates.2 u ne)
+
+  -- what is kept of a task beside is written
+  module _ (v w : Task P) (there : get nat_eq m.beside t ≡ Some v) (through : WritesThrough nat_eq (nat_eq t) m.beside w beside) where
+    pub updates_through : UpdatesBy nat_eq (nat_eq t) m.beside beside (Some w)
+    updates_through = through.3 (ap is_some there)
+
+    pub count_through : (p : TaskRow → Bool) → beside_count p beside + one (p v.row) ≡ beside_count p m.beside + one (p w.row)
+    count_through p = ap (λ es. sum_by (λ (k : Task P). one (p k.row)) (values_of es) + one (p v.row)) through.0 ∙ sum_by-set_value (λ (k : Task P). one (p k.row)) (nat_eq t) m.beside.entries v w there
 
   -- a task beside is forgotten
   module _ (out : beside.entries ≡ swap_remove_entry (nat_eq t) m.beside.entries) where
@@ -390,56 +314,3 @@ module _ {P : Type 0} (m : Rows P) (t : ℕ) (away : is_held t (slice_get m.home
         let sum = count_more (λ _. true) in
         let all = m.counted in
         omega (arith, sum, all)
-
--- a task at its home is forgotten
-module _ {P : Type 0} (m : Rows P) (t i : ℕ) (is : i ≡ home_of (length m.homes.items) t) (held_there : is_held t (slice_get m.homes.items i) ≡ true) where
-  abbrev gone : Option (Home P)
-  gone = None
-
-  taken : (h : Home P) × (slice_get m.homes.items i ≡ Some (Some h)) × (h.number ≡ t)
-  taken = is_taken t (slice_get m.homes.items i) held_there
-
-  held_within : i < length m.homes.items
-  held_within = slice_get_within m.homes.items i (Some taken.0) taken.1
-
-  pub sized_gone : is_size m.bits (length (set m.homes.items i gone)) ≡ true
-  sized_gone = ap (is_size m.bits) (length-set m.homes.items i gone) ∙ m.sized
-
-  pub placed_gone : ArePlaced (set m.homes.items i gone)
-  placed_gone = placed_set m.homes.items i gone held_within (λ u e. absurd (none-some u e)) m.placed
-
-  pub apart_gone : AreApart (set m.homes.items i gone) m.beside
-  apart_gone = apart_set m.homes.items i gone held_within m.beside (λ u e. absurd (none-some u e)) m.apart
-
-  home_count_gone : (p : TaskRow → Bool) → home_count p (set m.homes.items i gone) + one (p taken.0.task.row) ≡ home_count p m.homes.items
-  home_count_gone p =
-      let sum = count_set m.homes.items i gone held_within p in
-      let was = ap (λ x. one (home_passes p x)) (here m.homes.items i (Some taken.0) taken.1) in
-      omega (arith, sum, was)
-
-  pub some_kept : 1 ≤ m.count
-  some_kept =
-      let sum = home_count_gone (λ _. true) in
-      let all = m.counted in
-      omega (arith, sum, all)
-
-  pub kept_gone : AreKept (m.count - 1) (set m.homes.items i gone) m.beside
-  kept_gone =
-      let sum = home_count_gone (λ _. true) in
-      let all = m.counted in
-      omega (arith, sum, all)
-
-  pub task_gone : found (set m.homes.items i gone) m.beside t ≡ None
-  task_gone =
-      ap (λ x. or_beside x (get nat_eq m.beside t)) (held_here m.homes.items i gone held_within t (sym is))
-      ∙ is_nothing (get nat_eq m.beside t) (m.apart i t (ap holder (here m.homes.items i (Some taken.0) taken.1) ∙ ap (λ n. Some n) taken.2))
-
-  pub others_gone : (u : ℕ) → nat_eq t u ≡ false → found (set m.homes.items i gone) m.beside u ≡ task_in m u
-  others_gone u ne = ap (λ x. or_beside x (get nat_eq m.beside u)) (held_beyond m.homes.items i gone held_within t
-      (λ x apart. sym (ap (held x) (here m.homes.items i (Some taken.0) taken.1) ∙ held_other taken.0 t x taken.2 apart)) u ne)
-
-  pub count_gone : (p : TaskRow → Bool) (r : TaskRow) → row_in m t ≡ Some r → home_count p (set m.homes.items i gone) + beside_count p m.beside + one (p r) ≡ row_count p m
-  count_gone p r row =
-      let sum = home_count_gone p in
-      let was = ap (λ x. one (p x)) (same_Some taken.0.task.row r (sym (ap row_of_task (found_home m t i is taken.0 taken.1 taken.2)) ∙ row)) in
-      omega (arith, sum, was)

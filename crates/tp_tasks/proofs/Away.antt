@@ -130,6 +130,7 @@ module _ {P : Type 0} (m : Rows P) (n : ℕ) (below : AreSubmitted n m) where
   ks = at_homes ++ beside
 
   key_found : (t : ℕ) → is_among t ks ≡ is_some (task_in m t)
+  unfolding task_in
   key_found t = among_append t at_homes beside ∙ same_truth (is_among t at_homes || is_among t beside) (is_some (task_in m t))
       (λ is. elim (or_cases (is_among t at_homes) (is_among t beside) is) [
         | inl home ↦ let at = number_there m.homes.items t home in let h = held_by (home_at m.homes.items at.0) t at.1 in

@@ -98,10 +98,12 @@ module _ {P : Type 0} where
 
   -- and what lies at a home, or beside, is found
   pub home_task : (m : Rows P) (i : ℕ) (h : Home P) → home_at m.homes.items i ≡ Some h → task_in m h.number ≡ Some h.task
+  unfolding task_in
   home_task m i h is = ap (λ o. or_beside o (get nat_eq m.beside h.number))
       (ap (λ j. held h.number (home_at m.homes.items j)) (m.placed i h.number (ap holder is)) ∙ ap (held h.number) is ∙ held_same h h.number refl)
 
   pub beside_task : (m : Rows P) (t : ℕ) (v : Task P) → get nat_eq m.beside t ≡ Some v → task_in m t ≡ Some v
+  unfolding task_in
   beside_task m t v is = by (held t (home_at m.homes.items (home_of (length m.homes.items) t))) refl
     where
       by : (o : Option (Task P)) → held t (home_at m.homes.items (home_of (length m.homes.items) t)) ≡ o → or_beside o (get nat_eq m.beside t) ≡ Some v
@@ -111,6 +113,7 @@ module _ {P : Type 0} where
           absurd (false≢true (sym (m.apart (home_of (length m.homes.items) t) t (ap holder h.1 ∙ ap (λ n. Some n) h.2)) ∙ ap is_some is))
 
   pub task_counts : (p : TaskRow → Bool) (m : Rows P) (t : ℕ) (v : Task P) → task_in m t ≡ Some v → p v.row ≡ true → 0 < row_count p m
+  unfolding task_in
   task_counts p m t v is pass = elim (placed_of (held t (home_at m.homes.items (home_of (length m.homes.items) t))) (get nat_eq m.beside t) v is) [
     | inl home ↦
         let h = holding t _ v home in

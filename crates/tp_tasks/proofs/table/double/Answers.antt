@@ -1,5 +1,6 @@
 use Rattle.std.proofs.Common.{◌+◌, true, ap, ◌∙◌, arith}
 use Rattle.tp_tasks.specs.Homes.{beside_count}
+use Rattle.tp_tasks.specs.Table.{task_in}
 use Rattle.tp_tasks.proofs.Doubled.{power_of, few_bits, all_spread, sized_doubled, placed_doubled, apart_doubled, found_doubled, count_doubled}
 use Rattle.tp_tasks.proofs.table.double.Goals as goal
 
@@ -11,6 +12,7 @@ overflow_add-tasks g c =
     omega (arith, few)
 
 pub invariant_of-tasks-2 : goal.invariant_of-tasks-2
+unfolding task_in
 invariant_of-tasks-2 g c =
     let m = c.args.tasks.now in
     let homes = m.homes.items in
@@ -27,6 +29,7 @@ invariant_of-tasks-2 g c =
     }
 
 pub returns : goal.returns
+unfolding task_in
 returns g c =
     let m = c.args.tasks.now in
     let homes = m.homes.items in

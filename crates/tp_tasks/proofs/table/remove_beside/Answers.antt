@@ -1,4 +1,5 @@
 use Rattle.std.proofs.Common.{sym, ap, ◌∙◌, is_some}
+use Rattle.tp_tasks.specs.Table.{task_in}
 use Rattle.tp_tasks.proofs.AtHome.{a_task, apart_other, task_other, count_less, some_beside, kept_less}
 use Rattle.tp_tasks.proofs.table.remove_beside.Goals as goal
 
@@ -8,6 +9,7 @@ overflow_sub-tasks g c =
     some_beside c.args.tasks.now c.args.t c.requires c.swap_remove.new.self c.swap_remove.ensures.entries v.0 v.1
 
 pub invariant_of-tasks : goal.invariant_of-tasks
+unfolding task_in
 invariant_of-tasks g c =
     let m = c.args.tasks.now in
     let v = a_task _ (ap is_some (sym c.swap_remove.ensures.value) ∙ sym c.is_some.ensures ∙ c.if-is_some.true) in
@@ -20,13 +22,17 @@ invariant_of-tasks g c =
     }
 
 pub returns-then-is_some-clause-task : goal.returns-then-is_some-clause-task
+unfolding task_in
 returns-then-is_some-clause-task g c = task_other c.args.tasks.now c.args.t c.requires c.swap_remove.new.self _ c.swap_remove.ensures.updates
 
 pub returns-then-is_some-clause-count : goal.returns-then-is_some-clause-count
+unfolding task_in
 returns-then-is_some-clause-count g c = count_less c.args.tasks.now c.args.t c.requires c.swap_remove.new.self c.swap_remove.ensures.entries
 
 pub returns-else-is_some-clause-task : goal.returns-else-is_some-clause-task
+unfolding task_in
 returns-else-is_some-clause-task g c = task_other c.args.tasks.now c.args.t c.requires c.swap_remove.new.self _ c.swap_remove.ensures.updates
 
 pub returns-else-is_some-clause-count : goal.returns-else-is_some-clause-count
+unfolding task_in
 returns-else-is_some-clause-count g c = count_less c.args.tasks.now c.args.t c.requires c.swap_remove.new.self c.swap_remove.ensures.entries
