@@ -1,6 +1,6 @@
 use Rattle.std.proofs.Common.{◌≡◌, ◌++◌, true, replicate, None, ap, refl, ◌∙◌, arith}
 use Rattle.tp_tasks.proofs.AtHome.{is_nil, sized_free, placed_free, apart_free, count_free}
-use Rattle.tp_tasks.proofs.table.settle_in.Goals as goal
+use Rattle.tp_tasks.proofs.table.make_first_homes.Goals as goal
 
 pub invariant_of-tasks-2 : goal.invariant_of-tasks-2
 invariant_of-tasks-2 g c =
