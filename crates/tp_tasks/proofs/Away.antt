@@ -1,20 +1,27 @@
 -- How many tasks are kept: as many as were submitted and are not away.
-use Rattle.std.proofs.Common.{◌≡◌, ℕ, ◌+◌, ◌<◌, ◌≤◌, Bool, true, false, not, ◌||◌, List, [], ◌∷◌, ◌++◌, length, is_some, Option, Some, None, arith, refl, sym, ap, ◌∙◌, inl, inr}
+use Rattle.std.proofs.Common.{◌≡◌, ℕ, zero, suc, ◌+◌, ◌<◌, ◌≤◌, Bool, true, false, not, ◌||◌, List, [], ◌∷◌, ◌++◌, length, is_some, Option, Some, None, arith, refl, sym, ap, ◌∙◌, inl, inr}
 use mathlib.Core.Path.{ap₂}
 use Rattle.std.specs.Prelude.{nat_eq}
-use Rattle.std.specs.List.{IsDistinct, list_any, AllByRecursion}
-use Rattle.std.specs.Map.{keys_of}
-use Rattle.std.proofs.lemmas.Bool.{cases_lt, eq-eqb, or_cases, or_parts, true≢false}
+use Rattle.std.specs.List.{IsDistinct, list_any, AllByRecursion, sum_by}
+use Rattle.std.specs.Map.{keys_of, values_of}
+use Rattle.std.proofs.lemmas.Bool.{cases_lt, eq-eqb, eqb-true, or_cases, or_parts, true≢false, false≢true}
 use Rattle.std.proofs.lemmas.List.{length-append}
 use Rattle.std.proofs.lemmas.List.Folds.{list_any-append}
+use Rattle.std.proofs.lemmas.List.Sums.{sum_by-cons}
 use Rattle.std.proofs.lemmas.Map.Made.{is_some-lookup}
 use Rattle.std.proofs.lemmas.Map.Steps.{length-le_from_distinct_below, le-length_from_below}
-use Rattle.indexmap.specs.IndexMap.{IndexMap, get, IsUnique, index_map_len}
+use Rattle.std.proofs.lemmas.Option.{none-some, same_Some}
+use Rattle.indexmap.specs.IndexMap.{get}
 use Rattle.tp_record.specs.Lists.{is_among, IsOnce}
+use Rattle.tp_tasks.specs.declared.homes.Home.{Home}
+use Rattle.tp_tasks.specs.declared.homes.Rows.{Rows}
 use Rattle.tp_tasks.specs.declared.table.Task.{Task}
+use Rattle.tp_tasks.specs.Homes.{home_of, held, holder, home_passes, home_at, home_count}
 use Rattle.tp_tasks.specs.Kept.{AreSubmitted}
-use Rattle.tp_tasks.specs.Table.{row_of_task, row_in}
+use Rattle.tp_tasks.specs.Table.{row_of_task, task_in, row_in, task_count}
+use Rattle.tp_tasks.proofs.AtHome.{one, a_task}
 use Rattle.tp_tasks.proofs.Counts.{keys_counted}
+use Rattle.tp_tasks.proofs.Finds.{holding, placed_of, home_task, beside_task}
 
 -- Lists without repetition
 
@@ -55,34 +62,132 @@ not_that : (b : Bool) → true ≡ not b → b ≡ false
 not_that true is = absurd (true≢false is)
 not_that false is = refl
 
-module _ {P S : Type 0} (m : IndexMap ℕ (Task P) S) (n : ℕ) (unique : IsUnique nat_eq m) (below : AreSubmitted n m) where
+not_true : (b : Bool) → (b ≡ true → ⊥) → b ≡ false
+not_true true out = absurd (out refl)
+not_true false out = refl
+
+same_truth : (a b : Bool) → (a ≡ true → b ≡ true) → (b ≡ true → a ≡ true) → a ≡ b
+same_truth true b there back = sym (there refl)
+same_truth false true there back = back refl
+same_truth false false there back = refl
+
+among_append : (x : ℕ) (xs ys : List ℕ) → is_among x (xs ++ ys) ≡ (is_among x xs || is_among x ys)
+among_append x xs ys = sym (among_any x (xs ++ ys)) ∙ list_any-append (nat_eq x) xs ys ∙ ap₂ (λ a b. a || b) (among_any x xs) (among_any x ys)
+
+-- Whose homes they are
+
+module _ {P : Type 0} where
+  abbrev numbers : List (Option (Home P)) → List ℕ
+  numbers [] = []
+  numbers (None ∷ hs) = numbers hs
+  numbers (Some h ∷ hs) = h.number ∷ numbers hs
+
+  numbers_counted : (hs : List (Option (Home P))) → length (numbers hs) ≡ home_count (λ _. true) hs
+  numbers_counted [] = refl
+  numbers_counted (None ∷ hs) =
+      let rest = numbers_counted hs in
+      let all = sum_by-cons (λ (h : Option (Home P)). one (home_passes (λ _. true) h)) None hs in
+      omega (arith, rest, all)
+  numbers_counted (Some h ∷ hs) =
+      let rest = numbers_counted hs in
+      let all = sum_by-cons (λ h. one (home_passes (λ _. true) h)) (Some h) hs in
+      omega (arith, rest, all)
+
+  number_there : (hs : List (Option (Home P))) (t : ℕ) → is_among t (numbers hs) ≡ true → (i : ℕ) × (holder (home_at hs i) ≡ Some t)
+  number_there [] t is = absurd (false≢true is)
+  number_there (None ∷ hs) t is = let at = number_there hs t is in (suc at.0, at.1)
+  number_there (Some h ∷ hs) t is = by (number_there hs t)
+    where
+      by : (is_among t (numbers hs) ≡ true → (i : ℕ) × (holder (home_at hs i) ≡ Some t)) → (i : ℕ) × (holder (home_at (Some h ∷ hs) i) ≡ Some t)
+      by later = elim (or_cases (nat_eq t h.number) (is_among t (numbers hs)) is) [
+        | inl same ↦ (0, ap (λ n. Some n) (sym (eqb-true t h.number same)))
+        | inr rest ↦ let at = later rest in (suc at.0, at.1)
+      ]
+
+  there_number : (hs : List (Option (Home P))) (t i : ℕ) → holder (home_at hs i) ≡ Some t → is_among t (numbers hs) ≡ true
+  there_number [] t i is = absurd (none-some t is)
+  there_number (None ∷ hs) t zero is = absurd (none-some t is)
+  there_number (None ∷ hs) t (suc i) is = there_number hs t i is
+  there_number (Some h ∷ hs) t zero is = ap (λ b. b || is_among t (numbers hs)) (eq-eqb t h.number (sym (same_Some h.number t is)))
+  there_number (Some h ∷ hs) t (suc i) is = ap (λ b. nat_eq t h.number || b) (there_number hs t i is) ∙ or_true (nat_eq t h.number)
+
+  numbers_once : (hs : List (Option (Home P))) → ((i j t : ℕ) → holder (home_at hs i) ≡ Some t → holder (home_at hs j) ≡ Some t → i ≡ j) → IsOnce (numbers hs)
+  numbers_once [] one_home = tt
+  numbers_once (None ∷ hs) one_home = numbers_once hs (λ i j t first second. let same = one_home (suc i) (suc j) t first second in omega (arith, same))
+  numbers_once (Some h ∷ hs) one_home = (
+    not_true (is_among h.number (numbers hs)) (λ is. let at = number_there hs h.number is in let same = one_home 0 (suc at.0) h.number refl at.1 in omega (arith, same)),
+    numbers_once hs (λ i j t first second. let same = one_home (suc i) (suc j) t first second in omega (arith, same)),
+  )
+
+module _ {P : Type 0} (m : Rows P) (n : ℕ) (below : AreSubmitted n m) where
+  abbrev at_homes : List ℕ
+  at_homes = numbers m.homes.items
+
+  abbrev beside : List ℕ
+  beside = keys_of m.beside.entries
+
   abbrev ks : List ℕ
-  ks = keys_of m.entries
+  ks = at_homes ++ beside
+
+  key_found : (t : ℕ) → is_among t ks ≡ is_some (task_in m t)
+  unfolding task_in
+  key_found t = among_append t at_homes beside ∙ same_truth (is_among t at_homes || is_among t beside) (is_some (task_in m t))
+      (λ is. elim (or_cases (is_among t at_homes) (is_among t beside) is) [
+        | inl home ↦ let at = number_there m.homes.items t home in let h = held_by (home_at m.homes.items at.0) t at.1 in
+            ap (λ x. is_some (task_in m x)) (sym h.2) ∙ ap is_some (home_task m at.0 h.0 h.1)
+        | inr key ↦ let v = a_task (get nat_eq m.beside t) (is_some-lookup (nat_eq t) m.beside.entries ∙ among_any t beside ∙ key) in ap is_some (beside_task m t v.0 v.1)
+      ])
+      (λ is. let v = a_task (task_in m t) is in elim (placed_of (held t (home_at m.homes.items (home_of (length m.homes.items) t))) (get nat_eq m.beside t) v.0 v.1) [
+        | inl home ↦ let h = holding t (home_at m.homes.items (home_of (length m.homes.items) t)) v.0 home in
+            ap (λ b. b || is_among t beside) (there_number m.homes.items t (home_of (length m.homes.items) t) (ap holder h.1 ∙ ap (λ x. Some x) h.2))
+        | inr there ↦ ap (λ b. is_among t at_homes || b) (sym (is_some-lookup (nat_eq t) m.beside.entries ∙ among_any t beside) ∙ ap is_some there) ∙ or_true (is_among t at_homes)
+      ])
+    where
+      held_by : (o : Option (Home P)) (t : ℕ) → holder o ≡ Some t → (h : Home P) × (o ≡ Some h) × (h.number ≡ t)
+      held_by None t e = absurd (none-some t e)
+      held_by (Some h) t e = (h, refl, same_Some h.number t e)
 
   -- a key is that of a task with a row
   key_row : (t : ℕ) → is_among t ks ≡ is_some (row_in m t)
-  key_row t = sym (among_any t ks) ∙ sym (is_some-lookup (nat_eq t) m.entries) ∙ sym (has_row (get nat_eq m t))
+  key_row t = key_found t ∙ sym (has_row (task_in m t))
 
   key_below : (t : ℕ) → is_among t ks ≡ true → t < n
   key_below t is = elim (cases_lt t n) [
     | inl less ↦ less
-    | inr past ↦ absurd (true≢false (sym is ∙ key_row t ∙ has_row (get nat_eq m t) ∙ below t past))
+    | inr past ↦ absurd (true≢false (sym is ∙ key_found t ∙ below t past))
   ]
 
+  keys_distinct : IsDistinct nat_eq ks
+  keys_distinct = distinct_append at_homes beside
+      (IsDistinct-once at_homes (numbers_once m.homes.items (λ i j t first second. sym (m.placed i t first) ∙ m.placed j t second))) m.unique
+      (λ t is. let at = number_there m.homes.items t is in sym (is_some-lookup (nat_eq t) m.beside.entries ∙ among_any t beside) ∙ m.apart at.0 t at.1)
+
+  all_counted : length ks ≡ task_count m
+  all_counted =
+      length-append at_homes beside
+      ∙ ap₂ (λ a b. a + b) (numbers_counted m.homes.items) (keys_counted m.beside.entries ∙ each m.beside.entries)
+    where
+      each : (es : List (ℕ × Task P)) → length es ≡ sum_by (λ (k : Task P). one true) (values_of es)
+      each [] = refl
+      each (e ∷ es) =
+          let rest = each es in
+          let all = sum_by-cons (λ (k : Task P). one true) e.1 (values_of es) in
+          omega (arith, rest, all)
+
   -- no more tasks are kept than were submitted
-  pub kept_short : index_map_len m ≤ n
+  pub kept_short : task_count m ≤ n
   kept_short =
-      let few = length-le_from_distinct_below ks n unique (λ x is. key_below x (sym (among_any x ks) ∙ is)) in
-      let keys = keys_counted m.entries in
+      let few = length-le_from_distinct_below ks n keys_distinct (λ x is. key_below x (sym (among_any x ks) ∙ is)) in
+      let keys = all_counted in
       omega (arith, few, keys)
 
   -- those that are kept and those that are away are all that were submitted
-  pub kept_counted : (rs : List ℕ) → IsOnce rs → ((t : ℕ) → is_among t rs ≡ true → t < n) → ((t : ℕ) → t < n → is_some (row_in m t) ≡ not (is_among t rs)) → index_map_len m + length rs ≡ n
+  pub kept_counted : (rs : List ℕ) → IsOnce rs → ((t : ℕ) → is_among t rs ≡ true → t < n) → ((t : ℕ) → t < n → is_some (row_in m t) ≡ not (is_among t rs)) → task_count m + length rs ≡ n
   kept_counted rs once short rows =
-      let most = length-le_from_distinct_below (ks ++ rs) n (distinct_append ks rs unique (IsDistinct-once rs once) other) within in
+      let most = length-le_from_distinct_below (ks ++ rs) n (distinct_append ks rs keys_distinct (IsDistinct-once rs once) other) within in
       let least = le-length_from_below (ks ++ rs) n there in
       let both = length-append ks rs in
-      let keys = keys_counted m.entries in
+      let keys = all_counted in
       omega (arith, most, least, both, keys)
     where
       -- a task that is kept is not away

@@ -1,19 +1,20 @@
 -- What is kept of the tasks is still true after a task's entry is written that has the kind and the fate that it had.
 use Rattle.std.proofs.Common.{◌≡◌, ℕ, ◌+◌, Bool, true, false, cond, Option, Some, None, refl, sym, ap, ◌∙◌, is_some}
-use Rattle.std.specs.Prelude.{nat_eq, is_none, IsSome, if◌then◌else◌}
+use Rattle.std.specs.Prelude.{is_none, IsSome, if◌then◌else◌}
 use Rattle.tp_types.specs.declared.tasks.Fate.{Fate}
 use Rattle.tp_types.specs.declared.tasks.Fate.TheVariants as fate
 use Rattle.std.proofs.lemmas.Bool.{false≢true}
 use Rattle.std.proofs.lemmas.Option.{none-some, same_Some}
-use Rattle.indexmap.specs.IndexMap.{IndexMap, get}
+use Rattle.indexmap.specs.IndexMap.{IndexMap}
 use Rattle.tp_record.specs.declared.rows.TaskRow.{TaskRow}
 use Rattle.tp_record.specs.State.{fate_of}
 use Rattle.tp_tasks.specs.declared.fates.Fates.{Fates}
 use Rattle.tp_tasks.specs.declared.group.Group.{Group}
+use Rattle.tp_tasks.specs.declared.homes.Rows.{Rows}
 use Rattle.tp_tasks.specs.declared.table.Task.{Task}
 use Rattle.tp_tasks.specs.declared.tasks.Tasks.{Tasks}
 use Rattle.tp_tasks.specs.Kept.{AreSubmitted, AreCounted, AreGrouped}
-use Rattle.tp_tasks.specs.Table.{row_of_task, promise_of_task, number_of_task, payload_of_task, row_in, row_count, SetsTask}
+use Rattle.tp_tasks.specs.Table.{row_of_task, promise_of_task, number_of_task, payload_of_task, task_in, row_in, row_count, SetsTask}
 use Rattle.tp_tasks.specs.Tasks.{row_of, submissions, SetsRow}
 use Rattle.tp_tasks.proofs.Keeps.{submitted-kept, counted-kept, open-kept, group-kept}
 
@@ -28,7 +29,7 @@ module _ {P : Type 0} where
   row_task None r e = absurd (none-some r e)
   row_task (Some v) r e = (v, refl, same_Some v.row r e)
 
-module _ {P S : Type 0} (old new : IndexMap ℕ (Task P) S) (t : ℕ) (v w : Task P) (was : get nat_eq old t ≡ Some v) (set : SetsTask old new t v w) where
+module _ {P : Type 0} (old new : Rows P) (t : ℕ) (v w : Task P) (was : task_in old t ≡ Some v) (set : SetsTask old new t v w) where
   -- the count of rows, by the row that the task had
   pub counts_of : (p : TaskRow → Bool) (r : TaskRow) → row_in old t ≡ Some r → row_count p new + cond (p r) 1 0 ≡ row_count p old + cond (p w.row) 1 0
   counts_of p r is =
@@ -46,7 +47,7 @@ module _ {P S : Type 0} (old new : IndexMap ℕ (Task P) S) (t : ℕ) (v w : Tas
     grouped_stays groups grouped g = grouped g ∙ sym (group-kept old new t v.row w.row (ap row_of_task was) kind counts_of fate g)
 
 -- the count of rows, where the task has F of its row and this mark
-pub ended_counts : {P S : Type 0} (old new : IndexMap ℕ (Task P) S) (t : ℕ) (v : Task P) (from : TaskRow) → get nat_eq old t ≡ Some v → v.row ≡ from → (F : TaskRow → TaskRow) (b : Bool) →
+pub ended_counts : {P : Type 0} (old new : Rows P) (t : ℕ) (v : Task P) (from : TaskRow) → task_in old t ≡ Some v → v.row ≡ from → (F : TaskRow → TaskRow) (b : Bool) →
     SetsTask old new t v (record v { row = F v.row; listed = b }) → (p : TaskRow → Bool) (r : TaskRow) → row_in old t ≡ Some r → row_count p new + cond (p r) 1 0 ≡ row_count p old + cond (p (F from)) 1 0
 ended_counts old new t v from was same F b set p r is = counts_of old new t v _ was set p r is ∙ ap (λ q. row_count p old + cond (p (F q)) 1 0) same
 
@@ -56,7 +57,7 @@ gone_fated true f = refl
 gone_fated false f = refl
 
 -- a write of the row and the mark alone, seen of the tasks
-pub sets_row : {P : Type 0} (old new : Tasks P) (t : ℕ) (F : TaskRow → TaskRow) (v : Task P) (b : Bool) → get nat_eq old.tasks t ≡ Some v →
+pub sets_row : {P : Type 0} (old new : Tasks P) (t : ℕ) (F : TaskRow → TaskRow) (v : Task P) (b : Bool) → task_in old.tasks t ≡ Some v →
     SetsTask old.tasks new.tasks t v (record v { row = F v.row; listed = b }) →
     submissions new ≡ submissions old → (r : TaskRow) → row_of old t ≡ Some r → SetsRow old new t (F r)
 sets_row old new t F v b was set same r is =

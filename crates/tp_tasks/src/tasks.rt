@@ -1,6 +1,6 @@
 //! The tasks of a pool, by number.
 
-ghost use Rattle.std.specs.Prelude.{ℕ, ◌≡◌, ◌↔◌, ◌+◌, ◌-◌, ◌<◌, ◌^◌, ◌&&◌, ◌++◌, ◌∷◌, [], true, false, not, drop, List, length, slice_get, option_map, nat_eq, is_none, IsTrue, IsSome, IsOkUnless, IfOk, OnOk, Some, None, if◌then◌else◌};
+ghost use Rattle.std.specs.Prelude.{ℕ, ◌≡◌, ◌↔◌, ◌+◌, ◌-◌, ◌<◌, ◌^◌, ◌&&◌, ◌++◌, ◌∷◌, [], true, false, not, drop, List, length, slice_get, option_map, nat_eq, is_none, option_copied, IsTrue, IsSome, IsOkUnless, IfOk, OnOk, Some, None, if◌then◌else◌};
 ghost use Rattle.tp_types.specs.declared.tasks.Fate.{Fate};
 ghost use Rattle.tp_record.specs.declared.rows.TaskRow.{TaskRow};
 ghost use Rattle.tp_record.specs.State.{fate_of, is_fate, no_row};
@@ -9,11 +9,11 @@ ghost use Rattle.tp_tasks.specs.Kept.{AreSubmitted, AreCounted, AreGrouped, AreL
 
 use crate::fates::Fates;
 use crate::group::Group;
-use crate::table::{Rows, Task};
+use crate::homes::Rows;
+use crate::table::Task;
 use crate::{groups, table};
 use indexmap::IndexMap;
 use std::alloc::{AllocError, Global};
-use std::hash::BuildHasherDefault;
 use tp_record::rows::TaskRow;
 use tp_types::ids::TaskId;
 use tp_types::refusals::PoolError;
@@ -37,7 +37,7 @@ pub struct Tasks<P> {
 }
 
 impl<P> Tasks<P> {
-    ghost use Rattle.tp_tasks.specs.Tasks.{task_of, row_of, promise_of, number_of, payload_of, done_of, fated_of, submissions, HasNone, IsReady, IsOpenIn, IsListed, AreReleased, KeepsOthers, KeepsDone, KeepsFates, SetsRow, IsUnchanged};
+    ghost use Rattle.tp_tasks.specs.Tasks.{task_of, row_of, promise_of, number_of, payload_of, done_of, fated_of, submissions, kept_of, HasNone, IsReady, IsOpenIn, IsListed, AreReleased, KeepsOthers, KeepsDone, KeepsFates, SetsRow, IsUnchanged};
 
     /// No tasks. It takes no memory.
     pub fn new(alloc: Global) -> Tasks<P>
@@ -45,7 +45,7 @@ impl<P> Tasks<P> {
     {
         Tasks {
             alloc,
-            tasks: IndexMap::with_hasher(alloc, BuildHasherDefault::new()),
+            tasks: table::none(alloc),
             groups: IndexMap::new(alloc),
             fates: Fates::none(),
             submitted: 0,
@@ -81,7 +81,7 @@ impl<P> Tasks<P> {
                 return Err(PoolError::NoMemory);
             }
         }
-        if table::make_place(&mut self.tasks).is_err() {
+        if table::make_place(&mut self.tasks, self.submitted).is_err() {
             return Err(PoolError::NoMemory);
         }
         Ok(())
@@ -172,6 +172,13 @@ impl<P> Tasks<P> {
         ensures submitted { submissions self.new ≡ submissions self.old }
     {
         table::set_number(&mut self.tasks, t.0, number);
+    }
+
+    /// A task's payload, None where it was taken or the task is not kept.
+    pub fn payload(&self, t: TaskId) -> Option<&P>
+        ensures { option_copied result ≡ payload_of self.now t.0 }
+    {
+        table::payload(&self.tasks, t.0)
     }
 
     /// Takes a task's payload out, None where it was taken before or the task is not kept.
@@ -339,10 +346,12 @@ impl<P> Tasks<P> {
     }
 
     /// How many tasks are kept: those that were submitted and not released.
+    #[inline(always)]
     pub fn kept(&self) -> u32
-        ensures { (rs : List ℕ) → AreReleased self.now rs → result + length rs ≡ submissions self.now }
+        ensures count { result ≡ kept_of self.now }
+        ensures released { (rs : List ℕ) → AreReleased self.now rs → result + length rs ≡ submissions self.now }
     {
-        self.tasks.len() as u32
+        table::len(&self.tasks)
     }
 
     /// How many tasks came to this fate.
@@ -400,7 +409,6 @@ impl<P> Tasks<P> {
     pub fn is_open(&self, g: u32) -> bool
         ensures { IsTrue result ↔ ((t : ℕ) × (r : TaskRow) × IsOpenIn self.now g t r) }
     {
-        table::are_distinct(&self.tasks);
         groups::is_pending(&self.groups, g)
     }
 }

@@ -1,5 +1,54 @@
-use Rattle.tp_tasks.proofs.Counts.{row_count-removed}
+use Rattle.std.proofs.Common.{true, ap, sym, ◌∙◌, arith}
+use Rattle.tp_tasks.specs.Table.{task_in}
+use Rattle.tp_tasks.proofs.AtHome.{one, is_taken, is_nothing, alone, remove_home, row_home}
 use Rattle.tp_tasks.proofs.table.remove.Goals as goal
 
-pub returns-clause-count : goal.returns-clause-count
-returns-clause-count g c = λ p r is. row_count-removed c.args.tasks.now c.swap_remove.new.self c.args.t r c.swap_remove.ensures.entries is p
+pub overflow_sub-tasks : goal.overflow_sub-tasks
+overflow_sub-tasks g c =
+    let m = c.args.tasks.now in
+    let h = is_taken c.args.t _ (sym c.is_at.ensures ∙ c.if-is_at.true) in
+    let x = remove_home m c.args.t c.place_of-place.result c.place_of-place.ensures h.0 h.1 h.2 in
+    let less = x.count (λ _. true) in
+    let all = m.counted in
+    omega (arith, less, all)
+
+pub invariant_of-tasks : goal.invariant_of-tasks
+unfolding task_in
+invariant_of-tasks g c =
+    let m = c.args.tasks.now in
+    let h = is_taken c.args.t _ (sym c.is_at.ensures ∙ c.if-is_at.true) in
+    let x = remove_home m c.args.t c.place_of-place.result c.place_of-place.ensures h.0 h.1 h.2 in
+    let less = x.count (λ _. true) in
+    let all = m.counted in
+    record {
+      sized = x.sized;
+      placed = x.placed;
+      apart = x.apart;
+      unique = m.unique;
+      counted = omega (arith, less, all);
+    }
+
+pub returns-then-is_at-clause-task : goal.returns-then-is_at-clause-task
+unfolding task_in
+returns-then-is_at-clause-task g c =
+    let m = c.args.tasks.now in
+    let h = is_taken c.args.t _ (sym c.is_at.ensures ∙ c.if-is_at.true) in
+    let x = remove_home m c.args.t c.place_of-place.result c.place_of-place.ensures h.0 h.1 h.2 in
+    x.task ∙ is_nothing _ (alone m c.args.t c.place_of-place.result c.place_of-place.ensures h.0 h.1 h.2)
+
+pub returns-then-is_at-clause-others : goal.returns-then-is_at-clause-others
+unfolding task_in
+returns-then-is_at-clause-others g c =
+    let h = is_taken c.args.t _ (sym c.is_at.ensures ∙ c.if-is_at.true) in
+    let x = remove_home c.args.tasks.now c.args.t c.place_of-place.result c.place_of-place.ensures h.0 h.1 h.2 in
+    x.others
+
+pub returns-then-is_at-clause-count : goal.returns-then-is_at-clause-count
+unfolding task_in
+returns-then-is_at-clause-count g c = λ p r is.
+    let m = c.args.tasks.now in
+    let h = is_taken c.args.t _ (sym c.is_at.ensures ∙ c.if-is_at.true) in
+    let x = remove_home m c.args.t c.place_of-place.result c.place_of-place.ensures h.0 h.1 h.2 in
+    let same = ap (λ k. one (p k)) (row_home m c.args.t c.place_of-place.result c.place_of-place.ensures h.0 h.1 h.2 r is) in
+    let sum = x.count p in
+    omega (arith, same, sum)

@@ -1,6 +1,5 @@
 use Rattle.std.proofs.Common.{◌≡◌, ◌<◌, ◌&&◌, Bool, true, false, cond, [], ◌∷◌, ◌++◌, is_some, ap, refl, sym, subst, arith, ◌∙◌, Some}
-use Rattle.std.specs.Prelude.{nat_eq, is_none, if◌then◌else◌}
-use Rattle.indexmap.specs.IndexMap.{get}
+use Rattle.std.specs.Prelude.{is_none, if◌then◌else◌}
 use Rattle.tp_types.specs.declared.tasks.Fate.{Fate}
 use Rattle.tp_types.specs.declared.tasks.Fate.TheVariants as fate
 use Rattle.tp_record.specs.declared.rows.TaskRow.{TaskRow}
@@ -9,6 +8,7 @@ use Rattle.tp_record.specs.Step.{is_of_group}
 use Rattle.tp_tasks.specs.Groups.{done_in}
 use Rattle.tp_tasks.specs.Kept.{is_open_row}
 use Rattle.tp_types.specs.declared.tasks.Place.TheVariants.{Gone}
+use Rattle.tp_tasks.specs.Table.{task_in}
 use Rattle.tp_tasks.proofs.Keeps.{counted-end, grouped-end, open_counts, row_counts}
 use Rattle.tp_tasks.proofs.Listed.{listed_end}
 use Rattle.tp_tasks.proofs.Rows.{row_task, ended_counts, gone_fated, submitted_stays, sets_row}
@@ -33,7 +33,7 @@ invariant_of-self g c =
     let old = c.args.self.now in
     let tasks = c.conclude.new.tasks in
     let from = c.args.from in
-    let kept = row_task (get nat_eq old.tasks c.args.t.0) from c.requires.now in
+    let kept = row_task (task_in old.tasks c.args.t.0) from c.requires.now in
     let set = c.conclude.ensures kept.0 kept.1 in
     let to = record from { place = Gone; ending = Some c.args.fate; outcome = Some c.args.outcome } in
     let count = ended_counts old.tasks tasks c.args.t.0 kept.0 from kept.1 kept.2 (λ r. record r { place = Gone; ending = Some c.args.fate; outcome = Some c.args.outcome }) true set in
@@ -52,7 +52,7 @@ invariant_of-self g c =
 pub returns-clause-set : goal.returns-clause-set
 returns-clause-set g c =
     let old = c.args.self.now in
-    let kept = row_task (get nat_eq old.tasks c.args.t.0) c.args.from c.requires.now in
+    let kept = row_task (task_in old.tasks c.args.t.0) c.args.from c.requires.now in
     sets_row old _ c.args.t.0 (λ r. record r { place = Gone; ending = Some c.args.fate; outcome = Some c.args.outcome }) kept.0 true kept.1 (c.conclude.ensures kept.0 kept.1) refl c.args.from c.requires.now
 
 pub returns-clause-done : goal.returns-clause-done

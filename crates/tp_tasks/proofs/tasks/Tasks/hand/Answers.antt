@@ -1,6 +1,6 @@
 use Rattle.std.proofs.Common.{refl}
-use Rattle.std.specs.Prelude.{nat_eq, true}
-use Rattle.indexmap.specs.IndexMap.{get}
+use Rattle.std.specs.Prelude.{true}
+use Rattle.tp_tasks.specs.Table.{task_in}
 use Rattle.tp_tasks.proofs.Rows.{kept_task, submitted_stays, counted_stays, grouped_stays, sets_row}
 use Rattle.tp_tasks.proofs.Listed.{listed_stays}
 use Rattle.tp_tasks.proofs.tasks.Tasks.hand.Goals as goal
@@ -8,7 +8,7 @@ use Rattle.tp_tasks.proofs.tasks.Tasks.hand.Goals as goal
 pub invariant_of-self : goal.invariant_of-self
 invariant_of-self g c =
     let old = c.args.self.now in
-    let kept = kept_task (get nat_eq old.tasks c.args.t.0) c.requires in
+    let kept = kept_task (task_in old.tasks c.args.t.0) c.requires in
     let set = c.hand.ensures kept.0 kept.1 in
     record {
       small = old.small;
@@ -21,5 +21,5 @@ invariant_of-self g c =
 pub returns-clause-set : goal.returns-clause-set
 returns-clause-set g c =
     let old = c.args.self.now in
-    let kept = kept_task (get nat_eq old.tasks c.args.t.0) c.requires in
+    let kept = kept_task (task_in old.tasks c.args.t.0) c.requires in
     sets_row old _ c.args.t.0 (λ r. record r { place = c.args.place; second = true }) kept.0 kept.0.listed kept.1 (c.hand.ensures kept.0 kept.1) refl

@@ -1,10 +1,8 @@
 use Rattle.std.proofs.Common.{◌≡◌, ℕ, ◌+◌, Bool, true, false, ◌&&◌, cond, is_some, arith, refl, sym, ap, ◌∙◌, inl, inr}
-use Rattle.std.specs.Prelude.{nat_eq}
 use Rattle.std.proofs.lemmas.Bool.{cases_eq, ne_eqb}
-use Rattle.indexmap.specs.IndexMap.{get}
 use Rattle.tp_record.specs.Step.{is_of_group}
 use Rattle.tp_tasks.specs.Kept.{is_open_row, is_open_row_of}
-use Rattle.tp_tasks.specs.Table.{row_count}
+use Rattle.tp_tasks.specs.Table.{task_in, row_count}
 use Rattle.tp_tasks.proofs.Listed.{listed_released}
 use Rattle.tp_tasks.proofs.tasks.Tasks.release.Goals as goal
 
@@ -25,7 +23,7 @@ invariant_of-self g c =
     record {
       small = old.small;
       below = λ u past. elim (cases_eq u c.args.t.0) [
-        | inl same ↦ ap (λ x. is_some (get nat_eq c.remove.new.tasks x)) same ∙ ap (λ o. is_some o) c.remove.ensures.task
+        | inl same ↦ ap (λ x. is_some (task_in c.remove.new.tasks x)) same ∙ ap (λ o. is_some o) c.remove.ensures.task
         | inr apart ↦ ap (λ o. is_some o) (c.remove.ensures.others u (ne_eqb c.args.t.0 u (λ b. apart (sym b)))) ∙ old.below u past
       ];
       counted = λ f.

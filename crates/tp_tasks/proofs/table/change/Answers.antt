@@ -1,0 +1,61 @@
+use Rattle.std.proofs.Common.{true, ap, sym, refl, ◌∙◌, arith}
+use Rattle.std.specs.Prelude.{nat_eq}
+use Rattle.std.proofs.lemmas.Option.{none-some, same_Some}
+use Rattle.indexmap.specs.IndexMap.{get}
+use Rattle.tp_tasks.specs.Homes.{or_beside}
+use Rattle.tp_tasks.specs.Table.{task_in}
+use Rattle.tp_tasks.proofs.AtHome.{lent, lent_home, held_same, found_home, change_home}
+use Rattle.tp_tasks.proofs.table.change.Goals as goal
+
+pub invariant_of-tasks : goal.invariant_of-tasks
+unfolding task_in
+invariant_of-tasks g c =
+    let m = c.args.tasks.now in
+    let h = c.in-Some.home in
+    let at = lent_home m.homes.items c.place_of-place.result c.args.t c.index_mut.result.now (sym c.is_at.ensures ∙ c.if-is_at.true) c.index_mut.ensures.value h c.in-Some.is in
+    let x = change_home m c.args.t c.place_of-place.result c.place_of-place.ensures h at.0 at.1 c.write.new.arg2 in
+    let same = x.count (λ _. true) in
+    let all = m.counted in
+    record {
+      sized = x.sized;
+      placed = x.placed;
+      apart = x.apart;
+      unique = m.unique;
+      counted = omega (arith, same, all);
+    }
+
+pub returns-in-Some-clause-found : goal.returns-in-Some-clause-found
+unfolding task_in
+returns-in-Some-clause-found g c = λ v is.
+    let m = c.args.tasks.now in
+    let i = c.place_of-place.result in
+    let h = c.in-Some.home in
+    let at = lent_home m.homes.items i c.args.t c.index_mut.result.now (sym c.is_at.ensures ∙ c.if-is_at.true) c.index_mut.ensures.value h c.in-Some.is in
+    let same = same_Some h.task v (sym (found_home m c.args.t i c.place_of-place.ensures h at.0 at.1) ∙ is) in
+    let w = c.write.new.arg2 in
+    let x = change_home m c.args.t i c.place_of-place.ensures h at.0 at.1 w in (
+      _,
+      w,
+      refl,
+      record { shown = _; shows = same; left = _; met = c.write.ensures; leaves = refl },
+      rw (sym same) record {
+        task = x.task ∙ ap (λ o. or_beside o (get nat_eq m.beside c.args.t)) (held_same (record { number = h.number; task = w }) c.args.t at.1);
+        others = x.others;
+        count = λ p. let sum = x.count p in omega (arith, sum);
+      },
+    )
+
+pub returns-in-Some-clause-absent : goal.returns-in-Some-clause-absent
+unfolding task_in
+returns-in-Some-clause-absent g c = λ none.
+    let m = c.args.tasks.now in
+    let i = c.place_of-place.result in
+    let h = c.in-Some.home in
+    let at = lent_home m.homes.items i c.args.t c.index_mut.result.now (sym c.is_at.ensures ∙ c.if-is_at.true) c.index_mut.ensures.value h c.in-Some.is in
+    absurd (none-some h.task (sym none ∙ found_home m c.args.t i c.place_of-place.ensures h at.0 at.1))
+
+pub returns-in-None-clause-found : goal.returns-in-None-clause-found
+unfolding task_in
+returns-in-None-clause-found g c =
+    let x = lent c.args.tasks.now.homes.items c.place_of-place.result c.args.t c.index_mut.result.now (sym c.is_at.ensures ∙ c.if-is_at.true) c.index_mut.ensures.value in
+    absurd (none-some x.0 (sym c.in-None.is ∙ x.1))

@@ -1,0 +1,51 @@
+use Rattle.std.proofs.Common.{true, sym, refl, ◌∙◌, arith}
+use Rattle.std.proofs.lemmas.Option.{none-some, same_Some}
+use Rattle.tp_tasks.specs.Table.{task_in}
+use Rattle.tp_tasks.proofs.AtHome.{kept_beside, updates_through, count_through, apart_other, task_other, others_other}
+use Rattle.tp_tasks.proofs.table.change_beside.Goals as goal
+
+pub invariant_of-tasks : goal.invariant_of-tasks
+unfolding task_in
+invariant_of-tasks g c =
+    let m = c.args.tasks.now in
+    let w = c.write.new.arg2 in
+    let beside = c.get_mut.follows.lender w in
+    let there = sym c.in-Some.ensures.value in
+    let updates = updates_through m c.args.t c.requires.away beside c.in-Some.task.now w there (c.get_mut.follows.holds w) in
+    let same = count_through m c.args.t c.requires.away beside c.in-Some.task.now w there (c.get_mut.follows.holds w) (λ _. true) in
+    let all = m.counted in
+    record {
+      sized = m.sized;
+      placed = m.placed;
+      apart = apart_other m c.args.t c.requires.away beside _ updates;
+      unique = (c.get_mut.follows.holds w).4;
+      counted = omega (arith, same, all);
+    }
+
+pub returns-in-Some-clause-found : goal.returns-in-Some-clause-found
+unfolding task_in
+returns-in-Some-clause-found g c = λ v is.
+    let m = c.args.tasks.now in
+    let k = c.in-Some.task.now in
+    let w = c.write.new.arg2 in
+    let beside = c.get_mut.follows.lender w in
+    let there = sym c.in-Some.ensures.value in
+    let through = c.get_mut.follows.holds w in
+    let updates = updates_through m c.args.t c.requires.away beside k w there through in
+    let same = same_Some k v (sym (kept_beside m c.args.t c.requires.away beside ∙ there) ∙ is) in (
+      _,
+      w,
+      refl,
+      record { shown = _; shows = same; left = _; met = c.write.ensures; leaves = refl },
+      rw (sym same) record {
+        task = task_other m c.args.t c.requires.away beside _ updates;
+        others = others_other m c.args.t c.requires.away beside _ updates;
+        count = λ p. let sum = count_through m c.args.t c.requires.away beside k w there through p in omega (arith, sum);
+      },
+    )
+
+pub returns-in-None-clause-found : goal.returns-in-None-clause-found
+unfolding task_in
+returns-in-None-clause-found g c = λ v is.
+    let m = c.args.tasks.now in
+    absurd (none-some v (c.in-None.ensures.value ∙ sym (kept_beside m c.args.t c.requires.away m.beside) ∙ is))

@@ -1,0 +1,39 @@
+//! Where the tasks lie.
+
+ghost use Rattle.std.specs.Prelude.{◌≡◌, true, length, nat_eq};
+ghost use Rattle.std.proofs.Props.{props};
+ghost use Rattle.indexmap.specs.IndexMap.{IsUnique};
+ghost use Rattle.tp_tasks.specs.Homes.{is_size, ArePlaced, AreApart, AreKept};
+
+use crate::order::InOrder;
+use crate::table::Task;
+use indexmap::IndexMap;
+use std::hash::BuildHasherDefault;
+
+/// A task at its home.
+#[derive(Drop)]
+pub struct Home<P> {
+    /// The task's number.
+    pub number: u32,
+    /// What is kept of it.
+    pub task: Task<P>,
+}
+
+/// What is kept of all tasks, by number. A task lies at its home, by the low bits of its number. Only where another one lies
+/// there, which is kept for longer, it lies in a table beside, by the hash of its number.
+#[derive(Drop)]
+pub struct Rows<P> {
+    /// Of each home the task that lies there.
+    pub homes: Vec<Option<Home<P>>>,
+    /// The tasks that lie beside.
+    pub beside: IndexMap<u32, Task<P>, BuildHasherDefault<InOrder>>,
+    /// How many tasks are kept.
+    pub count: u32,
+    /// There are 2 ^ bits homes, or none.
+    pub bits: u32,
+    ghost sized: { is_size bits (length homes.items) ≡ true },
+    ghost placed: { ArePlaced homes.items },
+    ghost apart: { AreApart homes.items beside },
+    ghost unique: { IsUnique nat_eq beside } by { Prim.hlevel props },
+    ghost counted: { AreKept count homes.items beside },
+}
