@@ -1,5 +1,5 @@
 use Rattle.std.proofs.Common.{sym, subst}
-use Rattle.tp_machine.specs.Steps.{IsStep}
+use Rattle.tp_machine.specs.Steps.{IsStep, IsRefusedBy}
 use Rattle.tp_machine.proofs.Moved.{promises_stay}
 use Rattle.tp_types.specs.declared.tasks.TheConstants.{WIDEST}
 use Rattle.tp_runs.proofs.Running.{told_by, all_kept}
@@ -16,3 +16,6 @@ returns-in-Ok-step c =
       unchanged = tt;
       promises = all_kept WIDEST old.parts.tasks new.parts.tasks (promises_stay old.parts.tasks new.parts.tasks c.args.ask c.in-Ok-step.stepped made.answer made.payloads) c.requires;
     }
+
+pub returns-in-Err-clause-refused : goal.returns-in-Err-clause-refused
+returns-in-Err-clause-refused c = subst (λ a. IsRefusedBy told_by c.args.machine.now a c.in-Err.error) (sym c.in-Submit.is) c.in-Err.ensures.refused
