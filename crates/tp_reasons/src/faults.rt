@@ -1,11 +1,11 @@
 //! Bytes that may stand in no line, whatever it says.
 
 use crate::lines::Line;
-use std::fmt;
+use crate::tellings::Saying;
 use tp_types::limits::MAX_LINE_BYTES;
 
 /// What is wrong with the bytes of a line.
-#[derive(Clone, Copy, Debug, PartialEq, Eq)]
+#[derive(Clone, Copy)]
 pub enum Fault {
     /// The text begins with the byte order mark of UTF-8.
     ByteOrderMark,
@@ -29,36 +29,70 @@ pub enum Fault {
     NoLineFeed,
 }
 
-impl fmt::Display for Fault {
-    fn fmt<W: fmt::Write>(&self, f: &mut fmt::Formatter<W>) -> fmt::Result {
-        match self {
-            Fault::ByteOrderMark => f.write_str("a byte order mark stands before the text"),
-            Fault::WideText => f.write_str("the text has two bytes a character, as UTF-16"),
-            Fault::NotAscii(byte) => write!(f, "the byte {byte} is above 127"),
-            Fault::WindowsEnd => f.write_str("a carriage return ends the line, as on Windows"),
-            Fault::CarriageReturn => f.write_str("a carriage return stands within the line"),
-            Fault::SpaceFirst => f.write_str("a space stands before the first word"),
-            Fault::TwoSpaces => f.write_str("two spaces stand side by side"),
-            Fault::SpaceLast => f.write_str("a space stands behind the last word"),
-            Fault::TooLong => f.write_str("the line has more than 200 bytes"),
-            Fault::NoLineFeed => f.write_str("the text's last line has no line feed at its end"),
-        }
-    }
-}
+const BYTE_ORDER_MARK: Saying = Saying {
+    sentence: "a byte order mark stands before the text",
+    advice: " save the file without it",
+};
+
+const WIDE_TEXT: Saying = Saying {
+    sentence: "the text has two bytes a character, as UTF-16",
+    advice: " save the file as ASCII",
+};
+
+const NOT_ASCII: Saying = Saying {
+    sentence: "the byte {} is above 127",
+    advice: " a text is ASCII, and its comments are too",
+};
+
+const WINDOWS_END: Saying = Saying {
+    sentence: "a carriage return ends the line, as on Windows",
+    advice: " save the file with the line ends of Unix (LF)",
+};
+
+const CARRIAGE_RETURN: Saying = Saying {
+    sentence: "a carriage return stands within the line",
+    advice: " take it out",
+};
+
+const SPACE_FIRST: Saying = Saying {
+    sentence: "a space stands before the first word",
+    advice: " take out what is marked",
+};
+
+const TWO_SPACES: Saying = Saying {
+    sentence: "two spaces stand side by side",
+    advice: " write one space between two words",
+};
+
+const SPACE_LAST: Saying = Saying {
+    sentence: "a space stands behind the last word",
+    advice: " take out what is marked",
+};
+
+const TOO_LONG: Saying = Saying {
+    sentence: "the line has more than 200 bytes",
+    advice: " the line should end before it",
+};
+
+const NO_LINE_FEED: Saying = Saying {
+    sentence: "the text's last line has no line feed at its end",
+    advice: " end the line here; or the text was cut off",
+};
 
 impl Fault {
-    /// How it is mended.
-    pub fn advice(self) -> &'static str {
+    /// What is said of it.
+    pub fn saying(self) -> &'static Saying {
         match self {
-            Fault::ByteOrderMark => "save the file without it",
-            Fault::WideText => "save the file as ASCII",
-            Fault::NotAscii(_) => "a text is ASCII, and its comments are too",
-            Fault::WindowsEnd => "save the file with the line ends of Unix (LF)",
-            Fault::CarriageReturn => "take it out",
-            Fault::SpaceFirst | Fault::SpaceLast => "take out what is marked",
-            Fault::TwoSpaces => "write one space between two words",
-            Fault::TooLong => "the line should end before it",
-            Fault::NoLineFeed => "end the line here; or the text was cut off",
+            Fault::ByteOrderMark => &BYTE_ORDER_MARK,
+            Fault::WideText => &WIDE_TEXT,
+            Fault::NotAscii(_) => &NOT_ASCII,
+            Fault::WindowsEnd => &WINDOWS_END,
+            Fault::CarriageReturn => &CARRIAGE_RETURN,
+            Fault::SpaceFirst => &SPACE_FIRST,
+            Fault::TwoSpaces => &TWO_SPACES,
+            Fault::SpaceLast => &SPACE_LAST,
+            Fault::TooLong => &TOO_LONG,
+            Fault::NoLineFeed => &NO_LINE_FEED,
         }
     }
 }

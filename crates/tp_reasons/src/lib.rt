@@ -4,7 +4,9 @@
 
 pub mod faults;
 pub mod forms;
+pub mod guesses;
 pub mod lines;
+pub mod looks;
 pub mod messages;
 pub mod mistakes;
 pub mod numerals;
@@ -14,5 +16,6 @@ pub mod records;
 pub mod scenarios;
 pub mod sentences;
 pub mod settings;
+pub mod tellings;
 pub mod wordings;
 pub mod words;

@@ -6,7 +6,7 @@ ghost use Rattle.tp_reasons.specs.Lines.{IsLineAt};
 use tp_text::lines::next_line;
 
 /// A line of a text.
-#[derive(Clone, Copy, Debug, PartialEq, Eq)]
+#[derive(Clone, Copy)]
 pub struct Line<'a> {
     /// Its number, from 1.
     pub number: u32,

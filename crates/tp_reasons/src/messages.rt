@@ -2,9 +2,8 @@
 
 use crate::forms::POOL_SUMMARY;
 use crate::mistakes::{Finding, Mistake};
-use crate::places::legend;
-use crate::sentences::Advice;
 use crate::wordings::{Wanted, Wording};
+use std::fmt;
 use std::io::{self, Write};
 
 /// How many bytes of a line are shown before the marked ones, and how many in all.
@@ -12,11 +11,14 @@ const BEFORE: usize = 60;
 
 const SHOWN: usize = 120;
 
-/// How many forms are told of a line.
-const FORMS: usize = 6;
+/// What stands for bytes that are not shown.
+const CUT_BEFORE: &str = ".. ";
+
+/// How many forms a line may have at most, if they are told.
+const FORMS: usize = 12;
 
 /// How a message is written.
-#[derive(Clone, Copy, Debug, PartialEq, Eq)]
+#[derive(Clone, Copy)]
 pub enum Style {
     /// As it is.
     Plain,
@@ -24,124 +26,146 @@ pub enum Style {
     Coloured,
 }
 
+/// What a message begins with, what stands before a mark, and what ends a coloured line.
+struct Colours {
+    head: &'static str,
+    bar: &'static str,
+    end: &'static str,
+}
+
+const PLAIN: Colours = Colours {
+    head: "error: ",
+    bar: " | ",
+    end: "\n",
+};
+
+const COLOURED: Colours = Colours {
+    head: "\u{1b}[1;31merror\u{1b}[0m\u{1b}[1m: ",
+    bar: " | \u{1b}[1;31m",
+    end: "\u{1b}[0m\n",
+};
+
 impl Style {
-    fn red(self) -> &'static str {
+    fn colours(self) -> &'static Colours {
         match self {
-            Style::Plain => "",
-            Style::Coloured => "\u{1b}[1;31m",
-        }
-    }
-
-    fn bold(self) -> &'static str {
-        match self {
-            Style::Plain => "",
-            Style::Coloured => "\u{1b}[1m",
-        }
-    }
-
-    fn end(self) -> &'static str {
-        match self {
-            Style::Plain => "",
-            Style::Coloured => "\u{1b}[0m",
+            Style::Plain => &PLAIN,
+            Style::Coloured => &COLOURED,
         }
     }
 }
 
-/// Writes a byte, so many times.
-fn write_times<W: Write>(out: &mut W, byte: u8, times: usize) -> io::Result<()> {
-    for _ in 0..times {
-        out.write_all(&[byte])?;
-    }
-    Ok(())
-}
+const POWERS: [u32; 6] = [10, 100, 1_000, 10_000, 100_000, 1_000_000];
 
 /// How many digits the number of a line has: a text has 1,048,576 lines at most.
 fn digits(number: u32) -> usize {
-    let powers = [10, 100, 1_000, 10_000, 100_000, 1_000_000];
-    let more = powers.iter().filter(|power| **power <= number).count();
-    more.saturating_add(1)
-}
-
-/// Writes the bytes of a line so that each takes one place: what can't be printed is a question mark.
-fn write_shown<W: Write>(out: &mut W, bytes: &[u8]) -> io::Result<()> {
-    for byte in bytes {
-        let shown = if byte.is_ascii_graphic() || *byte == b' ' {
-            *byte
-        } else {
-            b'?'
-        };
-        out.write_all(&[shown])?;
+    let mut digits = 1usize;
+    for power in POWERS {
+        if power <= number {
+            digits = digits.saturating_add(1);
+        }
     }
-    Ok(())
+    digits
 }
 
-/// Writes the line with its number, and under it a mark and how the mistake is mended.
-fn write_excerpt<W: Write>(out: &mut W, finding: &Finding<'_>, style: Style) -> io::Result<()> {
+/// The bytes of a line, so that each takes one place: what can't be printed is a question mark.
+#[derive(Clone, Copy)]
+struct Shown<'a>(&'a [u8]);
+
+impl fmt::Display for Shown<'_> {
+    fn fmt<W: fmt::Write>(&self, f: &mut fmt::Formatter<W>) -> fmt::Result {
+        for byte in self.0 {
+            f.write_char(if byte.is_ascii_graphic() || *byte == b' ' {
+                char::from(*byte)
+            } else {
+                '?'
+            })?;
+        }
+        Ok(())
+    }
+}
+
+/// How many of a line's first bytes are not shown.
+fn hidden(finding: &Finding<'_>) -> usize {
+    finding.start.saturating_sub(BEFORE)
+}
+
+/// Writes the line with its number.
+fn write_line<W: Write>(out: &mut W, finding: &Finding<'_>) -> io::Result<()> {
     let number = finding.line.number;
     let margin = digits(number);
-    let (red, end) = (style.red(), style.end());
-    let from = finding.start.saturating_sub(BEFORE);
-    let behind = finding.line.bytes.iter().skip(from).count();
-    let shown = behind.min(SHOWN);
-    let before = if from > 0 { ".. " } else { "" };
-    write_times(out, b' ', margin)?;
-    out.write_all(b" |\n")?;
-    write!(out, "{number} | {before}")?;
-    if let Some(bytes) = finding.line.bytes.get(from..from.saturating_add(shown)) {
-        write_shown(out, bytes)?;
-    }
-    out.write_all(if shown < behind { b" ..\n" } else { b"\n" })?;
-    write_times(out, b' ', margin)?;
-    write!(out, " | {red}")?;
-    let start = finding.start.saturating_sub(from);
-    write_times(out, b' ', start.saturating_add(before.len()))?;
-    let room = shown.saturating_sub(start).max(1);
-    write_times(out, b'^', finding.width.max(1).min(room))?;
-    let advice = Advice(&finding.mistake);
-    writeln!(out, "{advice}{end}")
+    let hidden = hidden(finding);
+    let rest = finding.line.bytes.get(hidden..).unwrap_or(b"");
+    let bytes = rest.get(..SHOWN).unwrap_or(rest);
+    let shown = Shown(bytes);
+    let before = if hidden > 0 { CUT_BEFORE } else { "" };
+    let behind = if bytes.len() < rest.len() { " .." } else { "" };
+    writeln!(out, "{:margin$} |\n{number} | {before}{shown}{behind}", "")
 }
 
-/// Writes a note under the line.
-fn write_note<W: Write>(out: &mut W, margin: usize, note: &str) -> io::Result<()> {
-    write_times(out, b' ', margin)?;
-    writeln!(out, " = {note}")
+/// Writes a mark under the line, and how the mistake is mended.
+fn write_mark<W: Write>(out: &mut W, finding: &Finding<'_>, colours: &Colours) -> io::Result<()> {
+    let margin = digits(finding.line.number);
+    let hidden = hidden(finding);
+    let shown = finding.line.bytes.len().saturating_sub(hidden).min(SHOWN);
+    let start = finding.start.saturating_sub(hidden);
+    let indent = if hidden > 0 {
+        start.saturating_add(CUT_BEFORE.len())
+    } else {
+        start
+    };
+    let width = finding.width.max(1).min(shown.saturating_sub(start).max(1));
+    let advice = finding.mistake.advice();
+    let (bar, end) = (colours.bar, colours.end);
+    write!(
+        out,
+        "{:margin$}{bar}{:indent$}{:^<width$}{advice}{end}",
+        "", "", ""
+    )
+}
+
+/// Writes a note under the line, behind these words.
+fn write_note<W: Write>(out: &mut W, margin: usize, head: &str, note: &str) -> io::Result<()> {
+    writeln!(out, "{:margin$} = {head}{note}", "")
 }
 
 /// Writes what a pool line says.
 fn write_pool_summary<W: Write>(out: &mut W, margin: usize) -> io::Result<()> {
     for line in POOL_SUMMARY {
-        write_note(out, margin, line)?;
+        write_note(out, margin, "", line)?;
     }
     Ok(())
 }
 
-/// Writes what is wanted in place of a word, and the forms that the line may have.
-fn write_wording<W: Write>(out: &mut W, margin: usize, wording: &Wording<'_>) -> io::Result<()> {
-    if !wording.wanted.is_empty() {
-        write_times(out, b' ', margin)?;
-        let wanted = Wanted(&*wording);
-        writeln!(out, " = expected: {wanted}")?;
-    }
-    for word in &wording.wanted {
-        if let Some(legend) = legend(word) {
-            write_note(out, margin, legend)?;
-        }
-    }
-    if wording.forms.iter().any(|form| form.starts_with("pool ")) {
-        return write_pool_summary(out, margin);
-    }
-    let told = wording
-        .forms
-        .iter()
-        .filter(|form| wording.tells(**form))
-        .count();
-    if wording.fitting == 0 || told > FORMS {
+/// Writes what is wanted in place of a word, if something is.
+fn write_wanted<W: Write>(out: &mut W, margin: usize, wording: &Wording<'_>) -> io::Result<()> {
+    if wording.wants_nothing() {
         return Ok(());
     }
-    for form in &wording.forms {
-        if wording.tells(*form) {
-            write_times(out, b' ', margin)?;
-            writeln!(out, " = form: {form}")?;
+    let wanted = Wanted(&*wording);
+    writeln!(out, "{:margin$} = expected: {wanted}", "")
+}
+
+/// Writes what each wanted word stands for that does not stand for itself.
+fn write_legends<W: Write>(out: &mut W, margin: usize, wording: &Wording<'_>) -> io::Result<()> {
+    for number in 0..wording.forms.len() {
+        if let Some(legend) = wording.legend(number) {
+            write_note(out, margin, "", legend)?;
+        }
+    }
+    Ok(())
+}
+
+/// Writes the forms that the line may have.
+fn write_forms<W: Write>(out: &mut W, margin: usize, wording: &Wording<'_>) -> io::Result<()> {
+    if wording.is_of_pool() {
+        return write_pool_summary(out, margin);
+    }
+    if wording.fitting == 0 || wording.forms.len() > FORMS {
+        return Ok(());
+    }
+    for form in wording.forms {
+        if wording.tells(form) {
+            write_note(out, margin, "form: ", form)?;
         }
     }
     Ok(())
@@ -151,7 +175,11 @@ fn write_wording<W: Write>(out: &mut W, margin: usize, wording: &Wording<'_>) ->
 fn write_notes<W: Write>(out: &mut W, finding: &Finding<'_>) -> io::Result<()> {
     let margin = digits(finding.line.number);
     match &finding.mistake {
-        Mistake::Words(wording) => write_wording(out, margin, wording),
+        Mistake::Words(wording) => {
+            write_wanted(out, margin, wording)?;
+            write_legends(out, margin, wording)?;
+            write_forms(out, margin, wording)
+        }
         Mistake::NoPoolLine | Mistake::EarlyLine(_) => write_pool_summary(out, margin),
         _ => Ok(()),
     }
@@ -164,13 +192,18 @@ pub fn write_message<W: Write>(
     finding: &Finding<'_>,
     style: Style,
 ) -> io::Result<()> {
-    let (red, bold, end) = (style.red(), style.bold(), style.end());
-    let mistake = &finding.mistake;
-    writeln!(out, "{red}error{end}{bold}: {mistake}{end}")?;
+    let colours = style.colours();
+    let (head, end) = (colours.head, colours.end);
+    let sentence = finding.mistake.sentence();
     let number = finding.line.number;
+    let margin = digits(number);
     let column = finding.start.saturating_add(1);
-    write_times(out, b' ', digits(number))?;
-    writeln!(out, "--> {path}:{number}:{column}")?;
-    write_excerpt(out, finding, style)?;
+    write!(
+        out,
+        "{head}{sentence}{end}{:margin$}--> {path}:{number}:{column}\n",
+        ""
+    )?;
+    write_line(out, finding)?;
+    write_mark(out, finding, colours)?;
     write_notes(out, finding)
 }

@@ -1,15 +1,15 @@
 //! What is wrong with a text, and where.
 
 use crate::faults::{Fault, fault_in};
+use crate::forms::Forms;
 use crate::lines::Line;
 use crate::settings::Setting;
 use crate::wordings::Wording;
 use crate::words::{start_of, word_at};
-use std::alloc::{AllocError, Global};
 use tp_types::refusals::PoolError;
 
 /// What a text may be of.
-#[derive(Clone, Copy, Debug, PartialEq, Eq)]
+#[derive(Clone, Copy)]
 pub enum Kind {
     /// A scenario, for `poolrun steps`.
     Scenario,
@@ -20,7 +20,7 @@ pub enum Kind {
 }
 
 /// What is wrong with a line.
-#[derive(Debug, Drop)]
+#[derive(Clone, Copy)]
 pub enum Mistake<'a> {
     /// Bytes that may stand in no line.
     Bytes(Fault),
@@ -69,7 +69,7 @@ pub enum Mistake<'a> {
 }
 
 /// A mistake, and where it is.
-#[derive(Debug, Drop)]
+#[derive(Clone, Copy)]
 pub struct Finding<'a> {
     /// The line.
     pub line: Line<'a>,
@@ -101,46 +101,59 @@ pub fn of_word<'a>(
     Finding {
         line,
         start: start_of(text, word),
-        width: word_at(text, word).map_or(0, |word| word.len()),
+        width: word_at(text, word).unwrap_or("").len(),
         mistake,
     }
 }
 
 /// A line's words beside forms, where the first of them stands behind so many bytes.
-pub fn of_words<'a>(
-    alloc: Global,
-    line: Line<'a>,
-    before: usize,
-    forms: &[&'static str],
-    text: &'a str,
-) -> Result<Finding<'a>, AllocError> {
-    let wording = Wording::new(alloc, forms, text)?;
-    let start = before.saturating_add(start_of(text, wording.fitting));
-    let width = wording.found().map_or(0, |word| word.len());
-    let mistake = if wording.is_whole() {
-        Mistake::Unknown
-    } else {
-        Mistake::Words(wording)
-    };
-    Ok(Finding {
+pub fn of_words<'a>(line: Line<'a>, before: usize, forms: Forms, text: &'a str) -> Finding<'a> {
+    let wording = Wording::new(forms, text);
+    Finding {
         line,
-        start,
-        width,
-        mistake,
-    })
+        start: before.saturating_add(start_of(text, wording.fitting)),
+        width: wording.found.len(),
+        mistake: if wording.found.is_empty() && wording.may_end() {
+            Mistake::Unknown
+        } else {
+            Mistake::Words(wording)
+        },
+    }
+}
+
+/// How many spaces stand side by side in a line, behind so many bytes.
+fn count_spaces(bytes: &[u8], start: usize) -> usize {
+    let mut count = 0usize;
+    for byte in bytes.iter().skip(start) {
+        if *byte != b' ' {
+            return count;
+        }
+        count = count.saturating_add(1);
+    }
+    count
 }
 
 /// How many bytes a fault takes that begins so many bytes behind the line's beginning.
-fn width_of(line: Line<'_>, start: usize, fault: Fault) -> usize {
+fn width_of_fault(line: Line<'_>, start: usize, fault: Fault) -> usize {
     match fault {
         Fault::ByteOrderMark => 3,
         Fault::WideText => 2,
-        Fault::SpaceFirst | Fault::TwoSpaces | Fault::SpaceLast => {
-            let rest = line.bytes.iter().skip(start);
-            rest.take_while(|byte| **byte == b' ').count()
-        }
+        Fault::SpaceFirst | Fault::TwoSpaces | Fault::SpaceLast => count_spaces(line.bytes, start),
         _ => 1,
     }
+}
+
+/// Where a tab stands in a line that is no comment.
+fn tab_in(bytes: &[u8]) -> Option<usize> {
+    if bytes.starts_with(b"#") {
+        return None;
+    }
+    for (place, byte) in bytes.iter().enumerate() {
+        if *byte == b'\t' {
+            return Some(place);
+        }
+    }
+    None
 }
 
 /// What is wrong with a line's bytes, a tab among them.
@@ -149,17 +162,13 @@ pub fn of_bytes(line: Line<'_>) -> Option<Finding<'_>> {
         return Some(Finding {
             line,
             start,
-            width: width_of(line, start, fault),
+            width: width_of_fault(line, start, fault),
             mistake: Mistake::Bytes(fault),
         });
     }
-    let start = line.bytes.iter().position(|byte| *byte == b'\t')?;
-    if line.bytes.starts_with(b"#") {
-        return None;
-    }
     Some(Finding {
         line,
-        start,
+        start: tab_in(line.bytes)?,
         width: 1,
         mistake: Mistake::Tab,
     })

@@ -1,126 +1,132 @@
 //! How a number is misspelled.
 
-use crate::places::Number;
-use std::fmt;
+use crate::places::Sign;
 
-/// What is wrong with a word where a number is wanted.
-#[derive(Clone, Copy, Debug, PartialEq, Eq)]
-pub enum Misspelling<'a> {
-    /// A letter stands before these digits, and they are wanted alone.
-    Lettered(&'a str),
-    /// These are the digits, and this is wanted before them.
-    Unlettered(char),
-    /// A plus sign stands before these digits.
-    Plus(&'a str),
-    /// A zero stands before these digits.
-    LeadingZero(&'a str),
-    /// A minus sign, and only a value may have one.
-    Minus,
-    /// A minus sign before a zero.
-    MinusZero,
-    /// The number is too great, or too small.
-    OutOfRange,
-    /// No number.
-    NoNumber,
-}
-
-impl fmt::Display for Misspelling<'_> {
-    fn fmt<W: fmt::Write>(&self, f: &mut fmt::Formatter<W>) -> fmt::Result {
-        f.write_str(match self {
-            Misspelling::Lettered(_) => "has a letter, and a number alone is wanted",
-            Misspelling::Unlettered(_) => "is a number alone, and a name is wanted",
-            Misspelling::Plus(_) => "has a plus sign",
-            Misspelling::LeadingZero(_) => "begins with a zero",
-            Misspelling::Minus => "has a minus sign, and only a value may have one",
-            Misspelling::MinusZero => "has a minus sign before a zero",
-            Misspelling::OutOfRange => "is out of range",
-            Misspelling::NoNumber => "is no whole number",
-        })
-    }
-}
-
-/// How a misspelled number is mended.
+/// A number as it is written.
 #[derive(Clone, Copy)]
 pub struct Spelling<'a> {
-    /// The word.
-    pub word: &'a str,
-    /// What stands before the digits, where something does.
-    pub prefix: Option<char>,
-    /// What is wrong with it.
-    pub misspelling: Misspelling<'a>,
+    /// What stands before the digits.
+    pub prefix: &'static str,
+    /// The digits.
+    pub digits: &'a str,
 }
 
-impl fmt::Display for Spelling<'_> {
-    fn fmt<W: fmt::Write>(&self, f: &mut fmt::Formatter<W>) -> fmt::Result {
-        let word = self.word;
-        match self.misspelling {
-            Misspelling::Lettered(digits) => write!(f, "write {digits}"),
-            Misspelling::Unlettered(letter) => write!(f, "write {letter}{word}"),
-            Misspelling::Plus(digits) | Misspelling::LeadingZero(digits) => {
-                f.write_str("write ")?;
-                if let Some(prefix) = self.prefix {
-                    write!(f, "{prefix}")?;
-                }
-                f.write_str(if digits.is_empty() { "0" } else { digits })
-            }
-            Misspelling::MinusZero => f.write_str("write 0"),
-            _ => Ok(()),
-        }
+/// What is wrong with a word where a number is wanted.
+#[derive(Clone, Copy)]
+pub struct Misspelling<'a> {
+    /// What is said of the word, which stands for `{}`.
+    pub sentence: &'static str,
+    /// How the number is written; None where the word doesn't say which it is.
+    pub right: Option<Spelling<'a>>,
+}
+
+const MINUS: Misspelling<'static> = Misspelling {
+    sentence: "'{}' has a minus sign, and only a value may have one",
+    right: None,
+};
+
+const MINUS_ZERO: Misspelling<'static> = Misspelling {
+    sentence: "'{}' has a minus sign before a zero",
+    right: Some(Spelling {
+        prefix: "",
+        digits: "0",
+    }),
+};
+
+const OUT_OF_RANGE: Misspelling<'static> = Misspelling {
+    sentence: "'{}' is out of range",
+    right: None,
+};
+
+const NO_NUMBER: Misspelling<'static> = Misspelling {
+    sentence: "'{}' is no whole number",
+    right: None,
+};
+
+/// A misspelling of these digits.
+fn of_digits<'a>(sentence: &'static str, prefix: &'static str, digits: &'a str) -> Misspelling<'a> {
+    let digits = if digits.is_empty() { "0" } else { digits };
+    Misspelling {
+        sentence,
+        right: Some(Spelling { prefix, digits }),
     }
 }
 
 fn is_decimal(word: &str) -> bool {
-    !word.is_empty() && word.bytes().all(|byte| byte.is_ascii_digit())
+    for byte in word.bytes() {
+        if !byte.is_ascii_digit() {
+            return false;
+        }
+    }
+    !word.is_empty()
 }
 
-/// The digits behind a letter that names a task, a slot or a pass.
+/// What names a task, a slot or a pass, before its digits.
+const LETTERS: &[&str] = &["t", "w", "p"];
+
+/// The digits behind such a letter.
 fn behind_letter(word: &str) -> Option<&str> {
-    let digits = word
-        .strip_prefix('t')
-        .or(word.strip_prefix('w'))
-        .or(word.strip_prefix('p'))?;
-    if is_decimal(digits) {
-        Some(digits)
+    for letter in LETTERS {
+        match word.strip_prefix(*letter) {
+            Some(digits) if is_decimal(digits) => return Some(digits),
+            _ => {}
+        }
+    }
+    None
+}
+
+/// What is wrong with a number that begins with a minus, behind which this stands.
+fn misspelled_behind_minus<'a>(digits: &str) -> Misspelling<'a> {
+    if !is_decimal(digits) {
+        NO_NUMBER
+    } else if digits.starts_with('0') {
+        MINUS_ZERO
     } else {
-        None
+        OUT_OF_RANGE
     }
 }
 
-/// What is wrong with the digits of a number.
-fn misspelled_digits(word: &str) -> Misspelling<'_> {
+/// What is wrong with the digits of a number behind its prefix.
+fn misspelled_digits<'a>(prefix: &'static str, word: &'a str) -> Misspelling<'a> {
     if let Some(digits) = word.strip_prefix('+') {
-        return Misspelling::Plus(digits);
+        return of_digits("'{}' has a plus sign", prefix, digits);
     }
     if let Some(digits) = word.strip_prefix('-') {
-        return match (is_decimal(digits), digits.starts_with('0')) {
-            (false, _) => Misspelling::NoNumber,
-            (true, true) => Misspelling::MinusZero,
-            (true, false) => Misspelling::OutOfRange,
-        };
+        return misspelled_behind_minus(digits);
     }
     if !is_decimal(word) {
-        return Misspelling::NoNumber;
+        return NO_NUMBER;
     }
     match word.strip_prefix('0') {
-        Some(digits) => Misspelling::LeadingZero(digits.trim_start_matches('0')),
-        None => Misspelling::OutOfRange,
+        Some(digits) => of_digits(
+            "'{}' begins with a zero",
+            prefix,
+            digits.trim_start_matches('0'),
+        ),
+        None => OUT_OF_RANGE,
     }
 }
 
 /// What is wrong with a word that is not such a number.
-pub fn misspelled(kind: Number, word: &str) -> Misspelling<'_> {
-    let Some(prefix) = kind.prefix else {
-        if let Some(digits) = behind_letter(word) {
-            return Misspelling::Lettered(digits);
+pub fn misspelled<'a>(sign: &Sign, word: &'a str) -> Misspelling<'a> {
+    let prefix = sign.prefix;
+    let Some(digits) = word.strip_prefix(prefix) else {
+        if is_decimal(word) {
+            return of_digits("'{}' is a number alone, and a name is wanted", prefix, word);
         }
-        if !kind.may_have_minus() && word.starts_with('-') {
-            return Misspelling::Minus;
-        }
-        return misspelled_digits(word);
+        return NO_NUMBER;
     };
-    match word.strip_prefix(prefix) {
-        Some(digits) => misspelled_digits(digits),
-        None if is_decimal(word) => Misspelling::Unlettered(prefix),
-        None => Misspelling::NoNumber,
+    if prefix.is_empty() {
+        if let Some(digits) = behind_letter(word) {
+            return of_digits(
+                "'{}' has a letter, and a number alone is wanted",
+                "",
+                digits,
+            );
+        }
+        if word.starts_with('-') && !sign.may_have_minus() {
+            return MINUS;
+        }
     }
+    misspelled_digits(prefix, digits)
 }

@@ -1,11 +1,35 @@
 //! Why a text was refused.
 
+use crate::guesses::word_meant;
 use crate::lines::{Line, line_at};
-use crate::mistakes::{Finding, Kind};
+use crate::mistakes::{Finding, Kind, Mistake};
 use crate::scenarios::{first_line, in_settings};
+use crate::wordings::Wording;
 use crate::{records, scenarios};
 use std::alloc::{AllocError, Global};
 use tp_types::refusals::PoolError;
+
+/// What was found, with the word that was meant where that is known.
+fn guessed(alloc: Global, found: Option<Finding<'_>>) -> Result<Option<Finding<'_>>, AllocError> {
+    let Some(
+        Finding {
+            mistake: Mistake::Words(wording),
+            line,
+            start,
+            width,
+        },
+    ) = found
+    else {
+        return Ok(found);
+    };
+    let near = word_meant(alloc, &wording)?;
+    Ok(Some(Finding {
+        line,
+        start,
+        width,
+        mistake: Mistake::Words(Wording { near, ..wording }),
+    }))
+}
 
 /// What is wrong with a text of this kind, for which its reader refused it so; None for a refusal that speaks of no line. The line is
 /// the one that the refusal names, or the pool line where its settings are refused.
@@ -15,14 +39,13 @@ pub fn reason(
     text: &[u8],
     refusal: PoolError,
 ) -> Result<Option<Finding<'_>>, AllocError> {
-    match (refusal, kind) {
-        (PoolError::BadLine(number), _) => {
-            Ok(Some(scenarios::in_line(alloc, kind, text, number)?))
-        }
-        (PoolError::BadEntry(number), _) => Ok(Some(records::in_line(alloc, text, number)?)),
-        (_, Kind::Record) => Ok(in_settings(line_at(text, 2), refusal)),
-        (_, _) => Ok(in_settings(line_at(text, first_line(text)), refusal)),
-    }
+    let found = match (refusal, kind) {
+        (PoolError::BadLine(number), _) => Some(scenarios::in_line(kind, text, number)),
+        (PoolError::BadEntry(number), _) => Some(records::in_line(text, number)),
+        (_, Kind::Record) => in_settings(line_at(text, 2), refusal),
+        (_, _) => in_settings(line_at(text, first_line(text)), refusal),
+    };
+    guessed(alloc, found)
 }
 
 /// What is wrong with a record's text that was read line by line, and of which this line alone is left: the one that the refusal
@@ -33,8 +56,9 @@ pub fn reason_of_line<'a>(
     is_behind_end: bool,
     refusal: PoolError,
 ) -> Result<Option<Finding<'a>>, AllocError> {
-    match refusal {
-        PoolError::BadEntry(_) => Ok(Some(records::in_refused(alloc, line, is_behind_end)?)),
-        _ => Ok(in_settings(line, refusal)),
-    }
+    let found = match refusal {
+        PoolError::BadEntry(_) => Some(records::in_refused(line, is_behind_end)),
+        _ => in_settings(line, refusal),
+    };
+    guessed(alloc, found)
 }

@@ -2,145 +2,126 @@
 
 use crate::forms::{BODY_FORMS, END_FORMS, ENTRY_FORMS, PASS_FORMS, POOL_FORMS};
 use crate::lines::{Line, line_at};
+use crate::looks::{Look, look_of};
 use crate::mistakes::{Finding, Kind, Mistake, of_bytes, of_line, of_word, of_words};
-use crate::words::{start_of, word_at};
-use std::alloc::{AllocError, Global};
+use crate::words::count;
 use tp_text::lines::clean_text;
 use tp_text::numbers::number as number_of;
 use tp_text::pools::pool_of;
-use tp_text::words::{behind, command, first_word};
+use tp_text::words::{behind, first_word};
 use tp_types::limits::DEFAULT_RECORD_LIMIT;
 
 /// What is wrong with the first line.
 fn in_version<'a>(line: Line<'a>, text: &'a str) -> Finding<'a> {
-    let (word, rest) = first_word(text);
-    if word == "pool" || word.starts_with('#') {
-        return of_line(line, Mistake::OtherKind(Kind::Scenario));
-    }
-    if number_of(word).is_some() && rest.is_some() {
-        return of_line(line, Mistake::Headless);
-    }
-    of_line(line, Mistake::NoVersion)
+    let mistake = match look_of(text) {
+        Look::Pool | Look::Comment => Mistake::OtherKind(Kind::Scenario),
+        Look::Entry => Mistake::Headless,
+        _ => Mistake::NoVersion,
+    };
+    of_line(line, mistake)
 }
 
 /// What is wrong with the second line.
-fn in_pool_line<'a>(
-    alloc: Global,
-    line: Line<'a>,
-    text: &'a str,
-) -> Result<Finding<'a>, AllocError> {
-    let Some(pool) = pool_of(text) else {
-        return of_words(alloc, line, 0, POOL_FORMS, text);
-    };
-    if pool.limit == Some(DEFAULT_RECORD_LIMIT) {
-        let limit = text.split(' ').count().saturating_sub(2);
-        return Ok(of_word(line, text, limit, Mistake::UsualLimit));
-    }
-    // Else it is a written pool line, whose queue is of the second form alone.
-    Ok(of_word(line, text, 3, Mistake::FirstForm))
-}
-
-/// Whether a pass's name begins so: a `p` and a digit.
-fn is_pass(word: &str) -> bool {
-    match word.strip_prefix('p') {
-        Some(digits) => digits.starts_with(|c: char| c.is_ascii_digit()),
-        None => false,
+fn in_pool_line<'a>(line: Line<'a>, text: &'a str) -> Finding<'a> {
+    match pool_of(text) {
+        None => of_words(line, 0, POOL_FORMS, text),
+        Some(pool) if pool.limit == Some(DEFAULT_RECORD_LIMIT) => of_word(
+            line,
+            text,
+            count(text).saturating_sub(2),
+            Mistake::UsualLimit,
+        ),
+        // It is a written pool line, whose queue is of the second form alone.
+        Some(_) => of_word(line, text, 3, Mistake::FirstForm),
     }
 }
 
 /// What is wrong with the priority that an entry says, behind so many bytes, if it says one: it is 0, or the record is of the
 /// first form.
 fn in_priority<'a>(line: Line<'a>, before: usize, text: &'a str) -> Option<Finding<'a>> {
-    let word = text.split(' ').position(|word| word == "prio")?;
-    let is_nought = word_at(text, word.saturating_add(1)) == Some("0");
-    let (width, mistake) = if is_nought {
+    let (words, rest) = text.split_once(" prio ")?;
+    let (width, mistake) = if first_word(rest).0 == "0" {
         ("prio 0".len(), Mistake::PriorityNought)
     } else {
         ("prio".len(), Mistake::FirstForm)
     };
     Some(Finding {
         line,
-        start: before.saturating_add(start_of(text, word)),
+        start: before.saturating_add(words.len()).saturating_add(1),
         width,
         mistake,
     })
 }
 
 /// What is wrong with an entry's words, the first of which stands behind so many bytes.
-fn in_words<'a>(
-    alloc: Global,
-    line: Line<'a>,
-    before: usize,
-    text: &'a str,
-) -> Result<Finding<'a>, AllocError> {
-    let finding = of_words(alloc, line, before, ENTRY_FORMS, text)?;
-    match &finding.mistake {
-        Mistake::Unknown => Ok(in_priority(line, before, text).unwrap_or(finding)),
-        _ => Ok(finding),
+fn in_words<'a>(line: Line<'a>, before: usize, text: &'a str) -> Finding<'a> {
+    let finding = of_words(line, before, ENTRY_FORMS, text);
+    match finding.mistake {
+        Mistake::Unknown => in_priority(line, before, text).unwrap_or(finding),
+        _ => finding,
+    }
+}
+
+/// Whether a text begins with a digit.
+fn has_digit_first(text: &str) -> bool {
+    match text.as_bytes().first() {
+        Some(byte) => byte.is_ascii_digit(),
+        None => false,
     }
 }
 
 /// What is wrong with an entry behind its number, which has so many bytes with the space behind it.
-fn in_entry<'a>(
-    alloc: Global,
-    line: Line<'a>,
-    before: usize,
-    text: &'a str,
-) -> Result<Finding<'a>, AllocError> {
+fn in_entry<'a>(line: Line<'a>, before: usize, text: &'a str) -> Finding<'a> {
     let (word, rest) = first_word(text);
     if word == "p0" {
-        return Ok(Finding {
+        return Finding {
             line,
             start: before,
             width: 2,
             mistake: Mistake::PassNought,
-        });
+        };
     }
-    let Some(rest) = rest else {
-        return in_words(alloc, line, before, text);
+    let (Some(rest), Some(digits)) = (rest, word.strip_prefix('p')) else {
+        return in_words(line, before, text);
     };
-    let is_pass_number = match word.strip_prefix('p') {
-        Some(digits) => number_of(digits).is_some(),
-        None => false,
-    };
-    if is_pass_number {
+    if number_of(digits).is_some() {
         let before = before.saturating_add(word.len()).saturating_add(1);
-        return in_words(alloc, line, before, rest);
+        return in_words(line, before, rest);
     }
-    if is_pass(word) {
-        return of_words(alloc, line, before, PASS_FORMS, text);
+    if has_digit_first(digits) {
+        return of_words(line, before, PASS_FORMS, text);
     }
-    in_words(alloc, line, before, text)
+    in_words(line, before, text)
+}
+
+/// Whether a line ends a record, and says how many entries it has.
+fn is_count(text: &str) -> bool {
+    match behind(text, "end") {
+        Some(count) => number_of(count).is_some(),
+        None => false,
+    }
+}
+
+/// What is wrong with an entry that should have this number.
+fn in_numbered<'a>(line: Line<'a>, next: u32, text: &'a str) -> Finding<'a> {
+    let (word, rest) = first_word(text);
+    match rest {
+        Some(rest) if number_of(word) == Some(next) => {
+            in_entry(line, word.len().saturating_add(1), rest)
+        }
+        _ => of_word(line, text, 0, Mistake::Misnumbered(next)),
+    }
 }
 
 /// What is wrong with a line behind so many entries.
-fn in_body<'a>(
-    alloc: Global,
-    line: Line<'a>,
-    entries: u32,
-    text: &'a str,
-) -> Result<Finding<'a>, AllocError> {
+fn in_body<'a>(line: Line<'a>, entries: u32, text: &'a str) -> Finding<'a> {
     let next = entries.saturating_add(1);
-    let (word, rest) = first_word(text);
-    if let Some(count) = behind(text, "end") {
-        if number_of(count).is_some() {
-            return Ok(of_word(line, text, 1, Mistake::Miscounted(entries)));
-        }
-    }
-    if word == "end" {
-        return of_words(alloc, line, 0, END_FORMS, text);
-    }
-    if command(word).is_some() {
-        return Ok(of_word(line, text, 0, Mistake::Unnumbered(next)));
-    }
-    match (number_of(word), rest) {
-        (None, _) | (_, None) => of_words(alloc, line, 0, BODY_FORMS, text),
-        (Some(number), Some(rest)) => {
-            if number != next {
-                return Ok(of_word(line, text, 0, Mistake::Misnumbered(next)));
-            }
-            in_entry(alloc, line, word.len().saturating_add(1), rest)
-        }
+    match look_of(text) {
+        Look::Entry => in_numbered(line, next, text),
+        Look::Submit | Look::Step => of_word(line, text, 0, Mistake::Unnumbered(next)),
+        Look::End if is_count(text) => of_word(line, text, 1, Mistake::Miscounted(entries)),
+        Look::End => of_words(line, 0, END_FORMS, text),
+        _ => of_words(line, 0, BODY_FORMS, text),
     }
 }
 
@@ -162,39 +143,35 @@ fn missing<'a>(number: u32) -> Mistake<'a> {
     }
 }
 
+/// What is wrong with the words of the line of this number.
+fn in_text<'a>(line: Line<'a>, text: &'a str) -> Finding<'a> {
+    match line.number {
+        1 => in_version(line, text),
+        _ if text.is_empty() || text.starts_with('#') => of_line(line, Mistake::Skipped),
+        2 => in_pool_line(line, text),
+        number => in_body(line, number.saturating_sub(3), text),
+    }
+}
+
 /// What is wrong with a line that its reader refused. It may stand behind the line that ends the record.
-pub fn in_refused<'a>(
-    alloc: Global,
-    line: Line<'a>,
-    is_behind_end: bool,
-) -> Result<Finding<'a>, AllocError> {
-    let number = line.number;
+pub fn in_refused(line: Line<'_>, is_behind_end: bool) -> Finding<'_> {
     if is_behind_end {
-        return Ok(of_line(line, Mistake::BehindEnd));
+        return of_line(line, Mistake::BehindEnd);
     }
     if line.bytes.is_empty() && !line.is_ended {
-        return Ok(of_line(line, missing(number)));
+        return of_line(line, missing(line.number));
     }
     if let Some(finding) = of_bytes(line) {
-        return Ok(finding);
+        return finding;
     }
-    let Some(words) = clean_text(line.bytes) else {
-        return Ok(of_line(line, Mistake::Unknown));
-    };
-    if number == 1 {
-        return Ok(in_version(line, words));
+    match clean_text(line.bytes) {
+        Some(text) => in_text(line, text),
+        None => of_line(line, Mistake::Unknown),
     }
-    if words.is_empty() || words.starts_with('#') {
-        return Ok(of_line(line, Mistake::Skipped));
-    }
-    if number == 2 {
-        return in_pool_line(alloc, line, words);
-    }
-    in_body(alloc, line, number.saturating_sub(3), words)
 }
 
 /// What is wrong with the line of this number, which its reader refused.
-pub fn in_line(alloc: Global, text: &[u8], number: u32) -> Result<Finding<'_>, AllocError> {
+pub fn in_line(text: &[u8], number: u32) -> Finding<'_> {
     let is_behind_end = ends_record(text, number.saturating_sub(1));
-    in_refused(alloc, line_at(text, number), is_behind_end)
+    in_refused(line_at(text, number), is_behind_end)
 }

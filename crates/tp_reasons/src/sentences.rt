@@ -1,111 +1,197 @@
 //! What is said of a mistake: its sentence, and how it is mended.
 
+use crate::faults::Fault;
 use crate::mistakes::{Kind, Mistake};
-use crate::wordings;
-use std::fmt;
+use crate::settings::Setting;
+use crate::tellings::{Saying, Telling, Value};
 use tp_types::refusals::PoolError;
 
-impl Kind {
-    /// What a text of this kind is.
-    pub fn name(self) -> &'static str {
+const TAB: Saying = Saying {
+    sentence: "a tab stands in the line",
+    advice: " write one space between two words",
+};
+
+const NO_POOL_LINE: Saying = Saying {
+    sentence: "the text has no pool line",
+    advice: " the text ends here",
+};
+
+const EARLY_LINE: Saying = Saying {
+    sentence: "'{}' stands before the pool line",
+    advice: " the pool line comes first",
+};
+
+const SECOND_POOL_LINE: Saying = Saying {
+    sentence: "a second pool line",
+    advice: " a text is of one pool",
+};
+
+const A_SCENARIO: Saying = Saying {
+    sentence: "this is a line of a scenario",
+    advice: " it is for `poolrun steps`",
+};
+
+const A_FILE_OF_JOBS: Saying = Saying {
+    sentence: "this is a line of a file of jobs",
+    advice: " it is for `poolrun threads`",
+};
+
+const A_RECORD: Saying = Saying {
+    sentence: "this is a line of a record",
+    advice: " it is for `poolrun audit`",
+};
+
+const NO_VERSION: Saying = Saying {
+    sentence: "a record begins with the line 'tprecord 2'",
+    advice: " write 'tprecord 2' here",
+};
+
+const HEADLESS: Saying = Saying {
+    sentence: "an entry stands where the record begins",
+    advice: " write 'tprecord 2' and the pool line before it, as `poolrun steps --record` does",
+};
+
+const USUAL_LIMIT: Saying = Saying {
+    sentence: "a record's limit of 4096 is not written",
+    advice: " leave out 'limit 4096'",
+};
+
+const SKIPPED: Saying = Saying {
+    sentence: "a record has no empty lines and no comments",
+    advice: " take it out",
+};
+
+const UNNUMBERED: Saying = Saying {
+    sentence: "the entry's number is missing",
+    advice: " write {} before it",
+};
+
+const MISNUMBERED: Saying = Saying {
+    sentence: "the entry has another entry's number",
+    advice: " this is entry {}",
+};
+
+const PASS_NOUGHT: Saying = Saying {
+    sentence: "pass 0 is not written",
+    advice: " take it out",
+};
+
+const PRIORITY_NOUGHT: Saying = Saying {
+    sentence: "priority 0 is not written",
+    advice: " take it out",
+};
+
+const FIRST_FORM: Saying = Saying {
+    sentence: "a record that begins with 'tprecord 1' has no priorities",
+    advice: " write 'tprecord 2' in the first line",
+};
+
+const MISCOUNTED: Saying = Saying {
+    sentence: "the number of entries is wrong",
+    advice: " write {}: so many stand before it",
+};
+
+const NO_END: Saying = Saying {
+    sentence: "the record's last line is missing",
+    advice: " write 'end {}' here; or the text was cut off",
+};
+
+const BEHIND_END: Saying = Saying {
+    sentence: "something stands behind the record's last line",
+    advice: " take it out",
+};
+
+const JOB_WITHOUT_ROOM: Saying = Saying {
+    sentence: "job {}",
+    advice: " the record has no room for it: set a greater limit in the pool line, 1048576 at most",
+};
+
+const JOB_WITHOUT_MEMORY: Saying = Saying {
+    sentence: "job {}",
+    advice: " there is no memory for it",
+};
+
+const JOB: Saying = Saying {
+    sentence: "job {}",
+    advice: " the record is torn there",
+};
+
+const UNKNOWN: Saying = Saying {
+    sentence: "the line may not stand here",
+    advice: "",
+};
+
+impl<'a> Mistake<'a> {
+    /// What is said of a mistake that is not one of words.
+    fn saying(&self) -> &'static Saying {
         match self {
-            Kind::Scenario => "a scenario",
-            Kind::Jobs => "a file of jobs",
-            Kind::Record => "a record",
+            Mistake::Bytes(fault) => fault.saying(),
+            Mistake::Setting(setting) => setting.saying(),
+            Mistake::OtherKind(Kind::Scenario) => &A_SCENARIO,
+            Mistake::OtherKind(Kind::Jobs) => &A_FILE_OF_JOBS,
+            Mistake::OtherKind(Kind::Record) => &A_RECORD,
+            Mistake::Tab => &TAB,
+            Mistake::NoPoolLine => &NO_POOL_LINE,
+            Mistake::EarlyLine(_) => &EARLY_LINE,
+            Mistake::SecondPoolLine => &SECOND_POOL_LINE,
+            Mistake::NoVersion => &NO_VERSION,
+            Mistake::Headless => &HEADLESS,
+            Mistake::UsualLimit => &USUAL_LIMIT,
+            Mistake::Skipped => &SKIPPED,
+            Mistake::Unnumbered(_) => &UNNUMBERED,
+            Mistake::Misnumbered(_) => &MISNUMBERED,
+            Mistake::PassNought => &PASS_NOUGHT,
+            Mistake::PriorityNought => &PRIORITY_NOUGHT,
+            Mistake::FirstForm => &FIRST_FORM,
+            Mistake::Miscounted(_) => &MISCOUNTED,
+            Mistake::NoEnd(_) => &NO_END,
+            Mistake::BehindEnd => &BEHIND_END,
+            Mistake::Job(_, PoolError::BookFull) => &JOB_WITHOUT_ROOM,
+            Mistake::Job(_, PoolError::NoMemory) => &JOB_WITHOUT_MEMORY,
+            Mistake::Job(_, _) => &JOB,
+            Mistake::Words(_) | Mistake::Unknown => &UNKNOWN,
         }
     }
 
-    /// The command that takes such a text.
-    pub fn command(self) -> &'static str {
+    /// What is told of a mistake that is not one of words.
+    fn value(&self) -> Value<'a> {
+        if let Mistake::EarlyLine(word) = self {
+            return Value::Word("", *word);
+        }
         match self {
-            Kind::Scenario => "poolrun steps",
-            Kind::Jobs => "poolrun threads",
-            Kind::Record => "poolrun audit",
+            Mistake::Bytes(Fault::NotAscii(byte)) => Value::Number(u32::from(*byte)),
+            Mistake::Setting(Setting::Core(core, maximum)) => Value::Sizes(*core, *maximum),
+            Mistake::Setting(Setting::Maximum(number))
+            | Mistake::Setting(Setting::Capacity(number))
+            | Mistake::Setting(Setting::Limit(number))
+            | Mistake::Unnumbered(number)
+            | Mistake::Misnumbered(number)
+            | Mistake::Miscounted(number)
+            | Mistake::NoEnd(number) => Value::Number(*number),
+            Mistake::Job(job, refusal) => Value::Job(*job, *refusal),
+            _ => Value::Nothing,
         }
     }
-}
 
-impl fmt::Display for Mistake<'_> {
-    fn fmt<W: fmt::Write>(&self, f: &mut fmt::Formatter<W>) -> fmt::Result {
+    /// What is wrong.
+    pub fn sentence(&self) -> Telling<'a> {
         match self {
-            Mistake::Bytes(fault) => write!(f, "{fault}"),
-            Mistake::Words(wording) => write!(f, "{wording}"),
-            Mistake::Setting(setting) => write!(f, "{setting}"),
-            Mistake::Tab => f.write_str("a tab stands in the line"),
-            Mistake::NoPoolLine => f.write_str("the text has no pool line"),
-            Mistake::EarlyLine(word) => write!(f, "'{word}' stands before the pool line"),
-            Mistake::SecondPoolLine => f.write_str("a second pool line"),
-            Mistake::OtherKind(kind) => {
-                let name = kind.name();
-                write!(f, "this is a line of {name}")
-            }
-            Mistake::NoVersion => f.write_str("a record begins with the line 'tprecord 2'"),
-            Mistake::Headless => f.write_str("an entry stands where the record begins"),
-            Mistake::UsualLimit => f.write_str("a record's limit of 4096 is not written"),
-            Mistake::Skipped => f.write_str("a record has no empty lines and no comments"),
-            Mistake::Unnumbered(_) => f.write_str("the entry's number is missing"),
-            Mistake::Misnumbered(_) => f.write_str("the entry has another entry's number"),
-            Mistake::PassNought => f.write_str("pass 0 is not written"),
-            Mistake::PriorityNought => f.write_str("priority 0 is not written"),
-            Mistake::FirstForm => {
-                f.write_str("a record that begins with 'tprecord 1' has no priorities")
-            }
-            Mistake::Miscounted(_) => f.write_str("the number of entries is wrong"),
-            Mistake::NoEnd(_) => f.write_str("the record's last line is missing"),
-            Mistake::BehindEnd => f.write_str("something stands behind the record's last line"),
-            Mistake::Job(job, refusal) => write!(f, "job {job} is {refusal}"),
-            Mistake::Unknown => f.write_str("the line may not stand here"),
+            Mistake::Words(wording) => wording.sentence(),
+            _ => Telling {
+                text: self.saying().sentence,
+                value: self.value(),
+            },
         }
     }
-}
 
-/// How a mistake is mended, in the words that stand behind the mark under it, each behind a space; there may be none.
-#[derive(Clone, Copy)]
-pub struct Advice<'a>(pub &'a Mistake<'a>);
-
-fn write_advice<W: fmt::Write>(f: &mut fmt::Formatter<W>, advice: &str) -> fmt::Result {
-    write!(f, " {advice}")
-}
-
-impl fmt::Display for Advice<'_> {
-    fn fmt<W: fmt::Write>(&self, f: &mut fmt::Formatter<W>) -> fmt::Result {
-        match self.0 {
-            Mistake::Bytes(fault) => write_advice(f, fault.advice()),
-            Mistake::Words(wording) => {
-                let advice = wordings::Advice(wording);
-                write!(f, "{advice}")
-            }
-            Mistake::Setting(setting) => write_advice(f, setting.advice()),
-            Mistake::Tab => f.write_str(" write one space between two words"),
-            Mistake::NoPoolLine => f.write_str(" the text ends here"),
-            Mistake::EarlyLine(_) => f.write_str(" the pool line comes first"),
-            Mistake::SecondPoolLine => f.write_str(" a text is of one pool"),
-            Mistake::OtherKind(kind) => {
-                let command = kind.command();
-                write!(f, " it is for `{command}`")
-            }
-            Mistake::NoVersion => f.write_str(" write 'tprecord 2' here"),
-            Mistake::Headless => f.write_str(
-                " write 'tprecord 2' and the pool line before it, as `poolrun steps --record` does",
-            ),
-            Mistake::UsualLimit => f.write_str(" leave out 'limit 4096'"),
-            Mistake::Skipped | Mistake::PassNought | Mistake::PriorityNought => {
-                f.write_str(" take it out")
-            }
-            Mistake::FirstForm => f.write_str(" write 'tprecord 2' in the first line"),
-            Mistake::Unnumbered(number) => write!(f, " write {number} before it"),
-            Mistake::Misnumbered(number) => write!(f, " this is entry {number}"),
-            Mistake::Miscounted(entries) => write!(f, " write {entries}: so many stand before it"),
-            Mistake::NoEnd(entries) => {
-                write!(f, " write 'end {entries}' here; or the text was cut off")
-            }
-            Mistake::BehindEnd => f.write_str(" take it out"),
-            Mistake::Job(_, PoolError::BookFull) => f.write_str(
-                " the record has no room for it: set a greater limit in the pool line, 1048576 at most",
-            ),
-            Mistake::Job(_, PoolError::NoMemory) => f.write_str(" there is no memory for it"),
-            Mistake::Job(_, _) => f.write_str(" the record is torn there"),
-            Mistake::Unknown => Ok(()),
+    /// How it is mended, behind a space; there may be nothing.
+    pub fn advice(&self) -> Telling<'a> {
+        match self {
+            Mistake::Words(wording) => wording.advice(),
+            _ => Telling {
+                text: self.saying().advice,
+                value: self.value(),
+            },
         }
     }
 }

@@ -1,13 +1,13 @@
 //! Settings that no pool can have.
 
-use std::fmt;
+use crate::tellings::Saying;
 use tp_text::pools::PoolLine;
 use tp_types::configs::QueueKind;
 use tp_types::limits::{DEFAULT_RECORD_LIMIT, MAX_WORKERS};
 use tp_types::refusals::PoolError;
 
 /// A setting that no pool can have beside the others of its line.
-#[derive(Clone, Copy, Debug, PartialEq, Eq)]
+#[derive(Clone, Copy)]
 pub enum Setting {
     /// The maximum is 0 or above 1,024.
     Maximum(u32),
@@ -21,29 +21,40 @@ pub enum Setting {
     Keep,
 }
 
-impl fmt::Display for Setting {
-    fn fmt<W: fmt::Write>(&self, f: &mut fmt::Formatter<W>) -> fmt::Result {
-        match self {
-            Setting::Maximum(maximum) => write!(f, "no pool has a MAX of {maximum}"),
-            Setting::Core(core, maximum) => {
-                write!(f, "a CORE of {core} is above the MAX of {maximum}")
-            }
-            Setting::Capacity(places) => write!(f, "no queue is bounded by {places}"),
-            Setting::Limit(entries) => write!(f, "no record has a limit of {entries}"),
-            Setting::Keep => f.write_str("with coretimeout no pool has a keep-alive of 0"),
-        }
-    }
-}
+const MAXIMUM: Saying = Saying {
+    sentence: "no pool has a MAX of {}",
+    advice: " MAX is 1 to 1024",
+};
+
+const CORE: Saying = Saying {
+    sentence: "a CORE of {}",
+    advice: " CORE is 0 to MAX",
+};
+
+const CAPACITY: Saying = Saying {
+    sentence: "no queue is bounded by {}",
+    advice: " 1 to 65536",
+};
+
+const LIMIT: Saying = Saying {
+    sentence: "no record has a limit of {}",
+    advice: " 64 to 1048576",
+};
+
+const KEEP: Saying = Saying {
+    sentence: "with coretimeout no pool has a keep-alive of 0",
+    advice: " 1 or more, or leave out coretimeout",
+};
 
 impl Setting {
-    /// Its range.
-    pub fn advice(self) -> &'static str {
+    /// What is said of it.
+    pub fn saying(self) -> &'static Saying {
         match self {
-            Setting::Maximum(_) => "MAX is 1 to 1024",
-            Setting::Core(_, _) => "CORE is 0 to MAX",
-            Setting::Capacity(_) => "1 to 65536",
-            Setting::Limit(_) => "64 to 1048576",
-            Setting::Keep => "1 or more, or leave out coretimeout",
+            Setting::Maximum(_) => &MAXIMUM,
+            Setting::Core(_, _) => &CORE,
+            Setting::Capacity(_) => &CAPACITY,
+            Setting::Limit(_) => &LIMIT,
+            Setting::Keep => &KEEP,
         }
     }
 }
