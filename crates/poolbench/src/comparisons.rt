@@ -10,6 +10,7 @@ use std::rt::Clock;
 use std::sync::Wait;
 use std::thread::Threads;
 use std::time::Duration;
+use tp_record::recorders::{Full, Tally};
 
 /// What is compared, with the aim: the textbook's time by the pool's, in hundredths.
 const COURSES: [(Course, u64); 6] = [
@@ -61,7 +62,7 @@ pub fn rehearse_pools<R: Threads + Wait + Clock + Print + Copy + Send + Sync + '
     rt: R,
     alloc: Global,
 ) -> io::Result<bool> {
-    if let Err(unmeasured) = medians(rt, alloc, FEW, 1) {
+    if let Err(unmeasured) = medians_of(rt, alloc, FEW, 1) {
         println!(&rt; "{unmeasured}")?;
         return Ok(false);
     }
@@ -81,8 +82,8 @@ pub fn compared<R: Threads + Wait + Clock + Print + Copy + Send + Sync + 'static
         if only.is_some_and(|only| only != number) {
             continue;
         }
-        match medians(rt, alloc, course, runs) {
-            Ok((textbook, recorded)) => tell(&rt, course, aim, textbook, recorded)?,
+        match medians_of(rt, alloc, course, runs) {
+            Ok(medians) => tell(&rt, course, aim, &medians)?,
             Err(unmeasured) => {
                 println!(&rt; "{unmeasured}")?;
                 return Ok(false);
@@ -93,52 +94,51 @@ pub fn compared<R: Threads + Wait + Clock + Print + Copy + Send + Sync + 'static
 }
 
 // Prints the medians, and their ratio beside the aim.
-fn tell<R: Print>(
-    rt: &R,
-    course: Course,
-    aim: u64,
-    textbook: Duration,
-    recorded: Duration,
-) -> io::Result<()> {
+fn tell<R: Print>(rt: &R, course: Course, aim: u64, medians: &Medians) -> io::Result<()> {
+    let Medians {
+        textbook,
+        recorded,
+        tallied,
+    } = *medians;
     match course {
-        Course::Through(crowd) => tell_through(rt, crowd, textbook, recorded)?,
-        Course::Start(workers) => tell_start(rt, workers, textbook, recorded)?,
+        Course::Through(crowd) => tell_through(rt, crowd, medians)?,
+        Course::Start(workers) => tell_start(rt, workers, medians)?,
     }
-    let ratio = nanoseconds(textbook).saturating_mul(100) / nanoseconds(recorded).max(1);
+    let ratio = hundredths(textbook, recorded);
+    let without = hundredths(recorded, tallied);
     println!(rt;
-        "  {}.{:02} times, the aim is {}.{:02}",
+        "  {}.{:02} times, the aim is {}.{:02}; without a record {}.{:02} times that",
         ratio / 100,
         ratio % 100,
         aim / 100,
-        aim % 100
+        aim % 100,
+        without / 100,
+        without % 100
     )
 }
 
-fn tell_through<R: Print>(
-    rt: &R,
-    crowd: Crowd,
-    textbook: Duration,
-    recorded: Duration,
-) -> io::Result<()> {
+// By how much the second is quicker, in hundredths.
+fn hundredths(one: Duration, two: Duration) -> u64 {
+    nanoseconds(one).saturating_mul(100) / nanoseconds(two).max(1)
+}
+
+fn tell_through<R: Print>(rt: &R, crowd: Crowd, medians: &Medians) -> io::Result<()> {
     println!(rt;
-        "{} workers, {} submitters: {} thousand tasks a second, the textbook's {}",
+        "{} workers, {} submitters: {} thousand tasks a second, without a record {}, the textbook's {}",
         crowd.workers,
         crowd.submitters,
-        thousands(crowd, recorded),
-        thousands(crowd, textbook)
+        thousands(crowd, medians.recorded),
+        thousands(crowd, medians.tallied),
+        thousands(crowd, medians.textbook)
     )
 }
 
-fn tell_start<R: Print>(
-    rt: &R,
-    workers: u32,
-    textbook: Duration,
-    recorded: Duration,
-) -> io::Result<()> {
+fn tell_start<R: Print>(rt: &R, workers: u32, medians: &Medians) -> io::Result<()> {
     println!(rt;
-        "{workers} idle workers: a task begins after {} ns, the textbook's after {}",
-        nanoseconds(recorded),
-        nanoseconds(textbook)
+        "{workers} idle workers: a task begins after {} ns, without a record after {}, the textbook's after {}",
+        nanoseconds(medians.recorded),
+        nanoseconds(medians.tallied),
+        nanoseconds(medians.textbook)
     )
 }
 
@@ -151,18 +151,35 @@ fn thousands(crowd: Crowd, time: Duration) -> u64 {
     u64::from(crowd.all_tasks()).saturating_mul(1_000_000) / nanoseconds(time).max(1)
 }
 
-// The median times of the textbook's pool and of this one, in so many runs of each, by turns.
-fn medians<R: Threads + Wait + Clock + Copy + Send + Sync + 'static>(
+/// The median times of a course.
+#[derive(Clone, Copy)]
+struct Medians {
+    /// The textbook's pool.
+    textbook: Duration,
+    /// This one, with its record.
+    recorded: Duration,
+    /// This one, without a record.
+    tallied: Duration,
+}
+
+// The median times of so many runs of each, by turns.
+fn medians_of<R: Threads + Wait + Clock + Copy + Send + Sync + 'static>(
     rt: R,
     alloc: Global,
     course: Course,
     runs: u32,
-) -> Result<(Duration, Duration), Unmeasured> {
+) -> Result<Medians, Unmeasured> {
     let mut theirs = Vec::new(alloc);
     let mut ours = Vec::new(alloc);
+    let mut bare = Vec::new(alloc);
     for _ in 0..runs {
         theirs.push(textbook(rt, alloc, course)?)?;
-        ours.push(recorded(rt, alloc, course)?)?;
+        ours.push(recorded::<Full, R>(rt, alloc, course)?)?;
+        bare.push(recorded::<Tally, R>(rt, alloc, course)?)?;
     }
-    Ok((median(&mut theirs)?, median(&mut ours)?))
+    Ok(Medians {
+        textbook: median(&mut theirs)?,
+        recorded: median(&mut ours)?,
+        tallied: median(&mut bare)?,
+    })
 }

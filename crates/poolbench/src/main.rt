@@ -4,20 +4,29 @@
 //! `poolbench cost [RUNS [COURSE]]`: compares the pool with a textbook's in so many runs of each, 7 where no
 //! number is given, in all courses or in the one of this number, from 0.
 //!
+//! `poolbench endless FARE TASKS`: has one pool without a record run so many tasks, `plain`, `futures`, `cancels`, `faults` or
+//! `groups`, and tells how far it has come.
+//! `poolbench released [TASKS]`: what a machine's steps cost after few and after many tasks were released; with a number, has one
+//! run and release so many, to count its instructions.
+//!
 //! The status is 1 where a pool did not run its tasks, and 2 for any other command line.
 #![tactic(auto)]
 
 mod comparisons;
 mod courses;
+mod endless;
 mod errands;
 mod measures;
 mod recorded;
+mod released;
 mod reports;
 mod textbook;
 mod textbooks;
 mod unmeasured;
 
 use comparisons::{compared, rehearse_pools};
+use endless::{Fare, serves};
+use released::{forgets, forgetting};
 use reports::{rehearse, time};
 use std::process::ExitCode;
 use std::{env, io};
@@ -33,6 +42,9 @@ enum Choice {
     Rehearse,
     Time(u32),
     Cost(u32, Option<u32>),
+    Endless(Fare, u32),
+    Released,
+    Forgets(u32),
     Usage,
 }
 
@@ -44,6 +56,30 @@ fn number(word: Option<&String>) -> Option<u32> {
     }
 }
 
+// What a pool is given that serves on and on.
+fn fare(word: &str) -> Option<Fare> {
+    match word {
+        "plain" => Some(Fare::Plain),
+        "futures" => Some(Fare::Futures),
+        "cancels" => Some(Fare::Cancels),
+        "faults" => Some(Fare::Faults),
+        "groups" => Some(Fare::Groups),
+        _ => None,
+    }
+}
+
+// The choice of these words, where the first is `endless`.
+fn service(words: &[String]) -> Choice {
+    let tasks = number(words.get(3));
+    match (words.get(2), tasks, words.len()) {
+        (Some(word), Some(tasks), 4) => match fare(word.as_str()) {
+            Some(fare) => Choice::Endless(fare, tasks),
+            None => Choice::Usage,
+        },
+        _ => Choice::Usage,
+    }
+}
+
 /// The choice of these words, the program's own name first.
 fn chosen(words: &[String]) -> Choice {
     let Some(command) = words.get(1) else {
@@ -52,6 +88,9 @@ fn chosen(words: &[String]) -> Choice {
     let first = number(words.get(2));
     let second = number(words.get(3));
     match (command.as_str(), words.len(), first, second) {
+        ("endless", _, _, _) => service(words),
+        ("released", 2, None, None) => Choice::Released,
+        ("released", 3, Some(tasks), None) => Choice::Forgets(tasks),
         ("time", 2, None, None) => Choice::Time(USUAL_TURNS),
         ("time", 3, Some(turns), None) => Choice::Time(turns),
         ("cost", 2, None, None) => Choice::Cost(USUAL_RUNS, None),
@@ -74,8 +113,13 @@ fn main(rt: HostRuntime) -> io::Result<ExitCode> {
             true
         }
         Choice::Cost(runs, only) => compared(rt, alloc, runs, only)?,
+        Choice::Endless(fare, tasks) => serves(rt, alloc, fare, tasks)?,
+        Choice::Released => forgetting(&rt, alloc)?,
+        Choice::Forgets(tasks) => forgets(alloc, tasks),
         Choice::Usage => {
-            eprintln!(&rt; "usage: poolbench [time [TURNS] | cost [RUNS [COURSE]]]")?;
+            eprintln!(&rt;
+                "usage: poolbench [time [TURNS] | cost [RUNS [COURSE]] | endless FARE TASKS | released [TASKS]]"
+            )?;
             return Ok(ExitCode::from(2));
         }
     };

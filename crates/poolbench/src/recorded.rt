@@ -1,4 +1,4 @@
-//! The runs of the recording pool that are timed.
+//! The runs of the pool that are timed, with its record and without one.
 ghost use Rattle.std.specs.Prelude.{◌≡◌};
 
 use crate::courses::{Course, Crowd, STARTS, median, settle};
@@ -13,17 +13,18 @@ use std::thread::{JoinHandle, Threads};
 use std::time::{Clock, Duration, Instant};
 use tp_book::opening::Unopened;
 use tp_book::passes::Pass;
+use tp_machine::machine::releases::Keeper;
 use tp_pool::defaults::Defaults;
 use tp_pool::names::PoolNaming;
 use tp_pool::pool::PoolOf;
 use tp_types::configs::{Config, Policy, QueueKind};
-use tp_types::limits::MAX_RECORD_LIMIT;
+use tp_types::limits::{DEFAULT_RECORD_LIMIT, MAX_RECORD_LIMIT};
 use tp_types::tasks::Kind;
 
-type Recorded<G> = PoolOf<G, Parcel, Defaults>;
+type Recorded<G, K> = PoolOf<G, Parcel, Defaults, K>;
 
-// So many workers, and a queue that takes any number of tasks.
-fn settings_of(workers: u32) -> Config {
+// So many workers, a queue that takes any number of tasks, and a record of so many entries.
+fn settings_of(workers: u32, record_limit: u32) -> Config {
     Config {
         core: workers,
         maximum: workers,
@@ -31,27 +32,27 @@ fn settings_of(workers: u32) -> Config {
         keep: 1,
         core_timeout: false,
         policy: Policy::Abort,
-        record_limit: MAX_RECORD_LIMIT,
+        record_limit,
     }
 }
 
-/// Times the recording pool.
-pub fn recorded<R: Threads + Wait + Clock + Copy + Send + Sync + 'static>(
-    rt: R,
-    alloc: Global,
-    course: Course,
-) -> Result<Duration, Unmeasured> {
-    let workers = match course {
-        Course::Through(crowd) => crowd.workers,
-        Course::Start(workers) => workers,
+/// Times the pool with what keeps its record.
+pub fn recorded<
+    K: Keeper + Send + 'static,
+    R: Threads + Wait + Clock + Copy + Send + Sync + 'static,
+>(rt: R, alloc: Global, course: Course) -> Result<Duration, Unmeasured> {
+    let settings = match course {
+        Course::Through(crowd) => settings_of(crowd.workers, MAX_RECORD_LIMIT),
+        Course::Start(workers) => settings_of(workers, DEFAULT_RECORD_LIMIT),
     };
     let unopened = Unopened::new(alloc)?;
-    open::<Brand, R>(rt, alloc, unopened, settings_of(workers), course)
+    open::<Brand, K, R>(rt, alloc, unopened, settings, course)
 }
 
 // Opens a pool under its name, and lets its workers fall asleep.
 fn open<
     G: PoolNaming + Send + Sync + 'static,
+    K: Keeper + Send + 'static,
     R: Threads + Wait + Clock + Copy + Send + Sync + 'static,
 >(
     rt: R,
@@ -63,7 +64,7 @@ fn open<
     requires named { unopened ≡ record { ledger = G.name; parts = G.parts; table = G.table } }
     requires settings { settings ≡ G.config }
 {
-    let (pool, first) = Recorded::<G>::over(alloc, unopened, settings, Defaults)?;
+    let (pool, first) = Recorded::<G, K>::over(alloc, unopened, settings, Defaults)?;
     let mut pass = first;
     pool.prestart_all(&rt, &mut pass)?;
     settle(&rt);
@@ -73,10 +74,14 @@ fn open<
     }
 }
 
-fn submits<G: PoolNaming + Send + Sync + 'static, R: Threads + Wait + Copy + Send + 'static>(
+fn submits<
+    G: PoolNaming + Send + Sync + 'static,
+    K: Keeper + Send + 'static,
+    R: Threads + Wait + Copy + Send + 'static,
+>(
     rt: R,
     alloc: Global,
-    pool: &Recorded<G>,
+    pool: &Recorded<G, K>,
     pass: &mut Pass<G>,
     tasks: u32,
 ) -> Result<(), Unmeasured> {
@@ -89,10 +94,14 @@ fn submits<G: PoolNaming + Send + Sync + 'static, R: Threads + Wait + Copy + Sen
     Ok(())
 }
 
-fn submits_alone<G: PoolNaming + Send + Sync + 'static, R: Threads + Wait + Copy + Send + 'static>(
+fn submits_alone<
+    G: PoolNaming + Send + Sync + 'static,
+    K: Keeper + Send + 'static,
+    R: Threads + Wait + Copy + Send + 'static,
+>(
     rt: R,
     alloc: Global,
-    pool: Arc<Recorded<G>>,
+    pool: Arc<Recorded<G, K>>,
     pass: Pass<G>,
     tasks: u32,
 ) -> Result<(), Unmeasured> {
@@ -100,10 +109,14 @@ fn submits_alone<G: PoolNaming + Send + Sync + 'static, R: Threads + Wait + Copy
     submits(rt, alloc, &pool, &mut pass, tasks)
 }
 
-fn other<G: PoolNaming + Send + Sync + 'static, R: Threads + Wait + Copy + Send + Sync + 'static>(
+fn other<
+    G: PoolNaming + Send + Sync + 'static,
+    K: Keeper + Send + 'static,
+    R: Threads + Wait + Copy + Send + Sync + 'static,
+>(
     rt: R,
     alloc: Global,
-    pool: &Arc<Recorded<G>>,
+    pool: &Arc<Recorded<G, K>>,
     pass: Pass<G>,
     tasks: u32,
 ) -> Result<JoinHandle<Result<(), Unmeasured>>, Unmeasured> {
@@ -116,11 +129,12 @@ fn other<G: PoolNaming + Send + Sync + 'static, R: Threads + Wait + Copy + Send 
 
 fn all_submit<
     G: PoolNaming + Send + Sync + 'static,
+    K: Keeper + Send + 'static,
     R: Threads + Wait + Copy + Send + Sync + 'static,
 >(
     rt: R,
     alloc: Global,
-    pool: &Arc<Recorded<G>>,
+    pool: &Arc<Recorded<G, K>>,
     pass: &mut Pass<G>,
     second: Pass<G>,
     crowd: Crowd,
@@ -137,11 +151,12 @@ fn all_submit<
 // Receipts are reserved before the clock starts.
 fn through<
     G: PoolNaming + Send + Sync + 'static,
+    K: Keeper + Send + 'static,
     R: Threads + Wait + Clock + Copy + Send + Sync + 'static,
 >(
     rt: R,
     alloc: Global,
-    pool: Arc<Recorded<G>>,
+    pool: Arc<Recorded<G, K>>,
     pass: Pass<G>,
     crowd: Crowd,
 ) -> Result<Duration, Unmeasured> {
@@ -165,11 +180,11 @@ fn receipts(tasks: u32) -> usize {
 }
 
 // Shuts the pool down, and waits for its end.
-fn end<G: PoolNaming + Send + Sync + 'static, R: Threads + Wait + Copy + Send + 'static>(
-    rt: &R,
-    pool: &Recorded<G>,
-    pass: &mut Pass<G>,
-) -> Result<(), Unmeasured> {
+fn end<
+    G: PoolNaming + Send + Sync + 'static,
+    K: Keeper + Send + 'static,
+    R: Threads + Wait + Copy + Send + 'static,
+>(rt: &R, pool: &Recorded<G, K>, pass: &mut Pass<G>) -> Result<(), Unmeasured> {
     pool.shutdown(rt, pass)?;
     pool.await_termination(rt, u64::MAX, pass)?;
     Ok(())
@@ -177,8 +192,9 @@ fn end<G: PoolNaming + Send + Sync + 'static, R: Threads + Wait + Copy + Send + 
 
 fn start<
     G: PoolNaming + Send + Sync + 'static,
+    K: Keeper + Send + 'static,
     R: Threads + Wait + Clock + Copy + Send + Sync + 'static,
->(rt: R, alloc: Global, pool: &Recorded<G>, pass: Pass<G>) -> Result<Duration, Unmeasured> {
+>(rt: R, alloc: Global, pool: &Recorded<G, K>, pass: Pass<G>) -> Result<Duration, Unmeasured> {
     let mut pass = pass;
     let mut times = Vec::new(alloc);
     pass.reserve(receipts(STARTS))?;
@@ -193,8 +209,9 @@ fn start<
 // From a submission until its body begins.
 fn one_start<
     G: PoolNaming + Send + Sync + 'static,
+    K: Keeper + Send + 'static,
     R: Threads + Wait + Clock + Copy + Send + Sync + 'static,
->(rt: R, alloc: Global, pool: &Recorded<G>, pass: &mut Pass<G>) -> Result<Duration, Unmeasured> {
+>(rt: R, alloc: Global, pool: &Recorded<G, K>, pass: &mut Pass<G>) -> Result<Duration, Unmeasured> {
     let mark = Arc::new(alloc, AtomicU64::new(0))?;
     let job = Parcel::new(alloc, Some(Arc::try_clone(&mark)?))?;
     let start = Instant::now(&rt)?;

@@ -14,6 +14,7 @@ use tp_reasons::mistakes::Kind;
 use tp_reasons::scenarios::in_job_refused;
 use tp_text::watched::{WatchedReader, WatchedWriter};
 use tp_text::writing::write_text;
+use tp_threads::tallies::tally_text;
 use tp_threads::texts::{Unfinished, run_text};
 use tp_types::refusals::PoolError;
 
@@ -96,6 +97,34 @@ pub fn run_threads<
             tell_refusal(alloc, errors, Kind::Jobs, name, text, refusal, style);
         }
         (Ok(_), _) => {}
+    }
+    status
+}
+
+/// Runs the jobs that a reader of this name gives, as `poolrun threads --tally`, and gives the status of the program. What is wrong
+/// with a text that is refused goes to `errors`.
+pub fn run_tally<H: Threads + Wait + Copy + Send + 'static, R: Read + Drop, W: Write, E: Write>(
+    rt: H,
+    alloc: Global,
+    name: &str,
+    reader: R,
+    out: &mut WatchedWriter<W>,
+    errors: &mut E,
+    style: Style,
+) -> u8 {
+    let text = match whole_text(alloc, Kind::Jobs, name, reader, errors) {
+        Ok(text) => text,
+        Err(refusal) => return finish(out, &Err(refusal)),
+    };
+    let text = text.as_slice();
+    let ran = tally_text(rt, alloc, &mut WatchedReader::new(text), out);
+    let outcome = match ran {
+        Ok(()) => Ok(true),
+        Err(refusal) => Err(refusal),
+    };
+    let status = finish(out, &outcome);
+    if let Err(refusal) = outcome {
+        tell_refusal(alloc, errors, Kind::Jobs, name, text, refusal, style);
     }
     status
 }

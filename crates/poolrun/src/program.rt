@@ -1,6 +1,6 @@
 //! The program over any files, words and writers.
 
-use crate::jobs::run_threads;
+use crate::jobs::{run_tally, run_threads};
 use clap::error::ErrorKind;
 use std::alloc::Global;
 use std::fs;
@@ -39,6 +39,7 @@ fn run_reader<
             let record = record.as_ref().map(|record| record.as_str());
             run_threads(rt, alloc, record, name, reader, out, errors, style)
         }
+        Choice::Tally(_) => run_tally(rt, alloc, name, reader, out, errors, style),
         Choice::Audit(_, has_any_length) => {
             run_audit(alloc, *has_any_length, name, reader, out, errors, style)
         }

@@ -11,7 +11,7 @@ use tp_audit::plain::audit_plain;
 use tp_audit::summary::Summary;
 use tp_book::passes::Pass;
 use tp_pool::answers::Admitted;
-use tp_pool::closing::Report;
+use tp_pool::closing::{Report, TallyReport};
 use tp_pool::names::PoolNaming;
 use tp_record::entries::{Did, Ruled, Started};
 use tp_types::ids::TaskId;
@@ -178,4 +178,56 @@ pub fn judge(alloc: Global, plan: &Plan, report: &Report, books: &Books) -> Resu
     follow(plan, report, &owners, &mut rows)?;
     agree(&rows, &books.ran, &summary)?;
     Ok(summary.counts)
+}
+
+// What became of the jobs of a pool, by their own counts and by what came back.
+#[derive(Clone, Copy, Default, PartialEq, Eq)]
+struct Ends {
+    ran: u64,
+    back: u64,
+}
+
+// Each job ran or came back at most once, and not both; how many did.
+fn ends_of(rows: &[Row], ran: &[Count]) -> Result<Ends, Mishap> {
+    let mut ends = Ends::default();
+    for ((number, row), count) in (0u32..).zip(rows).zip(ran) {
+        if Arc::strong_count(count) != 1 {
+            return Err(Mishap::Job(number, "is held by somebody yet"));
+        }
+        match (count.load(Ordering::SeqCst), row.back) {
+            (0, 0) => {}
+            (1, 0) => ends.ran = ends.ran.saturating_add(1),
+            (0, 1) => ends.back = ends.back.saturating_add(1),
+            _ => return Err(Mishap::Job(number, "ran and came back more than once")),
+        }
+    }
+    Ok(ends)
+}
+
+/// Accounts for each job of a closed pool that kept no record, by the jobs' own counts and by the pool's counters. A job that was
+/// cancelled may have run.
+pub fn judge_tally(
+    alloc: Global,
+    plan: &Plan,
+    report: &TallyReport,
+    books: &Books,
+) -> Result<Counts, Mishap> {
+    let counts = report.counts;
+    let rows = rows_of(alloc, books, plan.all_jobs())?;
+    owners_of(alloc, &rows, counts.submitted)?;
+    let Ends { ran, back } = ends_of(&rows, &books.ran)?;
+    if (counts.submitted, report.unended) != (plan.all_jobs(), 0) {
+        return Err(Mishap::Differs("not each job is a task with a fate"));
+    }
+    let begun = u64::from(counts.run).saturating_add(u64::from(counts.caller));
+    if ran < begun || ran > begun.saturating_add(u64::from(counts.cancelled)) {
+        return Err(Mishap::Differs("the counters of runs are not the jobs' own"));
+    }
+    let returned = u64::from(counts.rejected)
+        .saturating_add(u64::from(counts.removed))
+        .saturating_add(u64::from(counts.handedback));
+    if back != returned {
+        return Err(Mishap::Differs("the counters of returns are not the jobs' own"));
+    }
+    Ok(counts)
 }

@@ -10,15 +10,17 @@ use std::sync::{Arc, Wait};
 use std::thread;
 use std::thread::{JoinHandle, Threads};
 use tp_book::passes::Pass;
+use tp_machine::machine::releases::Keeper;
 use tp_pool::answers::{Admitted, Removal};
 use tp_pool::names::PoolNaming;
 use tp_pool::pool::PoolOf;
+use tp_record::recorders::Full;
 use tp_types::ids::TaskId;
 use tp_types::refusals::PoolError;
 use tp_types::states::RunState;
 
 /// A pool of the stress run.
-pub type Crew<G> = PoolOf<G, Chore, Whims>;
+pub type Crew<G, K = Full> = PoolOf<G, Chore, Whims, K>;
 
 /// What the submission of a job came to.
 #[derive(Clone, Copy)]
@@ -89,8 +91,15 @@ pub type Caller<G> = JoinHandle<Result<Told<G>, Mishap>>;
 /// Starts a thread that calls the pool in this role.
 pub fn hire<
     G: PoolNaming + Send + Sync + 'static,
+    K: Keeper + Send + 'static,
     R: Threads + Wait + Copy + Send + Sync + 'static,
->(rt: R, pool: &Arc<Crew<G>>, role: Role, seed: u64, told: Told<G>) -> Result<Caller<G>, Mishap> {
+>(
+    rt: R,
+    pool: &Arc<Crew<G, K>>,
+    role: Role,
+    seed: u64,
+    told: Told<G>,
+) -> Result<Caller<G>, Mishap> {
     let theirs = Arc::try_clone(pool)?;
     match thread::spawn(&rt, move || plays(rt, theirs, role, seed, told)) {
         Ok(handle) => Ok(handle),
@@ -98,13 +107,11 @@ pub fn hire<
     }
 }
 
-fn plays<G: PoolNaming + Send + Sync + 'static, R: Threads + Wait + Copy + Send + 'static>(
-    rt: R,
-    pool: Arc<Crew<G>>,
-    role: Role,
-    seed: u64,
-    told: Told<G>,
-) -> Result<Told<G>, Mishap> {
+fn plays<
+    G: PoolNaming + Send + Sync + 'static,
+    K: Keeper + Send + 'static,
+    R: Threads + Wait + Copy + Send + 'static,
+>(rt: R, pool: Arc<Crew<G, K>>, role: Role, seed: u64, told: Told<G>) -> Result<Told<G>, Mishap> {
     let mut told = told;
     let mut luck = Luck::new(seed, 1);
     match role {
@@ -115,9 +122,13 @@ fn plays<G: PoolNaming + Send + Sync + 'static, R: Threads + Wait + Copy + Send 
 }
 
 // Submits these jobs, and meddles with some task now and then.
-fn submit_all<G: PoolNaming + Send + Sync + 'static, R: Threads + Wait + Copy + Send + 'static>(
+fn submit_all<
+    G: PoolNaming + Send + Sync + 'static,
+    K: Keeper + Send + 'static,
+    R: Threads + Wait + Copy + Send + 'static,
+>(
     rt: R,
-    pool: &Crew<G>,
+    pool: &Crew<G, K>,
     jobs: Vec<Chore>,
     kinds: u64,
     luck: &mut Luck,
@@ -134,13 +145,11 @@ fn submit_all<G: PoolNaming + Send + Sync + 'static, R: Threads + Wait + Copy + 
 }
 
 // Makes so many calls, and ends the pool.
-fn control_all<G: PoolNaming + Send + Sync + 'static, R: Threads + Wait + Copy + Send + 'static>(
-    rt: R,
-    pool: &Crew<G>,
-    calls: u32,
-    luck: &mut Luck,
-    told: &mut Told<G>,
-) -> Result<(), Mishap> {
+fn control_all<
+    G: PoolNaming + Send + Sync + 'static,
+    K: Keeper + Send + 'static,
+    R: Threads + Wait + Copy + Send + 'static,
+>(rt: R, pool: &Crew<G, K>, calls: u32, luck: &mut Luck, told: &mut Told<G>) -> Result<(), Mishap> {
     let mut now = 0;
     for _ in 0..calls {
         pause(luck);
@@ -149,13 +158,11 @@ fn control_all<G: PoolNaming + Send + Sync + 'static, R: Threads + Wait + Copy +
     end(rt, pool, luck, told)
 }
 
-fn submit<G: PoolNaming + Send + Sync + 'static, R: Threads + Wait + Copy + Send + 'static>(
-    rt: R,
-    pool: &Crew<G>,
-    job: Chore,
-    kinds: u64,
-    told: &mut Told<G>,
-) -> Result<(), Mishap> {
+fn submit<
+    G: PoolNaming + Send + Sync + 'static,
+    K: Keeper + Send + 'static,
+    R: Threads + Wait + Copy + Send + 'static,
+>(rt: R, pool: &Crew<G, K>, job: Chore, kinds: u64, told: &mut Told<G>) -> Result<(), Mishap> {
     let number = job.number;
     let kind = kind_of(kinds, number);
     let answer = match pool.execute_as(&rt, kind, job, &mut told.pass) {
@@ -170,9 +177,9 @@ fn submit<G: PoolNaming + Send + Sync + 'static, R: Threads + Wait + Copy + Send
 }
 
 // Removes or cancels some task.
-fn meddle<G: PoolNaming + Send + Sync + 'static, R: Wait>(
+fn meddle<G: PoolNaming + Send + Sync + 'static, K: Keeper + Send + 'static, R: Wait>(
     rt: &R,
-    pool: &Crew<G>,
+    pool: &Crew<G, K>,
     luck: &mut Luck,
     told: &mut Told<G>,
 ) -> Result<(), Mishap> {
@@ -186,9 +193,13 @@ fn meddle<G: PoolNaming + Send + Sync + 'static, R: Wait>(
 }
 
 // One call, of any kind.
-fn control<G: PoolNaming + Send + Sync + 'static, R: Threads + Wait + Copy + Send + 'static>(
+fn control<
+    G: PoolNaming + Send + Sync + 'static,
+    K: Keeper + Send + 'static,
+    R: Threads + Wait + Copy + Send + 'static,
+>(
     rt: R,
-    pool: &Crew<G>,
+    pool: &Crew<G, K>,
     luck: &mut Luck,
     now: &mut u64,
     told: &mut Told<G>,
@@ -208,9 +219,9 @@ fn control<G: PoolNaming + Send + Sync + 'static, R: Threads + Wait + Copy + Sen
 }
 
 // Sets the pool.
-fn set<G: PoolNaming, R: Wait>(
+fn set<G: PoolNaming, K: Keeper + Send + 'static, R: Wait>(
     rt: &R,
-    pool: &Crew<G>,
+    pool: &Crew<G, K>,
     luck: &mut Luck,
     pass: &mut Pass<G>,
 ) -> Result<(), Mishap> {
@@ -224,9 +235,9 @@ fn set<G: PoolNaming, R: Wait>(
 }
 
 // Lets some ticks pass, or purges the queue.
-fn pass_time<G: PoolNaming, R: Wait>(
+fn pass_time<G: PoolNaming, K: Keeper + Send + 'static, R: Wait>(
     rt: &R,
-    pool: &Crew<G>,
+    pool: &Crew<G, K>,
     luck: &mut Luck,
     now: &mut u64,
     pass: &mut Pass<G>,
@@ -241,12 +252,11 @@ fn pass_time<G: PoolNaming, R: Wait>(
 }
 
 // Has workers started.
-fn start<G: PoolNaming + Send + Sync + 'static, R: Threads + Wait + Copy + Send + 'static>(
-    rt: R,
-    pool: &Crew<G>,
-    luck: &mut Luck,
-    pass: &mut Pass<G>,
-) -> Result<(), Mishap> {
+fn start<
+    G: PoolNaming + Send + Sync + 'static,
+    K: Keeper + Send + 'static,
+    R: Threads + Wait + Copy + Send + 'static,
+>(rt: R, pool: &Crew<G, K>, luck: &mut Luck, pass: &mut Pass<G>) -> Result<(), Mishap> {
     match luck.below(3) {
         0 => {
             borne(pool.set_core(&rt, luck.below(9), pass))?;
@@ -262,12 +272,11 @@ fn start<G: PoolNaming + Send + Sync + 'static, R: Threads + Wait + Copy + Send 
 }
 
 // Shuts the pool down, or stops it, or does one after the other, and waits for its end.
-fn end<G: PoolNaming + Send + Sync + 'static, R: Threads + Wait + Copy + Send + 'static>(
-    rt: R,
-    pool: &Crew<G>,
-    luck: &mut Luck,
-    told: &mut Told<G>,
-) -> Result<(), Mishap> {
+fn end<
+    G: PoolNaming + Send + Sync + 'static,
+    K: Keeper + Send + 'static,
+    R: Threads + Wait + Copy + Send + 'static,
+>(rt: R, pool: &Crew<G, K>, luck: &mut Luck, told: &mut Told<G>) -> Result<(), Mishap> {
     let way = luck.below(3);
     if way != 0 {
         pool.shutdown(&rt, &mut told.pass)?;
@@ -283,9 +292,9 @@ fn end<G: PoolNaming + Send + Sync + 'static, R: Threads + Wait + Copy + Send + 
 
 /// Stops the pool, and notes the jobs that come back. A record that is full refuses the stop of a pool
 /// that is stopped or has ended already.
-pub fn stop<G: PoolNaming, R: Wait>(
+pub fn stop<G: PoolNaming, K: Keeper + Send + 'static, R: Wait>(
     rt: &R,
-    pool: &Crew<G>,
+    pool: &Crew<G, K>,
     told: &mut Told<G>,
 ) -> Result<(), Mishap> {
     let drained = match pool.shutdown_now(rt, &mut told.pass) {

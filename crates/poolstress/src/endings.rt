@@ -5,10 +5,11 @@ use std::sync::{Arc, Wait};
 use std::thread;
 use tp_book::passes::Pass;
 use tp_callbacks::jobs::Job;
-use tp_pool::closing::Report;
+use tp_pool::closing::{Report, TallyReport};
 use tp_pool::edges::Edge;
 use tp_pool::names::PoolNaming;
 use tp_pool::pool::PoolOf;
+use tp_record::recorders::Tally;
 
 /// The report of a pool that has ended, once no caller has it any more.
 pub fn closed<G: PoolNaming, J: Job, E: Edge, R: Wait>(
@@ -26,6 +27,18 @@ pub fn report<G: PoolNaming, J: Job, E: Edge, R: Wait>(
     passes: Vec<Pass<G>>,
 ) -> Result<Report, Mishap> {
     match pool.close(rt, passes) {
+        Ok(report) => Ok(report),
+        Err(fault) => Err(Mishap::Refused(fault.error)),
+    }
+}
+
+/// The report of a pool that has ended and kept no record, once no caller has it any more.
+pub fn tallied<G: PoolNaming, J: Job, E: Edge, R: Wait>(
+    rt: &R,
+    pool: Arc<PoolOf<G, J, E, Tally>>,
+    passes: Vec<Pass<G>>,
+) -> Result<TallyReport, Mishap> {
+    match sole(rt, pool).close(rt, passes) {
         Ok(report) => Ok(report),
         Err(fault) => Err(Mishap::Refused(fault.error)),
     }

@@ -20,6 +20,7 @@ use std::thread::Threads;
 use std::time::{Clock, Duration};
 use tp_book::opening::Unopened;
 use tp_book::passes::Pass;
+use tp_machine::machine::releases::Keeper;
 use tp_pool::names::PoolNaming;
 use tp_types::configs::Config;
 use tp_types::states::RunState;
@@ -81,11 +82,49 @@ fn open<
     Ok(account)
 }
 
-// The users of the pool of this plan, who count its ends.
-fn whims_of(plan: &Plan, ends: &Count) -> Result<Whims, AllocError> {
+/// The users of the pool of this plan, who count its ends.
+pub fn whims_of(plan: &Plan, ends: &Count) -> Result<Whims, AllocError> {
     let mut luck = Luck::new(plan.seed, 3);
     let ends = Arc::try_clone(ends)?;
     Ok(Whims::new(luck.seed(), plan.refusals, ends))
+}
+
+/// A pool that has ended, with all passes of its callers.
+#[derive(Drop)]
+pub struct Lived<G: PoolNaming, K: Keeper> {
+    /// The pool.
+    pub pool: Arc<Crew<G, K>>,
+    /// The passes.
+    pub passes: Vec<Pass<G>>,
+    /// What the callers tell of their jobs.
+    pub books: Books,
+    /// Whether it was stopped, since tasks were left to nobody.
+    pub stranded: bool,
+}
+
+/// Lets a new pool live until it is terminated.
+pub fn let_live<
+    G: PoolNaming + Send + Sync + 'static,
+    K: Keeper + Send + 'static,
+    R: Threads + Wait + Clock + Copy + Send + Sync + 'static,
+>(
+    rt: R,
+    alloc: Global,
+    pool: Crew<G, K>,
+    first: Pass<G>,
+    plan: &Plan,
+) -> Result<Lived<G, K>, Mishap> {
+    let ran = counts_of(alloc, plan)?;
+    let mut told = Told::new(alloc, first);
+    let pool = Arc::new(alloc, pool)?;
+    let (hands, stranded) = live(rt, alloc, &pool, &mut told, plan, &ran)?;
+    let (passes, books) = gathered(alloc, hands, told, ran)?;
+    Ok(Lived {
+        pool,
+        passes,
+        books,
+        stranded,
+    })
 }
 
 // What the life of a new pool comes to.
@@ -93,11 +132,12 @@ fn whole_life<
     G: PoolNaming + Send + Sync + 'static,
     R: Threads + Wait + Clock + Copy + Send + Sync + 'static,
 >(rt: R, alloc: Global, pool: Crew<G>, first: Pass<G>, plan: &Plan) -> Result<Account, Mishap> {
-    let ran = counts_of(alloc, plan)?;
-    let mut told = Told::new(alloc, first);
-    let pool = Arc::new(alloc, pool)?;
-    let (hands, stranded) = live(rt, alloc, &pool, &mut told, plan, &ran)?;
-    let (passes, books) = gathered(alloc, hands, told, ran)?;
+    let Lived {
+        pool,
+        passes,
+        books,
+        stranded,
+    } = let_live(rt, alloc, pool, first, plan)?;
     let callers = numbers_of(alloc, &passes)?;
     let report = closed(&rt, pool, passes)?;
     Ok(Account {
@@ -138,11 +178,12 @@ fn counts_of(alloc: Global, plan: &Plan) -> Result<Vec<Count>, AllocError> {
 // the pool had to be stopped.
 fn live<
     G: PoolNaming + Send + Sync + 'static,
+    K: Keeper + Send + 'static,
     R: Threads + Wait + Clock + Copy + Send + Sync + 'static,
 >(
     rt: R,
     alloc: Global,
-    pool: &Arc<Crew<G>>,
+    pool: &Arc<Crew<G, K>>,
     told: &mut Told<G>,
     plan: &Plan,
     ran: &[Count],
@@ -162,10 +203,14 @@ fn live<
 }
 
 // One more caller, with a pass of its own.
-fn another<G: PoolNaming + Send + Sync + 'static, R: Threads + Wait + Copy + Send + Sync + 'static>(
+fn another<
+    G: PoolNaming + Send + Sync + 'static,
+    K: Keeper + Send + 'static,
+    R: Threads + Wait + Copy + Send + Sync + 'static,
+>(
     rt: R,
     alloc: Global,
-    pool: &Arc<Crew<G>>,
+    pool: &Arc<Crew<G, K>>,
     role: Role,
     seed: u64,
     told: &mut Told<G>,
@@ -203,9 +248,9 @@ fn chores_of(alloc: Global, plan: &Plan, k: u32, ran: &[Count]) -> Result<Vec<Ch
 
 // Waits until the pool is terminated, and stops it where its tasks are left to nobody; whether it did. A pool does
 // not leave them so but at core size 0, by a factory that refuses again, or for want of room in its record.
-fn attend<G: PoolNaming, R: Wait + Clock>(
+fn attend<G: PoolNaming, K: Keeper + Send + 'static, R: Wait + Clock>(
     rt: &R,
-    pool: &Crew<G>,
+    pool: &Crew<G, K>,
     told: &mut Told<G>,
 ) -> Result<bool, Mishap> {
     let mut looks = 0u32;

@@ -2,6 +2,7 @@
 //! prints what is the same each time.
 //! `poolstress stress POOLS [SEED]`: lets so many pools live by chance, 1 being the usual seed, and prints
 //! what became of their jobs.
+//! `poolstress tally POOLS [SEED]`: the same of pools that keep no record.
 //! `poolstress reuse POOLS`: lets so many pools give up a slot that is reserved anew at once.
 //! `poolstress left POOLS`: lets so many pools be shut down and left to nobody, and a submission race with the
 //! shutdown in so many more.
@@ -24,11 +25,12 @@ mod races;
 mod reports;
 mod reuse;
 mod tales;
+mod tallies;
 mod totals;
 mod waits;
 mod whims;
 
-use reports::{left, rehearsed, reused, stressed};
+use reports::{left, rehearsed, reused, stressed, tallied};
 use std::process::ExitCode;
 use std::{env, io};
 
@@ -39,6 +41,7 @@ const USUAL_SEED: u32 = 1;
 enum Choice {
     Rehearse(u32),
     Stress(u32, u32),
+    Tally(u32, u32),
     Reuse(u32),
     Left(u32),
     Usage,
@@ -63,6 +66,8 @@ fn chosen(words: &[String]) -> Choice {
         ("rehearse", 3, Some(seed), None) => Choice::Rehearse(seed),
         ("stress", 3, Some(pools), None) => Choice::Stress(pools, USUAL_SEED),
         ("stress", 4, Some(pools), Some(seed)) => Choice::Stress(pools, seed),
+        ("tally", 3, Some(pools), None) => Choice::Tally(pools, USUAL_SEED),
+        ("tally", 4, Some(pools), Some(seed)) => Choice::Tally(pools, seed),
         ("reuse", 3, Some(pools), None) => Choice::Reuse(pools),
         ("left", 3, Some(pools), None) => Choice::Left(pools),
         _ => Choice::Usage,
@@ -75,11 +80,12 @@ fn main(rt: HostRuntime) -> io::Result<ExitCode> {
     let well = match chosen(words.as_slice()) {
         Choice::Rehearse(seed) => rehearsed(rt, alloc, u64::from(seed))?,
         Choice::Stress(pools, seed) => stressed(rt, alloc, u64::from(seed), pools)?,
+        Choice::Tally(pools, seed) => tallied(rt, alloc, u64::from(seed), pools)?,
         Choice::Reuse(pools) => reused(rt, alloc, pools)?,
         Choice::Left(pools) => left(rt, alloc, pools)?,
         Choice::Usage => {
             eprintln!(&rt;
-                "usage: poolstress rehearse SEED | stress POOLS [SEED] | reuse POOLS | left POOLS"
+                "usage: poolstress rehearse SEED | stress POOLS [SEED] | tally POOLS [SEED] | reuse POOLS | left POOLS"
             )?;
             return Ok(ExitCode::from(2));
         }

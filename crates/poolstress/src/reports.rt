@@ -6,6 +6,7 @@ use crate::mishaps::Mishap;
 use crate::races::all_race;
 use crate::reuse::all_reuse;
 use crate::tales::all_end;
+use crate::tallies::stress_tally;
 use crate::totals::Totals;
 use std::alloc::Global;
 use std::io;
@@ -69,6 +70,29 @@ pub fn stressed<R: Threads + Wait + Clock + Print + Copy + Send + Sync + 'static
     match stress(rt, alloc, seed, pools) {
         Ok(totals) => {
             tell(&rt, &totals)?;
+            Ok(true)
+        }
+        Err((seed, mishap)) => misses(&rt, seed, &mishap),
+    }
+}
+
+/// The same of pools that keep no record.
+pub fn tallied<R: Threads + Wait + Clock + Print + Copy + Send + Sync + 'static>(
+    rt: R,
+    alloc: Global,
+    seed: u64,
+    pools: u32,
+) -> io::Result<bool> {
+    match stress_tally(rt, alloc, seed, pools) {
+        Ok(tallies) => {
+            println!(&rt;
+                "{} pools closed that kept no record, {} steps",
+                tallies.pools, tallies.steps
+            )?;
+            println!(&rt;
+                "{} jobs accounted for; {} pools left tasks to nobody",
+                tallies.jobs, tallies.stranded
+            )?;
             Ok(true)
         }
         Err((seed, mishap)) => misses(&rt, seed, &mishap),

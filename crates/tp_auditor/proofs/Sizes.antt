@@ -37,7 +37,7 @@ slots-le c h = let e = sum_by-le-sum_by (λ o. cond (is_some o) 1 0) (slot_weigh
 
 module _ (c : Config) (h : List Entry) (config : IsConfig c) (legal : Legal c h) where
   pub few_owed : length h + due (state c h) ≤ 1048576
-  few_owed = let e = room_is_enough c h config legal in omega (arith, e, config.greatest_limit)
+  few_owed = let e = room_is_enough c h config.least_limit legal in omega (arith, e, config.greatest_limit)
 
   pub has_sizes : HasSizes (undone (state c h))
   has_sizes =

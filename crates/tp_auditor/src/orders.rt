@@ -63,7 +63,7 @@ impl Order {
     pub fn next_after(&self, x: usize) -> Option<usize>
         ensures { result ≡ next_of x self.now }
     {
-        self.line.rises();
+        self.line.law_rises();
         let _below = self.came;
         let place = *self.places.get(&x)?;
         let (next, _) = self.line.first_from(place + 1)?;
@@ -94,7 +94,7 @@ impl Order {
     pub fn remove(&mut self, x: usize)
         ensures { self.new ≡ without x self.old }
     {
-        self.line.rises();
+        self.line.law_rises();
         if let Some(place) = self.places.swap_remove(&x) {
             self.line.remove(place);
         }

@@ -21,7 +21,7 @@ impl Readings for Tables {
 
     ghost lacks = { ⊥ };
 
-    fn few_wait(&self, _config: &Config) {
+    fn law_few_wait(&self, _config: &Config) {
         let _ = &self.queue;
     }
 

@@ -58,11 +58,11 @@ impl<G: Naming> Account<G> {
     }
 
     // The law that what the seat knows is a front of the history.
-    pub fn is_front(&mut self, glance: &Glance<G>, book: &mut BookSeat<G>)
+    pub fn law_is_front(&mut self, glance: &Glance<G>, book: &mut BookSeat<G>)
         ensures front { IsFrontOf self.old.front book.old }
         ensures same { (self.new ≡ self.old) × (book.new ≡ book.old) }
     {
-        glance.is_front(book, &mut self.seat);
+        glance.law_is_front(book, &mut self.seat);
     }
 
     // Notes the entry of a step, publishes the state after it where the step changed that, and lets the seat

@@ -64,7 +64,7 @@ pub trait Payer<G: Naming> {
         ensures same { seat.new ≡ seat.old };
 
     /// The law that what the pass knows is a front of the history.
-    fn is_front(&mut self, glance: &Glance<G>, seat: &mut BookSeat<G>)
+    fn law_is_front(&mut self, glance: &Glance<G>, seat: &mut BookSeat<G>)
         ensures front { IsFrontOf (front self.old) seat.old }
         ensures same { (self.new ≡ self.old) × (seat.new ≡ seat.old) };
 }
@@ -106,13 +106,14 @@ impl<G: Naming> Payer<G> for WorkerPass<G> {
         self.account.learn(glance, seat);
     }
 
-    fn is_front(&mut self, glance: &Glance<G>, seat: &mut BookSeat<G>) {
-        self.account.is_front(glance, seat);
+    fn law_is_front(&mut self, glance: &Glance<G>, seat: &mut BookSeat<G>) {
+        self.account.law_is_front(glance, seat);
     }
 }
 
 impl<G: Naming> Payer<G> for Pass<G> {
-    ghost use Rattle.std.specs.Prelude.{◌<◌, ◌≤◌, ◌++◌, ◌∷◌, []};
+    ghost use Rattle.std.specs.Prelude.{◌<◌, ◌≤◌, ◌∷◌, []};
+    ghost use Rattle.tp_book.specs.PassView.{receipts_with};
 
     ghost number = { λ p. p.number };
 
@@ -120,7 +121,7 @@ impl<G: Naming> Payer<G> for Pass<G> {
 
     ghost ready = { λ p a. 0 < p.room };
 
-    ghost paid = { λ old e new. (new ≡ record { number = old.number; amount = old.amount + 1; front = new.front; receipts = old.receipts ++ e ∷ []; room = new.room })
+    ghost paid = { λ old e new. (new ≡ record { number = old.number; amount = old.amount + 1; front = new.front; keeps = old.keeps; receipts = receipts_with old (e ∷ []); room = new.room })
         × (old.room ≤ new.room + 1) };
 
     ghost shown = { λ old new. new ≡ record old { front = new.front } };
@@ -142,7 +143,9 @@ impl<G: Naming> Payer<G> for Pass<G> {
     ) {
         accounts.credit(&mut self.account);
         self.account.note(glance, seat, &entry, before, after);
-        self.receipts.push_reserved(entry);
+        if self.keeps {
+            self.receipts.push_reserved(entry);
+        }
     }
 
     #[inline(always)]
@@ -150,7 +153,7 @@ impl<G: Naming> Payer<G> for Pass<G> {
         self.account.learn(glance, seat);
     }
 
-    fn is_front(&mut self, glance: &Glance<G>, seat: &mut BookSeat<G>) {
-        self.account.is_front(glance, seat);
+    fn law_is_front(&mut self, glance: &Glance<G>, seat: &mut BookSeat<G>) {
+        self.account.law_is_front(glance, seat);
     }
 }

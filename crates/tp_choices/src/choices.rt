@@ -22,6 +22,8 @@ pub enum Choice {
     Steps(String, Playing),
     /// Run the jobs in the file at this path by threads. At the second path, if there is one, the record is written too.
     Threads(String, Option<String>),
+    /// Run the jobs in the file at this path by threads, on a pool that keeps no record.
+    Tally(String),
     /// Judge the record in the file at this path, which may have any length where the flag says so.
     Audit(String, bool),
 }
@@ -30,9 +32,8 @@ impl Choice {
     /// The path of the file that is to be read.
     pub fn path(&self) -> &str {
         match self {
-            Choice::Steps(path, _) | Choice::Threads(path, _) | Choice::Audit(path, _) => {
-                path.as_str()
-            }
+            Choice::Steps(path, _) | Choice::Threads(path, _) => path.as_str(),
+            Choice::Tally(path) | Choice::Audit(path, _) => path.as_str(),
         }
     }
 }
@@ -133,13 +134,20 @@ fn threads_command<'a>(alloc: Global) -> Result<Command<'a>, AllocError> {
         .value_name("PATH")
         .action(ArgAction::Set)
         .help("Writes the record there too, also where the run is refused");
+    let tally = flag(
+        alloc,
+        "tally",
+        "Keeps no record: prints the run state and the counters in its place",
+    )
+    .conflicts_with("record")?;
     with_file(
         alloc,
         "threads",
         "Runs a file of jobs by threads and prints the pool's record",
         "the jobs' text, - for the standard input",
     )?
-    .arg(record)
+    .arg(record)?
+    .arg(tally)
 }
 
 /// The command `audit`.
@@ -174,6 +182,7 @@ fn program_command<'a>(alloc: Global) -> Result<Command<'a>, AllocError> {
 fn chosen_by(alloc: Global, name: &str, inner: &ArgMatches<'_>) -> Result<Choice, AllocError> {
     let path = String::from_str(alloc, inner.get_str("FILE").unwrap_or(""))?;
     match name {
+        "threads" if inner.get_flag("tally") => Ok(Choice::Tally(path)),
         "threads" => {
             let record = match inner.get_str("record") {
                 None => None,

@@ -20,13 +20,14 @@ use Rattle.tp_parts.specs.declared.parts.Parts.{Parts}
 use Rattle.tp_parts.specs.Payloads.{HandsOut}
 use Rattle.tp_parts.specs.Steps.{Stands, Fits}
 use Rattle.tp_parts.specs.Tied.{is_before, waits}
+use Rattle.tp_parts.specs.Terms.{terms}
 use Rattle.tp_parts.proofs.Answering.{Moves}
 use Rattle.tp_parts.proofs.Standing.{given_here, row_here, named_here}
 
 -- what is owed neither falls nor rises
 pub cancel_moves : {P : Type 0} (p : Parts P) (t : TaskId) (flag effective : Bool) → Moves p 0 0 (did.Cancel t flag effective)
-cancel_moves p t flag true = λ h rs legal sh given. (_, cancel p.config h t flag legal given)
-cancel_moves p t flag false = λ h rs legal sh given. (_, cancel_late p.config h t flag legal given)
+cancel_moves p t flag true = λ h rs legal sh given. (_, cancel (terms p) h t flag legal given)
+cancel_moves p t flag false = λ h rs legal sh given. (_, cancel_late (terms p) h t flag legal given)
 
 -- a task that has its fate does not wait
 unwaiting : (p : Place) (cancelled : Bool) (ending : Option Fate) → (is_gone p ≡ false → ending ≡ None) → is_some (if cancelled then Some fate.Cancelled else ending) ≡ true → (is_before p && not cancelled) ≡ false
@@ -51,7 +52,7 @@ module _ {P : Type 0} where
       let there = row_here p stands t.0 given.0 (named_here p stands (ask.Cancel t flag) (did.Cancel t flag false) fits) in
       none_of (payload_of p.tasks t.0)
       (stands.tied.payloads t.0 ∙ ap waits (there ∙ ap (λ r. Some r) (row_read h t.0 given.0))
-      ∙ unwaiting _ _ _ (unended p.config h (told_legal p.config h stands.legal) t.0) given.2)
+      ∙ unwaiting _ _ _ (unended (terms p) h (told_legal (terms p) h stands.legal) t.0) given.2)
 
   -- none goes out where there is none
   pub hands_out_none : (tasks : Tasks P) (t : ℕ) → payload_of tasks t ≡ None → HandsOut tasks tasks t None

@@ -21,6 +21,7 @@ use Rattle.tp_parts.specs.declared.parts.Parts.{Parts}
 use Rattle.tp_parts.specs.Purges.{HoldsQueued}
 use Rattle.tp_parts.specs.Shows.{Views}
 use Rattle.tp_parts.specs.Steps.{Fits}
+use Rattle.tp_parts.specs.Terms.{terms}
 use Rattle.tp_parts.proofs.Answering.{Moves}
 use Rattle.tp_parts.proofs.Drains.{queued_held}
 
@@ -45,8 +46,8 @@ holds_queued c h rs legal may = record {
 
 -- what is owed falls by six for each
 pub purge_moves : {P : Type 0} (p : Parts P) (n k : ℕ) → k ≡ n → Moves p (6 * k) 0 (did.Purge n)
-purge_moves p n k is = let Q : ℕ → Type 0 = λ m. Moves p (6 * m) 0 (did.Purge n) in subst Q (sym is) (λ h rs legal sh given. (_, purge p.config h n legal given))
+purge_moves p n k is = let Q : ℕ → Type 0 = λ m. Moves p (6 * m) 0 (did.Purge n) in subst Q (sym is) (λ h rs legal sh given. (_, purge (terms p) h n legal given))
 
 -- the number that was counted is the answer
 pub purge_fits : {P : Type 0} (p : Parts P) (n : ℕ) → ((v : View) → Views p v → HoldsQueued v → n ≡ count_by (λ t. (v.tasks t).cancelled) v.queue) → Fits p ask.Purge (did.Purge n)
-purge_fits p n counted = λ h rs legal may sh. (ap {A = ℕ} {B = Answer} (λ k. Ok (did.Purge k)) (sym (counted (view (mark rs (state p.config h))) sh.seen (holds_queued p.config h rs legal may))), tt)
+purge_fits p n counted = λ h rs legal may sh. (ap {A = ℕ} {B = Answer} (λ k. Ok (did.Purge k)) (sym (counted (view (mark rs (state (terms p) h))) sh.seen (holds_queued (terms p) h rs legal may))), tt)

@@ -15,6 +15,7 @@ use Rattle.tp_shapes.proofs.Controllers.Remove.{remove, remove_absent}
 use Rattle.tp_parts.specs.declared.parts.Parts.{Parts}
 use Rattle.tp_parts.specs.Shows.{numbers}
 use Rattle.tp_parts.specs.Steps.{Stands, Fits}
+use Rattle.tp_parts.specs.Terms.{terms}
 use Rattle.tp_parts.proofs.Answering.{Moves}
 use Rattle.tp_parts.proofs.Standing.{given_here, task_here, open_here}
 
@@ -23,8 +24,8 @@ pub remove_moves : {P : Type 0} (p : Parts P) (t : TaskId) (queued : Bool) (n : 
 remove_moves p t queued n is = let Q : ℕ → Type 0 = λ k. Moves p (6 * k) 0 (did.Remove t queued) in subst Q (sym is) (by queued)
   where
     by : (b : Bool) → Moves p (6 * bool_byte b) 0 (did.Remove t b)
-    by true = λ h rs legal sh given. (_, remove p.config h t legal given)
-    by false = λ h rs legal sh given. (_, remove_absent p.config h t legal given)
+    by true = λ h rs legal sh given. (_, remove (terms p) h t legal given)
+    by false = λ h rs legal sh given. (_, remove_absent (terms p) h t legal given)
 
 module _ {P : Type 0} (p : Parts P) (stands : Stands p) (t : TaskId) (fits : Fits p (ask.Remove t) (did.Remove t true)) where
   -- it waits in the queue
@@ -33,11 +34,11 @@ module _ {P : Type 0} (p : Parts P) (stands : Stands p) (t : TaskId) (fits : Fit
       let h = stands.history in
       let given = given_here p stands (ask.Remove t) (did.Remove t true) fits in
       let Q : _ → Type 0 = λ xs. Contains xs t.0 in
-      subst Q stands.shows.seen.queued (Contains-from_among (queue p.config h) t.0 (among-queue p.config h t.0 ∙ ap is_queued_place given.1))
+      subst Q stands.shows.seen.queued (Contains-from_among (queue (terms p) h) t.0 (among-queue (terms p) h t.0 ∙ ap is_queued_place given.1))
 
   -- and has no ending
   pub removed_row : (r : TaskRow) × (row_of p.tasks t.0 ≡ Some r) × (r.ending ≡ None)
   removed_row =
       let h = stands.history in
       let given = given_here p stands (ask.Remove t) (did.Remove t true) fits in
-      (task_at (state p.config h) t.0, (task_here p stands t.0 at.Queued given refl).0, open_here p stands t.0 at.Queued given refl)
+      (task_at (state (terms p) h) t.0, (task_here p stands t.0 at.Queued given refl).0, open_here p stands t.0 at.Queued given refl)

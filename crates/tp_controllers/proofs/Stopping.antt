@@ -11,6 +11,7 @@ use Rattle.tp_slots.specs.Table.{is_at_take}
 use Rattle.tp_shapes.proofs.Controllers.Stop.{stop as stop_effect}
 use Rattle.tp_parts.specs.declared.parts.Parts.{Parts}
 use Rattle.tp_parts.specs.Shows.{Shows}
+use Rattle.tp_parts.specs.Terms.{terms}
 use Rattle.tp_parts.proofs.Answering.{Moves}
 use Rattle.tp_parts.proofs.Falls.{owed_read, effect_by}
 
@@ -22,7 +23,7 @@ module _ {P : Type 0} (p : Parts P) where
   stop_read n fall is s sh = let e = owed_read p s 2 sh in omega (arith, e, is)
 
   pub moves : (n fall : ℕ) → fall ≡ fall_of n → Moves p fall 0 (did.Stop n)
-  moves n fall is = λ h rs legal sh given. (_, effect_by (state p.config h) (did.Stop n) _ _ fall 0 (stop_read n fall is (mark rs (state p.config h)) sh) (stop_effect p.config h n legal given))
+  moves n fall is = λ h rs legal sh given. (_, effect_by (state (terms p) h) (did.Stop n) _ _ fall 0 (stop_read n fall is (mark rs (state (terms p) h)) sh) (stop_effect (terms p) h n legal given))
 
   -- as many tasks are queued
   pub queued_read : (s : State) → Shows p s → length s.queue ≡ length (waiting_of p.queue).items

@@ -42,7 +42,7 @@ pub fn answer<P>(parts: &Parts<P>, t: TaskId, flag: bool) -> Result<bool, PoolEr
 /// it, and a body that runs already is only asked, by its flag, to end. If the task waited, its payload is handed out.
 fn in_time<P>(parts: &mut Parts<P>, t: TaskId, flag: bool) -> Option<P>
     requires stands { Stands parts.old }
-    requires fits { Fits parts.old (Ask.Cancel t flag) (Did.Cancel t flag true) }
+    requires accepts { Accepts parts.old (Ask.Cancel t flag) (Did.Cancel t flag true) }
     ensures leads { Leads parts.old (Did.Cancel t flag true) parts.new }
     ensures payloads { HandsOut parts.old.tasks parts.new.tasks t.0 result }
 {
@@ -53,7 +53,7 @@ fn in_time<P>(parts: &mut Parts<P>, t: TaskId, flag: bool) -> Option<P>
 /// The task had its fate already, and keeps it: the cancel came after its end, or after another cancel.
 fn late<P>(parts: &mut Parts<P>, t: TaskId, flag: bool)
     requires stands { Stands parts.old }
-    requires fits { Fits parts.old (Ask.Cancel t flag) (Did.Cancel t flag false) }
+    requires accepts { Accepts parts.old (Ask.Cancel t flag) (Did.Cancel t flag false) }
     ensures leads { Leads parts.old (Did.Cancel t flag false) parts.new }
     ensures payloads { HandsOut parts.old.tasks parts.new.tasks t.0 None }
 {
@@ -63,7 +63,7 @@ fn late<P>(parts: &mut Parts<P>, t: TaskId, flag: bool)
 /// Makes the cancel that was accepted. The payload of a task that waited is handed out.
 pub fn apply<P>(parts: &mut Parts<P>, t: TaskId, flag: bool, effective: bool) -> Option<P>
     requires stands { Stands parts.old }
-    requires fits { Fits parts.old (Ask.Cancel t flag) (Did.Cancel t flag effective) }
+    requires accepts { Accepts parts.old (Ask.Cancel t flag) (Did.Cancel t flag effective) }
     ensures leads { Leads parts.old (Did.Cancel t flag effective) parts.new }
     ensures payloads { HandsOut parts.old.tasks parts.new.tasks t.0 result }
 {

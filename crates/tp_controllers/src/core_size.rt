@@ -2,7 +2,7 @@
 
 ghost use Rattle.std.specs.Prelude.{IfOk, IfErr};
 ghost use Rattle.tp_parts.specs.Payloads.{Keeps};
-ghost use Rattle.tp_parts.specs.Steps.{Stands, Fits, Accepts, Refuses, Leads};
+ghost use Rattle.tp_parts.specs.Steps.{Stands, Accepts, Refuses, Leads};
 
 use tp_parts::parts::Parts;
 use tp_queue::work::WorkQueue;
@@ -29,7 +29,7 @@ pub fn answer<P>(parts: &Parts<P>, core: u32) -> Result<u32, PoolError>
 /// The core size is `core` workers from now on.
 pub fn apply<P>(parts: &mut Parts<P>, core: u32, added: u32)
     requires stands { Stands parts.old }
-    requires fits { Fits parts.old (Ask.Core core) (Did.Core core added) }
+    requires accepts { Accepts parts.old (Ask.Core core) (Did.Core core added) }
     ensures leads { Leads parts.old (Did.Core core added) parts.new }
     ensures payloads { Keeps parts.old.tasks parts.new.tasks }
 {

@@ -2,7 +2,7 @@
 
 ghost use Rattle.std.specs.Prelude.{OnOk, IfErr};
 ghost use Rattle.tp_parts.specs.Payloads.{Keeps};
-ghost use Rattle.tp_parts.specs.Steps.{Stands, Fits, Accepts, Refuses, Leads};
+ghost use Rattle.tp_parts.specs.Steps.{Stands, Accepts, Refuses, Leads};
 
 use tp_parts::parts::Parts;
 use tp_record::entries::{Ask, Did};
@@ -26,7 +26,7 @@ pub fn answer<P>(parts: &Parts<P>, on: bool) -> Result<(), PoolError>
 /// Core workers time out from now on, or do not.
 pub fn apply<P>(parts: &mut Parts<P>, on: bool)
     requires stands { Stands parts.old }
-    requires fits { Fits parts.old (Ask.CoreTimeout on) (Did.CoreTimeout on) }
+    requires accepts { Accepts parts.old (Ask.CoreTimeout on) (Did.CoreTimeout on) }
     ensures leads { Leads parts.old (Did.CoreTimeout on) parts.new }
     ensures payloads { Keeps parts.old.tasks parts.new.tasks }
 {

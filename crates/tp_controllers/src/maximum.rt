@@ -6,7 +6,7 @@ ghost use Rattle.tp_record.specs.State.{State};
 ghost use Rattle.tp_parts.specs.Payloads.{Keeps};
 ghost use Rattle.tp_parts.specs.Shows.{Shows};
 ghost use Rattle.tp_parts.specs.Tied.{IsTied};
-ghost use Rattle.tp_parts.specs.Steps.{Stands, Fits, Accepts, Refuses, Leads};
+ghost use Rattle.tp_parts.specs.Steps.{Stands, Accepts, Refuses, Leads};
 
 use tp_parts::parts::Parts;
 use tp_record::entries::{Ask, Did};
@@ -48,7 +48,7 @@ pub fn prepare<P>(parts: &mut Parts<P>, maximum: u32) -> Result<(), PoolError>
 /// leaves at its next take.
 pub fn apply<P>(parts: &mut Parts<P>, maximum: u32)
     requires stands { Stands parts.old }
-    requires fits { Fits parts.old (Ask.Maximum maximum) (Did.Maximum maximum) }
+    requires accepts { Accepts parts.old (Ask.Maximum maximum) (Did.Maximum maximum) }
     requires places { maximum ≤ parts.old.slots.places }
     ensures leads { Leads parts.old (Did.Maximum maximum) parts.new }
     ensures payloads { Keeps parts.old.tasks parts.new.tasks }

@@ -5,7 +5,7 @@ ghost use Rattle.tp_record.specs.State.{State};
 ghost use Rattle.tp_record.specs.Step.{slot_count, wants_worker};
 ghost use Rattle.tp_parts.specs.Payloads.{Keeps};
 ghost use Rattle.tp_parts.specs.Shows.{Shows};
-ghost use Rattle.tp_parts.specs.Steps.{Stands, Fits, Accepts, Refuses, Leads};
+ghost use Rattle.tp_parts.specs.Steps.{Stands, Accepts, Refuses, Leads};
 
 use tp_parts::parts::Parts;
 use tp_record::entries::{Ask, Did};
@@ -43,7 +43,7 @@ fn is_wanted<P>(parts: &Parts<P>) -> bool
 /// Makes an accepted answer: the slot is reserved, if there is one.
 pub fn apply<P>(parts: &mut Parts<P>, slot: Option<SlotId>)
     requires stands { Stands parts.old }
-    requires fits { Fits parts.old Ask.Prestart (Did.Prestart slot) }
+    requires accepts { Accepts parts.old Ask.Prestart (Did.Prestart slot) }
     requires next { IfSome slot (λ w. w.0 ≡ parts.old.slots.next) }
     ensures leads { Leads parts.old (Did.Prestart slot) parts.new }
     ensures payloads { Keeps parts.old.tasks parts.new.tasks }
@@ -57,7 +57,7 @@ pub fn apply<P>(parts: &mut Parts<P>, slot: Option<SlotId>)
 /// No slot is reserved.
 fn nothing<P>(parts: &mut Parts<P>)
     requires stands { Stands parts.old }
-    requires fits { Fits parts.old Ask.Prestart (Did.Prestart None) }
+    requires accepts { Accepts parts.old Ask.Prestart (Did.Prestart None) }
     ensures leads { Leads parts.old (Did.Prestart None) parts.new }
     ensures payloads { Keeps parts.old.tasks parts.new.tasks }
 {
@@ -67,7 +67,7 @@ fn nothing<P>(parts: &mut Parts<P>)
 /// The next slot is reserved, for a worker without a first task.
 fn reserve<P>(parts: &mut Parts<P>, w: SlotId)
     requires stands { Stands parts.old }
-    requires fits { Fits parts.old Ask.Prestart (Did.Prestart (Some w)) }
+    requires accepts { Accepts parts.old Ask.Prestart (Did.Prestart (Some w)) }
     requires next { w.0 ≡ parts.old.slots.next }
     ensures leads { Leads parts.old (Did.Prestart (Some w)) parts.new }
     ensures payloads { Keeps parts.old.tasks parts.new.tasks }

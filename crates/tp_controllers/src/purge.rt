@@ -2,7 +2,7 @@
 
 ghost use Rattle.std.specs.Prelude.{IfOk, IfErr};
 ghost use Rattle.tp_parts.specs.Payloads.{Keeps};
-ghost use Rattle.tp_parts.specs.Steps.{Stands, Fits, Accepts, Refuses, Leads};
+ghost use Rattle.tp_parts.specs.Steps.{Stands, Accepts, Refuses, Leads};
 
 use tp_parts::parts::Parts;
 use tp_record::entries::{Ask, Did};
@@ -26,7 +26,7 @@ pub fn answer<P>(parts: &Parts<P>) -> Result<u32, PoolError>
 /// out where they were cancelled.
 pub fn apply<P>(parts: &mut Parts<P>, cancelled: u32)
     requires stands { Stands parts.old }
-    requires fits { Fits parts.old Ask.Purge (Did.Purge cancelled) }
+    requires accepts { Accepts parts.old Ask.Purge (Did.Purge cancelled) }
     ensures leads { Leads parts.old (Did.Purge cancelled) parts.new }
     ensures payloads { Keeps parts.old.tasks parts.new.tasks }
 {

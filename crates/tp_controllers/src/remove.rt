@@ -40,7 +40,7 @@ pub fn answer<P>(parts: &Parts<P>, t: TaskId) -> Result<bool, PoolError>
 /// not cancelled.
 fn present<P>(parts: &mut Parts<P>, t: TaskId) -> Option<P>
     requires stands { Stands parts.old }
-    requires fits { Fits parts.old (Ask.Remove t) (Did.Remove t true) }
+    requires accepts { Accepts parts.old (Ask.Remove t) (Did.Remove t true) }
     ensures leads { Leads parts.old (Did.Remove t true) parts.new }
     ensures payloads { HandsOut parts.old.tasks parts.new.tasks t.0 result }
 {
@@ -52,7 +52,7 @@ fn present<P>(parts: &mut Parts<P>, t: TaskId) -> Option<P>
 /// The task is not in the queue, and stays where it is: a worker may have taken it before.
 fn absent<P>(parts: &mut Parts<P>, t: TaskId)
     requires stands { Stands parts.old }
-    requires fits { Fits parts.old (Ask.Remove t) (Did.Remove t false) }
+    requires accepts { Accepts parts.old (Ask.Remove t) (Did.Remove t false) }
     ensures leads { Leads parts.old (Did.Remove t false) parts.new }
     ensures payloads { Keeps parts.old.tasks parts.new.tasks }
 {
@@ -62,7 +62,7 @@ fn absent<P>(parts: &mut Parts<P>, t: TaskId)
 /// Makes the removal that was answered. The payload of a task that was queued and not cancelled is handed out.
 pub fn apply<P>(parts: &mut Parts<P>, t: TaskId, queued: bool) -> Option<P>
     requires stands { Stands parts.old }
-    requires fits { Fits parts.old (Ask.Remove t) (Did.Remove t queued) }
+    requires accepts { Accepts parts.old (Ask.Remove t) (Did.Remove t queued) }
     ensures leads { Leads parts.old (Did.Remove t queued) parts.new }
     ensures payload { OnTrue queued (HandsOut parts.old.tasks parts.new.tasks t.0 result) }
     ensures payloads { OnFalse queued (Keeps parts.old.tasks parts.new.tasks) }

@@ -2,7 +2,7 @@
 
 ghost use Rattle.std.specs.Prelude.{OnOk, IfErr};
 ghost use Rattle.tp_parts.specs.Payloads.{Keeps};
-ghost use Rattle.tp_parts.specs.Steps.{Stands, Fits, Accepts, Refuses, Leads};
+ghost use Rattle.tp_parts.specs.Steps.{Stands, Accepts, Refuses, Leads};
 
 use tp_parts::parts::Parts;
 use tp_record::entries::{Ask, Did};
@@ -24,7 +24,7 @@ pub fn answer<P>(parts: &Parts<P>) -> Result<(), PoolError>
 /// The pool is shut down, unless it has come further, and idle workers wake: each is to see that it leaves, or that tasks are left.
 pub fn apply<P>(parts: &mut Parts<P>)
     requires stands { Stands parts.old }
-    requires fits { Fits parts.old Ask.Shutdown Did.Shutdown }
+    requires accepts { Accepts parts.old Ask.Shutdown Did.Shutdown }
     ensures leads { Leads parts.old Did.Shutdown parts.new }
     ensures payloads { Keeps parts.old.tasks parts.new.tasks }
 {

@@ -6,7 +6,7 @@ ghost use Rattle.tp_queue.specs.Queues.{waiting_of};
 ghost use Rattle.tp_slots.specs.Table.{is_at_take};
 ghost use Rattle.tp_parts.specs.Drained.{handed_back, HandsOutAll};
 ghost use Rattle.tp_parts.specs.Shows.{numbers};
-ghost use Rattle.tp_parts.specs.Steps.{Stands, Fits, Accepts, Refuses, Leads};
+ghost use Rattle.tp_parts.specs.Steps.{Stands, Accepts, Refuses, Leads};
 
 use std::alloc::Global;
 use tp_parts::parts::Parts;
@@ -56,7 +56,7 @@ pub fn prepare<P>(alloc: Global, parts: &Parts<P>) -> Result<Vec<(TaskId, Option
 /// of the list in the queue's order, each with its payload, if it waited. The list has room for them.
 pub fn apply<P>(parts: &mut Parts<P>, count: u32, drained: &mut Vec<(TaskId, Option<P>)>)
     requires stands { Stands parts.old }
-    requires fits { Fits parts.old Ask.Stop (Did.Stop count) }
+    requires accepts { Accepts parts.old Ask.Stop (Did.Stop count) }
     requires room { vec_len drained.old + length (waiting_of parts.old.queue).items ≤ vec_capacity drained.old }
     ensures leads { Leads parts.old (Did.Stop count) parts.new }
     ensures handed { drained.new.items ≡ drained.old.items ++ handed_back parts.old }

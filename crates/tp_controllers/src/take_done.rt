@@ -36,7 +36,7 @@ pub fn answer<P>(parts: &Parts<P>, g: u32) -> Result<TaskId, PoolError>
 /// Hands out the task that was answered.
 pub fn apply<P>(parts: &mut Parts<P>, g: u32, t: TaskId)
     requires stands { Stands parts.old }
-    requires fits { Fits parts.old (Ask.TakeDone g) (Did.TakeDone g t) }
+    requires accepts { Accepts parts.old (Ask.TakeDone g) (Did.TakeDone g t) }
     ensures leads { Leads parts.old (Did.TakeDone g t) parts.new }
     ensures payloads { Keeps parts.old.tasks parts.new.tasks }
 {

@@ -2,7 +2,7 @@
 
 ghost use Rattle.std.specs.Prelude.{OnOk, IfErr};
 ghost use Rattle.tp_parts.specs.Payloads.{Keeps};
-ghost use Rattle.tp_parts.specs.Steps.{Stands, Fits, Accepts, Refuses, Leads};
+ghost use Rattle.tp_parts.specs.Steps.{Stands, Accepts, Refuses, Leads};
 
 use tp_parts::parts::Parts;
 use tp_record::entries::{Ask, Did};
@@ -26,7 +26,7 @@ pub fn answer<P>(parts: &Parts<P>, now: u64) -> Result<(), PoolError>
 /// The moment is `now`, in ticks.
 pub fn apply<P>(parts: &mut Parts<P>, now: u64)
     requires stands { Stands parts.old }
-    requires fits { Fits parts.old (Ask.Tick now) (Did.Tick now) }
+    requires accepts { Accepts parts.old (Ask.Tick now) (Did.Tick now) }
     ensures leads { Leads parts.old (Did.Tick now) parts.new }
     ensures payloads { Keeps parts.old.tasks parts.new.tasks }
 {

@@ -262,7 +262,7 @@ impl<G: Naming> Glance<G> {
     }
 
     /// The law that what a seat knows is a front of the history.
-    pub fn is_front(&self, book: &mut BookSeat<G>, seat: &mut PassSeat<G>)
+    pub fn law_is_front(&self, book: &mut BookSeat<G>, seat: &mut PassSeat<G>)
         ensures front { IsFrontOf seat.old book.old }
         ensures same { (seat.new ≡ seat.old) × (book.new ≡ book.old) }
     {

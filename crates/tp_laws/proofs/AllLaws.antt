@@ -8,6 +8,7 @@ use Rattle.tp_model.proofs.Readings.{legal_tail}
 use Rattle.tp_model.proofs.Given.{Told}
 use Rattle.tp_model.proofs.Told.{told_legal}
 use Rattle.tp_room.proofs.OwedLaws as room
+use Rattle.tp_laws.specs.Laws.{HasGoodSizes}
 use Rattle.tp_laws.specs.Lawful.{IsLawful}
 use Rattle.tp_laws.proofs.Begins as begins
 use Rattle.tp_laws.proofs.Fates as fates
@@ -23,7 +24,7 @@ use Rattle.tp_laws.proofs.Sizes as sizes
 use Rattle.tp_laws.proofs.Slots as slots
 use Rattle.tp_laws.proofs.Sums as sums
 
-module _ (c : Config) (h : List Entry) (config : IsConfig c) (legal : Legal c h) where
+module _ (c : Config) (h : List Entry) (good : HasGoodSizes c) (legal : Legal c h) where
   -- the record in two parts is legal, and so is its front
   whole : (later front : List Entry) → h ≡ later ++ front → Legal c (later ++ front)
   whole later front parts = subst (λ x. Legal c x) parts legal
@@ -37,8 +38,8 @@ module _ (c : Config) (h : List Entry) (config : IsConfig c) (legal : Legal c h)
   told_at : (later front : List Entry) → h ≡ later ++ front → Told c front
   told_at later front parts = told_legal c front (legal_at later front parts)
 
-  pub legal_is_lawful : IsLawful c h
-  legal_is_lawful =
+  pub sized_is_lawful : IsLawful c h
+  sized_is_lawful =
       record {
         one_place = λ later front parts. places.one_place c front (told_at later front parts);
         begins_once = λ later front parts. begins.begins_once c front (told_at later front parts);
@@ -68,10 +69,14 @@ module _ (c : Config) (h : List Entry) (config : IsConfig c) (legal : Legal c h)
             slots.none_after_tidy c between e before (subst (λ x. Told c x) is (told_at later front parts));
         second_look_owed_after_stop = λ later front parts. seconds.second_look_owed c front (told_at later front parts);
         owed_after_tidy = λ later front parts. places.owed_after_tidy c front (told_at later front parts);
-        served = λ later front parts. serves.served c front config (told_at later front parts);
-        slots_within_maximum = λ later e front parts. sizes.slots_within_maximum c e front config (told_at later (e ∷ front) parts);
+        served = λ later front parts. serves.served c front good (told_at later front parts);
+        slots_within_maximum = λ later e front parts. sizes.slots_within_maximum c e front good (told_at later (e ∷ front) parts);
         queue_within_capacity = λ later front parts. sizes.queue_within_capacity c front (legal_at later front parts);
-        room_is_enough = λ later front parts. room.room_is_enough c front config (legal_at later front parts);
+        room_is_enough = λ later front parts. room.room_is_enough c front good.least_limit (legal_at later front parts);
         owed_falls = λ later e front parts. room.entries_lower c e front (legal_at later (e ∷ front) parts);
-        never_short_of_room = λ later front parts w a. room.never_short_of_room c front w a config (legal_at later front parts);
+        never_short_of_room = λ later front parts w a. room.never_short_of_room c front w a good.least_limit (legal_at later front parts);
       }
+
+-- so they do in a pool's settings
+pub legal_is_lawful : (c : Config) (h : List Entry) → IsConfig c → Legal c h → IsLawful c h
+legal_is_lawful c h config = sized_is_lawful c h (sizes.good_sizes c config)

@@ -4,6 +4,7 @@ pub mod News
 pub mod Begins
 pub mod Late
 pub mod Finishes
+pub mod Completed
 pub mod QueuedOnce
 pub mod Slots
 pub mod Places

@@ -6,7 +6,6 @@ use Rattle.std.specs.List.{list_any}
 use Rattle.std.proofs.lemmas.Bool.{false_from_ne_true, false≢true, cases_lt}
 use Rattle.std.proofs.lemmas.Bool.Decides.{nat_tests}
 use Rattle.tp_types.specs.declared.configs.Config.{Config}
-use Rattle.tp_types.specs.Config.{IsConfig}
 use Rattle.tp_types.specs.declared.tasks.Place.{Place}
 use Rattle.tp_types.specs.declared.tasks.Place.TheVariants as at
 use Rattle.tp_record.specs.declared.entries.Entry.{Entry}
@@ -26,11 +25,11 @@ use Rattle.tp_model.proofs.Given.{Given, Told}
 use Rattle.tp_words.proofs.WordsTasks.{queued_agrees}
 use Rattle.tp_words.proofs.WordsSlots.{slot_agrees}
 use Rattle.tp_words.proofs.WordsLists.{count_by-cons}
-use Rattle.tp_laws.specs.Laws.{loses_worker, Served}
+use Rattle.tp_laws.specs.Laws.{HasGoodSizes, loses_worker, Served}
 use Rattle.tp_laws.proofs.Fits.{fits_place, fits_given}
 use Rattle.tp_laws.proofs.Seconds.{none_queued}
 use Rattle.tp_laws.proofs.Counting.{one, slot_count-more, slots_counted_below}
-use Rattle.tp_laws.proofs.Sizes.{sized}
+use Rattle.tp_laws.proofs.Sizes.{sized, sized_by}
 
 -- the entry is no second look that leaves t, at p, in the queue
 abbrev fits_served : Did → ℕ → Place → Bool
@@ -110,10 +109,10 @@ none_left m true is = absurd (omega arith)
 none_left m false is = (omega arith, refl)
 
 -- without a slot, each queued task owes a second look
-owed_without_slot : (c : Config) (h : List Entry) → IsConfig c → Told c h → list_any (λ e. loses_worker e.did) h ≡ false → rank h ≤ 1 → slot_count (state c h) ≡ 0 → (t : ℕ) → is_queued_place (place h t) ≡ true →
+owed_without_slot : (c : Config) (h : List Entry) → HasGoodSizes c → Told c h → list_any (λ e. loses_worker e.did) h ≡ false → rank h ≤ 1 → slot_count (state c h) ≡ 0 → (t : ℕ) → is_queued_place (place h t) ≡ true →
     owes_look h t ≡ true
-owed_without_slot c [] config told kept low none t is = absurd (false≢true is)
-owed_without_slot c (e ∷ h) config told kept low none t is = by_freed (is_some (frees e.did)) refl (owed_without_slot c h config told.1)
+owed_without_slot c [] sizes told kept low none t is = absurd (false≢true is)
+owed_without_slot c (e ∷ h) sizes told kept low none t is = by_freed (is_some (frees e.did)) refl (owed_without_slot c h sizes told.1)
   where
     keeps : (loses_worker e.did ≡ false) × (list_any (λ e. loses_worker e.did) h ≡ false)
     keeps = either_none (loses_worker e.did) (list_any (λ e. loses_worker e.did) h) kept
@@ -132,7 +131,7 @@ owed_without_slot c (e ∷ h) config told kept low none t is = by_freed (is_some
         owes_look (e ∷ h) t ≡ true
     by_freed true freed rest =
         let count : slot_count (state c h) ≤ 1 = (let a : more.0 + one (is_some (frees e.did)) ≡ slot_count (state c h) = more.2 in let b : more.0 ≡ 0 = left.0 in let d : one (is_some (frees e.did)) ≡ 1 = ap one freed in omega arith) in
-        let empty : queue c h ≡ [] = last_leaves c h e.did told.0 (sized c h config told.1).1 runs count freed left.1 keeps.0 in
+        let empty : queue c h ≡ [] = last_leaves c h e.did told.0 (sized c h (sized_by c sizes) told.1).1 runs count freed left.1 keeps.0 in
         absurd (false≢true (sym (freed_moves_none e.did t (place h t) (is_cancelled h t) freed keeps.0 (none_queued c h empty t)) ∙ is))
     by_freed false freed rest =
         let count : slot_count (state c h) ≡ 0 = sym more.2 ∙ ap₂ (λ m b. m + one b) left.0 freed in
@@ -150,12 +149,12 @@ some_passes f k (suc n) some = by_test (some_passes f (suc k) n) (f k) refl
         let same : cond (f k) (suc (count_by f (count_from (suc k) n))) (count_by f (count_from (suc k) n)) ≡ count_by f (count_from (suc k) n) = rw is refl in
         rest (omega arith)
 
-pub served : (c : Config) (h : List Entry) → IsConfig c → Told c h → Served h
-served c h config told kept low t waits =
+pub served : (c : Config) (h : List Entry) → HasGoodSizes c → Told c h → Served h
+served c h sizes told kept low t waits =
     elim (cases_lt 0 (slot_count (state c h))) [
       | inl some ↦
           let count : slot_count (state c h) ≡ count_by (is_slot h) (count_from 0 (slot_bound h)) = slots_counted_below c h in
           let found = some_passes (is_slot h) 0 (slot_bound h) (omega arith) in
           inr (found.0, slot_agrees h found.0 ∙ found.1)
-      | inr none ↦ inl (owed_without_slot c h config told kept low (omega arith) t (sym (queued_agrees c h told t) ∙ waits))
+      | inr none ↦ inl (owed_without_slot c h sizes told kept low (omega arith) t (sym (queued_agrees c h told t) ∙ waits))
     ]

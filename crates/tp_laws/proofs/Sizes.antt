@@ -4,6 +4,7 @@ use mathlib.Core.Path.{ap₂}
 use Rattle.std.specs.Prelude.{nat_le, nat_lt, unwrap_or, is_some, count_by, filter, option_to_list}
 use Rattle.std.proofs.lemmas.Bool.{false≢true, cases_lt, le-leb, lt-leb}
 use Rattle.std.proofs.lemmas.List.{length-append}
+use Rattle.std.proofs.lemmas.List.Sums.{sum_by-le-sum_by}
 use Rattle.tp_types.specs.declared.configs.Config.{Config}
 use Rattle.tp_types.specs.declared.configs.QueueKind.{QueueKind}
 use Rattle.tp_types.specs.declared.configs.QueueKind.TheVariants.{Handoff, Unbounded, Bounded, Priority}
@@ -19,7 +20,8 @@ use Rattle.tp_record.specs.declared.entries.Grown.TheVariants as grown
 use Rattle.tp_record.specs.Lists.{count_from, join_line}
 use Rattle.tp_record.specs.Effects.{reserves, frees, queues, sets_core, sets_maximum}
 use Rattle.tp_record.specs.declared.rows.Stage.{Stage}
-use Rattle.tp_record.specs.Fields.{queue, priority, slot_bound, reach, is_slot}
+use Rattle.tp_record.specs.declared.rows.SlotRow.{SlotRow}
+use Rattle.tp_record.specs.Fields.{queue, priority, slot_bound, reach, is_slot, is_live, is_live_stage, slot_rows, largest}
 use Rattle.tp_record.specs.State.{State, state, row_at, stays_queued}
 use Rattle.tp_record.specs.Step.{slot_count, Legal}
 use Rattle.tp_record.specs.Words.{reserved_by, slot_numbers, is_slot_now}
@@ -29,11 +31,11 @@ use Rattle.tp_model.proofs.Told.{told_legal}
 use Rattle.tp_model.proofs.NextState.{next_is_state}
 use Rattle.tp_words.proofs.WordsQueue.{queue_words}
 use Rattle.tp_words.proofs.WordsSlots.{slot_agrees}
-use Rattle.tp_laws.specs.Laws.{slots_now, SlotsWithinMaximum, IsWithin, QueueWithinCapacity}
+use Rattle.tp_laws.specs.Laws.{HasGoodSizes, slots_now, SlotsWithinMaximum, IsWithin, QueueWithinCapacity}
 use Rattle.tp_laws.proofs.Counting.{one, slot_count-more, slots_counted_below, count_same}
 
 -- the settings that size the pool: the core is within the maximum, and the maximum is at least 1
-abbrev Sized : ℕ → ℕ → Type 0
+abbrev pub Sized : ℕ → ℕ → Type 0
 Sized core maximum = (core ≤ maximum) × (1 ≤ maximum)
 
 sized_said : (c : Config) (h : List Entry) (d : Did) → Given c h d → Sized (state c h).core (state c h).maximum →
@@ -42,9 +44,19 @@ sized_said c h (did.Core n k) given was = (given, was.1)
 sized_said c h (did.Maximum n) given was = (given.2, given.0)
 sized_said c h _ given was = was
 
-pub sized : (c : Config) (h : List Entry) → IsConfig c → Told c h → Sized (state c h).core (state c h).maximum
-sized c [] config told = (config.greatest_core, config.least_maximum)
-sized c (e ∷ h) config told = sized_said c h e.did told.0 (sized c h config told.1)
+pub sized : (c : Config) (h : List Entry) → Sized c.core c.maximum → Told c h → Sized (state c h).core (state c h).maximum
+sized c [] sizes told = sizes
+sized c (e ∷ h) sizes told = sized_said c h e.did told.0 (sized c h sizes told.1)
+
+-- those of a pool's settings are good, at its recorder's limit too
+pub sizes_at : (c : Config) (limit : ℕ) → IsConfig c → 64 ≤ limit → HasGoodSizes (record c { record_limit = limit })
+sizes_at c limit config least = record { least_maximum = config.least_maximum; greatest_core = config.greatest_core; least_limit = least }
+
+pub good_sizes : (c : Config) → IsConfig c → HasGoodSizes c
+good_sizes c config = sizes_at c c.record_limit config config.least_limit
+
+pub sized_by : (c : Config) → HasGoodSizes c → Sized c.core c.maximum
+sized_by c sizes = (sizes.greatest_core, sizes.least_maximum)
 
 -- an entry that reserves leaves at most as many slots as the maximum, m slots being those that it keeps
 reserved_within : (c : Config) (h : List Entry) (d : Did) (m : ℕ) → Given c h d → Sized (state c h).core (state c h).maximum →
@@ -60,14 +72,54 @@ reserved_within c h _ m given sizes kept is = absurd (false≢true is)
 same_maximum : (d : Did) (n : ℕ) → is_some (reserves d) ≡ true → unwrap_or (sets_maximum d) n ≡ n
 same_maximum d n is = grind arith
 
-pub slots_within : (c : Config) (h : List Entry) (e : Entry) → IsConfig c → Told c (e ∷ h) → is_some (reserves e.did) ≡ true → slot_count (state c (e ∷ h)) ≤ (state c (e ∷ h)).maximum
-slots_within c h e config told is =
+pub slots_within : (c : Config) (h : List Entry) (e : Entry) → Sized c.core c.maximum → Told c (e ∷ h) → is_some (reserves e.did) ≡ true → slot_count (state c (e ∷ h)) ≤ (state c (e ∷ h)).maximum
+slots_within c h e sizes told is =
     let more = slot_count-more c e h told in
-    let within : more.0 + 1 ≤ (state c h).maximum = reserved_within c h e.did more.0 told.0 (sized c h config told.1) more.2 is in
+    let within : more.0 + 1 ≤ (state c h).maximum = reserved_within c h e.did more.0 told.0 (sized c h sizes told.1) more.2 is in
     let count : slot_count (state c (e ∷ h)) ≡ more.0 + one (is_some (reserves e.did)) = more.1 in
     let made : one (is_some (reserves e.did)) ≡ 1 = ap one is in
     let same : unwrap_or (sets_maximum e.did) (state c h).maximum ≡ (state c h).maximum = same_maximum e.did (state c h).maximum is in
     omega arith
+
+-- no pool has more than 1,024 slots: the maximum is never greater
+
+maximum_said : (c : Config) (h : List Entry) (d : Did) → Given c h d → (state c h).maximum ≤ 1024 → unwrap_or (sets_maximum d) (state c h).maximum ≤ 1024
+maximum_said c h (did.Maximum n) given was = given.1
+maximum_said c h _ given was = was
+
+maximum_few : (c : Config) (h : List Entry) → c.maximum ≤ 1024 → Told c h → (state c h).maximum ≤ 1024
+maximum_few c [] most told = most
+maximum_few c (e ∷ h) most told = maximum_said c h e.did told.0 (maximum_few c h most told.1)
+
+pub slots_few : (c : Config) (h : List Entry) → Sized c.core c.maximum → c.maximum ≤ 1024 → Told c h → slot_count (state c h) ≤ 1024
+slots_few c [] sizes most told = omega arith
+slots_few c (e ∷ h) sizes most told = by (slots_few c h sizes most told.1) (is_some (reserves e.did)) refl
+  where
+    by : slot_count (state c h) ≤ 1024 → (b : Bool) → is_some (reserves e.did) ≡ b → slot_count (state c (e ∷ h)) ≤ 1024
+    by was true is =
+        let within : slot_count (state c (e ∷ h)) ≤ (state c (e ∷ h)).maximum = slots_within c h e sizes told is in
+        let few : (state c (e ∷ h)).maximum ≤ 1024 = maximum_few c (e ∷ h) most told in
+        omega (arith, within, few)
+    by was false is =
+        let more = slot_count-more c e h told in
+        let after : slot_count (state c (e ∷ h)) ≡ more.0 + one (is_some (reserves e.did)) = more.1 in
+        let before : more.0 + one (is_some (frees e.did)) ≡ slot_count (state c h) = more.2 in
+        let none : one (is_some (reserves e.did)) ≡ 0 = ap one is in
+        omega (arith, was, after, before, none)
+
+-- nor more live ones
+live_slot : (o : Option SlotRow) → cond (is_live o) 1 0 ≤ cond (is_some o) 1 0
+live_slot None = omega arith
+live_slot (Some r) = elim (is_live_stage r.stage) as (λ b. cond b 1 0 ≤ 1) [ true ↦ omega arith | false ↦ omega arith ]
+
+pub largest_few : (c : Config) (h : List Entry) → Sized c.core c.maximum → c.maximum ≤ 1024 → Told c h → largest h ≤ 1024
+largest_few c [] sizes most told = omega arith
+largest_few c (e ∷ h) sizes most told =
+    let before = largest_few c h sizes most told.1 in
+    let slots : count_by is_some (slot_rows (e ∷ h)) ≤ 1024 = slots_few c (e ∷ h) sizes most told in
+    let lives : count_by is_live (slot_rows (e ∷ h)) ≤ count_by is_some (slot_rows (e ∷ h)) =
+    sum_by-le-sum_by (λ o. cond (is_live o) 1 0) (λ o. cond (is_some o) 1 0) (slot_rows (e ∷ h)) live_slot in
+    omega (arith, before, slots, lives)
 
 -- a filter keeps at most what there is
 filter_short : (p : ℕ → Bool) (xs : List ℕ) → length (filter p xs) ≤ length xs
@@ -153,8 +205,8 @@ slots_agree c h =
 reserves_agrees : (d : Did) → is_some (reserved_by d) ≡ is_some (reserves d)
 reserves_agrees d = grind arith
 
-pub slots_within_maximum : (c : Config) (e : Entry) (h : List Entry) → IsConfig c → Told c (e ∷ h) → SlotsWithinMaximum c e h
-slots_within_maximum c e h config told is =
+pub slots_within_maximum : (c : Config) (e : Entry) (h : List Entry) → HasGoodSizes c → Told c (e ∷ h) → SlotsWithinMaximum c e h
+slots_within_maximum c e h sizes told is =
     let count : slots_now (e ∷ h) ≡ slot_count (state c (e ∷ h)) = slots_agree c (e ∷ h) in
-    let within : slot_count (state c (e ∷ h)) ≤ (state c (e ∷ h)).maximum = slots_within c h e config told (sym (reserves_agrees e.did) ∙ is) in
+    let within : slot_count (state c (e ∷ h)) ≤ (state c (e ∷ h)).maximum = slots_within c h e (sized_by c sizes) told (sym (reserves_agrees e.did) ∙ is) in
     omega arith

@@ -105,6 +105,13 @@ slots_now h = count_by (is_slot_now h) (count_from 0 (slot_numbers h))
 abbrev pub maximum_now : Config → List Entry → ℕ
 maximum_now c h = last_set sets_maximum c.maximum h
 
+-- what laws ask of settings, whatever the limit of a pool's recorder: the maximum is 1 at least, the core size is no greater, and a record has
+-- room for 64 entries
+pub record HasGoodSizes (c : Config) : Type 0 where
+  pub least_maximum : 1 ≤ c.maximum
+  pub greatest_core : c.core ≤ c.maximum
+  pub least_limit : 64 ≤ c.record_limit
+
 -- an entry that reserves a slot leaves at most as many as the maximum
 abbrev pub SlotsWithinMaximum : Config → Entry → List Entry → Type 0
 SlotsWithinMaximum c e h = is_some (reserved_by e.did) ≡ true → slots_now (e ∷ h) ≤ maximum_now c (e ∷ h)

@@ -1,17 +1,16 @@
 //! Slots.
 
 ghost use Rattle.std.specs.Prelude.{List, ◌∷◌};
-ghost use Rattle.tp_laws.specs.Laws.{RescueServes, Served, SlotsWithinMaximum};
+ghost use Rattle.tp_laws.specs.Laws.{HasGoodSizes, RescueServes, Served, SlotsWithinMaximum};
 ghost use Rattle.tp_record.specs.Step.{Legal};
 ghost use Rattle.tp_record.specs.declared.entries.Entry.{Entry};
-ghost use Rattle.tp_types.specs.Config.{IsConfig};
 ghost use Rattle.tp_types.specs.declared.configs.Config.{Config};
 
 /// An entry that reserves a slot leaves at most as many slots as the maximum in force, reserved and
 /// live ones together: no race of two growths passes `maximumPoolSize`, and no worker that is made in
 /// place of a dying one does. A lower maximum leaves slots above it, which then leave.
 pub fn slots_within_maximum()
-    ensures { (c : Config) (e : Entry) (h : List Entry) → IsConfig c → Legal c (e ∷ h) → SlotsWithinMaximum c e h }
+    ensures { (c : Config) (e : Entry) (h : List Entry) → HasGoodSizes c → Legal c (e ∷ h) → SlotsWithinMaximum c e h }
 {}
 
 /// Where no worker was lost to the thread factory or to a shutdown before it came, and the pool runs or
@@ -19,7 +18,7 @@ pub fn slots_within_maximum()
 /// of core size 0 that queued a task and started nobody to take it, and the worker that timed out just
 /// as a task came.
 pub fn served()
-    ensures { (c : Config) (h : List Entry) → IsConfig c → Legal c h → Served h }
+    ensures { (c : Config) (h : List Entry) → HasGoodSizes c → Legal c h → Served h }
 {}
 
 /// In a pool that is shut down and has no slot, with a task in its queue and a core size above 0, a prestart

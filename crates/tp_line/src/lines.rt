@@ -83,7 +83,7 @@ impl<T: Copy> Line<T> {
     /// The law that place numbers rise along the line, and stay below the number of accepted offers. So none comes twice, and
     /// no more wait than were accepted.
     #[inline(always)]
-    pub fn rises(&self)
+    pub fn law_rises(&self)
         ensures rises { Ordered 0 self.now.items self.now.offers }
         ensures numbers { AreNumbered self.now.offers self.now.items }
         ensures few { length self.now.items ≤ self.now.offers }

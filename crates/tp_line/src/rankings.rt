@@ -54,7 +54,7 @@ impl<T: Copy> Ranking<T> {
 
     /// The law that keys rise along the ranking, and place numbers stay below the number of accepted offers. So none comes
     /// twice, and no more wait than were accepted.
-    pub fn rises(&self)
+    pub fn law_rises(&self)
         ensures keys { Ordered 0 self.now.items (2 ^ 96) }
         ensures numbers { AreNumbered self.now.offers self.now.items }
         ensures few { length self.now.items ≤ self.now.offers }

@@ -1,6 +1,6 @@
 -- What a step in a hold is to the pass that it was made with.
-use Rattle.std.proofs.Common.{◌≡◌, ℕ, ◌+◌, List, [], ◌∷◌, ◌++◌, refl, ap, sym, ◌∙◌, subst, ⊎_elim}
-use Rattle.std.specs.Prelude.{Result, Ok, Err, IfErr, IfOk}
+use Rattle.std.proofs.Common.{◌≡◌, ℕ, Bool, ◌+◌, List, [], ◌∷◌, ◌++◌, refl, ap, sym, ◌∙◌, subst, ⊎_elim}
+use Rattle.std.specs.Prelude.{Result, Ok, Err, IfOk}
 use Rattle.std.proofs.lemmas.List.Elements.{All-nil, All-cons}
 use Rattle.tp_types.specs.declared.configs.Config.{Config}
 use Rattle.tp_types.specs.declared.refusals.PoolError.{PoolError}
@@ -8,17 +8,26 @@ use Rattle.tp_types.specs.declared.refusals.PoolError.TheVariants.{TornRecord}
 use Rattle.tp_record.specs.declared.entries.Entry.{Entry}
 use Rattle.tp_record.specs.declared.entries.Ask.{Ask}
 use Rattle.tp_record.specs.declared.entries.Did.{Did}
+use Rattle.tp_record.specs.declared.entries.Ask.TheVariants as ask
+use Rattle.tp_record.specs.declared.entries.Did.TheVariants as did
+use Rattle.tp_record.specs.declared.entries.Took.TheVariants as took
+use Rattle.tp_record.specs.State.{state, counts}
 use Rattle.tp_record.specs.Step.{Legal}
+use Rattle.tp_slots.specs.Table.{first_slot}
+use Rattle.tp_parts.specs.Steps.{IsFitting}
+use Rattle.tp_waking.specs.Heard.{IsHeard}
 use Rattle.tp_tasks.specs.declared.tasks.Tasks.{Tasks}
 use Rattle.tp_machine.specs.Stepped.{FitsOutcome}
 use Rattle.tp_machine.specs.Steps.{IsRefusedAt}
 use Rattle.tp_waking.specs.declared.waking.Waking.{Waking}
-use Rattle.tp_book.specs.BookView.{BookView, config, state_of, IsDenied, IsUnmoved}
-use Rattle.tp_book.specs.PassView.{PassView}
+use Rattle.tp_book.specs.BookView.{BookView, config, state_of, Advances, Releases, IsDenied, IsUnmoved}
+use Rattle.tp_book.specs.PassView.{PassView, receipts_with}
+use Rattle.tp_book.proofs.Reading.{or_else}
 use Rattle.tp_locked.specs.CoreView.{CoreView}
-use Rattle.tp_locked.specs.Holds.{Denies}
+use Rattle.tp_locked.specs.Holds.{Holds, Denies}
+use Rattle.tp_locked.specs.Roused.{IsRoused}
 use Rattle.tp_locked.specs.Rosters.{RosterView}
-use Rattle.tp_locked.specs.Passes.{AddsStep, IsRefusal, entry_of}
+use Rattle.tp_locked.specs.Passes.{AddsStep, IsRefusal, NamesGone, entry_of}
 use Rattle.tp_locked.specs.Steps.{Makes, Refused}
 use Rattle.tp_locked.specs.Waits.{HasNoOutcome}
 use Rattle.tp_locked.specs.declared.tasks.Task.{Task}
@@ -28,7 +37,7 @@ use Rattle.tp_locked.proofs.Refusals.{fits}
 -- the pass after a step of its own
 abbrev pub Paid : PassView → PassView → Ask → Did → Type 0
 Paid old new a d =
-    new ≡ record { number = old.number; amount = old.amount + 1; front = new.front; receipts = old.receipts ++ entry_of old.number a d ∷ []; room = new.room }
+    new ≡ record { number = old.number; amount = old.amount + 1; front = new.front; keeps = old.keeps; receipts = receipts_with old (entry_of old.number a d ∷ []); room = new.room }
 
 module _ {J : Type 0} (c : Config) where
   -- the history after a step is legal
@@ -36,32 +45,31 @@ module _ {J : Type 0} (c : Config) where
       Makes J c by before a d moves after → Legal c after
   legal_made by before a d moves after made =
       let settings : config made.new ≡ c = made.step.step.config ∙ made.is.settings in
-      let legal = (made.step.step.writes made.old.history [] made.is.stands).legal in
+      let legal = (made.step.step.writes made.old.history made.is.stands.released made.is.stands.stands).legal in
       subst (λ h. Legal c h) (sym (made.shown ∙ made.step.notes)) (subst (λ k. Legal k (record { by = by; ask = a; did = d } ∷ made.old.history)) settings legal)
 
   -- and that at which it was refused
-  pub legal_refused : (before : List Entry) (a : Ask) (e : PoolError) (after : List Entry) → Refused J c before a e after → Legal c after
-  legal_refused before a e after refused = subst (λ h. Legal c h) (sym refused.shown) (legal_at refused.book c refused.is)
-
-  -- and so the one that a pass knows after it
-  pub legal_after : {A : Type 0} (by : ℕ) (before : List Entry) (a : Ask) (did : A → Did) (moves : A → Tasks (Task J) → Tasks (Task J) → Type 0) (after : List Entry) (r : Result A PoolError) →
-      IfOk r (λ x. Makes J c by before a (did x) (moves x) after) → IfErr r (λ e. Refused J c before a e after) → Legal c after
-  legal_after by before a did moves after (Ok x) made refused = legal_made by before a (did x) (moves x) after made
-  legal_after by before a did moves after (Err e) made refused = legal_refused before a e after refused
+  pub legal_refused : (keeps : Bool) (before : List Entry) (a : Ask) (e : PoolError) (after : List Entry) → Refused J keeps c before a e after → Legal c after
+  legal_refused keeps before a e after refused = subst (λ h. Legal c h) (sym refused.shown) (legal_at refused.book c refused.is)
 
   -- a refusal of an ask with which no outcome comes is Step's
-  pub refusal : (before : List Entry) (a : Ask) (e : PoolError) (after : List Entry) → Refused J c before a e after → HasNoOutcome a → IsRefusal c after a e
-  refusal before a e after refused none =
-      known_at refused.book c refused.is after (λ s. IsRefusedAt c s a e) refused.shown
-      (⊎_elim (λ (torn : (e ≡ TornRecord) × ¬ FitsOutcome refused.book.machine a). absurd (torn.1 (fits refused.book.machine a none)))
-      (λ (denied : FitsOutcome refused.book.machine a × IsRefusedAt (config refused.book) (state_of refused.book) a e).
-      subst (λ k. IsRefusedAt k (state_of refused.book) a e) refused.is.settings denied.1)
-      refused.denied)
+  pub refusal : (keeps : Bool) (before : List Entry) (a : Ask) (e : PoolError) (after : List Entry) → Refused J keeps c before a e after → HasNoOutcome a → IsRefusal keeps c after a e
+  refusal keeps before a e after refused none =
+      ⊎_elim (λ (torn : (e ≡ TornRecord) × ¬ FitsOutcome refused.book.machine a). absurd (torn.1 (fits refused.book.machine a none)))
+      (λ denied. or_else keeps
+      (λ refuses. known_at refused.book c refused.is after (λ s. IsRefusedAt c s a e) refused.shown (subst (λ k. IsRefusedAt k (state_of refused.book) a e) refused.is.settings refuses))
+      (λ named. (
+        named.0,
+        known_at refused.book c refused.is after (λ s. NamesGone s a) refused.shown (named.1.0, named.1.1, named.1.2.stands.may.each named.1.0 named.1.2.among),
+      ))
+      denied.1)
+      refused.denied
 
   module _ (old new : PassView) (a : Ask) where
     pub adds_step : (d : Did) (moves : Tasks (Task J) → Tasks (Task J) → Type 0) → Makes J c old.number old.front a d moves new.front → Paid old new a d → AddsStep c old a d new
     adds_step d moves made paid = record {
       number = ap (λ p. p.number) paid;
+      keeps = ap (λ p. p.keeps) paid;
       receipts = ap (λ p. p.receipts) paid;
       own = All-cons (λ (e : Entry). e.by ≡ old.number) (entry_of old.number a d) [] refl (All-nil (λ (e : Entry). e.by ≡ old.number));
       amount = ap (λ p. p.amount) paid;
@@ -75,7 +83,33 @@ module _ {J : Type 0} (c : Config) where
     added X did moves (Err e) makes paid = tt
 
 -- a step that is refused in a hold
-pub denies : {J : Type 0} (old : CoreView J) (book new : BookView (Task J)) (roster : RosterView) (waking : Waking) → record { book = book; roster = roster; waking = waking } ≡ old →
-    (a : Ask) (e : PoolError) → IsDenied book a e → IsUnmoved book new → Denies old (record { book = new; roster = roster; waking = waking }) a e
-denies old book new roster waking is a e denied unmoved =
-    subst (λ o. Denies o (record { book = new; roster = roster; waking = waking }) a e) is (record { denied = denied; unmoved = unmoved; asleep = refl; threads = refl })
+pub denies : {J : Type 0} (keeps : Bool) (old : CoreView J) (book new : BookView (Task J)) (roster : RosterView) (waking : Waking) → record { book = book; roster = roster; waking = waking } ≡ old →
+    (a : Ask) (e : PoolError) → IsDenied keeps book a e → IsUnmoved book new → Denies keeps old (record { book = new; roster = roster; waking = waking }) a e
+denies keeps old book new roster waking is a e denied unmoved =
+    subst (λ o. Denies keeps o (record { book = new; roster = roster; waking = waking }) a e) is (record { denied = denied; unmoved = unmoved; asleep = refl; threads = refl })
+
+-- whom a step rouses, it rouses as well where tasks are forgotten after it
+roused_then : {P : Type 0} (keeps : Bool) (mid new : BookView P) → Releases keeps mid new → (waking waking' : Waking) (a : Ask) (d : Did) → IsRoused mid waking waking' a d → IsRoused new waking waking' a d
+roused_then keeps mid new released waking waking' a d roused =
+    let same : state_of new ≡ state_of mid = λ i. state (released.config i) (released.history i) in
+    record {
+      told = roused.told;
+      hand = roused.hand;
+      leaves =
+          λ w first leaves.
+          roused.leaves w (ap (λ s. first_slot s.idling) (sym same) ∙ first)
+          (subst (λ h. IsFitting (config mid) (state (config mid) h) (ask.Take w) (did.Take w took.Leave)) released.history
+          (subst (λ k. IsFitting k (state k new.history) (ask.Take w) (did.Take w took.Leave)) released.config leaves));
+      all = roused.all;
+      state = roused.state;
+      rank = roused.rank ∙ ap (λ s. s.rank) (sym same);
+      heard = subst (λ s. IsHeard waking waking' a d roused.state (counts s).live (counts s).queued) (sym same) roused.heard;
+    }
+
+-- a step that is made in a hold, after which tasks are forgotten
+pub holds : {J : Type 0} (keeps : Bool) (old : CoreView J) (book mid new : BookView (Task J)) (roster : RosterView) (waking waking' : Waking) → record { book = book; roster = roster; waking = waking } ≡ old →
+    (by : ℕ) (a : Ask) (d : Did) (moves : Tasks (Task J) → Tasks (Task J) → Type 0) → Advances book mid by a d moves → Releases keeps mid new → IsRoused mid waking waking' a d →
+    Holds keeps old (record { book = new; roster = roster; waking = waking' }) by a d moves
+holds keeps old book mid new roster waking waking' is by a d moves made released roused =
+    subst (λ o. Holds keeps o (record { book = new; roster = roster; waking = waking' }) by a d moves) is
+    (record { book = mid; made = made; released = released; roused = roused_then keeps mid new released waking waking' a d roused; threads = refl })

@@ -1,6 +1,6 @@
 -- Receipts that come after receipts, and fronts after fronts.
-use Rattle.std.proofs.Common.{ℕ, ◌≡◌, ◌+◌, List, [], ◌∷◌, ◌++◌, length, append_assoc, length-append, refl, ap, sym, subst, ◌∙◌, arith}
-use Rattle.std.specs.Prelude.{All}
+use Rattle.std.proofs.Common.{ℕ, ◌≡◌, ◌+◌, Bool, true, false, List, [], ◌∷◌, ◌++◌, length, append_assoc, length-append, refl, ap, sym, subst, ◌∙◌, arith}
+use Rattle.std.specs.Prelude.{All, if◌then◌else◌}
 use Rattle.std.proofs.lemmas.List.{append-nil}
 use Rattle.std.proofs.lemmas.List.Elements.{All-nil, All-append}
 use Rattle.tp_types.specs.declared.configs.Config.{Config}
@@ -10,7 +10,7 @@ use Rattle.tp_record.specs.declared.entries.Entry.{Entry}
 use Rattle.tp_record.specs.Step.{Legal}
 use Rattle.tp_glance.specs.Word.{IsFrontOf}
 use Rattle.tp_glance.proofs.Fronts.{IsFrontOf_refl, IsFrontOf_trans}
-use Rattle.tp_book.specs.PassView.{PassView}
+use Rattle.tp_book.specs.PassView.{PassView, receipts_with}
 use Rattle.tp_locked.specs.Passes.{Leads, Adds, AddsStep, AddsNone, LooksOnly, entry_of}
 
 -- a history that goes on further
@@ -70,15 +70,33 @@ pub none_added : (old new : PassView) → new ≡ old → AddsNone old new
 none_added old new same = later_none old new (subst (λ p. Later old p) (sym same) (later_refl old))
 
 pub none_behind : (old mid new : PassView) → AddsNone old mid → AddsNone mid new → AddsNone old new
-none_behind old mid new first then =
-    (then.0 ∙ ap (λ (p : PassView). record p { front = new.front; room = new.room }) first.0, IsFrontOf_trans first.1 then.1)
+none_behind old mid new first later =
+    (later.0 ∙ ap (λ (p : PassView). record p { front = new.front; room = new.room }) first.0, IsFrontOf_trans first.1 later.1)
+
+-- no receipts more
+with_none : (p : PassView) → receipts_with p [] ≡ p.receipts
+with_none p = by p.keeps
+  where
+    by : (keeps : Bool) → (if keeps then p.receipts ++ [] else p.receipts) ≡ p.receipts
+    by true = append-nil p.receipts
+    by false = refl
+
+-- some, and then more, whether or not the pass keeps them
+with_both : (old mid : PassView) (xs ys : List Entry) → mid.keeps ≡ old.keeps → mid.receipts ≡ receipts_with old xs → receipts_with mid ys ≡ receipts_with old (xs ++ ys)
+with_both old mid xs ys keeps receipts =
+    ap (λ k. if k then mid.receipts ++ ys else mid.receipts) keeps ∙ ap (λ rs. if old.keeps then rs ++ ys else rs) receipts ∙ by old.keeps
+  where
+    by : (keeps : Bool) → (if keeps then (if keeps then old.receipts ++ xs else old.receipts) ++ ys else (if keeps then old.receipts ++ xs else old.receipts)) ≡ (if keeps then old.receipts ++ (xs ++ ys) else old.receipts)
+    by true = append_assoc old.receipts xs ys
+    by false = refl
 
 module _ (c : Config) where
   -- no receipts, where the pass has looked
   pub looks_adds : (old new : PassView) → LooksOnly c old new → Adds c old [] new
   looks_adds old new looks = record {
     number = ap (λ p. p.number) looks.0;
-    receipts = ap (λ p. p.receipts) looks.0 ∙ sym (append-nil old.receipts);
+    keeps = ap (λ p. p.keeps) looks.0;
+    receipts = ap (λ p. p.receipts) looks.0 ∙ sym (with_none old);
     own = All-nil (λ (e : Entry). e.by ≡ old.number);
     amount = ap (λ p. p.amount) looks.0 ∙ (let none : old.amount ≡ old.amount + 0 = omega arith in none);
     leads = looks.1;
@@ -93,7 +111,8 @@ module _ (c : Config) where
   pub adds_both : (old mid new : PassView) (xs ys : List Entry) → Adds c old xs mid → Adds c mid ys new → Adds c old (xs ++ ys) new
   adds_both old mid new xs ys a b = record {
     number = b.number ∙ a.number;
-    receipts = b.receipts ∙ ap (λ rs. rs ++ ys) a.receipts ∙ append_assoc old.receipts xs ys;
+    keeps = b.keeps ∙ a.keeps;
+    receipts = b.receipts ∙ with_both old mid xs ys a.keeps a.receipts;
     own = All-append (λ (e : Entry). e.by ≡ old.number) xs ys a.own (subst (λ (n : ℕ). All (λ (e : Entry). e.by ≡ n) ys) a.number b.own);
     amount = omega (arith, a.amount, b.amount, length-append xs ys);
     leads = leads_both old.front mid.front new.front xs ys a.leads b.leads;
@@ -104,6 +123,7 @@ module _ (c : Config) where
   pub adds_looks : (old mid new : PassView) (xs : List Entry) → Adds c old xs mid → LooksOnly c mid new → Adds c old xs new
   adds_looks old mid new xs adds looks = record {
     number = ap (λ p. p.number) looks.0 ∙ adds.number;
+    keeps = ap (λ p. p.keeps) looks.0 ∙ adds.keeps;
     receipts = ap (λ p. p.receipts) looks.0 ∙ adds.receipts;
     own = adds.own;
     amount = ap (λ p. p.amount) looks.0 ∙ adds.amount;
@@ -120,7 +140,8 @@ module _ (c : Config) where
   pub adds_behind : (old mid new : PassView) (xs : List Entry) → AddsNone old mid → Adds c mid xs new → Adds c old xs new
   adds_behind old mid new xs none adds = record {
     number = adds.number ∙ ap (λ p. p.number) none.0;
-    receipts = adds.receipts ∙ ap (λ p. p.receipts ++ xs) none.0;
+    keeps = adds.keeps ∙ ap (λ p. p.keeps) none.0;
+    receipts = adds.receipts ∙ ap (λ p. receipts_with p xs) none.0;
     own = subst (λ (n : ℕ). All (λ (e : Entry). e.by ≡ n) xs) (ap (λ p. p.number) none.0) adds.own;
     amount = adds.amount ∙ ap (λ p. p.amount + length xs) none.0;
     leads = leads_from old.front mid.front new.front xs none.1 adds.leads;

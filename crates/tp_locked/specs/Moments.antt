@@ -5,7 +5,7 @@ use Rattle.tp_record.specs.declared.entries.Entry.{Entry}
 use Rattle.tp_record.specs.State.{State, state}
 use Rattle.tp_record.specs.Step.{Legal}
 use Rattle.tp_machine.specs.Seen.{At}
-use Rattle.tp_book.specs.BookView.{BookView, config, tells}
+use Rattle.tp_book.specs.BookView.{BookView, StandsThere, config}
 
 -- this history is legal in these settings, and its state is such
 pub record AtFront (c : Config) (history : List Entry) (F : State → Type 0) : Type 0 where
@@ -20,7 +20,7 @@ pub record AtSome (c : Config) (F : State → Type 0) : Type 0 where
 -- the book of a pool with these settings, while no step is under way: it stands at its history, each entry of which is accounted for
 pub record IsBook (P : Type 0) (c : Config) (b : BookView P) : Type 0 where
   pub settings : config b ≡ c
-  pub stands : At tells b.machine b.history []
+  pub stands : StandsThere b
   pub accounted : b.accounts.total ≡ length b.history
 
 -- at this history the pool's book is such

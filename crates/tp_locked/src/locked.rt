@@ -28,8 +28,10 @@ use tp_book::passes::Pass;
 use tp_book::payers::Payer;
 use tp_book::sights::Sight;
 use tp_glance::glance::Glance;
+use tp_machine::machine::releases::Keeper;
 use tp_machine::typed::Step;
 use tp_record::entries::{Ask, Did};
+use tp_record::recorders::Full;
 use tp_types::limits::MAX_WORKERS;
 use tp_types::refusals::PoolError;
 use tp_types::states::RunState;
@@ -39,14 +41,14 @@ use tp_waking::waking::Waking;
 /// The pool's book, which is of the settings that its name says, and what the pool keeps beside it. While
 /// nobody holds the lock, no task is queued where a worker sleeps and nobody looks for a task.
 #[derive(Drop)]
-pub struct Core<G: PoolNaming, J> {
-    book: Book<G, Task<J>>,
+pub struct Core<G: PoolNaming, J, R: Keeper = Full> {
+    book: Book<G, Task<J>, R>,
     flags: Flags,
     waking: Waking,
     roster: Roster<G>,
 }
 
-impl<G: PoolNaming, J> Model for Core<G, J> {
+impl<G: PoolNaming, J, R: Keeper> Model for Core<G, J, R> {
     ghost use Rattle.std.specs.Prelude.{◌≡◌};
     ghost use Rattle.std.specs.Coded.{codes};
     ghost use Rattle.tp_types.specs.Config.{IsConfig};
@@ -63,13 +65,18 @@ impl<G: PoolNaming, J> Model for Core<G, J> {
 
     ghost view = { λ c. record { book = c.book; roster = c.roster; waking = c.waking } };
 
-    ghost invariant = { λ c. (config c.book ≡ G.config) × IsConfig G.config × IsSettled (waits c.book) c.waking.sleepers };
+    ghost invariant = { λ c. (config c.book ≡ (R.terms G.config)) × IsConfig G.config × IsSettled (waits c.book) c.waking.sleepers };
 }
 
 // Whom an accepted step concerns: the workers that sleep, and the waiters. While all work and nobody waits, it is
 // nobody, and nothing is counted.
 #[inline(always)]
-fn rouse<G: PoolNaming, J>(book: &Book<G, Task<J>>, waking: &mut Waking, ask: &Ask, did: &Did)
+fn rouse<G: PoolNaming, J, R: Keeper>(
+    book: &Book<G, Task<J>, R>,
+    waking: &mut Waking,
+    ask: &Ask,
+    did: &Did,
+)
     ensures settled { IsSettled (waits book.now) waking.new.sleepers }
     ensures roused { IsRoused book.now waking.old waking.new ask.now did.now }
 {
@@ -86,6 +93,7 @@ mod closing;
 mod controllers;
 mod marks;
 mod readings;
+mod releases;
 mod rescues;
 mod submitters;
 mod watching;
@@ -97,23 +105,30 @@ pub use marks::Marks;
 pub use watching::Busy;
 pub use workers::Taking;
 
-impl<G: PoolNaming, J: Drop> Core<G, J> {
-    /// A new pool's book, of a pool in which nobody sleeps or waits, and room for the flags of so many tasks.
+impl<G: PoolNaming, J: Drop, R: Keeper> Core<G, J, R> {
+    /// A new pool's book, of a pool in which nobody sleeps or waits, and room for flags that serve again where there are so
+    /// many tasks.
     /// NoMemory (4).
-    pub fn new(alloc: Global, book: Book<G, Task<J>>, tasks: usize) -> Result<Core<G, J>, PoolError>
-        requires settings { config book ≡ G.config }
+    pub fn new(
+        alloc: Global,
+        book: Book<G, Task<J>, R>,
+        tasks: usize,
+    ) -> Result<Core<G, J, R>, PoolError>
+        requires settings { config book ≡ (R.terms G.config) }
         requires good { IsConfig G.config }
         requires fresh { (book.history ≡ []) × (book.accounts ≡ record { total = 0; made = 1; callers = 1 }) }
         ensures book { IfOk result (λ c. c.book ≡ book) }
-        ensures threads { IfOk result (λ c. (c.roster.running ≡ 0) × (c.roster.ended ≡ [])) }
+        ensures threads { IfOk result (λ c. (c.roster.running ≡ 0) × (c.roster.ended ≡ record { passes = 0; amount = 0 })) }
         ensures awake { IfOk result (λ c. c.waking ≡ record { sleepers = replicate 1024 rests.Away; awaited = NO_WAITERS; calls = NOBODY }) }
         ensures refused { IfErr result (λ e. e ≡ PoolError.NoMemory) }
     {
         let slots = MAX_WORKERS as usize;
+        let mut book = book;
+        let ended = book.gathered();
         let (Ok(flags), Ok(waking), Ok(roster)) = (
-            Flags::new(alloc, tasks),
+            Flags::new(alloc, slots, tasks),
             Waking::new(alloc, slots),
-            Roster::new(alloc, slots),
+            Roster::new(alloc, slots, ended),
         ) else {
             return Err(PoolError::NoMemory);
         };
@@ -126,7 +141,8 @@ impl<G: PoolNaming, J: Drop> Core<G, J> {
     }
 
     /// Makes this step with a pass, a caller's or a worker's: `Book::step_by`. The threads that an accepted step
-    /// concerns are to be woken, and the flags of tasks that it concerns are set, or let go of.
+    /// concerns are to be woken, and the flags of tasks that it concerns are set, or let go of. Where no record is kept, the
+    /// tasks are forgotten that are gone with it and to which nothing is owed.
     #[inline(always)]
     pub fn step_by<S: Marks<J>, A: Payer<G>>(
         &mut self,
@@ -138,12 +154,12 @@ impl<G: PoolNaming, J: Drop> Core<G, J> {
         requires brings { S.brings step load }
         requires ready { A.ready pass.old (S.ask step) }
         ensures answers { IfOk result (λ x. S.answers step x) }
-        ensures holds { IfOk result (λ x. Holds self.old self.new (A.number pass.old) (S.ask step) (S.did step x) (S.moves step load x)) }
-        ensures makes { IfOk result (λ x. Makes J G.config (A.number pass.old) (A.front pass.old) (S.ask step) (S.did step x) (S.moves step load x) (A.front pass.new)) }
-        ensures says { IfOk result (λ x. S.says step x G.config self.old.book.history) }
+        ensures holds { IfOk result (λ x. Holds R.RECEIPTS self.old self.new (A.number pass.old) (S.ask step) (S.did step x) (S.moves step load x)) }
+        ensures makes { IfOk result (λ x. Makes J (R.terms G.config) (A.number pass.old) (A.front pass.old) (S.ask step) (S.did step x) (S.moves step load x) (A.front pass.new)) }
+        ensures says { IfOk result (λ x. S.says step x (R.terms G.config) self.old.book.history) }
         ensures paid { IfOk result (λ x. A.paid pass.old (entry_of (A.number pass.old) (S.ask step) (S.did step x)) pass.new) }
-        ensures denies { IfErr result (λ r. Denies self.old self.new (S.ask step) r.0) }
-        ensures refused { IfErr result (λ r. Refused J G.config (A.front pass.old) (S.ask step) r.0 (A.front pass.new)) }
+        ensures denies { IfErr result (λ r. Denies R.RECEIPTS self.old self.new (S.ask step) r.0) }
+        ensures refused { IfErr result (λ r. Refused J R.RECEIPTS (R.terms G.config) (A.front pass.old) (S.ask step) r.0 (A.front pass.new)) }
         ensures shown { OnErr result (A.shown pass.old pass.new) }
         ensures returned { IfErr result (λ r. r.1 ≡ load) }
         ensures number { A.number pass.new ≡ A.number pass.old }
@@ -156,13 +172,14 @@ impl<G: PoolNaming, J: Drop> Core<G, J> {
             waking,
             roster: _,
         } = self;
-        book.is_balanced();
+        book.law_is_balanced();
         let answer = match book.step_by(step, load, glance, pass) {
             Ok(answer) => answer,
             Err(refused) => return Err(refused),
         };
         rouse(book, waking, &step.ask(), &step.did(&answer));
         step.mark(&answer, book, flags);
+        step.settle(&answer, book);
         Ok(answer)
     }
 
@@ -177,12 +194,12 @@ impl<G: PoolNaming, J: Drop> Core<G, J> {
         requires brings { S.brings step tt }
         requires ready { A.ready pass.old (S.ask step) }
         ensures answers { IfOk result (λ x. S.answers step x) }
-        ensures holds { IfOk result (λ x. Holds self.old self.new (A.number pass.old) (S.ask step) (S.did step x) (S.moves step tt x)) }
-        ensures makes { IfOk result (λ x. Makes J G.config (A.number pass.old) (A.front pass.old) (S.ask step) (S.did step x) (S.moves step tt x) (A.front pass.new)) }
-        ensures says { IfOk result (λ x. S.says step x G.config self.old.book.history) }
+        ensures holds { IfOk result (λ x. Holds R.RECEIPTS self.old self.new (A.number pass.old) (S.ask step) (S.did step x) (S.moves step tt x)) }
+        ensures makes { IfOk result (λ x. Makes J (R.terms G.config) (A.number pass.old) (A.front pass.old) (S.ask step) (S.did step x) (S.moves step tt x) (A.front pass.new)) }
+        ensures says { IfOk result (λ x. S.says step x (R.terms G.config) self.old.book.history) }
         ensures paid { IfOk result (λ x. A.paid pass.old (entry_of (A.number pass.old) (S.ask step) (S.did step x)) pass.new) }
-        ensures denies { IfErr result (λ e. Denies self.old self.new (S.ask step) e) }
-        ensures refused { IfErr result (λ e. Refused J G.config (A.front pass.old) (S.ask step) e (A.front pass.new)) }
+        ensures denies { IfErr result (λ e. Denies R.RECEIPTS self.old self.new (S.ask step) e) }
+        ensures refused { IfErr result (λ e. Refused J R.RECEIPTS (R.terms G.config) (A.front pass.old) (S.ask step) e (A.front pass.new)) }
         ensures shown { OnErr result (A.shown pass.old pass.new) }
         ensures number { A.number pass.new ≡ A.number pass.old }
         ensures goes_on { IsFrontOf (A.front pass.old) self.old.book.history }
@@ -205,15 +222,15 @@ impl<G: PoolNaming, J: Drop> Core<G, J> {
         requires brings { S.brings step tt }
         requires room { 0 < pass.old.room }
         ensures answers { IfOk result (λ x. S.answers step x) }
-        ensures holds { IfOk result (λ x. Holds self.old self.new pass.old.number (S.ask step) (S.did step x) (S.moves step tt x)) }
-        ensures makes { IfOk result (λ x. Makes J G.config pass.old.number pass.old.front (S.ask step) (S.did step x) (S.moves step tt x) pass.new.front) }
-        ensures says { IfOk result (λ x. S.says step x G.config self.old.book.history) }
-        ensures step { IfOk result (λ x. AddsStep G.config pass.old (S.ask step) (S.did step x) pass.new) }
+        ensures holds { IfOk result (λ x. Holds R.RECEIPTS self.old self.new pass.old.number (S.ask step) (S.did step x) (S.moves step tt x)) }
+        ensures makes { IfOk result (λ x. Makes J (R.terms G.config) pass.old.number pass.old.front (S.ask step) (S.did step x) (S.moves step tt x) pass.new.front) }
+        ensures says { IfOk result (λ x. S.says step x (R.terms G.config) self.old.book.history) }
+        ensures step { IfOk result (λ x. AddsStep (R.terms G.config) pass.old (S.ask step) (S.did step x) pass.new) }
         ensures left { OnOk result (pass.old.room ≤ pass.new.room + 1) }
-        ensures denies { IfErr result (λ e. Denies self.old self.new (S.ask step) e) }
-        ensures refused { IfErr result (λ e. HasNoOutcome (S.ask step) → IsRefusal G.config pass.new.front (S.ask step) e) }
-        ensures unchanged { OnErr result (LooksOnly G.config pass.old pass.new) }
-        ensures legal { Legal G.config pass.new.front }
+        ensures denies { IfErr result (λ e. Denies R.RECEIPTS self.old self.new (S.ask step) e) }
+        ensures refused { IfErr result (λ e. HasNoOutcome (S.ask step) → IsRefusal R.RECEIPTS (R.terms G.config) pass.new.front (S.ask step) e) }
+        ensures unchanged { OnErr result (LooksOnly (R.terms G.config) pass.old pass.new) }
+        ensures legal { Legal (R.terms G.config) pass.new.front }
         ensures front { (OnOk result (pass.new.front ≡ self.new.book.history)) × (OnErr result (pass.new.front ≡ self.old.book.history)) }
     {
         self.step(step, glance, pass)
@@ -241,10 +258,10 @@ impl<G: PoolNaming, J: Drop> Core<G, J> {
     }
 
     /// The law that the book stands at its history, which is legal in the pool's settings.
-    pub fn is_book(&self)
-        ensures { IsBook (TaskOf J) G.config self.now.book }
+    pub fn law_is_book(&self)
+        ensures { IsBook (TaskOf J) (R.terms G.config) self.now.book }
     {
-        self.book.is_balanced();
+        self.book.law_is_balanced();
     }
 
     /// Whether no thread is to be woken, as after most holds.

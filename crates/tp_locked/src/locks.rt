@@ -9,21 +9,23 @@ use crate::tasks::Task;
 use std::alloc::Global;
 use std::sync::Mutex;
 use tp_book::book::Book;
-use tp_book::passes::WorkerPass;
+use tp_book::gathered::Gathered;
+use tp_machine::machine::releases::Keeper;
+use tp_record::recorders::Full;
 
 /// A pool's value behind its one lock. It is made around a new pool's value, or around one that a close took apart and
 /// could not close.
 #[derive(Drop)]
-pub struct PoolLock<G: PoolNaming, J> {
-    core: Mutex<Core<G, J>>,
+pub struct PoolLock<G: PoolNaming, J, R: Keeper = Full> {
+    core: Mutex<Core<G, J, R>>,
 }
 
-impl<G: PoolNaming, J: Drop> PoolLock<G, J> {
+impl<G: PoolNaming, J: Drop, R: Keeper> PoolLock<G, J, R> {
     /// The lock of a new pool: its record is empty, its first pass is the only one, and it has no thread.
-    pub fn new(core: Core<G, J>) -> PoolLock<G, J>
+    pub fn new(core: Core<G, J, R>) -> PoolLock<G, J, R>
         requires empty { core.book.history ≡ [] }
         requires first { core.book.accounts ≡ record { total = 0; made = 1; callers = 1 } }
-        requires nobody { (core.roster.running ≡ 0) × (core.roster.ended ≡ []) }
+        requires nobody { (core.roster.running ≡ 0) × (core.roster.ended ≡ record { passes = 0; amount = 0 }) }
     {
         PoolLock {
             core: Mutex::new(core),
@@ -31,8 +33,8 @@ impl<G: PoolNaming, J: Drop> PoolLock<G, J> {
     }
 
     /// The book, the passes that workers handed in, and the rest, of a pool whose threads are gone.
-    pub fn part(self) -> (Book<G, Task<J>>, Vec<WorkerPass<G>>, Beside)
-        ensures settings { config result.0 ≡ G.config }
+    pub fn part(self) -> (Book<G, Task<J>, R>, Gathered<G>, Beside)
+        ensures settings { config result.0 ≡ (R.terms G.config) }
         ensures good { IsConfig G.config }
     {
         self.core.into_inner().part()
@@ -41,11 +43,11 @@ impl<G: PoolNaming, J: Drop> PoolLock<G, J> {
     /// What `part` took apart, put together again.
     pub fn again(
         alloc: Global,
-        book: Book<G, Task<J>>,
-        ended: Vec<WorkerPass<G>>,
+        book: Book<G, Task<J>, R>,
+        ended: Gathered<G>,
         beside: Beside,
-    ) -> PoolLock<G, J>
-        requires settings { config book ≡ G.config }
+    ) -> PoolLock<G, J, R>
+        requires settings { config book ≡ (R.terms G.config) }
         requires good { IsConfig G.config }
     {
         PoolLock {
@@ -54,10 +56,10 @@ impl<G: PoolNaming, J: Drop> PoolLock<G, J> {
     }
 }
 
-impl<G: PoolNaming, J> PoolLock<G, J> {
+impl<G: PoolNaming, J, R: Keeper> PoolLock<G, J, R> {
     /// The lock itself.
     #[inline(always)]
-    pub fn mutex(&self) -> &Mutex<Core<G, J>> {
+    pub fn mutex(&self) -> &Mutex<Core<G, J, R>> {
         &self.core
     }
 }

@@ -22,6 +22,7 @@ use Rattle.tp_slots.specs.Table.{first_slot}
 use Rattle.tp_parts.specs.declared.parts.Parts.{Parts}
 use Rattle.tp_parts.specs.Shows.{Shows}
 use Rattle.tp_parts.specs.Steps.{IsFitting}
+use Rattle.tp_parts.specs.Terms.{terms}
 use Rattle.tp_machine.specs.Seen.{Seen, config_of}
 use Rattle.tp_machine.specs.Readings.{EachState}
 
@@ -107,5 +108,5 @@ module _ {P R : Type 0} (tells : R → List Entry → List ℕ → Type 0) (p : 
   none_leaves =
       subst (λ x. EachState tells x (λ s. (v : SlotId) → first_slot s.idling ≡ Some v → IsFitting (config_of x) s (ask.Take v) (did.Take v took.Leave) → ⊥)) is
       (λ h rs at v first leaves.
-      let s = left rs (state p.config h) in
+      let s = left rs (state (terms p) h) in
       row_keeps s v (kept s at.shows) (slot_at s.slots v.0) leaves.0)

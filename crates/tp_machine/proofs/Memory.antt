@@ -14,6 +14,7 @@ use Rattle.tp_parts.specs.declared.parts.Parts.{Parts}
 use Rattle.tp_parts.specs.Shows.{Shows}
 use Rattle.tp_parts.specs.Steps.{Stands, Refuses}
 use Rattle.tp_parts.specs.Tied.{IsTied}
+use Rattle.tp_parts.specs.Terms.{terms}
 use Rattle.tp_machine.specs.Steps.{NeedsMemory}
 use Rattle.tp_machine.proofs.Refusals.{never_wanted_marked}
 
@@ -33,7 +34,7 @@ module _ {P : Type 0} (p : Parts P) where
       omega (arith, queued, many, least)
 
   -- a maximum needs some where there are fewer places
-  pub maximum_needs : (n : ℕ) → IsTied p.config p.steps p → ¬ (n ≤ p.slots.places) → (s : State) → Shows p s → NeedsMemory s (ask.Maximum n)
+  pub maximum_needs : (n : ℕ) → IsTied (terms p) p.steps p → ¬ (n ≤ p.slots.places) → (s : State) → Shows p s → NeedsMemory s (ask.Maximum n)
   maximum_needs n tied short s shows =
       let size = shows.seen.maximum_size in
       let places = tied.places in
@@ -43,5 +44,5 @@ module _ {P : Type 0} (p : Parts P) where
   -- what a step refuses is not for want of memory
   pub refuses_other : Stands p → (a : Ask) (e : PoolError) → Refuses p a e → e ≢ NoMemory
   refuses_other stands a e refuses wants =
-      never_wanted_marked p.config stands.history stands.released a
-      (subst (StepRefuses p.config (mark stands.released (state p.config stands.history)) a) wants (refuses stands.history stands.released stands.legal stands.may stands.shows))
+      never_wanted_marked (terms p) stands.history stands.released a
+      (subst (StepRefuses (terms p) (mark stands.released (state (terms p) stands.history)) a) wants (refuses stands.history stands.released stands.legal stands.may stands.shows))

@@ -13,7 +13,7 @@ use Rattle.tp_record.specs.Lists.{is_it}
 use Rattle.tp_record.specs.Fields.{slot_rows}
 use Rattle.tp_record.specs.Left.{left, mark, MayAll, asked, is_one_of}
 use Rattle.tp_record.specs.State.{state, slot_at}
-use Rattle.tp_record.specs.Step.{Answer, Legal, Gives, Refuses, IsRefused, IsFreeTo, step}
+use Rattle.tp_record.specs.Step.{Answer, Legal, Gives, Refuses, IsRefused, IsFreeTo}
 use Rattle.tp_left.proofs.LeftOut.{step_legal, unknown_left}
 use Rattle.tp_left.proofs.Marks.{step_marked, left_slots}
 use Rattle.tp_parts.specs.Shows.{Shows}
@@ -78,7 +78,10 @@ module _ (c : Config) (h : List Entry) (rs : List ℕ) where
   gives_unnamed a d gives true named = absurd (two_answers UnknownTask d (sym (unknown_left c rs (state c h) (unwrap_or (reserves d) 0) a named) ∙ gives.0))
   gives_unnamed a d gives false off = off
 
-  gives_whole : (a : Ask) (d : Did) → Legal c h → MayAll rs (state c h) → Gives c (left rs (state c h)) a d → Gives c (state c h) a d
+  pub never_named : (a : Ask) (d : Did) → is_one_of (asked a) rs ≡ true → ¬ Gives c (left rs (state c h)) a d
+  never_named a d named gives = two_answers UnknownTask d (sym (unknown_left c rs (state c h) (unwrap_or (reserves d) 0) a named) ∙ gives.0)
+
+  pub gives_whole : (a : Ask) (d : Did) → Legal c h → MayAll rs (state c h) → Gives c (left rs (state c h)) a d → Gives c (state c h) a d
   gives_whole a d legal may gives =
       let n = unwrap_or (reserves d) 0 in (
         sym (step_legal c h legal rs n a may (gives_unnamed a d gives (is_one_of (asked a) rs) refl)) ∙ gives.0,

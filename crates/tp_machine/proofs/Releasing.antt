@@ -1,5 +1,5 @@
 -- A task that is forgotten is released: the machine stands at the same histories.
-use Rattle.std.proofs.Common.{◌≡◌, ℕ, ◌+◌, ◌<◌, ◌≤◌, Bool, true, false, not, ◌||◌, ◌&&◌, List, [], ◌∷◌, length, Some, arith, refl, sym, ap, subst, ◌∙◌, inl, inr}
+use Rattle.std.proofs.Common.{◌≡◌, ℕ, ◌+◌, ◌<◌, Bool, true, false, not, ◌&&◌, List, [], ◌∷◌, length, Some, arith, refl, sym, ap, subst, ◌∙◌, inl, inr}
 use mathlib.Core.Path.{ap₂}
 use Rattle.std.specs.Prelude.{count_by, is_some, nat_lt}
 use Rattle.std.proofs.lemmas.Bool.{lt-ltb, true≢false}
@@ -11,17 +11,19 @@ use Rattle.tp_record.specs.declared.rows.TaskRow.{TaskRow}
 use Rattle.tp_record.specs.Fields.{is_live}
 use Rattle.tp_record.specs.Lists.{is_among}
 use Rattle.tp_record.specs.Left.{left, mark, MayAll, MayRelease}
-use Rattle.tp_record.specs.State.{State, state}
+use Rattle.tp_record.specs.State.{State, state, task_at}
 use Rattle.tp_record.specs.Step.{Legal}
 use Rattle.tp_left.proofs.LeftOut.{may_more, left_length}
-use Rattle.tp_left.proofs.Marks.{known_marked, may_marked, may_unmarked}
+use Rattle.tp_left.proofs.Marks.{known_marked, may_marked, may_unmarked, row_marked}
 use Rattle.tp_tasks.specs.Tasks.{row_of, AreReleased}
 use Rattle.tp_shapes.specs.View.{View, view}
 use Rattle.tp_parts.specs.declared.parts.Parts.{Parts}
 use Rattle.tp_parts.specs.Releases.{OwesNothing, IsKept}
 use Rattle.tp_parts.specs.Shows.{Views, Shows}
 use Rattle.tp_parts.specs.Tied.{IsTied}
+use Rattle.tp_parts.specs.Terms.{terms}
 use Rattle.tp_parts.proofs.Forgetting.{may_here}
+use Rattle.tp_parts.proofs.Reading.{row_shown}
 use Rattle.tp_machine.specs.Readings.{EachState}
 use Rattle.tp_machine.specs.Seen.{Seen, At, IsSound, config_of}
 use Rattle.tp_machine.proofs.Released.{marked, stands_at}
@@ -31,9 +33,21 @@ pub kept_left : (c : Config) (h : List Entry) (rs : List ℕ) (t : ℕ) (e : Poo
 kept_left c h rs t e (inl unknown) = inl (unknown.0, known_marked c h rs t ∙ unknown.1)
 kept_left c h rs t e (inr there) = inr (there.0, known_marked c h rs t ∙ there.1, λ may. there.2 (may_unmarked c h rs t may))
 
+-- a task that is kept may not be released
+pub not_kept : (s : State) (t : ℕ) (e : PoolError) → IsKept s t e → MayRelease s t → ⊥
+not_kept s t e (inl unknown) may = true≢false (sym may.known ∙ unknown.1)
+not_kept s t e (inr there) may = there.2 may
+
 pub kept_at : {P R : Type 0} (tells : R → List Entry → List ℕ → Type 0) (p : Parts P) (noted : R) (m : Seen P R) (t : ℕ) (e : PoolError) → record { parts = p; noted = noted } ≡ m →
-    ((h : List Entry) (rs : List ℕ) → At tells (record { parts = p; noted = noted }) h rs → IsKept (mark rs (state p.config h)) t e) → EachState tells m (λ s. IsKept s t e)
-kept_at tells p noted m t e is kept = subst (λ x. EachState tells x (λ s. IsKept s t e)) is (λ h rs at. kept_left p.config h rs t e (kept h rs at))
+    ((h : List Entry) (rs : List ℕ) → At tells (record { parts = p; noted = noted }) h rs → IsKept (mark rs (state (terms p) h)) t e) → EachState tells m (λ s. IsKept s t e)
+kept_at tells p noted m t e is kept = subst (λ x. EachState tells x (λ s. IsKept s t e)) is (λ h rs at. kept_left (terms p) h rs t e (kept h rs at))
+
+module _ {P R : Type 0} (tells : R → List Entry → List ℕ → Type 0) (p : Parts P) (noted : R) (m : Seen P R) (is : record { parts = p; noted = noted } ≡ m) (t : ℕ) (r : TaskRow) (row : row_of p.tasks t ≡ Some r) where
+  -- the row of a task that is kept is that of what is left
+  pub row_at : (h : List Entry) (rs : List ℕ) → At tells m h rs → task_at (left rs (state (config_of m) h)) t ≡ r
+  row_at = subst (λ (x : Seen P R). (h : List Entry) (rs : List ℕ) → At tells x h rs → task_at (left rs (state (config_of x) h)) t ≡ r) is (λ h rs at.
+      let shown = row_shown p (mark rs (state (terms p) h)) (marked tells (record { parts = p; noted = noted }) h rs at) t r row in
+      row_marked (terms p) h rs t shown.0 ∙ shown.1)
 
 module _ {P R : Type 0} (tells : R → List Entry → List ℕ → Type 0) (places : R → ℕ) (p new : Parts P) (noted : R) (t : TaskId) (r : TaskRow) (row : row_of p.tasks t.0 ≡ Some r) (owes : OwesNothing p.tasks t.0 r)
     (rest : new ≡ record p { tasks = new.tasks }) (views : (v : View) → Views p v → Views new (record v { left_out = t.0 ∷ v.left_out }))
@@ -45,21 +59,21 @@ module _ {P R : Type 0} (tells : R → List Entry → List ℕ → Type 0) (plac
   abbrev after : Seen P R
   after = record { parts = new; noted = noted }
 
-  config : new.config ≡ p.config
-  config = ap (λ x. x.config) rest
+  config : (terms new) ≡ (terms p)
+  config = ap terms rest
 
   steps : new.steps ≡ p.steps
   steps = ap (λ x. x.steps) rest
 
-  may : (h : List Entry) (rs : List ℕ) → At tells before h rs → MayRelease (left rs (state p.config h)) t.0
-  may h rs at = may_marked p.config h rs t.0 (may_here p h rs at.legal (marked tells before h rs at) t.0 r row owes)
+  may : (h : List Entry) (rs : List ℕ) → At tells before h rs → MayRelease (left rs (state (terms p) h)) t.0
+  may h rs at = may_marked (terms p) h rs t.0 (may_here p h rs at.legal (marked tells before h rs at) t.0 r row owes)
 
-  shows : (h : List Entry) (rs : List ℕ) → At tells before h rs → Shows new (mark (t.0 ∷ rs) (state p.config h))
+  shows : (h : List Entry) (rs : List ℕ) → At tells before h rs → Shows new (mark (t.0 ∷ rs) (state (terms p) h))
   shows h rs at =
       let shown = marked tells before h rs at in
       record {
         entries = shown.entries ∙ sym steps;
-        seen = views (view (mark rs (state p.config h))) shown.seen;
+        seen = views (view (mark rs (state (terms p) h))) shown.seen;
         taken = shown.taken ∙ sym (ap (λ x. count_by is_some x.slots.slots) rest);
         live = shown.live ∙ sym (ap (λ x. count_by is_live x.slots.slots) rest);
         owed = shown.owed ∙ sym (ap (λ x. x.due) rest);
@@ -69,7 +83,7 @@ module _ {P R : Type 0} (tells : R → List Entry → List ℕ → Type 0) (plac
   stands h rs at =
       stands_at tells after h (t.0 ∷ rs) (free h rs at.told)
       (subst (λ c. Legal c h) (sym config) at.legal)
-      (subst (λ c. MayAll (t.0 ∷ rs) (state c h)) (sym config) (may_more rs (state p.config h) t.0 at.may (may h rs at)))
+      (subst (λ c. MayAll (t.0 ∷ rs) (state c h)) (sym config) (may_more rs (state (terms p) h) t.0 at.may (may h rs at)))
       (subst (λ c. Shows new (mark (t.0 ∷ rs) (state c h))) (sym config) (shows h rs at))
 
   pub released : (m : Seen P R) → before ≡ m → (h : List Entry) (rs : List ℕ) → At tells m h rs → MayRelease (left rs (state (config_of m) h)) t.0 × At tells after h (t.0 ∷ rs)
@@ -88,14 +102,14 @@ module _ {P R : Type 0} (tells : R → List Entry → List ℕ → Type 0) (plac
           legal = x.legal;
           may = x.may;
           shows = marked tells after s.history (t.0 ∷ s.released) x;
-          tied = subst (λ k. IsTied k new.steps new) (sym config) (subst (λ k. IsTied p.config k new) (sym steps) (tied _ _ s.tied));
+          tied = subst (λ k. IsTied k new.steps new) (sym config) (subst (λ k. IsTied (terms p) k new) (sym steps) (tied _ _ s.tied));
         };
         told = x.told;
         room = omega (arith, room, c, steps);
       }
 
 -- the tasks that are left out are those that are not kept
-module _ {P : Type 0} (p : Parts P) (h : List Entry) (rs : List ℕ) (may : MayAll rs (state p.config h)) (sh : Shows p (mark rs (state p.config h))) where
+module _ {P : Type 0} (p : Parts P) (h : List Entry) (rs : List ℕ) (may : MayAll rs (state (terms p) h)) (sh : Shows p (mark rs (state (terms p) h))) where
   pub are_released : AreReleased p.tasks rs
   are_released =
       let n = sh.seen.submitted in
@@ -106,7 +120,7 @@ module _ {P : Type 0} (p : Parts P) (h : List Entry) (rs : List ℕ) (may : MayA
       }
     where
       tasks : ℕ
-      tasks = length (state p.config h).tasks
+      tasks = length (state (terms p) h).tasks
 
       by : (t : ℕ) → t < tasks → (b : Bool) → is_among t rs ≡ b → is_some (row_of p.tasks t) ≡ not (is_among t rs)
       by t less true among = ap is_some (sh.seen.unknown t (ap (λ b. not b && nat_lt t tasks) among)) ∙ sym (ap not among)
@@ -121,7 +135,7 @@ pub kept_counted : {P R : Type 0} (tells : R → List Entry → List ℕ → Typ
     ((rs : List ℕ) → AreReleased p.tasks rs → n + length rs ≡ p.tasks.submitted) → EachState tells m (λ s. n + length s.left_out ≡ length s.tasks)
 kept_counted tells p noted m is n counted = subst (λ x. EachState tells x (λ s. n + length s.left_out ≡ length s.tasks)) is (λ h rs at.
     let e = counted rs (are_released p h rs at.may (marked tells (record { parts = p; noted = noted }) h rs at)) in
-    let tasks = left_length rs (state p.config h) in
-    let out = left_counted rs (state p.config h) in
+    let tasks = left_length rs (state (terms p) h) in
+    let out = left_counted rs (state (terms p) h) in
     let all = at.shows.seen.submitted in
     omega (arith, e, tasks, out, all))

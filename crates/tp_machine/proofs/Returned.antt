@@ -29,6 +29,7 @@ use Rattle.tp_parts.specs.Drained.{handed_back}
 use Rattle.tp_parts.specs.Shows.{Shows, numbers}
 use Rattle.tp_parts.specs.Steps.{Stands, Fits}
 use Rattle.tp_parts.specs.Tied.{IsTied, is_before, waits}
+use Rattle.tp_parts.specs.Terms.{terms}
 use Rattle.tp_parts.proofs.Standing.{cancelled_here, given_fitting, task_here}
 use Rattle.tp_submitters.specs.Verdicts.{Yields}
 use Rattle.tp_machine.specs.declared.answers.Judged.{Judged}
@@ -37,7 +38,7 @@ use Rattle.tp_machine.specs.Seen.{Seen, At}
 use Rattle.tp_machine.proofs.Released.{marked}
 use Rattle.tp_machine.proofs.Stopping.{handed_all}
 
-module _ {P : Type 0} (p : Parts P) (tied : IsTied p.config p.steps p) (h : List Entry) (rs : List ℕ) (legal : Legal p.config h) (may : MayAll rs (state p.config h)) (shows : Shows p (mark rs (state p.config h))) where
+module _ {P : Type 0} (p : Parts P) (tied : IsTied (terms p) p.steps p) (h : List Entry) (rs : List ℕ) (legal : Legal (terms p) h) (may : MayAll rs (state (terms p) h)) (shows : Shows p (mark rs (state (terms p) h))) where
   abbrev here : Stands p
   here = record { history = h; released = rs; legal = legal; may = may; shows = shows; tied = tied }
 
@@ -45,14 +46,14 @@ module _ {P : Type 0} (p : Parts P) (tied : IsTied p.config p.steps p) (h : List
   paid_at : (t : ℕ) (place : Place) → IsAt h t place → is_gone place ≡ false → is_before place ≡ true → is_some (payload_of p.tasks t) ≡ not (is_cancelled h t)
   paid_at t place is placed before =
       let there = task_here p here t place is placed in
-      tied.payloads t ∙ ap waits there.0 ∙ ap (λ b. b && not (task_at (state p.config h) t).cancelled) (ap is_before there.1 ∙ before)
+      tied.payloads t ∙ ap waits there.0 ∙ ap (λ b. b && not (task_at (state (terms p) h) t).cancelled) (ap is_before there.1 ∙ before)
       ∙ ap not (cancelled_here p here t (is_cancelled h t) is.0 refl)
 
   returned : (t : TaskId) (v : Verdict) (r : Ruled) (o : Option P) (new : Tasks P) → Yields p.tasks new t r o → Fits p (ask.Verdict t v) (did.Verdict t v r) →
       ReturnsAt t r (own_payload r o) (dropped_payload r o) h
-  returned t v r o new yields fits = by r yields (given_fitting p.config h rs (ask.Verdict t v) (did.Verdict t v r) legal (fits h rs legal may shows))
+  returned t v r o new yields fits = by r yields (given_fitting (terms p) h rs (ask.Verdict t v) (did.Verdict t v r) legal (fits h rs legal may shows))
     where
-      by : (r : Ruled) → Yields p.tasks new t r o → Given p.config h (did.Verdict t v r) → ReturnsAt t r (own_payload r o) (dropped_payload r o) h
+      by : (r : Ruled) → Yields p.tasks new t r o → Given (terms p) h (did.Verdict t v r) → ReturnsAt t r (own_payload r o) (dropped_payload r o) h
       by ruled.Retry yields given = tt
       by (ruled.RetryDrop u) yields given = ap is_some (sym yields.was) ∙ paid_at u.0 places.Queued given.1.3 refl refl
       by ruled.Rejected yields given = ap is_some (sym yields.was) ∙ paid_at t.0 places.Refused given.0 refl refl
@@ -62,7 +63,7 @@ module _ {P : Type 0} (p : Parts P) (tied : IsTied p.config p.steps p) (h : List
 
   -- those of the queue are each queued
   queued_at : (t : ℕ) → is_queued h t ≡ true → IsAt h t places.Queued
-  queued_at t is = let there : place h t ≡ places.Queued = queued_place (place h t) is in (present h (sound_legal p.config h legal) t (λ gone. grind arith), there)
+  queued_at t is = let there : place h t ≡ places.Queued = queued_place (place h t) is in (present h (sound_legal (terms p) h legal) t (λ gone. grind arith), there)
 
   each_paid : (items : List (TaskId × ℕ)) → AllPass (is_queued h) (numbers items) → All (IsPaidAt h) (map (λ x. (x.0, payload_of p.tasks x.0.0)) items)
   each_paid [] are = All-nil (IsPaidAt h)
@@ -75,19 +76,19 @@ module _ {P : Type 0} (p : Parts P) (tied : IsTied p.config p.steps p) (h : List
 
 -- so a machine says, wherever it stands
 module _ {P R : Type 0} (tells : R → List Entry → List ℕ → Type 0) (p : Parts P) (noted : R) (m : Seen P R) (is : record { parts = p; noted = noted } ≡ m) where
-  pub judged_returns : IsTied p.config p.steps p → (t : TaskId) (v : Verdict) (r : Ruled) (o : Option P) (new : Tasks P) → Yields p.tasks new t r o → Fits p (ask.Verdict t v) (did.Verdict t v r) →
+  pub judged_returns : IsTied (terms p) p.steps p → (t : TaskId) (v : Verdict) (r : Ruled) (o : Option P) (new : Tasks P) → Yields p.tasks new t r o → Fits p (ask.Verdict t v) (did.Verdict t v r) →
       (j : Judged P) → j ≡ record { did = did.Verdict t v r; payload = own_payload r o; dropped = dropped_payload r o } → (h : List Entry) (rs : List ℕ) → At tells m h rs → IsReturnedAt t j h
   judged_returns tied t v r o new yields fits j same =
       subst (λ x. (h : List Entry) (rs : List ℕ) → At tells x h rs → IsReturnedAt t j h) is
       (λ h rs at. subst (λ x. IsReturnedAt t x h) (sym same) (returned p tied h rs at.legal at.may (marked tells (record { parts = p; noted = noted }) h rs at) t v r o new yields fits))
 
-  pub removal_pays : IsTied p.config p.steps p → (t : TaskId) (o : Option P) → payload_of p.tasks t.0 ≡ o → Fits p (ask.Remove t) (did.Remove t true) → (h : List Entry) (rs : List ℕ) → At tells m h rs → IsPaidAt h (t, o)
+  pub removal_pays : IsTied (terms p) p.steps p → (t : TaskId) (o : Option P) → payload_of p.tasks t.0 ≡ o → Fits p (ask.Remove t) (did.Remove t true) → (h : List Entry) (rs : List ℕ) → At tells m h rs → IsPaidAt h (t, o)
   removal_pays tied t o was fits =
       subst (λ x. (h : List Entry) (rs : List ℕ) → At tells x h rs → IsPaidAt h (t, o)) is
       (λ h rs at. ap is_some (sym was)
-      ∙ paid_at p tied h rs at.legal at.may (marked tells (record { parts = p; noted = noted }) h rs at) t.0 places.Queued (given_fitting p.config h rs (ask.Remove t) (did.Remove t true) at.legal (fits h rs at.legal at.may (marked tells (record { parts = p; noted = noted }) h rs at))) refl refl)
+      ∙ paid_at p tied h rs at.legal at.may (marked tells (record { parts = p; noted = noted }) h rs at) t.0 places.Queued (given_fitting (terms p) h rs (ask.Remove t) (did.Remove t true) at.legal (fits h rs at.legal at.may (marked tells (record { parts = p; noted = noted }) h rs at))) refl refl)
 
-  pub stop_pays : IsTied p.config p.steps p → (first handed : List (TaskId × Option P)) → first ≡ [] → handed ≡ first ++ handed_back p → (h : List Entry) (rs : List ℕ) → At tells m h rs → All (IsPaidAt h) handed
+  pub stop_pays : IsTied (terms p) p.steps p → (first handed : List (TaskId × Option P)) → first ≡ [] → handed ≡ first ++ handed_back p → (h : List Entry) (rs : List ℕ) → At tells m h rs → All (IsPaidAt h) handed
   stop_pays tied first handed none are =
       subst (λ x. (h : List Entry) (rs : List ℕ) → At tells x h rs → All (IsPaidAt h) handed) is
       (λ h rs at. subst (All (IsPaidAt h)) (sym (handed_all p first handed none are)) (all_paid p tied h rs at.legal at.may (marked tells (record { parts = p; noted = noted }) h rs at)))

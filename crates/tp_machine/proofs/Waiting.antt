@@ -1,27 +1,25 @@
 -- A payload for each task that waits, a promise for each that is known, and each outcome as promised: of the tasks that are left.
-use Rattle.std.proofs.Common.{◌≡◌, ℕ, ◌<◌, ◌≤◌, Bool, true, false, not, ◌||◌, ◌&&◌, List, [], ◌∷◌, length, Option, Some, None, is_some, arith, refl, sym, ap, subst, ◌∙◌, inl, inr}
-use Rattle.std.specs.Prelude.{◌==◌, nat_lt, IfSome, IsSomeAnd}
+use Rattle.std.proofs.Common.{◌≡◌, ℕ, Bool, true, false, not, ◌||◌, ◌&&◌, List, [], ◌∷◌, length, Option, Some, None, is_some, arith, refl, sym, ap, subst, ◌∙◌, inl, inr}
+use Rattle.std.specs.Prelude.{nat_lt, IfSome, IsSomeAnd}
 use Rattle.std.proofs.lemmas.Bool.{cases_eq, cases_lt, lt-ltb, ne_eqb, true≢false}
 use Rattle.std.proofs.lemmas.Option.{none-some, same_Some}
 use Rattle.std.proofs.lemmas.List.{get_or_past, get_or-set_same, get_or-set_other, length-set}
 use Rattle.tp_types.specs.Promise.{FitsPromise}
-use Rattle.tp_types.specs.declared.tasks.Promise.{Promise}
 use Rattle.tp_record.specs.declared.entries.Entry.{Entry}
 use Rattle.tp_record.specs.declared.rows.TaskRow.{TaskRow}
-use Rattle.tp_record.specs.Effects.{Outcome}
 use Rattle.tp_record.specs.Lists.{is_among}
 use Rattle.tp_record.specs.Left.{left}
 use Rattle.tp_record.specs.State.{State, state, task_at, no_row}
 use Rattle.tp_record.specs.Step.{is_known}
-use Rattle.tp_left.proofs.LeftOut.{left_out_of, left_length}
+use Rattle.tp_left.proofs.LeftOut.{left_out_of}
 use Rattle.tp_tasks.specs.declared.table.Task.{Task}
 use Rattle.tp_tasks.specs.Table.{row_of_task, promise_of_task}
-use Rattle.tp_tasks.specs.Tasks.{task_of, row_of, payload_of, promise_of}
+use Rattle.tp_tasks.specs.Tasks.{task_of, row_of, promise_of}
 use Rattle.tp_parts.specs.declared.parts.Parts.{Parts}
 use Rattle.tp_parts.specs.Shows.{Shows}
-use Rattle.tp_parts.specs.Steps.{Stands}
 use Rattle.tp_parts.specs.Tied.{is_waiting, waits, KeepsPromise}
-use Rattle.tp_machine.specs.Seen.{Seen, At, IsSound, config_of, payload, promise}
+use Rattle.tp_parts.specs.Terms.{terms}
+use Rattle.tp_machine.specs.Seen.{Seen, IsSound, payload, promise}
 use Rattle.tp_machine.specs.Readings.{EachState, IsPromised}
 
 -- a task that is left out has a blank row
@@ -90,16 +88,16 @@ module _ {P R : Type 0} (tells : R → List Entry → List ℕ → Type 0) (plac
   abbrev this : Seen P R
   this = record { parts = p; noted = noted }
 
-  blank_at : (h : List Entry) (rs : List ℕ) (t : ℕ) → is_known (left rs (state p.config h)) t ≡ false → task_at (left rs (state p.config h)) t ≡ no_row
-  blank_at h rs = blank_unknown (state p.config h) rs refl
+  blank_at : (h : List Entry) (rs : List ℕ) (t : ℕ) → is_known (left rs (state (terms p) h)) t ≡ false → task_at (left rs (state (terms p) h)) t ≡ no_row
+  blank_at h rs = blank_unknown (state (terms p) h) rs refl
 
   pub payloads_wait : EachState tells m (λ s. (t : ℕ) → is_some (payload m t) ≡ is_waiting (task_at s t))
   payloads_wait = subst (λ (x : Seen P R). EachState tells x (λ s. (t : ℕ) → is_some (payload x t) ≡ is_waiting (task_at s t))) is
-      (λ h rs at t. sound.stands.tied.payloads t ∙ waits_here p (left rs (state p.config h)) at.shows (blank_at h rs) t)
+      (λ h rs at t. sound.stands.tied.payloads t ∙ waits_here p (left rs (state (terms p) h)) at.shows (blank_at h rs) t)
 
   pub promises_known : EachState tells m (λ s. (t : ℕ) → is_some (promise m t) ≡ is_known s t)
   promises_known = subst (λ (x : Seen P R). EachState tells x (λ s. (t : ℕ) → is_some (promise x t) ≡ is_known s t)) is
-      (λ h rs at t. both (task_of p.tasks t) ∙ known_here p (left rs (state p.config h)) at.shows (blank_at h rs) t)
+      (λ h rs at t. both (task_of p.tasks t) ∙ known_here p (left rs (state (terms p) h)) at.shows (blank_at h rs) t)
     where
       both : (k : Option (Task P)) → is_some (promise_of_task k) ≡ is_some (row_of_task k)
       both None = refl
@@ -107,4 +105,4 @@ module _ {P R : Type 0} (tells : R → List Entry → List ℕ → Type 0) (plac
 
   pub outcomes_promised : EachState tells m (λ s. (t : ℕ) → IfSome (task_at s t).outcome (λ o. IsPromised m t o))
   outcomes_promised = subst (λ (x : Seen P R). EachState tells x (λ s. (t : ℕ) → IfSome (task_at s t).outcome (λ o. IsPromised x t o))) is
-      (λ h rs at t. keeps_here p (left rs (state p.config h)) at.shows (blank_at h rs) t (sound.stands.tied.promises t))
+      (λ h rs at t. keeps_here p (left rs (state (terms p) h)) at.shows (blank_at h rs) t (sound.stands.tied.promises t))

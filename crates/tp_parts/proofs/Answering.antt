@@ -17,6 +17,7 @@ use Rattle.tp_left.proofs.Marks.{fits_whole}
 use Rattle.tp_parts.specs.Shows.{Shows}
 use Rattle.tp_parts.specs.Steps.{Fits, Accepts, Refuses}
 use Rattle.tp_parts.specs.Room.{TellsRoom}
+use Rattle.tp_parts.specs.Terms.{terms}
 use Rattle.tp_parts.proofs.Standing.{given_fitting}
 
 -- the effect is the same of a state of which tasks are marked
@@ -48,31 +49,31 @@ marked_effect rs s d v fall rise e = record {
 module _ {P : Type 0} (p : Parts P) where
   -- what the entry does at each legal history that is shown: what is owed falls and rises by so much
   abbrev pub Moves : ℕ → ℕ → Did → Type 0
-  Moves fall rise d = (h : List Entry) (rs : List ℕ) → Legal p.config h → Shows p (mark rs (state p.config h)) → Given p.config h d → (v : View) × Effect (state p.config h) d v fall rise
+  Moves fall rise d = (h : List Entry) (rs : List ℕ) → Legal (terms p) h → Shows p (mark rs (state (terms p) h)) → Given (terms p) h d → (v : View) × Effect (state (terms p) h) d v fall rise
 
   -- what fits is accepted where there is room for it
   pub accepts_room : (a : Ask) (d : Did) (fall rise : ℕ) (b : Bool) → TellsRoom p fall rise b → b ≡ true → Fits p a d → Moves fall rise d → Accepts p a d
   accepts_room a d fall rise b tells room fits moves = λ h rs legal may sh.
-      let s = mark rs (state p.config h) in
+      let s = mark rs (state (terms p) h) in
       let f = fits h rs legal may sh in
-      let e = moves h rs legal sh (given_fitting p.config h rs a d legal f) in
-      let leaves = sym (tells s d (record e.0 { left_out = rs }) sh (marked_effect rs (state p.config h) d e.0 fall rise e.1)) ∙ room in
-      (ap (within_room p.config s) f.0 ∙ ap (λ x. cond x (Ok d) (Err BookFull)) leaves, f.1)
+      let e = moves h rs legal sh (given_fitting (terms p) h rs a d legal f) in
+      let leaves = sym (tells s d (record e.0 { left_out = rs }) sh (marked_effect rs (state (terms p) h) d e.0 fall rise e.1)) ∙ room in
+      (ap (within_room (terms p) s) f.0 ∙ ap (λ x. cond x (Ok d) (Err BookFull)) leaves, f.1)
 
   -- and is refused where there is none: whatever number w a new slot would get, what fits then leaves no room
   pub refuses_room : (a : Ask) (fall rise : ℕ) (b : Bool) → TellsRoom p fall rise b → b ≡ false →
-      ((h : List Entry) (rs : List ℕ) → Legal p.config h → MayAll rs (state p.config h) → Shows p (mark rs (state p.config h)) → (w : ℕ) → IsFreeTo (mark rs (state p.config h)) a w →
-      (d : Did) × (fitting p.config (mark rs (state p.config h)) w a ≡ Ok d) × IfSome (reserves d) (λ v. is_free_for (mark rs (state p.config h)) d v ≡ true) × Moves fall rise d) →
+      ((h : List Entry) (rs : List ℕ) → Legal (terms p) h → MayAll rs (state (terms p) h) → Shows p (mark rs (state (terms p) h)) → (w : ℕ) → IsFreeTo (mark rs (state (terms p) h)) a w →
+      (d : Did) × (fitting (terms p) (mark rs (state (terms p) h)) w a ≡ Ok d) × IfSome (reserves d) (λ v. is_free_for (mark rs (state (terms p) h)) d v ≡ true) × Moves fall rise d) →
       Refuses p a BookFull
   refuses_room a fall rise b tells full fitted = λ h rs legal may sh w free.
-      let s = mark rs (state p.config h) in
+      let s = mark rs (state (terms p) h) in
       let f = fitted h rs legal may sh w free in
-      let e = f.3 h rs legal sh (given_answer p.config h w a f.0 (sound_legal p.config h legal) (fits_whole p.config h rs w a f.0 f.1).1 f.2) in
-      let leaves = sym (tells s f.0 (record e.0 { left_out = rs }) sh (marked_effect rs (state p.config h) f.0 e.0 fall rise e.1)) ∙ full in
-      ap (within_room p.config s) f.1 ∙ ap (λ x. cond x (Ok f.0) (Err BookFull)) leaves
+      let e = f.3 h rs legal sh (given_answer (terms p) h w a f.0 (sound_legal (terms p) h legal) (fits_whole (terms p) h rs w a f.0 f.1).1 f.2) in
+      let leaves = sym (tells s f.0 (record e.0 { left_out = rs }) sh (marked_effect rs (state (terms p) h) f.0 e.0 fall rise e.1)) ∙ full in
+      ap (within_room (terms p) s) f.1 ∙ ap (λ x. cond x (Ok f.0) (Err BookFull)) leaves
 
   -- so is what fits whichever number a new slot would get
   pub refuses_fitting : (a : Ask) (d : Did) (fall rise : ℕ) (b : Bool) → TellsRoom p fall rise b → b ≡ false → Fits p a d →
-      ((s : State) (w : ℕ) → fitting p.config s w a ≡ fitting p.config s (unwrap_or (reserves d) 0) a) → Moves fall rise d → Refuses p a BookFull
+      ((s : State) (w : ℕ) → fitting (terms p) s w a ≡ fitting (terms p) s (unwrap_or (reserves d) 0) a) → Moves fall rise d → Refuses p a BookFull
   refuses_fitting a d fall rise b tells full fits same moves =
-      refuses_room a fall rise b tells full (λ h rs legal may sh w free. let f = fits h rs legal may sh in (d, same (mark rs (state p.config h)) w ∙ f.0, f.1, moves))
+      refuses_room a fall rise b tells full (λ h rs legal may sh w free. let f = fits h rs legal may sh in (d, same (mark rs (state (terms p) h)) w ∙ f.0, f.1, moves))

@@ -1,56 +1,74 @@
--- What is counted of a pool is small: there is no more of it than entries.
-use Rattle.std.proofs.Common.{◌≡◌, ℕ, ◌≤◌, List, [], ◌∷◌, length, arith, ap, ◌∙◌}
+-- What is counted of a pool is small: there is no more of it than of its tasks or its slots.
+use Rattle.std.proofs.Common.{◌≡◌, ℕ, ◌-◌, ◌<◌, ◌≤◌, ◌^◌, Bool, true, false, List, [], ◌∷◌, length, arith, refl, ap, sym, ◌∙◌, inl, inr}
 use Rattle.std.specs.Prelude.{count_by}
+use Rattle.std.proofs.lemmas.Bool.{or_cases, eqb-true, true≢false}
 use Rattle.tp_types.specs.declared.ids.TaskId.{TaskId}
-use Rattle.tp_record.specs.Fields.{is_live}
+use Rattle.tp_types.specs.declared.tasks.Place.{Place}
+use Rattle.tp_record.specs.Fields.{is_live, submitted, queue}
+use Rattle.tp_record.specs.Lists.{is_among}
 use Rattle.tp_queue.specs.Queues.{waiting_of}
 use Rattle.tp_tasks.specs.Tasks.{submissions}
+use Rattle.tp_model.proofs.Given.{IsAt}
+use Rattle.tp_model.proofs.Places.{queue_at}
+use Rattle.tp_model.proofs.Queues.{once-queue, Contains-from_among}
 use Rattle.tp_model.proofs.Readings.{tasks_counted}
-use Rattle.tp_model.proofs.Short.{queue_short, completions_short, submitted_short, live_largest, largest_short}
+use Rattle.tp_model.proofs.Short.{live_largest}
+use Rattle.tp_model.proofs.Told.{told_legal}
+use Rattle.tp_words.specs.Agrees.{is_gone_place}
+use Rattle.tp_laws.proofs.Completed.{AreAway, finished, finished_counted, finished_away}
+use Rattle.tp_laws.proofs.Sizes.{largest_few}
 use Rattle.tp_parts.specs.declared.parts.Parts.{Parts}
 use Rattle.tp_parts.specs.Shows.{numbers}
 use Rattle.tp_parts.specs.Steps.{Stands}
-use Rattle.tp_parts.proofs.Standing.{room_left}
+use Rattle.tp_parts.specs.Terms.{terms}
+use Rattle.tp_parts.proofs.Keeping.{once_few}
 
 numbers_counted : (xs : List (TaskId × ℕ)) → length (numbers xs) ≡ length xs
 numbers_counted [] = omega arith
 numbers_counted (x ∷ xs) = let e = numbers_counted xs in omega (arith, e)
 
 module _ {P : Type 0} (p : Parts P) (stands : Stands p) where
-  few_entries : p.steps ≤ 1048576
-  few_entries = let r = room_left p stands in let l = stands.tied.config.greatest_limit in omega (arith, r, l)
+  pub few_tasks : submissions p.tasks < 2 ^ 32
+  few_tasks = p.tasks.small
 
-  pub few_tasks : submissions p.tasks ≤ 1048576
-  few_tasks =
-      let n = few_entries in
-      let e = stands.shows.entries in
-      let s = stands.shows.seen.submitted in
-      let t = tasks_counted stands.history in
-      let u = submitted_short stands.history in
-      omega (arith, n, e, s, t, u)
+  known : submitted stands.history ≡ submissions p.tasks
+  known = let s = stands.shows.seen.submitted in let t = tasks_counted stands.history in omega (arith, s, t)
 
-  pub few_queued : length (waiting_of p.queue).items ≤ 1048576
+  pub few_queued : length (waiting_of p.queue).items < 2 ^ 32
   few_queued =
-      let n = few_entries in
-      let e = stands.shows.entries in
       let q = ap length stands.shows.seen.queued ∙ numbers_counted (waiting_of p.queue).items in
-      let u = queue_short p.config stands.history in
-      omega (arith, n, e, q, u)
+      let short = once_few (queue (terms p) stands.history) (submitted stands.history) (once-queue (terms p) stands.history)
+      (λ x is. (queue_at (terms p) stands.history stands.legal x (Contains-from_among (queue (terms p) stands.history) x is)).0) in
+      let n = few_tasks in
+      let e = known in
+      omega (arith, q, short, n, e)
 
-  pub few_completions : p.completions ≤ 1048576
-  few_completions =
-      let n = few_entries in
-      let e = stands.shows.entries in
+  -- while a task is not gone, fewer are completed than were submitted
+  pub few_completions : (t : ℕ) (at : Place) → IsAt stands.history t at → is_gone_place at ≡ false → p.completions < 2 ^ 32 - 1
+  few_completions t at is there =
       let s = stands.shows.seen.completed in
-      let u = completions_short stands.history in
-      omega (arith, n, e, s, u)
+      let counted = finished_counted stands.history in
+      let short = once_few (t ∷ finished stands.history) (submitted stands.history) (off (is_among t (finished stands.history)) refl, all.0) (λ x among. elim (or_cases _ _ among) [
+        | inl same ↦ let e = eqb-true x t same in let below = is.0 in omega (arith, e, below)
+        | inr before ↦ (all.1 x before).0
+      ]) in
+      let n = few_tasks in
+      let e = known in
+      omega (arith, s, counted, short, n, e)
+    where
+      all : AreAway stands.history (finished stands.history)
+      all = finished_away (terms p) stands.history (told_legal (terms p) stands.history stands.legal)
 
-  pub few_workers : p.largest ≤ 1048576
+      off : (b : Bool) → is_among t (finished stands.history) ≡ b → is_among t (finished stands.history) ≡ false
+      off true among = absurd (true≢false (sym (all.1 t among).1 ∙ ap is_gone_place is.1 ∙ there))
+      off false among = among
+
+  pub few_workers : p.largest ≤ 1024
   few_workers =
       let s = stands.shows.seen.most in
-      let u = largest_short p.config stands.history stands.legal in
-      let l = stands.tied.config.greatest_limit in
-      omega (arith, s, u, l)
+      let config = stands.tied.config in
+      let u = largest_few (terms p) stands.history (config.greatest_core, config.least_maximum) config.greatest_maximum (told_legal (terms p) stands.history stands.legal) in
+      omega (arith, s, u)
 
   pub few_live : count_by is_live p.slots.slots ≤ p.largest
   few_live =

@@ -12,7 +12,6 @@ use Rattle.tp_types.specs.declared.tasks.Kind.{Kind}
 use Rattle.tp_types.specs.declared.tasks.Kind.TheVariants as kinds
 use Rattle.tp_types.specs.declared.tasks.Place.TheVariants as at
 use Rattle.tp_types.specs.declared.refusals.PoolError.TheVariants.{UnknownTask, NotThere}
-use Rattle.tp_types.specs.declared.configs.Config.{Config}
 use Rattle.tp_record.specs.declared.entries.Entry.{Entry}
 use Rattle.tp_record.specs.declared.entries.Did.{Did}
 use Rattle.tp_record.specs.declared.rows.TaskRow.{TaskRow}
@@ -31,6 +30,7 @@ use Rattle.tp_tasks.specs.Tasks.{row_of, done_of, IsListed}
 use Rattle.tp_parts.specs.declared.parts.Parts.{Parts}
 use Rattle.tp_parts.specs.Shows.{Shows, numbers}
 use Rattle.tp_parts.specs.Releases.{OwesNothing, IsKept}
+use Rattle.tp_parts.specs.Terms.{terms}
 use Rattle.tp_parts.proofs.Reading.{row_shown}
 
 -- what is done is of a group
@@ -55,14 +55,14 @@ waits_at (y ∷ ys) x has = at_index has.0 has.1 has.2 (waits_at ys x)
     at_index zero within found rest = rw (eq-eqb x.0.0 y.0.0 (ap (λ z. z.0.0) (sym found))) refl
     at_index (suc k) within found rest = rw (rest (k, omega arith, found)) (or_true (x.0.0 == y.0.0))
 
-module _ {P : Type 0} (p : Parts P) (h : List Entry) (rs : List ℕ) (legal : Legal p.config h) (sh : Shows p (mark rs (state p.config h))) (t : ℕ) (r : TaskRow) (row : row_of p.tasks t ≡ Some r) where
-  shown : (is_known (mark rs (state p.config h)) t ≡ true) × (task_at (state p.config h) t ≡ r)
-  shown = row_shown p (mark rs (state p.config h)) sh t r row
+module _ {P : Type 0} (p : Parts P) (h : List Entry) (rs : List ℕ) (legal : Legal (terms p) h) (sh : Shows p (mark rs (state (terms p) h))) (t : ℕ) (r : TaskRow) (row : row_of p.tasks t ≡ Some r) where
+  shown : (is_known (mark rs (state (terms p) h)) t ≡ true) × (task_at (state (terms p) h) t ≡ r)
+  shown = row_shown p (mark rs (state (terms p) h)) sh t r row
 
   below : t < submitted h
   below =
       let n = tasks_counted h in
-      let less = ltb-true t (length (state p.config h).tasks) (and_parts (not (is_among t rs)) (nat_lt t (length (state p.config h).tasks)) shown.0).1 in
+      let less = ltb-true t (length (state (terms p) h).tasks) (and_parts (not (is_among t rs)) (nat_lt t (length (state (terms p) h).tasks)) shown.0).1 in
       omega (arith, less, n)
 
   kind_here : kind h t ≡ r.kind
@@ -72,7 +72,7 @@ module _ {P : Type 0} (p : Parts P) (h : List Entry) (rs : List ℕ) (legal : Le
   in_group : (g : ℕ) → (is_of_group g r.kind && is_among t (done h)) ≡ is_among t (done_of p.tasks g)
   in_group g =
       ap (λ (x : TaskRow). is_of_group g x.kind && is_among t (done h)) (sym shown.1)
-      ∙ sym (among-filter t (λ u. is_of_group g (task_at (state p.config h) u).kind) (done h))
+      ∙ sym (among-filter t (λ u. is_of_group g (task_at (state (terms p) h) u).kind) (done h))
       ∙ ap (is_among t) (sh.seen.done g)
 
   -- a task that is done is listed in its group
@@ -85,7 +85,7 @@ module _ {P : Type 0} (p : Parts P) (h : List Entry) (rs : List ℕ) (legal : Le
   not_done off true is = absurd (off (listed_done r.kind refl is))
   not_done off false is = is
 
-  pub may_here : OwesNothing p.tasks t r → MayRelease (mark rs (state p.config h)) t
+  pub may_here : OwesNothing p.tasks t r → MayRelease (mark rs (state (terms p) h)) t
   may_here owes = record {
     known = shown.0;
     gone = ap (λ (x : TaskRow). x.place) shown.1 ∙ owes.gone;
@@ -93,7 +93,7 @@ module _ {P : Type 0} (p : Parts P) (h : List Entry) (rs : List ℕ) (legal : Le
     handed_out = not_done owes.handed_out (is_among t (done h)) refl;
   }
 
-  owes_here : MayRelease (mark rs (state p.config h)) t → OwesNothing p.tasks t r
+  owes_here : MayRelease (mark rs (state (terms p) h)) t → OwesNothing p.tasks t r
   owes_here may = record {
     gone = ap (λ (x : TaskRow). x.place) (sym shown.1) ∙ may.gone;
     paid = ap (λ (x : TaskRow). x.second) (sym shown.1) ∙ may.paid;
@@ -102,7 +102,7 @@ module _ {P : Type 0} (p : Parts P) (h : List Entry) (rs : List ℕ) (legal : Le
         true≢false (sym there.1 ∙ may.handed_out);
   }
 
-  pub kept_here : ¬ OwesNothing p.tasks t r → IsKept (mark rs (state p.config h)) t NotThere
+  pub kept_here : ¬ OwesNothing p.tasks t r → IsKept (mark rs (state (terms p) h)) t NotThere
   kept_here not_so = inr (refl, shown.0, λ may. not_so (owes_here may))
 
   gone_here : OwesNothing p.tasks t r → place h t ≡ at.Gone
@@ -110,7 +110,7 @@ module _ {P : Type 0} (p : Parts P) (h : List Entry) (rs : List ℕ) (legal : Le
 
   -- it is gone, so it has a fate
   pub ended_here : OwesNothing p.tasks t r → is_none (fate_of r) ≡ false
-  ended_here owes = some_none (fate_of r) (ap (λ x. is_some (fate_of x)) (sym shown.1 ∙ row_read h t below) ∙ gone_fated p.config h (told_legal p.config h legal) t below (gone_here owes))
+  ended_here owes = some_none (fate_of r) (ap (λ x. is_some (fate_of x)) (sym shown.1 ∙ row_read h t below) ∙ gone_fated (terms p) h (told_legal (terms p) h legal) t below (gone_here owes))
     where
       some_none : (o : Option Fate) → is_some o ≡ true → is_none o ≡ false
       some_none None is = sym is
@@ -119,13 +119,13 @@ module _ {P : Type 0} (p : Parts P) (h : List Entry) (rs : List ℕ) (legal : Le
   -- and it is not in the queue
   pub unqueued_here : OwesNothing p.tasks t r → (u : TaskId) → u.0 ≡ t → (key : ℕ) → ¬ Contains (waiting_of p.queue).items (u, key)
   unqueued_here owes u same key has =
-      let waits : is_among u.0 (queue p.config h) ≡ true = ap (is_among u.0) sh.seen.queued ∙ waits_at (waiting_of p.queue).items (u, key) has in
-      true≢false (sym (ap (λ n. is_among n (queue p.config h)) (sym same) ∙ waits) ∙ among-queue p.config h t ∙ ap is_queued_place (gone_here owes))
+      let waits : is_among u.0 (queue (terms p) h) ≡ true = ap (is_among u.0) sh.seen.queued ∙ waits_at (waiting_of p.queue).items (u, key) has in
+      true≢false (sym (ap (λ n. is_among n (queue (terms p) h)) (sym same) ∙ waits) ∙ among-queue (terms p) h t ∙ ap is_queued_place (gone_here owes))
 
 -- a task without a row is not known
-pub unknown_here : {P : Type 0} (p : Parts P) (h : List Entry) (rs : List ℕ) → Shows p (mark rs (state p.config h)) → (t : ℕ) → row_of p.tasks t ≡ None → IsKept (mark rs (state p.config h)) t UnknownTask
-unknown_here p h rs sh t none = by (is_known (mark rs (state p.config h)) t) refl
+pub unknown_here : {P : Type 0} (p : Parts P) (h : List Entry) (rs : List ℕ) → Shows p (mark rs (state (terms p) h)) → (t : ℕ) → row_of p.tasks t ≡ None → IsKept (mark rs (state (terms p) h)) t UnknownTask
+unknown_here p h rs sh t none = by (is_known (mark rs (state (terms p) h)) t) refl
   where
-    by : (b : Bool) → is_known (mark rs (state p.config h)) t ≡ b → IsKept (mark rs (state p.config h)) t UnknownTask
+    by : (b : Bool) → is_known (mark rs (state (terms p) h)) t ≡ b → IsKept (mark rs (state (terms p) h)) t UnknownTask
     by true known = absurd (none-some _ (sym none ∙ sh.seen.rows t known))
     by false not_so = inl (refl, not_so)

@@ -16,6 +16,7 @@ use Rattle.tp_shapes.specs.View.{View, view, is_held, Reads, Effect}
 use Rattle.tp_parts.specs.Shows.{Views, Shows}
 use Rattle.tp_parts.specs.Tied.{IsTied}
 use Rattle.tp_parts.specs.Steps.{Stands, Fits, Leads}
+use Rattle.tp_parts.specs.Terms.{terms}
 use Rattle.tp_parts.proofs.Standing.{given_fitting, given_here, owed_here}
 use Rattle.tp_parts.proofs.Sums.{sums_agree}
 use Rattle.tp_parts.proofs.Ties.{tied_more}
@@ -66,12 +67,12 @@ module _ {P : Type 0} where
 
   -- the whole of what a step does: the effect of its entry, in view of the new structures
   pub leads_where : (old new : Parts P) (a : Ask) (d : Did) (fall rise : ℕ) → Fits old a d →
-      ((h : List Entry) (rs : List ℕ) → Legal old.config h → MayAll rs (state old.config h) → Given old.config h d → Shows old (mark rs (state old.config h)) → (v : View) × Effect (state old.config h) d v fall rise × Views new (record v { left_out = rs })) →
-      new.config ≡ old.config → new.steps ≡ suc old.steps → new.due + fall ≡ old.due + rise → IsTied old.config (suc old.steps) new → Leads old d new
+      ((h : List Entry) (rs : List ℕ) → Legal (terms old) h → MayAll rs (state (terms old) h) → Given (terms old) h d → Shows old (mark rs (state (terms old) h)) → (v : View) × Effect (state (terms old) h) d v fall rise × Views new (record v { left_out = rs })) →
+      (terms new) ≡ (terms old) → new.steps ≡ suc old.steps → new.due + fall ≡ old.due + rise → IsTied (terms old) (suc old.steps) new → Leads old d new
   leads_where old new a d fall rise fits effects config steps owes tied = record {
     shows = λ h rs legal may sh.
-        let e = effects h rs legal may (given_fitting old.config h rs a d legal (fits h rs legal may sh)) sh in
-        shows_next old new rs (state old.config h) d e.0 fall rise sh e.1 e.2 steps owes;
+        let e = effects h rs legal may (given_fitting (terms old) h rs a d legal (fits h rs legal may sh)) sh in
+        shows_next old new rs (state (terms old) h) d e.0 fall rise sh e.1 e.2 steps owes;
     tied = tied;
     config = config;
     steps = steps;
@@ -79,15 +80,15 @@ module _ {P : Type 0} where
 
   -- the same, where the effect does not depend on what was released
   pub leads_by : (old new : Parts P) (a : Ask) (d : Did) (fall rise : ℕ) → Fits old a d →
-      ((h : List Entry) (rs : List ℕ) → Legal old.config h → Given old.config h d → Shows old (mark rs (state old.config h)) → (v : View) × Effect (state old.config h) d v fall rise × Views new (record v { left_out = rs })) →
-      new.config ≡ old.config → new.steps ≡ suc old.steps → new.due + fall ≡ old.due + rise → IsTied old.config (suc old.steps) new → Leads old d new
+      ((h : List Entry) (rs : List ℕ) → Legal (terms old) h → Given (terms old) h d → Shows old (mark rs (state (terms old) h)) → (v : View) × Effect (state (terms old) h) d v fall rise × Views new (record v { left_out = rs })) →
+      (terms new) ≡ (terms old) → new.steps ≡ suc old.steps → new.due + fall ≡ old.due + rise → IsTied (terms old) (suc old.steps) new → Leads old d new
   leads_by old new a d fall rise fits effects = leads_where old new a d fall rise fits (λ h rs legal may. effects h rs legal)
 
   -- and of structures that stand, where one entry was counted by which n fewer are owed
   pub leads_from : (old new : Parts P) (a : Ask) (d : Did) (fall rise n : ℕ) → Stands old → Fits old a d →
-      ((h : List Entry) (rs : List ℕ) → Legal old.config h → Given old.config h d → Shows old (mark rs (state old.config h)) → (v : View) × Effect (state old.config h) d v fall rise × Views new (record v { left_out = rs })) →
-      fall ≡ n + rise → new.config ≡ old.config → new.steps ≡ suc old.steps → new.due ≡ old.due - n → (IsTied old.config (suc old.steps) old → IsTied old.config (suc old.steps) new) → Leads old d new
+      ((h : List Entry) (rs : List ℕ) → Legal (terms old) h → Given (terms old) h d → Shows old (mark rs (state (terms old) h)) → (v : View) × Effect (state (terms old) h) d v fall rise × Views new (record v { left_out = rs })) →
+      fall ≡ n + rise → (terms new) ≡ (terms old) → new.steps ≡ suc old.steps → new.due ≡ old.due - n → (IsTied (terms old) (suc old.steps) old → IsTied (terms old) (suc old.steps) new) → Leads old d new
   leads_from old new a d fall rise n stands fits effects net config steps due tied =
       let e = effects stands.history stands.released stands.legal (given_here old stands a d fits) stands.shows in
       let owed = owed_here old stands d e.0 fall rise e.1 in
-      leads_by old new a d fall rise fits effects config steps (omega (arith, due, owed, net)) (tied (tied_more old.config old.steps old stands.tied))
+      leads_by old new a d fall rise fits effects config steps (omega (arith, due, owed, net)) (tied (tied_more (terms old) old.steps old stands.tied))

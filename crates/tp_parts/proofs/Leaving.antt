@@ -1,7 +1,7 @@
 -- Structures that show a state of which tasks are marked show what is left of it too, and the other way.
-use Rattle.std.proofs.Common.{◌≡◌, ℕ, Bool, true, false, not, ◌||◌, ◌&&◌, cond, List, [], ◌∷◌, length, Some, arith, refl, sym, ap, ◌∙◌}
+use Rattle.std.proofs.Common.{◌≡◌, ℕ, Bool, true, false, ◌||◌, cond, List, [], ◌∷◌, Some, arith, refl, sym, ap, ◌∙◌}
 use mathlib.Core.Path.{ap₂}
-use Rattle.std.specs.Prelude.{◌==◌, filter, nat_lt, count_by, is_some}
+use Rattle.std.specs.Prelude.{◌==◌, filter, count_by, is_some}
 use Rattle.std.proofs.lemmas.Bool.{true≢false, eq-eqb}
 use Rattle.tp_types.specs.declared.configs.Config.{Config}
 use Rattle.tp_types.specs.declared.states.Counts.{Counts}

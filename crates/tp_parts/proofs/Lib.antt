@@ -1,3 +1,4 @@
+pub mod Keeping
 pub mod Ties
 pub mod Sums
 pub mod Standing

@@ -1,5 +1,5 @@
 -- The structures of a pool without tasks show the state of the empty history, and are tied.
-use Rattle.std.proofs.Common.{◌≡◌, ℕ, ◌<◌, Bool, true, false, cond, List, [], refl, arith, sym, ap, subst, ◌∙◌}
+use Rattle.std.proofs.Common.{◌≡◌, ℕ, ◌<◌, ◌≤◌, ◌^◌, Bool, true, false, cond, List, [], refl, arith, sym, ap, subst, ◌∙◌}
 use Rattle.std.specs.Prelude.{is_some, count_by}
 use Rattle.std.proofs.lemmas.Bool.{ltb-true, false≢true}
 use Rattle.std.specs.List.{Contains}
@@ -17,6 +17,7 @@ use Rattle.tp_tasks.specs.declared.tasks.Tasks.{Tasks}
 use Rattle.tp_tasks.specs.Table.{row_of_task, promise_of_task, payload_of_task}
 use Rattle.tp_tasks.specs.Tasks.{HasNone}
 use Rattle.tp_parts.specs.declared.parts.Parts.{Parts}
+use Rattle.tp_parts.proofs.Keeping.{most_none}
 use Rattle.tp_parts.specs.Shows.{numbers}
 use Rattle.tp_parts.specs.Tied.{IsNew, waits, KeepsPromise}
 
@@ -26,10 +27,11 @@ empty_line true = refl
 empty_line false = refl
 
 module _ {P : Type 0} where
-  abbrev pub first_parts : Config → Tasks P → Queue → Table → Parts P
-  first_parts c tasks queue slots =
+  abbrev pub first_parts : Config → ℕ → Tasks P → Queue → Table → Parts P
+  first_parts c limit tasks queue slots =
       record {
         config = c;
+        limit = limit;
         steps = 0;
         tasks = tasks;
         queue = queue;
@@ -45,10 +47,10 @@ module _ {P : Type 0} where
         due = 4;
       }
 
-  pub new_parts : (c : Config) (tasks : Tasks P) (queue : Queue) (slots : Table) → IsConfig c → waiting_of queue ≡ first_waiting c.queue →
+  pub new_parts : (c : Config) (limit : ℕ) (tasks : Tasks P) (queue : Queue) (slots : Table) → IsConfig c → (c.record_limit ≤ limit) × (limit < 2 ^ 64) → waiting_of queue ≡ first_waiting c.queue →
       slots.slots ≡ [] → slots.idling ≡ [] → slots.places ≡ c.maximum → slots.idlings ≡ 0 →
-      HasNone tasks → IsNew c (first_parts c tasks queue slots)
-  new_parts c tasks queue slots config first none unordered places idled nothing =
+      HasNone tasks → IsNew (record c { record_limit = limit }) (first_parts c limit tasks queue slots)
+  new_parts c limit tasks queue slots config within first none unordered places idled nothing =
       record {
         shows = record {
           entries = refl;
@@ -78,11 +80,12 @@ module _ {P : Type 0} where
         tied = record {
           made_with = refl;
           config = config;
+          limit = within;
           least = config.least_maximum;
           sizes = config.greatest_core;
           places = omega (arith, places);
           kind = ap (λ w. w.kind) first;
-          queue_places = λ is. let n = nothing.submitted in omega (arith, n);
+          queue_places = λ is. most_none tasks _ (λ t. ap row_of_task (nothing.tasks t));
           offers = let n = ap (λ w. w.offers) first in omega (arith, n);
           idlings = omega (arith, idled);
           keyed = λ t k has. let no = subst (λ xs. Contains xs (t, k)) (ap (λ w. w.items) first) has in let below = no.1 in absurd (let n : ⊥ = omega (arith, below) in n);

@@ -19,8 +19,9 @@ use Rattle.tp_queue.specs.Waiting.{place_key}
 use Rattle.tp_tasks.specs.declared.tasks.Tasks.{Tasks}
 use Rattle.tp_tasks.specs.declared.table.Task.{Task}
 use Rattle.tp_tasks.specs.Table.{row_of_task, promise_of_task, payload_of_task}
-use Rattle.tp_tasks.specs.Tasks.{task_of, row_of, promise_of, number_of, payload_of, submissions, KeepsOthers}
+use Rattle.tp_tasks.specs.Tasks.{task_of, row_of, promise_of, number_of, payload_of, KeepsOthers}
 use Rattle.tp_parts.specs.declared.parts.Parts.{Parts}
+use Rattle.tp_parts.proofs.Keeping.{fewer_but, most_fewer, most_more}
 use Rattle.tp_shapes.specs.View.{View, is_held}
 use Rattle.tp_parts.specs.Shows.{Views, numbers}
 use Rattle.tp_parts.specs.Tied.{AreKeyed, IsTied, is_before, is_waiting, priority_in, waits, KeepsPromise}
@@ -67,18 +68,18 @@ contains_enter k t xs x has = elim (Contains-append_cases (filter (λ y. nat_le 
 
 module _ {P : Type 0} (c : Config) (n : ℕ) (old : Parts P) (tied : IsTied c n old) where
   -- another place number of a task that is not in the queue
-  pub tied_number : (tasks : Tasks P) (t : TaskId) → (Contains (numbers (waiting_of old.queue).items) t.0 → ⊥) → KeepsOthers old.tasks tasks t.0 → submissions tasks ≡ submissions old.tasks →
+  pub tied_number : (tasks : Tasks P) (t : TaskId) → (Contains (numbers (waiting_of old.queue).items) t.0 → ⊥) → KeepsOthers old.tasks tasks t.0 →
       row_of tasks t.0 ≡ row_of old.tasks t.0 → promise_of tasks t.0 ≡ promise_of old.tasks t.0 → payload_of tasks t.0 ≡ payload_of old.tasks t.0 → IsTied c n (record old { tasks = tasks })
-  tied_number tasks t absent others counted row promised paid =
-      let e = counted in
+  tied_number tasks t absent others row promised paid =
       record {
         made_with = tied.made_with;
         config = tied.config;
+        limit = tied.limit;
         least = tied.least;
         sizes = tied.sizes;
         places = tied.places;
         kind = tied.kind;
-        queue_places = λ is. let k = tied.queue_places is in omega (arith, e, k);
+        queue_places = λ is. most_fewer old.tasks tasks _ (fewer_but old.tasks tasks t.0 others (λ there. ap (λ o. is_some o) (sym row) ∙ there)) (tied.queue_places is);
         offers = tied.offers;
         idlings = tied.idlings;
         keyed = λ u k has. elim (cases_eq u.0 t.0) [
@@ -112,11 +113,12 @@ module _ {P : Type 0} (c : Config) (n : ℕ) (old : Parts P) (tied : IsTied c n 
       record {
         made_with = tied.made_with;
         config = tied.config;
+        limit = tied.limit;
         least = tied.least;
         sizes = tied.sizes;
         places = tied.places;
         kind = ap (λ w. w.kind) is ∙ tied.kind;
-        queue_places = λ unbounded. let k = tied.queue_places unbounded in omega (arith, places, k);
+        queue_places = λ unbounded. most_more old.tasks _ _ (omega (arith, places)) (tied.queue_places unbounded);
         offers = omega (arith, came, few);
         idlings = tied.idlings;
         keyed = λ u k has. keyed_by (waiting_of queue) (record w { offers = w.offers + 1 }) _ _ k (ap (λ y. y.kind) is) (omega (arith, came)) (elim (contains_enter (place_key w.kind row.priority w.offers) t w.items (u, k) (subst (λ y. Contains y.items (u, k)) is has)) [

@@ -23,6 +23,7 @@ use Rattle.tp_tasks.specs.Tasks.{task_of, row_of, number_of, payload_of, promise
 use Rattle.tp_shapes.specs.View.{View, is_held}
 use Rattle.tp_shapes.proofs.Controllers.Purge.{purged}
 use Rattle.tp_parts.specs.declared.parts.Parts.{Parts}
+use Rattle.tp_parts.proofs.Keeping.{most_fewer, most_more}
 use Rattle.tp_parts.specs.Purges.{HoldsQueued}
 use Rattle.tp_parts.specs.Shows.{Views, numbers}
 use Rattle.tp_parts.specs.Tied.{IsTied, is_before, priority_in, waits, KeepsPromise}
@@ -227,22 +228,28 @@ module _ {P : Type 0} (c : Config) (n : ℕ) (old : Parts P) (tied : IsTied c n 
   promise_gone true (Some p) (Some r) kept = kept
   promise_gone false p o kept = kept
 
+  some_gone : (b : Bool) (o : Option TaskRow) → is_some (cond b (option_map gone o) o) ≡ is_some o
+  some_gone true None = refl
+  some_gone true (Some r) = refl
+  some_gone false o = refl
+
   pub tied_purged : (tasks : Tasks P) (queue : Queue) → AreGone old.tasks tasks (filter (flag old.tasks) (numbers (waiting_of old.queue).items)) →
       waiting_of queue ≡ record (waiting_of old.queue) { items = filter (λ x. not (flag old.tasks x.0.0)) (waiting_of old.queue).items } → IsTied c n (record old { tasks = tasks; queue = queue })
   tied_purged tasks queue are is =
       let places = ap (λ w. w.capacity) is in
       let came = ap (λ w. w.offers) is in
       let offers = tied.offers in
-      let counted = are.submitted in
       let ts = filter (flag old.tasks) (numbers (waiting_of old.queue).items) in
       record {
         made_with = tied.made_with;
         config = tied.config;
+        limit = tied.limit;
         least = tied.least;
         sizes = tied.sizes;
         places = tied.places;
         kind = ap (λ w. w.kind) is ∙ tied.kind;
-        queue_places = λ open_kind. let k = tied.queue_places open_kind in omega (arith, places, k, counted);
+        queue_places = λ open_kind.
+            most_more tasks _ _ (omega (arith, places)) (most_fewer old.tasks tasks _ (λ u there. sym (ap (λ o. is_some o) (are.rows u) ∙ some_gone (is_among u ts) (row_of old.tasks u)) ∙ there) (tied.queue_places open_kind));
         offers = omega (arith, came, offers);
         idlings = tied.idlings;
         keyed = λ t k has.

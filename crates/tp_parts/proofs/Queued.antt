@@ -15,6 +15,7 @@ use Rattle.tp_queue.specs.Queues.{waiting_of}
 use Rattle.tp_queue.specs.Waiting.{Waiting, place_key}
 use Rattle.tp_shapes.specs.View.{View}
 use Rattle.tp_parts.specs.declared.parts.Parts.{Parts}
+use Rattle.tp_parts.proofs.Keeping.{most_more}
 use Rattle.tp_parts.specs.Shows.{Views, numbers}
 use Rattle.tp_parts.specs.Tied.{IsKeyed, IsTied, priority_in}
 use Rattle.tp_parts.proofs.Ties.{keyed_by}
@@ -109,11 +110,12 @@ module _ {P : Type 0} (c : Config) (n : ℕ) (old : Parts P) (tied : IsTied c n 
       record {
         made_with = tied.made_with;
         config = tied.config;
+        limit = tied.limit;
         least = tied.least;
         sizes = tied.sizes;
         places = tied.places;
         kind = ap (λ w. w.kind) is ∙ tied.kind;
-        queue_places = λ unbounded. let k = tied.queue_places unbounded in omega (arith, places, k);
+        queue_places = λ unbounded. most_more old.tasks _ _ (omega (arith, places)) (tied.queue_places unbounded);
         offers = omega (arith, came, offers);
         idlings = tied.idlings;
         keyed = λ t k has. keyed_by (waiting_of queue) (waiting_of old.queue) _ _ k (ap (λ w. w.kind) is) (omega (arith, came)) (tied.keyed t k (fewer (t, k) (subst (λ w. Contains w.items (t, k)) is has)));

@@ -3,7 +3,7 @@ use Rattle.std.proofs.Common.{◌≡◌, ℕ, suc, ◌<◌, Bool, true, false, n
 use mathlib.Core.Path.{ap₂}
 use Rattle.std.specs.Prelude.{◌==◌, nat_lt, is_some, if◌then◌else◌}
 use Rattle.std.specs.List.{Contains}
-use Rattle.std.proofs.lemmas.Bool.{cases_eq, eq-eqb, ne_eqb, eqb-true, lt-ltb, or_cases, true≢false}
+use Rattle.std.proofs.lemmas.Bool.{cases_eq, eq-eqb, ne_eqb, eqb-true, lt-ltb, or_cases, true≢false, false≢true}
 use Rattle.std.proofs.lemmas.Bool.Decides.{nat_tests}
 use Rattle.std.proofs.lemmas.Option.{same_Some, none-some}
 use Rattle.tp_types.specs.declared.configs.Config.{Config}
@@ -19,6 +19,7 @@ use Rattle.tp_tasks.specs.Table.{row_of_task, number_of_task, payload_of_task, p
 use Rattle.tp_tasks.specs.Tasks.{task_of, row_of, done_of, fated_of, submissions, KeepsOthers}
 use Rattle.tp_shapes.specs.View.{View, is_held, put}
 use Rattle.tp_parts.specs.declared.parts.Parts.{Parts}
+use Rattle.tp_parts.proofs.Keeping.{fewer_but, most_fewer}
 use Rattle.tp_parts.specs.Shows.{Views}
 use Rattle.tp_parts.specs.Tied.{IsTied, IsKeyed, waits, KeepsPromise}
 
@@ -164,16 +165,18 @@ module _ {P : Type 0} (old : Parts P) (new : Tasks P) (v : View) (views : Views 
 
 -- a task that is forgotten, and that was not queued, ties nothing
 pub tied_forgets : {P : Type 0} (c : Config) (n : ℕ) (old : Parts P) → IsTied c n old → (new : Tasks P) (t : TaskId) → ((k : ℕ) → Contains (waiting_of old.queue).items (t, k) → ⊥) →
-    task_of new t.0 ≡ None → KeepsOthers old.tasks new t.0 → submissions new ≡ submissions old.tasks → IsTied c n (record old { tasks = new })
-tied_forgets {P = P} c n old tied new t unqueued gone others counted =
+    task_of new t.0 ≡ None → KeepsOthers old.tasks new t.0 → IsTied c n (record old { tasks = new })
+tied_forgets {P = P} c n old tied new t unqueued gone others =
     record {
       made_with = tied.made_with;
       config = tied.config;
+      limit = tied.limit;
       least = tied.least;
       sizes = tied.sizes;
       places = tied.places;
       kind = tied.kind;
-      queue_places = λ is. let p = tied.queue_places is in omega (arith, p, counted);
+      queue_places = λ is.
+          most_fewer old.tasks new _ (fewer_but old.tasks new t.0 others (λ there. absurd (false≢true (sym (ap (λ (k : Option (Task P)). is_some (row_of_task k)) gone) ∙ there)))) (tied.queue_places is);
       offers = tied.offers;
       idlings = tied.idlings;
       keyed = λ u key has. elim (cases_eq u.0 t.0) [

@@ -13,6 +13,7 @@ use Rattle.tp_shapes.specs.View.{View, put}
 use Rattle.tp_parts.specs.declared.parts.Parts.{Parts}
 use Rattle.tp_parts.specs.Shows.{Views}
 use Rattle.tp_parts.specs.Steps.{Stands}
+use Rattle.tp_parts.specs.Terms.{terms}
 
 -- slots are seen number by number, and what is seen does not hold their counts
 pub views_slots : {P : Type 0} (p : Parts P) (v : View) (slots : ℕ → Option SlotRow) (order : List ℕ) (taken live : ℕ) → ((w : ℕ) → slots w ≡ v.slots w) → order ≡ v.idling → Views p v →
@@ -54,7 +55,7 @@ pub views_numbered : {P : Type 0} (p : Parts P) (v : View) (x y : ℕ) (o : Opti
 views_numbered p v x y o n same = subst (λ z. Views p (record v { slots = put z o v.slots; taken = n })) same
 
 -- where there are fewer slots than a size that is within the maximum, there is a place for one more
-pub seats_left : {P : Type 0} (p : Parts P) (stands : Stands p) (size : ℕ) → size ≤ p.maximum → slot_count (state p.config stands.history) < size → count_by is_some p.slots.slots < p.slots.places
+pub seats_left : {P : Type 0} (p : Parts P) (stands : Stands p) (size : ℕ) → size ≤ p.maximum → slot_count (state (terms p) stands.history) < size → count_by is_some p.slots.slots < p.slots.places
 seats_left p stands size within below =
     let taken = stands.shows.taken in
     let places = stands.tied.places in

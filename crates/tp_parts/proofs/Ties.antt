@@ -17,8 +17,10 @@ use Rattle.tp_queue.specs.Waiting.{Waiting, place_key}
 use Rattle.tp_tasks.specs.declared.tasks.Tasks.{Tasks}
 use Rattle.tp_tasks.specs.declared.table.Task.{Task}
 use Rattle.tp_tasks.specs.Table.{row_of_task, promise_of_task, number_of_task, payload_of_task}
-use Rattle.tp_tasks.specs.Tasks.{row_of, promise_of, number_of, payload_of, submissions, KeepsOthers, SetsRow, IsUnchanged}
+use Rattle.tp_tasks.specs.Tasks.{row_of, promise_of, number_of, payload_of, KeepsOthers, SetsRow, IsUnchanged}
 use Rattle.tp_parts.specs.declared.parts.Parts.{Parts}
+use Rattle.tp_parts.specs.Kept.{KeepsAtMost}
+use Rattle.tp_parts.proofs.Keeping.{fewer_but, most_fewer, most_more, most_new}
 use Rattle.tp_parts.specs.Tied.{IsTied, IsKeyed, waits, is_waiting, priority_in, KeepsPromise}
 
 -- a task waits on under its key: in a queue of the same kind with as many offers or more,
@@ -38,18 +40,18 @@ keyed_same w o before key same k = keyed_row w (row_of_task o) (row_of_task befo
 
 module _ {P : Type 0} (c : Config) (n : ℕ) (old : Parts P) (tied : IsTied c n old) where
   -- another row, promise or payload of task t alone
-  pub tied_task : (tasks : Tasks P) (t : ℕ) → KeepsOthers old.tasks tasks t → submissions tasks ≡ submissions old.tasks → number_of tasks t ≡ number_of old.tasks t → priority_in (row_of tasks t) ≡ priority_in (row_of old.tasks t) →
+  pub tied_task : (tasks : Tasks P) (t : ℕ) → KeepsOthers old.tasks tasks t → (is_some (row_of tasks t) ≡ true → is_some (row_of old.tasks t) ≡ true) → number_of tasks t ≡ number_of old.tasks t → priority_in (row_of tasks t) ≡ priority_in (row_of old.tasks t) →
       is_some (payload_of tasks t) ≡ waits (row_of tasks t) → KeepsPromise (promise_of tasks t) (row_of tasks t) → IsTied c n (record old { tasks = tasks })
-  tied_task tasks t others counted number ranked paid kept =
-      let e = counted in
+  tied_task tasks t others there number ranked paid kept =
       record {
         made_with = tied.made_with;
         config = tied.config;
+        limit = tied.limit;
         least = tied.least;
         sizes = tied.sizes;
         places = tied.places;
         kind = tied.kind;
-        queue_places = λ is. let k = tied.queue_places is in omega (arith, e, k);
+        queue_places = λ is. most_fewer old.tasks tasks _ (fewer_but old.tasks tasks t others there) (tied.queue_places is);
         offers = tied.offers;
         idlings = tied.idlings;
         keyed = λ u k has. elim (cases_eq u.0 t) [
@@ -69,13 +71,13 @@ module _ {P : Type 0} (c : Config) (n : ℕ) (old : Parts P) (tied : IsTied c n 
       }
 
   -- another row of task t, which has the priority and the outcome that it had, and a payload just where it waits
-  pub tied_paid : (tasks : Tasks P) (t : ℕ) (r y : TaskRow) → row_of old.tasks t ≡ Some r → row_of tasks t ≡ Some y → KeepsOthers old.tasks tasks t → submissions tasks ≡ submissions old.tasks →
+  pub tied_paid : (tasks : Tasks P) (t : ℕ) (r y : TaskRow) → row_of old.tasks t ≡ Some r → row_of tasks t ≡ Some y → KeepsOthers old.tasks tasks t →
       number_of tasks t ≡ number_of old.tasks t → promise_of tasks t ≡ promise_of old.tasks t → y.priority ≡ r.priority → y.outcome ≡ r.outcome → is_some (payload_of tasks t) ≡ is_waiting y → IsTied c n (record old { tasks = tasks })
-  tied_paid tasks t r y there turned others counted number promised ranked ended paid =
+  tied_paid tasks t r y there turned others number promised ranked ended paid =
       let Q : Option Promise → Option TaskRow → Type 0 = λ p o. KeepsPromise p o in
       let before : Q (promise_of old.tasks t) (Some r) = subst (Q (promise_of old.tasks t)) there (tied.promises t) in
       let after : Q (promise_of old.tasks t) (Some y) = same_outcome (promise_of old.tasks t) r y ended before in
-      tied_task tasks t others counted number (ap priority_in turned ∙ ranked ∙ ap priority_in (sym there)) (paid ∙ ap waits (sym turned))
+      tied_task tasks t others (λ _. ap (λ o. is_some o) there) number (ap priority_in turned ∙ ranked ∙ ap priority_in (sym there)) (paid ∙ ap waits (sym turned))
       (subst (Q (promise_of tasks t)) (sym turned) (subst (λ p. Q p (Some y)) (sym promised) after))
     where
       same_outcome : (p : Option Promise) (a b : TaskRow) → b.outcome ≡ a.outcome → KeepsPromise p (Some a) → KeepsPromise p (Some b)
@@ -85,7 +87,7 @@ module _ {P : Type 0} (c : Config) (n : ℕ) (old : Parts P) (tied : IsTied c n 
   -- another row of task t that waits as it did, and has the priority and the outcome that it had
   pub tied_row : (tasks : Tasks P) (t : ℕ) (r y : TaskRow) → row_of old.tasks t ≡ Some r → SetsRow old.tasks tasks t y → is_waiting y ≡ is_waiting r → y.priority ≡ r.priority → y.outcome ≡ r.outcome → IsTied c n (record old { tasks = tasks })
   tied_row tasks t r y there set waiting ranked ended =
-      tied_paid tasks t r y there set.row set.others set.submitted set.number set.promise ranked ended
+      tied_paid tasks t r y there set.row set.others set.number set.promise ranked ended
       (ap (λ o. is_some o) set.payload ∙ tied.payloads t ∙ ap waits there ∙ sym waiting)
 
   -- task t, which did not wait, has a row of its priority with this outcome, which is as promised, and does not wait
@@ -93,7 +95,7 @@ module _ {P : Type 0} (c : Config) (n : ℕ) (old : Parts P) (tied : IsTied c n 
       IfSome (promise_of old.tasks t) (λ p. FitsPromise p o) → IsTied c n (record old { tasks = tasks })
   tied_ended tasks t r y o there begun set gone ranked ended fits =
       let Q : Option Promise → Option TaskRow → Type 0 = λ p x. KeepsPromise p x in
-      tied_task tasks t set.others set.submitted set.number (ap priority_in set.row ∙ ranked ∙ ap priority_in (sym there))
+      tied_task tasks t set.others (λ _. ap (λ o. is_some o) there) set.number (ap priority_in set.row ∙ ranked ∙ ap priority_in (sym there))
       (ap (λ x. is_some x) set.payload ∙ tied.payloads t ∙ ap waits there ∙ begun ∙ sym gone ∙ sym (ap waits set.row))
       (subst (Q (promise_of tasks t)) (sym set.row) (subst (λ p. Q p (Some y)) (sym set.promise) (keeps (promise_of old.tasks t) fits)))
     where
@@ -111,17 +113,18 @@ pub tied_roomier : {P : Type 0} (c : Config) (n : ℕ) (p : Parts P) → IsTied 
     waiting_of queue ≡ record (waiting_of p.queue) { capacity = (waiting_of queue).capacity } → (waiting_of p.queue).capacity ≤ (waiting_of queue).capacity →
     IsTied c n (record p { tasks = tasks; queue = queue })
 tied_roomier {P = P} c n p tied tasks kept queue same more =
-    let counted = kept.submitted in
     let offers = tied.offers in
     let made = ap (λ w. w.offers) same in
     record {
       made_with = tied.made_with;
       config = tied.config;
+      limit = tied.limit;
       least = tied.least;
       sizes = tied.sizes;
       places = tied.places;
       kind = ap (λ w. w.kind) same ∙ tied.kind;
-      queue_places = λ is. let k = tied.queue_places is in omega (arith, counted, k, more);
+      queue_places = λ is.
+          most_more tasks _ _ more (most_fewer p.tasks tasks _ (λ t has. ap (λ (k : Option (Task P)). is_some (row_of_task k)) (sym (kept.tasks t)) ∙ has) (tied.queue_places is));
       offers = omega (arith, made, offers);
       idlings = tied.idlings;
       keyed = λ u k has.
@@ -138,16 +141,17 @@ unqueued (Some k) is = absurd (false≢true (sym is))
 
 -- a new task that waits, with a place for it in a queue that always has room, leaves the structures tied
 pub tied_new : {P : Type 0} (c : Config) (n : ℕ) (p : Parts P) → IsTied c n p → (tasks : Tasks P) (t : ℕ) (r : TaskRow) → row_of tasks t ≡ Some r → is_waiting r ≡ true → r.outcome ≡ None →
-    is_some (payload_of tasks t) ≡ true → number_of p.tasks t ≡ None → KeepsOthers p.tasks tasks t → submissions tasks ≡ suc (submissions p.tasks) →
-    (IsTrue (is_open (waiting_of p.queue).kind) → submissions p.tasks < (waiting_of p.queue).capacity) → IsTied c n (record p { tasks = tasks })
-tied_new {P = P} c n p tied tasks t r there waiting none paid new others counted place = record {
+    is_some (payload_of tasks t) ≡ true → number_of p.tasks t ≡ None → KeepsOthers p.tasks tasks t →
+    (IsTrue (is_open (waiting_of p.queue).kind) → (k : ℕ) × KeepsAtMost p.tasks k × (k < (waiting_of p.queue).capacity)) → IsTied c n (record p { tasks = tasks })
+tied_new {P = P} c n p tied tasks t r there waiting none paid new others place = record {
   made_with = tied.made_with;
   config = tied.config;
+  limit = tied.limit;
   least = tied.least;
   sizes = tied.sizes;
   places = tied.places;
   kind = tied.kind;
-  queue_places = λ is. let k = place (ap is_open tied.kind ∙ is) in omega (arith, counted, k);
+  queue_places = λ is. let k = place (ap is_open tied.kind ∙ is) in let less = k.2 in most_more tasks _ _ (omega (arith, less)) (most_new p.tasks tasks t k.0 others k.1);
   offers = tied.offers;
   idlings = tied.idlings;
   keyed = λ u k has. elim (cases_eq u.0 t) [
@@ -184,6 +188,7 @@ tied_more c n p tied =
     record {
       made_with = tied.made_with;
       config = tied.config;
+      limit = tied.limit;
       least = tied.least;
       sizes = tied.sizes;
       places = tied.places;

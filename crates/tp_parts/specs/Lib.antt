@@ -1,4 +1,6 @@
 pub mod Shows
+pub mod Terms
+pub mod Kept
 pub mod Tied
 pub mod Steps
 pub mod Payloads

@@ -6,7 +6,8 @@ use Rattle.tp_record.specs.Step.{leaves_room}
 use Rattle.tp_parts.specs.declared.parts.Parts.{Parts}
 use Rattle.tp_shapes.specs.View.{View, Effect}
 use Rattle.tp_parts.specs.Shows.{Shows}
+use Rattle.tp_parts.specs.Terms.{terms}
 
 -- b says whether the record has room for an entry by which what is owed falls and rises by so much
 abbrev pub TellsRoom : {P : Type 0} → Parts P → ℕ → ℕ → Bool → Type 0
-TellsRoom p fall rise b = (s : State) (d : Did) (v : View) → Shows p s → Effect s d v fall rise → b ≡ leaves_room p.config s d
+TellsRoom p fall rise b = (s : State) (d : Did) (v : View) → Shows p s → Effect s d v fall rise → b ≡ leaves_room (terms p) s d

@@ -11,6 +11,7 @@ use Rattle.tp_record.specs.Step.{Legal, Gives, fitting, is_free_for, Refuses as 
 use Rattle.tp_parts.specs.declared.parts.Parts.{Parts}
 use Rattle.tp_record.specs.Left.{mark, MayAll}
 use Rattle.tp_parts.specs.Shows.{Shows}
+use Rattle.tp_parts.specs.Terms.{terms}
 use Rattle.tp_parts.specs.Tied.{IsTied}
 
 -- d is the answer that fits, and the number of a slot that it makes is free
@@ -22,26 +23,26 @@ module _ {P : Type 0} where
   pub record Stands (p : Parts P) : Type 0 where
     pub history : List Entry
     pub released : List ℕ
-    pub legal : Legal p.config history
-    pub may : MayAll released (state p.config history)
-    pub shows : Shows p (mark released (state p.config history))
-    pub tied : IsTied p.config p.steps p
+    pub legal : Legal (terms p) history
+    pub may : MayAll released (state (terms p) history)
+    pub shows : Shows p (mark released (state (terms p) history))
+    pub tied : IsTied (terms p) p.steps p
 
   -- at each legal history whose state they show, whatever was released, d is the answer that fits this ask, before the room is looked at
   abbrev pub Fits : Parts P → Ask → Did → Type 0
-  Fits p a d = (h : List Entry) (rs : List ℕ) → Legal p.config h → MayAll rs (state p.config h) → Shows p (mark rs (state p.config h)) → IsFitting p.config (mark rs (state p.config h)) a d
+  Fits p a d = (h : List Entry) (rs : List ℕ) → Legal (terms p) h → MayAll rs (state (terms p) h) → Shows p (mark rs (state (terms p) h)) → IsFitting (terms p) (mark rs (state (terms p) h)) a d
 
   -- at each legal history whose state they show, whatever was released, the step gives d for this ask
   abbrev pub Accepts : Parts P → Ask → Did → Type 0
-  Accepts p a d = (h : List Entry) (rs : List ℕ) → Legal p.config h → MayAll rs (state p.config h) → Shows p (mark rs (state p.config h)) → Gives p.config (mark rs (state p.config h)) a d
+  Accepts p a d = (h : List Entry) (rs : List ℕ) → Legal (terms p) h → MayAll rs (state (terms p) h) → Shows p (mark rs (state (terms p) h)) → Gives (terms p) (mark rs (state (terms p) h)) a d
 
   -- at each legal history whose state they show, whatever was released, the step refuses this ask so
   abbrev pub Refuses : Parts P → Ask → PoolError → Type 0
-  Refuses p a e = (h : List Entry) (rs : List ℕ) → Legal p.config h → MayAll rs (state p.config h) → Shows p (mark rs (state p.config h)) → StepRefuses p.config (mark rs (state p.config h)) a e
+  Refuses p a e = (h : List Entry) (rs : List ℕ) → Legal (terms p) h → MayAll rs (state (terms p) h) → Shows p (mark rs (state (terms p) h)) → StepRefuses (terms p) (mark rs (state (terms p) h)) a e
 
   -- where the old ones show a legal history's state, the new ones show the state after the entry d, and are tied
   pub record Leads (old : Parts P) (d : Did) (new : Parts P) : Type 0 where
-    pub shows : (h : List Entry) (rs : List ℕ) → Legal old.config h → MayAll rs (state old.config h) → Shows old (mark rs (state old.config h)) → Shows new (mark rs (next (state old.config h) d))
-    pub tied : IsTied old.config (suc old.steps) new
-    pub config : new.config ≡ old.config
+    pub shows : (h : List Entry) (rs : List ℕ) → Legal (terms old) h → MayAll rs (state (terms old) h) → Shows old (mark rs (state (terms old) h)) → Shows new (mark rs (next (state (terms old) h) d))
+    pub tied : IsTied (terms old) (suc old.steps) new
+    pub config : terms new ≡ terms old
     pub steps : new.steps ≡ suc old.steps

@@ -1,5 +1,5 @@
 -- What ties a pool's structures to one another and to its settings.
-use Rattle.std.specs.Prelude.{ℕ, ◌≡◌, ◌<◌, ◌≤◌, Bool, true, false, not, ◌&&◌, [], Option, Some, None, is_some, IfSome, IsTrue}
+use Rattle.std.specs.Prelude.{ℕ, ◌≡◌, ◌<◌, ◌≤◌, ◌^◌, Bool, true, false, not, ◌&&◌, [], Option, Some, None, is_some, IfSome, IsTrue}
 use Rattle.std.specs.List.{Contains}
 use Rattle.tp_types.specs.Config.{IsConfig}
 use Rattle.tp_types.specs.Promise.{FitsPromise}
@@ -12,10 +12,12 @@ use Rattle.tp_types.specs.Queues.{is_open}
 use Rattle.tp_record.specs.declared.rows.TaskRow.{TaskRow}
 use Rattle.tp_queue.specs.Queues.{waiting_of}
 use Rattle.tp_queue.specs.Waiting.{Waiting, place_key}
-use Rattle.tp_tasks.specs.Tasks.{row_of, number_of, payload_of, promise_of, submissions}
+use Rattle.tp_tasks.specs.Tasks.{row_of, number_of, payload_of, promise_of}
 use Rattle.tp_record.specs.State.{state}
 use Rattle.tp_parts.specs.declared.parts.Parts.{Parts}
+use Rattle.tp_parts.specs.Kept.{KeepsAtMost}
 use Rattle.tp_parts.specs.Shows.{Shows}
+use Rattle.tp_parts.specs.Terms.{terms}
 
 -- a task in this place has not begun and is not gone
 abbrev pub is_before : Place → Bool
@@ -53,17 +55,19 @@ pub record IsKeyed (w : Waiting) (row : Option TaskRow) (place : Option ℕ) (ke
 abbrev pub AreKeyed : {P : Type 0} → Parts P → Type 0
 AreKeyed p = (t : TaskId) (key : ℕ) → Contains (waiting_of p.queue).items (t, key) → IsKeyed (waiting_of p.queue) (row_of p.tasks t.0) (number_of p.tasks t.0) key
 
--- after n entries of a pool that was made with c
+-- after n entries of a pool whose steps are judged by c
 pub record IsTied {P : Type 0} (c : Config) (n : ℕ) (p : Parts P) : Type 0 where
-  pub made_with : p.config ≡ c
-  pub config : IsConfig c
+  pub made_with : terms p ≡ c
+  pub config : IsConfig p.config
+  -- the limit is no less than the one that the settings name, and fits 64 bits
+  pub limit : (p.config.record_limit ≤ p.limit) × (p.limit < 2 ^ 64)
   -- the sizes are such as a pool may have, and there is a place for each slot below the maximum
   pub least : 1 ≤ p.maximum
   pub sizes : p.core ≤ p.maximum
   pub places : p.maximum ≤ p.slots.places
-  -- the queue is of the kind that was asked for, and one that always has room has a place for each task
+  -- the queue is of the kind that was asked for, and one that always has room has a place for each task that is kept
   pub kind : (waiting_of p.queue).kind ≡ c.queue
-  pub queue_places : IsTrue (is_open c.queue) → submissions p.tasks ≤ (waiting_of p.queue).capacity
+  pub queue_places : IsTrue (is_open c.queue) → KeepsAtMost p.tasks (waiting_of p.queue).capacity
   -- there were no more offers, and no more idle workers, than entries
   pub offers : (waiting_of p.queue).offers ≤ n
   pub idlings : p.slots.idlings ≤ n
@@ -73,7 +77,7 @@ pub record IsTied {P : Type 0} (c : Config) (n : ℕ) (p : Parts P) : Type 0 whe
   -- each task ended as it promised
   pub promises : (t : ℕ) → KeepsPromise (promise_of p.tasks t) (row_of p.tasks t)
 
--- the structures of a pool without tasks that is made with c
+-- the structures of a pool without tasks whose steps are judged by c
 pub record IsNew {P : Type 0} (c : Config) (p : Parts P) : Type 0 where
   pub shows : Shows p (state c [])
   pub tied : IsTied c 0 p

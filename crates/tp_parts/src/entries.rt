@@ -12,7 +12,7 @@ impl<P> Parts<P> {
     /// One more entry was made, and so many fewer are owed.
     #[inline(always)]
     pub fn count_entry(&mut self, fall: u64)
-        requires few { self.old.steps < 2 ^ 32 - 1 }
+        requires few { self.old.steps < 2 ^ 64 - 1 }
         requires fall { fall ≤ self.old.due }
         ensures views { (v : View) → Views self.old v → Views self.new v }
         ensures tied { (c : Config) (n : ℕ) → IsTied c n self.old → IsTied c n self.new }
@@ -24,7 +24,7 @@ impl<P> Parts<P> {
     /// One more entry was made, and so many more are owed.
     #[inline(always)]
     pub fn count_rising_entry(&mut self, rise: u64)
-        requires few { self.old.steps < 2 ^ 32 - 1 }
+        requires few { self.old.steps < 2 ^ 64 - 1 }
         requires rise { self.old.due + rise < 2 ^ 64 }
         ensures views { (v : View) → Views self.old v → Views self.new v }
         ensures tied { (c : Config) (n : ℕ) → IsTied c n self.old → IsTied c n self.new }

@@ -38,7 +38,7 @@ impl<P> Parts<P> {
         let Some(row) = self.tasks.row(t) else {
             unreachable!()
         };
-        self.queue.is_lawful();
+        self.queue.law_is_lawful();
         let Ok(number) = self.queue.offer(t, row.priority) else {
             unreachable!()
         };
@@ -60,7 +60,7 @@ impl<P> Parts<P> {
         let Some(number) = self.tasks.place_number(t) else {
             unreachable!()
         };
-        self.queue.is_lawful();
+        self.queue.law_is_lawful();
         self.queue.remove(row.priority, number);
     }
 

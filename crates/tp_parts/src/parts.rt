@@ -1,6 +1,6 @@
 //! What a pool keeps beside its record.
 
-ghost use Rattle.std.specs.Prelude.{IfOk};
+ghost use Rattle.std.specs.Prelude.{◌≤◌, IfOk};
 ghost use Rattle.tp_types.specs.Config.{IsConfig};
 ghost use Rattle.tp_tasks.specs.Tasks.{HasNone};
 ghost use Rattle.tp_parts.specs.Tied.{IsNew};
@@ -17,8 +17,10 @@ use tp_types::states::RunState;
 pub struct Parts<P> {
     /// The settings that it was made with.
     pub config: Config,
+    /// At how many entries the pool is full: what keeps its record says so.
+    pub limit: u64,
     /// How many entries were made so far.
-    pub steps: u32,
+    pub steps: u64,
     /// The tasks, each with what was handed in with it.
     pub tasks: Tasks<P>,
     /// The work queue.
@@ -47,18 +49,26 @@ pub struct Parts<P> {
 
 impl<P> Parts<P> {
     /// A pool that runs, at tick 0, and keeps its tasks in these, of which there are none yet. The places of a bounded queue
-    /// and those of the slots below the maximum are taken here; an error is want of memory, refusal 4.
-    pub fn new(alloc: Global, config: Config, tasks: Tasks<P>) -> Result<Parts<P>, AllocError>
+    /// and those of the slots below the maximum are taken here; an error is want of memory, refusal 4. It is full at so many
+    /// entries, no fewer than the settings say.
+    pub fn new(
+        alloc: Global,
+        config: Config,
+        limit: u64,
+        tasks: Tasks<P>,
+    ) -> Result<Parts<P>, AllocError>
     where
         P: Drop,
         requires good { IsConfig config }
+        requires limit { config.record_limit ≤ limit }
         requires none { HasNone tasks }
-        ensures { IfOk result (IsNew config) }
+        ensures { IfOk result (IsNew (record config { record_limit = limit })) }
     {
         let queue = Queue::new(alloc, config.queue)?;
         let slots = Slots::new(alloc, config.maximum as usize)?;
         Ok(Parts {
             config,
+            limit,
             steps: 0,
             tasks,
             queue,

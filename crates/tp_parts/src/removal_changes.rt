@@ -1,6 +1,6 @@
 //! Changes by which tasks are cancelled, taken and purged.
 
-ghost use Rattle.std.specs.Prelude.{ℕ, ◌≡◌, ◌+◌, ◌==◌, ◌^◌, ◌<◌, ◌++◌, ◌∷◌, [], true, not, ◌&&◌, drop, filter, count_by, slice_get, option_map, Some, None, if◌then◌else◌};
+ghost use Rattle.std.specs.Prelude.{ℕ, ◌≡◌, ◌+◌, ◌==◌, ◌^◌, ◌<◌, ◌++◌, ◌∷◌, [], true, not, ◌&&◌, drop, filter, length, count_by, slice_get, option_map, Some, None, if◌then◌else◌};
 ghost use Rattle.tp_types.specs.declared.configs.Config.{Config};
 ghost use Rattle.tp_types.specs.declared.tasks.Fate.{Fate};
 ghost use Rattle.tp_types.specs.declared.tasks.Place.{Place};
@@ -55,10 +55,9 @@ impl<P> Parts<P> {
 
     /// How many queued tasks are cancelled, in one pass over the queue.
     pub fn count_cancelled(&self) -> u32
-        requires few { (waiting_of self.now.queue).offers < 2 ^ 32 }
+        requires few { length (waiting_of self.now.queue).items < 2 ^ 32 }
         ensures { (v : View) → Views self.now v → HoldsQueued v → result ≡ count_by (λ t. (v.tasks t).cancelled) v.queue }
     {
-        self.queue.is_lawful();
         self.queue.count(&self.tasks) as u32
     }
 

@@ -15,7 +15,7 @@ impl<P> Parts<P> {
         requires few { rise < 2 ^ 32 }
         ensures { TellsRoom self.now fall rise result }
     {
-        let needed = u64::from(self.steps) + 1 + self.due + rise;
-        needed <= u64::from(self.config.record_limit).saturating_add(fall)
+        let left = self.limit - self.steps - self.due;
+        rise + 1 <= left.saturating_add(fall)
     }
 }

@@ -31,7 +31,7 @@ impl<P> Parts<P> {
         ensures rest { self.new ≡ record self.old { tasks = self.new.tasks; queue = self.new.queue } }
         ensures payloads { Keeps self.old.tasks self.new.tasks }
     {
-        let places = self.tasks.submitted() as usize + 1;
+        let places = self.tasks.kept() as usize + 1;
         if self.queue.reserve(places).is_err() {
             return Err(PoolError::NoMemory);
         }

@@ -6,7 +6,7 @@ ghost use Rattle.tp_paths.specs.Fronts.{is_submit_of, goes, IsFront};
 
 /// A front of a path goes on by the next entry, and one that has come to an end is a path. So is no
 /// other.
-pub fn fronts_are_paths()
+pub fn law_fronts_are_paths()
     ensures begins { (t : ℕ) (e : Entry) → IsTrue (is_submit_of t e.did) → IsFront t (e ∷ []) (follows t e.did) }
     ensures goes_on { (t : ℕ) (es : List Entry) (f : Follow) (e : Entry) → IsFront t es f → IsFront t (es ++ e ∷ []) (goes t f e.did) }
     ensures ends { (t : ℕ) (es : List Entry) (a : Admission) → IsFront t es (Ends a) → IsPath t es a }

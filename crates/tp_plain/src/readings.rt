@@ -33,7 +33,7 @@ pub trait Readings {
     ghost lacks: { Type 0 };
 
     /// The law that so few tasks wait.
-    fn few_wait(&self, config: &Config)
+    fn law_few_wait(&self, config: &Config)
         requires { stands self.now config.now }
         ensures { length (shown self.now).queue ≤ 1048577 };
 
@@ -168,7 +168,7 @@ impl Readings for Snapshot {
 
     ghost lacks = { ⊤ };
 
-    fn few_wait(&self, _config: &Config) {
+    fn law_few_wait(&self, _config: &Config) {
         let _ = &self.queue;
     }
 

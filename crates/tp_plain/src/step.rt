@@ -583,7 +583,7 @@ fn fitting_other<S: Readings>(
         Ask::Leave(v) => leave_answer(state, w, v, seat_of(state, v)?.stage),
         Ask::Shutdown => Ok(Did::Shutdown),
         Ask::Stop => {
-            state.few_wait(config);
+            state.law_few_wait(config);
             Ok(Did::Stop(state.queued() as u32))
         }
         Ask::Tidy => tidy_answer(state),

@@ -1,5 +1,5 @@
 -- The wait for a pool's end, with no deadline.
-use Rattle.std.proofs.Common.{◌≡◌, ◌⊎◌, ◌≤◌, [], ◌∷◌, ⊎_elim, inl, inr, arith}
+use Rattle.std.proofs.Common.{◌≡◌, ◌⊎◌, ◌≤◌, true, [], ◌∷◌, ⊎_elim, inl, inr, arith}
 use Rattle.std.specs.Prelude.{Result, Ok, Err, IfOk, IfErr, OnOk, OnErr}
 use Rattle.tp_types.specs.declared.configs.Config.{Config}
 use Rattle.tp_types.specs.declared.refusals.PoolError.{PoolError}
@@ -35,6 +35,6 @@ module _ (c : Config) (old new : PassView) where
   over_legal (Err e) steps refused = refused.2.legal
 
   -- a shutdown that was asked for has shut the pool down, or is refused
-  pub shut_by : (r : Result (Unit {0}) PoolError) → IfOk r (λ _. AddsStep c old ask.Shutdown did.Shutdown new) → IfErr r (λ e. IsRefusal c new.front ask.Shutdown e) → IsShut c new.front
+  pub shut_by : (r : Result (Unit {0}) PoolError) → IfOk r (λ _. AddsStep c old ask.Shutdown did.Shutdown new) → IfErr r (λ e. IsRefusal true c new.front ask.Shutdown e) → IsShut c new.front
   shut_by (Ok x) step refused = inl (reached c old new _ [] step)
   shut_by (Err e) step refused = inr (e, refused)

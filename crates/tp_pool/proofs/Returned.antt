@@ -37,11 +37,11 @@ use Rattle.tp_locked.specs.declared.tasks.Task.{Task}
 use Rattle.tp_pool.specs.Admissions.{TakesOut}
 
 -- a pass that a step was made with knows it, and of the history before it what the answer says
-pub knows : {J A : Type 0} (old new : CoreView J) (before after : PassView) (a : Ask) (did : A → Did) (moves : A → Tasks (Task J) → Tasks (Task J) → Type 0) (says : A → List Entry → Type 0) (r : Result A PoolError) →
-    IfOk r (λ x. Holds old new before.number a (did x) (moves x)) → IfOk r (λ x. says x old.book.history) → OnOk r (after.front ≡ new.book.history) × OnErr r (after.front ≡ old.book.history) →
+pub knows : {J A : Type 0} (keeps : Bool) (old new : CoreView J) (before after : PassView) (a : Ask) (did : A → Did) (moves : A → Tasks (Task J) → Tasks (Task J) → Type 0) (says : A → List Entry → Type 0) (r : Result A PoolError) →
+    IfOk r (λ x. Holds keeps old new before.number a (did x) (moves x)) → IfOk r (λ x. says x old.book.history) → OnOk r (after.front ≡ new.book.history) × OnErr r (after.front ≡ old.book.history) →
     IfOk r (λ x. KnowsStep before a (did x) (says x) after)
-knows old new before after a did moves says (Ok x) holds said front = (old.book.history, front.0 ∙ holds.made.notes, said)
-knows old new before after a did moves says (Err e) holds said front = tt
+knows keeps old new before after a did moves says (Ok x) holds said front = (old.book.history, front.0 ∙ holds.released.history ∙ holds.made.notes, said)
+knows keeps old new before after a did moves says (Err e) holds said front = tt
 
 mine_if : (b : Bool) (f : Follow) → (if b then f else Astray) ≡ Ends Rejected → f ≡ Ends Rejected
 mine_if true f is = is

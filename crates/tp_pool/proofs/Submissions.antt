@@ -1,5 +1,5 @@
 -- What a submission adds behind room for its receipts.
-use Rattle.std.proofs.Common.{◌≡◌, ◌≢◌, ◌⊎◌, ◌≤◌, ℕ, [], ◌∷◌, ◌++◌, List, length, inl, inr, refl, ap, sym, subst, ◌∙◌, ⊎_elim}
+use Rattle.std.proofs.Common.{◌≡◌, ◌≢◌, ◌⊎◌, ◌≤◌, ℕ, Bool, true, [], ◌∷◌, ◌++◌, List, length, inl, inr, refl, ap, sym, subst, ◌∙◌, ⊎_elim}
 use Rattle.std.specs.Prelude.{not, ⊤, Option, Result, Ok, Err, Some, IsSome, IfOk, IfErr}
 use Rattle.tp_types.specs.declared.configs.Config.{Config}
 use Rattle.tp_types.specs.declared.ids.TaskId.{TaskId}
@@ -43,14 +43,14 @@ module _ (c : Config) where
   path_behind : (kind : Kind) (priority : ℕ) (t : TaskId) (end : Admission) (old mid new : PassView) → AddsNone old mid → AddsPath c kind priority t end mid new → AddsPath c kind priority t end old new
   path_behind kind priority t end old mid new none path = (path.0, path.1, path.2, adds_behind c old mid new path.0 none path.3)
 
-  pub front_behind : (kind : Kind) (priority : ℕ) (t : TaskId) (old mid new : PassView) → AddsNone old mid → AddsFront c kind priority t mid new → AddsFront c kind priority t old new
-  front_behind kind priority t old mid new none is = record {
+  pub front_behind : (keeps : Bool) (kind : Kind) (priority : ℕ) (t : TaskId) (old mid new : PassView) → AddsNone old mid → AddsFront keeps c kind priority t mid new → AddsFront keeps c kind priority t old new
+  front_behind keeps kind priority t old mid new none is = record {
     front = is.front;
     deed = is.deed;
     is_front = is.is_front;
     awaits = is.awaits;
     asks = is.asks;
-    adds = ⊎_elim (λ (x : Adds c mid is.front new × (IsUndone c t is.deed new.front ⊎ (512 ≤ length is.front))). inl (adds_behind c old mid new is.front none x.0, x.1))
+    adds = ⊎_elim (λ (x : Adds c mid is.front new × (IsUndone keeps c t is.deed new.front ⊎ (512 ≤ length is.front))). inl (adds_behind c old mid new is.front none x.0, x.1))
         (λ (x : (e : Entry) × (goes t.0 (follow_of t.0 is.deed) e.did ≡ Astray) × Adds c mid (is.front ++ e ∷ []) new). inr (x.0, x.1, adds_behind c old mid new (is.front ++ x.0 ∷ []) none x.2)) is.adds;
   }
 
@@ -96,29 +96,29 @@ module _ (c : Config) where
     admits_behind old mid new (Ok a) none is = (path_behind kind priority (task_of a) (end_of a) old mid new none is.0, got_behind (task_of a).0 old mid new none is.1)
     admits_behind old mid new (Err x) none is = tt
 
-    turns_behind : (old mid new : PassView) (x : Refused J) → AddsNone old mid → IsTurnedAway c kind priority job promise mid new x → IsTurnedAway c kind priority job promise old new x
-    turns_behind old mid new x none is =
+    turns_behind : (keeps : Bool) (old mid new : PassView) (x : Refused J) → AddsNone old mid → IsTurnedAway keeps c kind priority job promise mid new x → IsTurnedAway keeps c kind priority job promise old new x
+    turns_behind keeps old mid new x none is =
         ⊎_elim (λ (y : (t : TaskId) × (x.error ≡ error.Rejected t) × AddsPath c kind priority t Rejected mid new × GotJob c kind priority job promise mid.number t.0 mid.front new.front × ComesBack t.0 x.job new.front × IsJobOut c mid.number t.0 x.job mid.front new.front).
         inl (y.0, y.1, path_behind kind priority y.0 Rejected old mid new none y.2, got_behind y.0.0 old mid new none y.3, y.4, out_behind y.0.0 x.job old mid new none y.5))
-        (⊎_elim (λ (y : (t : TaskId) × (x.error ≡ error.TornRecord) × AddsFront c kind priority t mid new × GotJob c kind priority job promise mid.number t.0 mid.front new.front).
-        inr (inl (y.0, y.1, front_behind kind priority y.0 old mid new none y.2, got_behind y.0.0 old mid new none y.3)))
-        (λ (y : Refuses c ⊤ new.front (ask.Submit kind priority) x.error × (x.job ≡ Some job) × AddsNone mid new). inr (inr (y.0, y.1, none_behind old mid new none y.2))))
+        (⊎_elim (λ (y : (t : TaskId) × (x.error ≡ error.TornRecord) × AddsFront keeps c kind priority t mid new × GotJob c kind priority job promise mid.number t.0 mid.front new.front).
+        inr (inl (y.0, y.1, front_behind keeps kind priority y.0 old mid new none y.2, got_behind y.0.0 old mid new none y.3)))
+        (λ (y : Refuses true c ⊤ new.front (ask.Submit kind priority) x.error × (x.job ≡ Some job) × AddsNone mid new). inr (inr (y.0, y.1, none_behind old mid new none y.2))))
         is
 
-    pub refuses_behind : (old mid new : PassView) (r : Result Admitted (Refused J)) → AddsNone old mid →
-        IfErr r (IsTurnedAway c kind priority job promise mid new) → IfErr r (IsTurnedAway c kind priority job promise old new)
-    refuses_behind old mid new (Ok a) none is = tt
-    refuses_behind old mid new (Err x) none is = turns_behind old mid new x none is
+    pub refuses_behind : (keeps : Bool) (old mid new : PassView) (r : Result Admitted (Refused J)) → AddsNone old mid →
+        IfErr r (IsTurnedAway keeps c kind priority job promise mid new) → IfErr r (IsTurnedAway keeps c kind priority job promise old new)
+    refuses_behind keeps old mid new (Ok a) none is = tt
+    refuses_behind keeps old mid new (Err x) none is = turns_behind keeps old mid new x none is
 
 -- a refused plain task's job comes back, unless the submission was torn off
-pub plain_returned : {J : Type 0} (c : Config) (p : ℕ) (job : J) (promise : Promise) (old new : PassView) (x : Refused J) → IsTurnedAway c kinds.Plain p job promise old new x → x.error ≢ error.TornRecord → IsSome x.job
-plain_returned c p job promise old new x is whole =
+pub plain_returned : {J : Type 0} (keeps : Bool) (c : Config) (p : ℕ) (job : J) (promise : Promise) (old new : PassView) (x : Refused J) → IsTurnedAway keeps c kinds.Plain p job promise old new x → x.error ≢ error.TornRecord → IsSome x.job
+plain_returned keeps c p job promise old new x is whole =
     ⊎_elim (λ (y : (t : TaskId) × (x.error ≡ error.Rejected t) × AddsPath c kinds.Plain p t Rejected old new × GotJob c kinds.Plain p job promise old.number t.0 old.front new.front × ComesBack t.0 x.job new.front × IsJobOut c old.number t.0 x.job old.front new.front).
     let got = y.3 in
     let e : Entry = record { by = old.number; ask = ask.Submit kinds.Plain p; did = did.Submit got.number kinds.Plain p got.look } in
     let on : IsFrontOf (e ∷ got.makes.old.history) new.front = subst (λ h. IsFrontOf h new.front) (got.makes.shown ∙ got.makes.step.notes) got.goes_on in
     let spared = submitted_plain c e got.makes.old.history new.front on y.2.3.legal got.number p got.look refl in
     y.4 ∙ ap (λ t. not (is_cancelled new.front t)) (sym got.is_task) ∙ ap not spared)
-    (⊎_elim (λ (y : (t : TaskId) × (x.error ≡ error.TornRecord) × AddsFront c kinds.Plain p t old new × GotJob c kinds.Plain p job promise old.number t.0 old.front new.front). absurd (whole y.1))
-    (λ (y : Refuses c ⊤ new.front (ask.Submit kinds.Plain p) x.error × (x.job ≡ Some job) × AddsNone old new). subst (λ o. IsSome o) (sym y.1) refl))
+    (⊎_elim (λ (y : (t : TaskId) × (x.error ≡ error.TornRecord) × AddsFront keeps c kinds.Plain p t old new × GotJob c kinds.Plain p job promise old.number t.0 old.front new.front). absurd (whole y.1))
+    (λ (y : Refuses true c ⊤ new.front (ask.Submit kinds.Plain p) x.error × (x.job ≡ Some job) × AddsNone old new). subst (λ o. IsSome o) (sym y.1) refl))
     is

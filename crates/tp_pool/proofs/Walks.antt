@@ -1,8 +1,11 @@
 -- How far a submission has come, with its receipts.
-use Rattle.std.proofs.Common.{◌≡◌, ◌⊎◌, ℕ, ◌+◌, ◌≤◌, List, [], ◌∷◌, ◌++◌, length, length-append, refl, inl, inr, ap, sym, subst, ◌∙◌, ⊎_elim, arith}
-use Rattle.std.specs.Prelude.{Option, option_map, Result, Ok, Err, IfOk, IfErr, IsTrue}
+use Rattle.std.proofs.Common.{◌≡◌, ◌⊎◌, ℕ, Bool, ◌+◌, ◌≤◌, List, [], ◌∷◌, ◌++◌, length, length-append, refl, inl, inr, ap, sym, subst, ◌∙◌, ⊎_elim, arith}
+use Rattle.std.specs.Prelude.{true, Option, Some, None, option_map, Result, Ok, Err, IfOk, IfErr, IfNone, IsTrue}
+use Rattle.std.specs.Result.{result_ok}
 use Rattle.tp_types.specs.declared.configs.Config.{Config}
+use Rattle.tp_types.specs.declared.ids.SlotId.{SlotId}
 use Rattle.tp_types.specs.declared.ids.TaskId.{TaskId}
+use Rattle.tp_types.specs.declared.refusals.PoolError.{PoolError}
 use Rattle.tp_types.specs.declared.tasks.Kind.{Kind}
 use Rattle.tp_types.specs.declared.tasks.Promise.{Promise}
 use Rattle.tp_record.specs.declared.entries.Ask.{Ask}
@@ -22,7 +25,7 @@ use Rattle.tp_paths.specs.declared.paths.Ending.TheVariants as ending
 use Rattle.tp_glance.specs.Word.{IsFrontOf}
 use Rattle.tp_glance.proofs.Fronts.{IsFrontOf_refl}
 use Rattle.tp_book.specs.PassView.{PassView}
-use Rattle.tp_locked.specs.Passes.{Adds, AddsStep, LooksOnly, entry_of}
+use Rattle.tp_locked.specs.Passes.{Adds, AddsStep, IsRefusal, LooksOnly, entry_of, opening}
 use Rattle.tp_locked.specs.Steps.{Makes}
 use Rattle.tp_types.specs.declared.refusals.PoolError.TheVariants as error
 use Rattle.tp_locked.specs.declared.answers.Admitted.{Admitted}
@@ -31,11 +34,12 @@ use Rattle.tp_locked.specs.declared.tasks.Task.{Task}
 use Rattle.tp_machine.specs.Answers.{ComesBack}
 use Rattle.tp_pool.specs.Admissions.{task_of, end_of, AddsFront, AsksFor, Awaits, GotJob, IsUndone, IsAdmitted, IsTurnedAway, TakesOut}
 use Rattle.tp_locked.proofs.Receipts.{adds_looks, adds_then, leads_front}
+use Rattle.tp_pool.proofs.Refusals.{refuses_ever}
 use Rattle.tp_pool.proofs.Returned.{comes_back_as, takes_from}
 use Rattle.tp_pool.proofs.Submissions.{got_on}
 use Rattle.std.proofs.lemmas.Bool.{eq-eqb}
 
--- the laws of fronts, as `fronts_are_paths` tells them
+-- the laws of fronts, as `law_fronts_are_paths` tells them
 abbrev pub Begins : Type 0
 Begins = (t : ℕ) (e : Entry) → IsTrue (is_submit_of t e.did) → IsFront t (e ∷ []) (follows t e.did)
 
@@ -66,6 +70,13 @@ deeds t next.Astray = inr (inr refl)
 asks_on : (kind : Kind) (priority : ℕ) (es fs : List Entry) → AsksFor kind priority es → AsksFor kind priority (es ++ fs)
 asks_on kind priority [] fs asks = absurd asks
 asks_on kind priority (e ∷ es) fs asks = asks
+
+-- an opening that the pool refuses leaves the deed undone
+pub unopened : (keeps : Bool) (c : Config) (t : TaskId) (w : SlotId) (staffed : Bool) (h : List Entry) (r : Result Did PoolError) (o : Option Did) → o ≡ result_ok r → IfErr r (IsRefusal true c h (opening w staffed)) →
+    IfNone o (Awaits (follow_of t.0 (next.Staff w)) → IsUndone keeps c t (next.Staff w) h)
+unopened keeps c t w staffed h (Ok d) None is refused = absurd (cc)
+unopened keeps c t w staffed h (Err e) None is refused = λ on. inl (opening w staffed, (staffed, refl), (e, refuses_ever keeps c h (opening w staffed) e refused))
+unopened keeps c t w staffed h r (Some d) is refused = tt
 
 -- a pass that stays as it is, or looks
 module _ (c : Config) where
@@ -151,11 +162,11 @@ module _ {J : Type 0} (c : Config) (kind : Kind) (priority : ℕ) (job : J) (pro
       )
   admits_at law t old new f steps end is walk (Err x) same = tt
 
-  pub rejects_at : Closes → (t : TaskId) (old new : PassView) (f : Follow) (steps : ℕ) (end : Ending) → f ≡ Ends (admission_of end) → Walk t.0 old f steps new →
+  pub rejects_at : (keeps : Bool) → Closes → (t : TaskId) (old new : PassView) (f : Follow) (steps : ℕ) (end : Ending) → f ≡ Ends (admission_of end) → Walk t.0 old f steps new →
       (held : Option (Task J)) → (f ≡ Ends Rejected → ComesBack t.0 held new.front × TakesOut c old.number t.0 held old.front new.front) → (r : Result Admitted (Refused J)) → IfErr r (λ x. (x.error ≡ error.Rejected t) × (end ≡ ending.Rejected)) →
-      IfErr r (λ x. x.job ≡ option_map (λ k. k.job) held) → IfErr r (IsTurnedAway c kind priority job promise old new)
-  rejects_at law t old new f steps end is walk held returned (Ok a) same hands = tt
-  rejects_at law t old new f steps end is walk held returned (Err x) same hands =
+      IfErr r (λ x. x.job ≡ option_map (λ k. k.job) held) → IfErr r (IsTurnedAway keeps c kind priority job promise old new)
+  rejects_at keeps law t old new f steps end is walk held returned (Ok a) same hands = tt
+  rejects_at keeps law t old new f steps end is walk held returned (Err x) same hands =
       let rejected : f ≡ Ends Rejected = is ∙ ap (λ e. Ends (admission_of e)) same.1 in
       let out = returned rejected in
       inl (
@@ -168,19 +179,19 @@ module _ {J : Type 0} (c : Config) (kind : Kind) (priority : ℕ) (job : J) (pro
       )
 
   -- torn off where the next step is not taken
-  pub torn_off : (t : TaskId) (old mid new : PassView) (n : Next) (steps : ℕ) → Walk t.0 old (follow_of t.0 n) steps mid → ((end : Ending) → ¬ (n ≡ next.End end)) →
-      (new ≡ mid) ⊎ LooksOnly c mid new → (Awaits (follow_of t.0 n) → IsUndone c t n new.front ⊎ (512 ≤ steps)) → (x : Refused J) → x.error ≡ error.TornRecord → IsTurnedAway c kind priority job promise old new x
-  torn_off t old mid new n steps walk goes_on moved undone x torn =
+  pub torn_off : (keeps : Bool) (t : TaskId) (old mid new : PassView) (n : Next) (steps : ℕ) → Walk t.0 old (follow_of t.0 n) steps mid → ((end : Ending) → ¬ (n ≡ next.End end)) →
+      (new ≡ mid) ⊎ LooksOnly c mid new → (Awaits (follow_of t.0 n) → IsUndone keeps c t n new.front ⊎ (512 ≤ steps)) → (x : Refused J) → x.error ≡ error.TornRecord → IsTurnedAway keeps c kind priority job promise old new x
+  torn_off keeps t old mid new n steps walk goes_on moved undone x torn =
       let got = got_on c kind priority job promise old.number t.0 old.front mid.front new.front walk.got (moved_on c mid new moved) in
-      let awaited : Awaits (follow_of t.0 n) → AddsFront c kind priority t old new = λ on. record {
+      let awaited : Awaits (follow_of t.0 n) → AddsFront keeps c kind priority t old new = λ on. record {
         front = walk.front;
         deed = n;
         is_front = walk.is_front;
         awaits = on;
         asks = walk.asks;
-        adds = inl (adds_moved c old mid new walk.front walk.adds moved, subst (λ k. IsUndone c t n new.front ⊎ (512 ≤ k)) (sym walk.count) (undone on));
+        adds = inl (adds_moved c old mid new walk.front walk.adds moved, subst (λ k. IsUndone keeps c t n new.front ⊎ (512 ≤ k)) (sym walk.count) (undone on));
       } in
-      let strayed : n ≡ next.Astray → AddsFront c kind priority t old new = λ is.
+      let strayed : n ≡ next.Astray → AddsFront keeps c kind priority t old new = λ is.
       let strays = walk.torn (ap (λ n. follow_of t.0 n) is) in record {
         front = strays.front;
         deed = strays.deed;

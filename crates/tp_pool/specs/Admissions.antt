@@ -3,6 +3,7 @@ use Rattle.std.specs.Prelude.{ℕ, Bool, true, ◌≡◌, ◌⊎◌, ◌≤◌, 
 use Rattle.tp_types.specs.declared.configs.Config.{Config}
 use Rattle.tp_types.specs.declared.configs.Verdict.{Verdict}
 use Rattle.tp_types.specs.declared.ids.TaskId.{TaskId}
+use Rattle.tp_types.specs.declared.refusals.PoolError.{PoolError}
 use Rattle.tp_types.specs.declared.refusals.PoolError.TheVariants as error
 use Rattle.tp_types.specs.declared.tasks.Kind.{Kind}
 use Rattle.tp_types.specs.declared.tasks.Promise.{Promise}
@@ -22,13 +23,12 @@ use Rattle.tp_paths.specs.declared.paths.Next.TheVariants as next
 use Rattle.tp_machine.specs.Answers.{ComesBack, ruled_of}
 use Rattle.tp_glance.specs.Word.{IsFrontOf}
 use Rattle.tp_book.specs.PassView.{PassView}
-use Rattle.tp_locked.specs.Passes.{Adds, AddsNone, Refuses, opening}
+use Rattle.tp_locked.specs.Passes.{Adds, AddsNone, IsRefusal, Refuses, opening}
 use Rattle.tp_locked.specs.Steps.{Makes}
 use Rattle.tp_locked.specs.declared.answers.Admitted.{Admitted}
 use Rattle.tp_locked.specs.declared.answers.Admitted.TheVariants as admitted
 use Rattle.tp_locked.specs.declared.answers.Refused.{Refused}
 use Rattle.tp_locked.specs.declared.tasks.Task.{Task}
-use Rattle.tp_pool.specs.Endings.{IsBarred}
 
 -- whose submission was admitted, and how it ended
 abbrev pub task_of : Admitted → TaskId
@@ -95,19 +95,23 @@ IsAskOf c t next.Judge a = (v : Verdict) × (a ≡ ask.Verdict t v) × (allows c
 IsAskOf c t (next.Staff w) a = (staffed : Bool) × (a ≡ opening w staffed)
 IsAskOf c t _ a = ⊥
 
+-- at this history a pool with these settings refuses this ask, of whose task it may know nothing any more
+abbrev pub IsHalted : Bool → Config → List Entry → Ask → Type 0
+IsHalted keeps c history a = (e : PoolError) × IsRefusal keeps c history a e
+
 -- the deed is left undone: at this history the pool refuses what it asks, or it was to tell how the submitter's own run ended
-abbrev pub IsUndone : Config → TaskId → Next → List Entry → Type 0
-IsUndone c t n history = ((a : Ask) × IsAskOf c t n a × IsBarred c history a) ⊎ (n ≡ next.RunHere)
+abbrev pub IsUndone : Bool → Config → TaskId → Next → List Entry → Type 0
+IsUndone keeps c t n history = ((a : Ask) × IsAskOf c t n a × IsHalted keeps c history a) ⊎ (n ≡ next.RunHere)
 
 -- the pass has the receipts of a front of the path of this task, which is of this kind and priority, behind which this deed was to follow
-pub record AddsFront (c : Config) (kind : Kind) (priority : ℕ) (t : TaskId) (old new : PassView) : Type 0 where
+pub record AddsFront (keeps : Bool) (c : Config) (kind : Kind) (priority : ℕ) (t : TaskId) (old new : PassView) : Type 0 where
   pub front : List Entry
   pub deed : Next
   pub is_front : IsFront t.0 front (follow_of t.0 deed)
   pub awaits : Awaits (follow_of t.0 deed)
   pub asks : AsksFor kind priority front
   -- it has no more: the deed is left undone, or no submission makes as many steps; or it has one more, which was not to follow there
-  pub adds : (Adds c old front new × (IsUndone c t deed new.front ⊎ (512 ≤ length front)))
+  pub adds : (Adds c old front new × (IsUndone keeps c t deed new.front ⊎ (512 ≤ length front)))
       ⊎ ((e : Entry) × (goes t.0 (follow_of t.0 deed) e.did ≡ Astray) × Adds c old (front ++ e ∷ []) new)
 
 module _ {J : Type 0} (c : Config) (kind : Kind) (priority : ℕ) (job : J) (promise : Promise) (old new : PassView) where
@@ -115,13 +119,14 @@ module _ {J : Type 0} (c : Config) (kind : Kind) (priority : ℕ) (job : J) (pro
   abbrev pub IsAdmitted : Admitted → Type 0
   IsAdmitted a = AddsPath c kind priority (task_of a) (end_of a) old new × GotJob c kind priority job promise old.number (task_of a).0 old.front new.front
 
+module _ {J : Type 0} (keeps : Bool) (c : Config) (kind : Kind) (priority : ℕ) (job : J) (promise : Promise) (old new : PassView) where
   -- it is refused: after its whole path, with the job that its verdict took out of the pool's book, unless its task was cancelled; or torn off on it; or before its first step, and then
   -- with the job
   abbrev pub IsTurnedAway : Refused J → Type 0
   IsTurnedAway refused =
       ((t : TaskId) × (refused.error ≡ error.Rejected t) × AddsPath c kind priority t Rejected old new × GotJob c kind priority job promise old.number t.0 old.front new.front × ComesBack t.0 refused.job new.front × IsJobOut c old.number t.0 refused.job old.front new.front)
-      ⊎ ((t : TaskId) × (refused.error ≡ error.TornRecord) × AddsFront c kind priority t old new × GotJob c kind priority job promise old.number t.0 old.front new.front)
-      ⊎ (Refuses c ⊤ new.front (ask.Submit kind priority) refused.error × (refused.job ≡ Some job) × AddsNone old new)
+      ⊎ ((t : TaskId) × (refused.error ≡ error.TornRecord) × AddsFront keeps c kind priority t old new × GotJob c kind priority job promise old.number t.0 old.front new.front)
+      ⊎ (Refuses true c ⊤ new.front (ask.Submit kind priority) refused.error × (refused.job ≡ Some job) × AddsNone old new)
 
 -- where a submission of this kind answers an admission, it is one of this job, at the priority that the job is asked for
 abbrev pub Admits : {J : Type 0} → Config → Kind → ℕ → J → Promise → PassView → PassView → Result Admitted (Refused J) → Type 0

@@ -38,24 +38,24 @@ heir_after heir (deed.Replaced v) = Some v
 heir_after heir _ = heir
 
 -- a worker whose pass has this number asks the pool, at a history that goes on from the one that it knows; then it knows the other one
-module _ (J : Type 0) (c : Config) (by : ℕ) (before : List Entry) where
+module _ (J : Type 0) (keeps : Bool) (c : Config) (by : ℕ) (before : List Entry) where
   abbrev pub Takes : SlotId → List Entry → (Result Took PoolError → Type 0) → Type 0
-  Takes w after F = Asks J c by before (ask.Take w) (λ x. did.Take w x) (λ _. Keeps) after F
+  Takes w after F = Asks J keeps c by before (ask.Take w) (λ x. did.Take w x) (λ _. Keeps) after F
 
   abbrev pub BeginsAt : SlotId → List Entry → (Result (Started (Task J)) PoolError → Type 0) → Type 0
-  BeginsAt w after F = Asks J c by before (ask.Begin w) (λ x. did.Begin w (started_of x)) (λ x old new. Begins old (started_of x) new (payload_begun x)) after F
+  BeginsAt w after F = Asks J keeps c by before (ask.Begin w) (λ x. did.Begin w (started_of x)) (λ x old new. Begins old (started_of x) new (payload_begun x)) after F
 
   abbrev pub Ends : SlotId → Outcome → List Entry → (Result TaskId PoolError → Type 0) → Type 0
-  Ends w o after F = Asks J c by before (ask.End w o) (λ t. did.End w t o) (λ _. Keeps) after F
+  Ends w o after F = Asks J keeps c by before (ask.End w o) (λ t. did.End w t o) (λ _. Keeps) after F
 
   abbrev pub Leaves : SlotId → List Entry → (Result (Option SlotId) PoolError → Type 0) → Type 0
-  Leaves w after F = Asks J c by before (ask.Leave w) (λ x. did.Leave w x) (λ _. Keeps) after F
+  Leaves w after F = Asks J keeps c by before (ask.Leave w) (λ x. did.Leave w x) (λ _. Keeps) after F
 
   abbrev pub Opens : SlotId → List Entry → Type 0
-  Opens w after = Asks J c by before (ask.Open w) (λ x. did.Open w x) (λ _. Keeps) after (λ _. ⊤)
+  Opens w after = Asks J keeps c by before (ask.Open w) (λ x. did.Open w x) (λ _. Keeps) after (λ _. ⊤)
 
   abbrev pub Fails : SlotId → List Entry → Type 0
-  Fails w after = Asks J c by before (ask.Fail w) (λ x. did.Fail w x) (λ _. Keeps) after (λ _. ⊤)
+  Fails w after = Asks J keeps c by before (ask.Fail w) (λ x. did.Fail w x) (λ _. Keeps) after (λ _. ⊤)
 
   -- it tells whether another worker was made for this slot
   abbrev pub HandsOver : SlotId → Bool → List Entry → Type 0
@@ -63,28 +63,28 @@ module _ (J : Type 0) (c : Config) (by : ℕ) (before : List Entry) where
   HandsOver w false after = Fails w after
 
   abbrev pub Tidies : List Entry → (Result (Unit {0}) PoolError → Type 0) → Type 0
-  Tidies after F = Asks J c by before ask.Tidy (λ _. did.Tidy) (λ _. Keeps) after F
+  Tidies after F = Asks J keeps c by before ask.Tidy (λ _. did.Tidy) (λ _. Keeps) after F
 
   abbrev pub EndsLast : List Entry → Type 0
-  EndsLast after = Asks J {A = Unit {0}} c by before ask.Ended (λ _. did.Ended) (λ _. Keeps) after (λ _. ⊤)
+  EndsLast after = Asks J {A = Unit {0}} keeps c by before ask.Ended (λ _. did.Ended) (λ _. Keeps) after (λ _. ⊤)
 
 -- it asks for the pool's end, and where that has begun it ends it
-abbrev pub EndsPool : Type 0 → Config → ℕ → List Entry → List Entry → Type 0
-EndsPool J c by before after = (mid : List Entry) × Tidies J c by before mid (λ r. IfOk r (λ _. EndsLast J c by mid after) × OnErr r (after ≡ mid))
+abbrev pub EndsPool : Type 0 → Bool → Config → ℕ → List Entry → List Entry → Type 0
+EndsPool J keeps c by before after = (mid : List Entry) × Tidies J keeps c by before mid (λ r. IfOk r (λ _. EndsLast J keeps c by mid after) × OnErr r (after ≡ mid))
 
 -- so it does where no worker is to be made in its place
-abbrev pub Closes : Type 0 → Config → ℕ → List Entry → List Entry → Option SlotId → Type 0
-Closes J c by before after None = EndsPool J c by before after
-Closes J c by before after (Some v) = ⊤
+abbrev pub Closes : Type 0 → Bool → Config → ℕ → List Entry → List Entry → Option SlotId → Type 0
+Closes J keeps c by before after None = EndsPool J keeps c by before after
+Closes J keeps c by before after (Some v) = ⊤
 
-module _ (J : Type 0) (c : Config) (w : SlotId) (by : ℕ) (before after : List Entry) (heir : Option SlotId) where
+module _ (J : Type 0) (keeps : Bool) (c : Config) (w : SlotId) (by : ℕ) (before after : List Entry) (heir : Option SlotId) where
   -- a deed of the worker of slot w that is a step is answered as it says, with the job that it hands out; the others are no steps
   abbrev pub IsDone : Deed → Option (J × CancelFlag) → Type 0
-  IsDone (deed.Took t) _ = Takes J c by before w after (λ r. taken_as t ≡ taking_of r)
-  IsDone (deed.Began t) job = BeginsAt J c by before w after (λ r. (deed.Began t, job) ≡ told (begun_of r))
-  IsDone (deed.Skipped t) job = BeginsAt J c by before w after (λ r. (deed.Skipped t, job) ≡ told (begun_of r))
-  IsDone deed.Unbegun job = BeginsAt J c by before w after (λ r. (deed.Unbegun, job) ≡ told (begun_of r))
-  IsDone (deed.Ended o e) _ = Ends J c by before w o after (IsEndOf (state c after) w.0 e)
-  IsDone (deed.Left d) _ = Leaves J c by before w after (λ r. d ≡ departed_of r)
-  IsDone deed.Tidied _ = Closes J c by before after heir
+  IsDone (deed.Took t) _ = Takes J keeps c by before w after (λ r. taken_as t ≡ taking_of r)
+  IsDone (deed.Began t) job = BeginsAt J keeps c by before w after (λ r. (deed.Began t, job) ≡ told (begun_of r))
+  IsDone (deed.Skipped t) job = BeginsAt J keeps c by before w after (λ r. (deed.Skipped t, job) ≡ told (begun_of r))
+  IsDone deed.Unbegun job = BeginsAt J keeps c by before w after (λ r. (deed.Unbegun, job) ≡ told (begun_of r))
+  IsDone (deed.Ended o e) _ = Ends J keeps c by before w o after (IsEndOf (state c after) w.0 e)
+  IsDone (deed.Left d) _ = Leaves J keeps c by before w after (λ r. d ≡ departed_of r)
+  IsDone deed.Tidied _ = Closes J keeps c by before after heir
   IsDone _ _ = ⊤

@@ -6,12 +6,14 @@ use Rattle.tp_record.specs.declared.entries.Ask.{Ask}
 use Rattle.tp_record.specs.declared.entries.Ask.TheVariants as ask
 use Rattle.tp_record.specs.declared.entries.Did.{Did}
 use Rattle.tp_record.specs.declared.entries.Entry.{Entry}
+use Rattle.tp_machine.specs.Steps.{IsRefusedAt}
 use Rattle.tp_book.specs.PassView.{PassView}
-use Rattle.tp_locked.specs.Passes.{Adds, IsRefusal, entry_of, tidied, ended}
+use Rattle.tp_locked.specs.Moments.{AtFront}
+use Rattle.tp_locked.specs.Passes.{Adds, entry_of, tidied, ended}
 
--- at this history a pool with these settings refuses this ask
+-- at this history a pool with these settings refuses this ask, as a step that names no task is refused whether or not the record is kept
 abbrev pub IsBarred : Config → List Entry → Ask → Type 0
-IsBarred c history a = (e : PoolError) × IsRefusal c history a e
+IsBarred c history a = (e : PoolError) × AtFront c history (λ s. IsRefusedAt c s a e)
 
 -- the steps of an end that the pass of this number made, as far as the pool took them, `tidy` and `ended`; at this history it took no more
 abbrev pub IsEnding : Config → ℕ → List Entry → List Entry → Type 0

@@ -5,6 +5,7 @@ pub mod Endings
 pub mod Lives
 pub mod Outcomes
 pub mod Prestarts
+pub mod Refusals
 pub mod Rescues
 pub mod Snapshots
 pub mod Submissions

@@ -1,5 +1,5 @@
 -- What a pool's whole life in one call leaves.
-use Rattle.std.specs.Prelude.{ℕ, ℤ, ◌≡◌, ◌⊎◌, ◌≤◌, List, [], ◌∷◌, None, Result, Ok, Err}
+use Rattle.std.specs.Prelude.{ℕ, ℤ, true, ◌≡◌, ◌⊎◌, ◌≤◌, List, [], ◌∷◌, None, Result, Ok, Err}
 use Rattle.tp_types.specs.Config.{checked}
 use Rattle.tp_types.specs.declared.configs.Config.{Config}
 use Rattle.tp_types.specs.declared.ids.TaskId.{TaskId}
@@ -12,10 +12,11 @@ use Rattle.tp_record.specs.Fields.{rank}
 use Rattle.tp_book.specs.PassView.{PassView}
 use Rattle.tp_book.specs.declared.book.closing.Report.{Report}
 use Rattle.tp_locked.specs.Moments.{AtSome, BookAt}
-use Rattle.tp_locked.specs.Passes.{IsRefusal, LooksOnly}
+use Rattle.tp_locked.specs.Passes.{LooksOnly}
 use Rattle.tp_locked.specs.Readings.{got, IsFound}
 use Rattle.tp_locked.specs.declared.tasks.Task.{Task}
 use Rattle.tp_pool.specs.Closing.{Reports}
+use Rattle.tp_pool.specs.Endings.{IsBarred}
 use Rattle.tp_pool.specs.Submissions.{Submits}
 use Rattle.tp_pool.specs.Turns.{ThroughBoth}
 
@@ -23,7 +24,7 @@ use Rattle.tp_pool.specs.Turns.{ThroughBoth}
 module _ (J : Type 0) (c : Config) where
   -- the pass looks, and is told what became of this task; or the refusal of its submission is the answer
   abbrev pub IsTold : Result TaskId PoolError → Result ℤ PoolError → PassView → PassView → Type 0
-  IsTold (Ok t) answer old new = LooksOnly c old new × BookAt (Task J) c new.front (λ b. IsFound b t.0 None (got answer))
+  IsTold (Ok t) answer old new = LooksOnly c old new × BookAt (Task J) c new.front (λ b. IsFound b t.0 true None (got answer))
   IsTold (Err e) answer old new = (new ≡ old) × (answer ≡ Err e)
 
   -- so it is told of each of these, one after another
@@ -34,7 +35,7 @@ module _ (J : Type 0) (c : Config) where
 module _ {J : Type 0} (c : Config) (promised : J → Promise) (urgency : J → ℕ) where
   -- the pass submits these jobs with futures, one after another, as these tasks, or is refused so
   abbrev pub AreSubmitted : List J → List (Result TaskId PoolError) → PassView → PassView → Type 0
-  AreSubmitted jobs tasks old new = ThroughBoth (λ job task. Submits c job (promised job) (urgency job) task) jobs tasks old new
+  AreSubmitted jobs tasks old new = ThroughBoth (λ job task. Submits true c job (promised job) (urgency job) task) jobs tasks old new
 
   -- it submits these jobs, and then is told, in the same order, what became of each
   pub record AreAnswered (jobs : List J) (answers : List (Result ℤ PoolError)) (old new : PassView) : Type 0 where
@@ -46,7 +47,7 @@ module _ {J : Type 0} (c : Config) (promised : J → Promise) (urgency : J → �
   -- so does a new pool's first pass, and the pool is closed with it and one other
   pub record IsRun (jobs : List J) (answers : List (Result ℤ PoolError)) (r : Report) : Type 0 where
     pub first : PassView
-    pub opened : first ≡ record { number = 0; amount = 0; front = []; receipts = []; room = first.room }
+    pub opened : first ≡ record { number = 0; amount = 0; front = []; keeps = true; receipts = []; room = first.room }
     pub new : PassView
     pub other : PassView
     pub answered : AreAnswered jobs answers first new
@@ -66,4 +67,4 @@ IsOver c e = IsUnopened c e ⊎ (IsCut e × AtSome c (λ s. 3 ≤ s.rank))
 
 -- at this history the pool is shut down, or a shutdown is refused
 abbrev pub IsShut : Config → List Entry → Type 0
-IsShut c h = (1 ≤ rank h) ⊎ ((e : PoolError) × IsRefusal c h ask.Shutdown e)
+IsShut c h = (1 ≤ rank h) ⊎ IsBarred c h ask.Shutdown

@@ -18,8 +18,8 @@ slot_of (Ok w) = w
 slot_of (Err e) = None
 
 -- a thread whose pass has this number does this at a history that goes on from the one that it knows; then it knows the other one
-abbrev pub IsDone : Type 0 → Config → ℕ → List Entry → List Entry → Deed → Type 0
-IsDone J c by before after (deed.Tidied began) = Tidies J c by before after (λ r. began ≡ is_ok r)
-IsDone J c by before after deed.Terminated = after ≡ before
-IsDone J c by before after deed.Ended = EndsLast J c by before after
-IsDone J c by before after (deed.Reserved w) = Asks J c by before ask.Prestart (λ w. did.Prestart w) (λ _. Keeps) after (λ r. w ≡ slot_of r)
+abbrev pub IsDone : Type 0 → Bool → Config → ℕ → List Entry → List Entry → Deed → Type 0
+IsDone J keeps c by before after (deed.Tidied began) = Tidies J keeps c by before after (λ r. began ≡ is_ok r)
+IsDone J keeps c by before after deed.Terminated = after ≡ before
+IsDone J keeps c by before after deed.Ended = EndsLast J keeps c by before after
+IsDone J keeps c by before after (deed.Reserved w) = Asks J keeps c by before ask.Prestart (λ w. did.Prestart w) (λ _. Keeps) after (λ r. w ≡ slot_of r)

@@ -1,5 +1,5 @@
 -- What one submission of a job comes to.
-use Rattle.std.specs.Prelude.{ℕ, ◌≡◌, ◌⊎◌, Result, Ok, Err}
+use Rattle.std.specs.Prelude.{ℕ, Bool, ◌≡◌, ◌⊎◌, Result, Ok, Err}
 use Rattle.tp_types.specs.declared.configs.Config.{Config}
 use Rattle.tp_types.specs.declared.ids.TaskId.{TaskId}
 use Rattle.tp_types.specs.declared.refusals.PoolError.{PoolError}
@@ -21,7 +21,7 @@ abbrev pub AddsJob : {J : Type 0} → Config → Kind → J → Promise → ℕ 
 AddsJob c k job promise urgency t old new = AtPriority urgency (λ p. AddsSubmission c k p t old new × GotJob c k p job promise old.number t.0 old.front new.front)
 
 -- this job is submitted with a future, as this task; or it is refused so
-module _ {J : Type 0} (c : Config) (job : J) (promise : Promise) (urgency : ℕ) where
+module _ {J : Type 0} (keeps : Bool) (c : Config) (job : J) (promise : Promise) (urgency : ℕ) where
   abbrev pub Submits : Result TaskId PoolError → PassView → PassView → Type 0
   Submits (Ok t) old new = AddsJob c kind.Future job promise urgency t old new
-  Submits (Err e) old new = (x : Refused J) × (x.error ≡ e) × AtPriority urgency (λ p. IsTurnedAway c kind.Future p job promise old new x)
+  Submits (Err e) old new = (x : Refused J) × (x.error ≡ e) × AtPriority urgency (λ p. IsTurnedAway keeps c kind.Future p job promise old new x)

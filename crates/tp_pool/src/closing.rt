@@ -1,30 +1,40 @@
 //! The close of a pool: its record, with every pass accounted for.
 ghost use Rattle.std.specs.Prelude.{◌≡◌, IfOk, IfErr};
-ghost use Rattle.tp_pool.specs.Closing.{Reports};
+ghost use Rattle.tp_pool.specs.Closing.{Reports, Tallies};
 ghost use Rattle.tp_locked.specs.Closing.{KeepsOpen};
-ghost use Rattle.tp_locked.specs.declared.tasks.Task.{Task};
+ghost use Rattle.tp_types.specs.Config.{IsConfig};
+ghost use Rattle.tp_book.specs.BookView.{config};
+ghost use Rattle.tp_locked.specs.declared.tasks.Task.{Task as TaskOf};
 
 use crate::edges::Edge;
+use crate::policies::PolicyOf;
 use crate::pool::{Hold, PoolOf};
-use crate::shared::Shared;
+use crate::shared::{Conditions, Shared};
+use std::alloc::Global;
 use std::sync::{Arc, Wait};
-use std::thread;
-pub use tp_book::book::Report;
-use tp_book::book::Unclosed;
+use std::thread::{self, Parker};
+use tp_book::book::{Book, Unclosed};
+pub use tp_book::book::{Report, TallyReport};
+use tp_book::gathered::Gathered;
 use tp_book::passes::Pass;
 use tp_callbacks::jobs::Job;
-use tp_laws::lawful::legal_is_lawful;
+use tp_glance::glance::Glance;
+use tp_laws::lawful::law_legal_is_lawful;
+use tp_locked::locked::Beside;
 use tp_locked::locks::PoolLock;
 use tp_locked::names::PoolNaming;
+use tp_locked::tasks::Task;
+use tp_machine::machine::releases::Keeper;
+use tp_record::recorders::{Full, Recorder, Tally};
 use tp_types::refusals::PoolError;
 
 /// The answer of a close that was refused: the pool comes back, with the passes that were handed in.
 #[derive(Drop)]
-pub struct CloseFault<G: PoolNaming, J, E> {
+pub struct CloseFault<G: PoolNaming, J, E, K: Keeper = Full> {
     /// The refusal: NotTerminated (20), MissingPass (21) or TornRecord (22).
     pub error: PoolError,
     /// The pool, handed back.
-    pub pool: PoolOf<G, J, E>,
+    pub pool: PoolOf<G, J, E, K>,
     /// The passes, handed back in their order.
     pub passes: Vec<Pass<G>>,
 }
@@ -41,7 +51,49 @@ impl<G: PoolNaming, J: Job, E: Edge> PoolOf<G, J, E> {
     /// pool and the passes come back.
     pub fn close<R: Wait>(self, rt: &R, passes: Vec<Pass<G>>) -> Result<Report, CloseFault<G, J, E>>
         ensures report { IfOk result (Reports G.config passes.items) }
-        ensures refused { IfErr result (λ f. KeepsOpen (Task J) G.config passes.items f.error) }
+        ensures refused { IfErr result (λ f. KeepsOpen (TaskOf J) G.config passes.items f.error) }
+        ensures returned { IfErr result (λ f. f.passes.items ≡ passes.items) }
+    {
+        match self.alone(rt, passes) {
+            Ok((shared, passes)) => shared.close(passes),
+            Err(fault) => Err(fault),
+        }
+    }
+}
+
+impl<G: PoolNaming, J: Job, E: Edge> PoolOf<G, J, E, Tally> {
+    /// Closes a terminated pool that kept no record, with all passes that its callers got, and answers how many
+    /// steps it made, its counters, and how many of its tasks have no fate. There is a legal record of so many
+    /// steps with these counters, which goes on from what each pass knew.
+    ///
+    /// NotTerminated (20) and MissingPass (21) as where the record is kept. TornRecord (22) where the passes'
+    /// shares would not add up to the steps. After a refusal the pool and the passes come back.
+    pub fn close<R: Wait>(
+        self,
+        rt: &R,
+        passes: Vec<Pass<G>>,
+    ) -> Result<TallyReport, CloseFault<G, J, E, Tally>>
+        ensures report { IfOk result (Tallies G.config passes.items) }
+        ensures refused { IfErr result (λ f. KeepsOpen (TaskOf J) (⟦<Tally as Recorder>⟧.terms G.config) passes.items f.error) }
+        ensures returned { IfErr result (λ f. f.passes.items ≡ passes.items) }
+    {
+        match self.alone(rt, passes) {
+            Ok((alone, passes)) => alone.close(passes),
+            Err(fault) => Err(fault),
+        }
+    }
+}
+
+impl<G: PoolNaming, J: Job, E: Edge, K: Keeper> PoolOf<G, J, E, K> {
+    // The value of a terminated pool, of whose callers these are all passes, once no other thread has it.
+    // NotTerminated (20) or MissingPass (21).
+    fn alone<R: Wait>(
+        self,
+        rt: &R,
+        passes: Vec<Pass<G>>,
+    ) -> Result<(Shared<G, J, E, K>, Vec<Pass<G>>), CloseFault<G, J, E, K>>
+        ensures passes { IfOk result (λ r. r.1.items ≡ passes.items) }
+        ensures refused { IfErr result (λ f. KeepsOpen (TaskOf J) (K.terms G.config) passes.items f.error) }
         ensures returned { IfErr result (λ f. f.passes.items ≡ passes.items) }
     {
         let mut passes = passes;
@@ -60,7 +112,7 @@ impl<G: PoolNaming, J: Job, E: Edge> PoolOf<G, J, E> {
             Hold::Many(shared) => sole(rt, shared),
             Hold::One(shared) => shared,
         };
-        shared.close(passes)
+        Ok((shared, passes))
     }
 }
 
@@ -77,11 +129,68 @@ pub(crate) fn sole<T, R: Wait>(rt: &R, shared: Arc<T>) -> T {
     unreachable!()
 }
 
-impl<G: PoolNaming, J: Job, E: Edge> Shared<G, J, E> {
-    fn close(self, passes: Vec<Pass<G>>) -> Result<Report, CloseFault<G, J, E>>
-        ensures report { IfOk result (Reports G.config passes.items) }
-        ensures refused { IfErr result (λ f. KeepsOpen (Task J) G.config passes.items f.error) }
-        ensures returned { IfErr result (λ f. f.passes.items ≡ passes.items) }
+// A pool's value without its book and its workers' passes.
+#[derive(Drop)]
+struct Rest<G: PoolNaming, E> {
+    beside: Beside,
+    conditions: Conditions,
+    parkers: Vec<Parker>,
+    glance: Glance<G>,
+    edge: E,
+    policy: PolicyOf<G>,
+    alloc: Global,
+}
+
+impl<G: PoolNaming, E: Edge> Rest<G, E> {
+    // The answer of a close that the book refused: the pool is put together again.
+    fn reopened<J: Job, K: Keeper>(
+        self,
+        unclosed: Unclosed<G, Task<J>, K>,
+    ) -> CloseFault<G, J, E, K>
+        requires settings { config unclosed.book ≡ (K.terms G.config) }
+        requires good { IsConfig G.config }
+        ensures error { result.error ≡ unclosed.error }
+        ensures passes { result.passes ≡ unclosed.passes }
+    {
+        let Unclosed {
+            error,
+            book,
+            passes,
+            workers,
+        } = unclosed;
+        let Rest {
+            beside,
+            conditions,
+            parkers,
+            glance,
+            edge,
+            policy,
+            alloc,
+        } = self;
+        let shared = Shared {
+            core: PoolLock::again(alloc, book, workers, beside),
+            conditions,
+            parkers,
+            glance,
+            edge,
+            policy,
+            alloc,
+        };
+        CloseFault {
+            error,
+            pool: PoolOf {
+                hold: Hold::One(shared),
+            },
+            passes,
+        }
+    }
+}
+
+impl<G: PoolNaming, J: Job, E: Edge, K: Keeper> Shared<G, J, E, K> {
+    // The book, the workers' passes, and the rest.
+    fn apart(self) -> (Book<G, Task<J>, K>, Gathered<G>, Rest<G, E>)
+        ensures settings { config result.0 ≡ (K.terms G.config) }
+        ensures good { IsConfig G.config }
     {
         let Shared {
             core,
@@ -92,40 +201,56 @@ impl<G: PoolNaming, J: Job, E: Edge> Shared<G, J, E> {
             policy,
             alloc,
         } = self;
+        let (book, workers, beside) = core.part();
+        let rest = Rest {
+            beside,
+            conditions,
+            parkers,
+            glance,
+            edge,
+            policy,
+            alloc,
+        };
+        (book, workers, rest)
+    }
+}
+
+impl<G: PoolNaming, J: Job, E: Edge> Shared<G, J, E> {
+    fn close(self, passes: Vec<Pass<G>>) -> Result<Report, CloseFault<G, J, E>>
+        ensures report { IfOk result (Reports G.config passes.items) }
+        ensures refused { IfErr result (λ f. KeepsOpen (TaskOf J) G.config passes.items f.error) }
+        ensures returned { IfErr result (λ f. f.passes.items ≡ passes.items) }
+    {
         let mut passes = passes;
-        let (mut book, workers, beside) = core.part();
-        book.all_are_fronts(&glance, &mut passes);
-        book.is_balanced();
-        match book.close(&glance, passes, workers) {
+        let (mut book, workers, rest) = self.apart();
+        book.law_all_are_fronts(&rest.glance, &mut passes);
+        book.law_is_balanced();
+        match book.close(&rest.glance, passes, workers) {
             Ok(report) => {
-                legal_is_lawful();
+                law_legal_is_lawful();
                 Ok(report)
             }
-            Err(unclosed) => {
-                let Unclosed {
-                    error,
-                    book,
-                    passes,
-                    workers,
-                } = unclosed;
-                let shared = Shared {
-                    core: PoolLock::again(alloc, book, workers, beside),
-                    conditions,
-                    parkers,
-                    glance,
-                    edge,
-                    policy,
-                    alloc,
-                };
-                let pool = PoolOf {
-                    hold: Hold::One(shared),
-                };
-                Err(CloseFault {
-                    error,
-                    pool,
-                    passes,
-                })
+            Err(unclosed) => Err(rest.reopened(unclosed)),
+        }
+    }
+}
+
+impl<G: PoolNaming, J: Job, E: Edge> Shared<G, J, E, Tally> {
+    fn close(self, passes: Vec<Pass<G>>) -> Result<TallyReport, CloseFault<G, J, E, Tally>>
+        ensures report { IfOk result (Tallies G.config passes.items) }
+        ensures refused { IfErr result (λ f. KeepsOpen (TaskOf J) (⟦<Tally as Recorder>⟧.terms G.config) passes.items f.error) }
+        ensures returned { IfErr result (λ f. f.passes.items ≡ passes.items) }
+    {
+        let mut passes = passes;
+        let (mut book, workers, rest) = self.apart();
+        book.law_all_are_fronts(&rest.glance, &mut passes);
+        book.law_is_balanced();
+        match book.close(&rest.glance, passes, workers) {
+            Ok(report) => {
+                law_legal_is_lawful();
+                Ok(report)
             }
+            Err(unclosed) => Err(rest.reopened(unclosed)),
         }
     }
 }

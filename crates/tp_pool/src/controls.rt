@@ -1,7 +1,7 @@
 //! The controlling calls: settings, the moment, and single tasks. Each makes one step, with one receipt. A
 //! refused call makes no step, and its pass gets no receipt. Accepted or refused, the call brings its pass up to
 //! the pool's record, and is answered as the pool stands there.
-ghost use Rattle.std.specs.Prelude.{◌<◌, ◌≡◌, IfOk, IfErr, OnOk, OnErr};
+ghost use Rattle.std.specs.Prelude.{◌<◌, ◌≡◌, true, IfOk, IfErr, OnOk, OnErr};
 ghost use Rattle.tp_locked.specs.Answers.{is_removed};
 ghost use Rattle.tp_locked.specs.Passes.{AddsStep, AddsNone, Refuses};
 ghost use Rattle.tp_locked.specs.Steps.{Removes, removal_of};
@@ -14,6 +14,7 @@ use tp_callbacks::jobs::Job;
 use tp_locked::answers::Removal;
 use tp_locked::names::PoolNaming;
 use tp_locked::tasks::Task;
+use tp_machine::machine::releases::Keeper;
 use tp_machine::typed::controllers::{Cancel, Purge, Remove};
 use tp_machine::typed::settings::{CoreTimeout, Keep, Maximum, Tick};
 use tp_record::entries::{Ask, Did};
@@ -30,7 +31,7 @@ fn removal_from<J>(handed: Option<(TaskId, Option<Task<J>>)>) -> Removal<J>
     }
 }
 
-impl<G: PoolNaming, J: Job, E: Edge> PoolOf<G, J, E> {
+impl<G: PoolNaming, J: Job, E: Edge, K: Keeper> PoolOf<G, J, E, K> {
     /// Sets the maximum size, in workers, as `setMaximumPoolSize`. NoMemory (4) for its receipt, else
     /// BadSizes (1) for 0, above 1,024 or below the core size, else BookFull (5), or NoMemory (4) for the
     /// places of more slots, where this is above the pool's maximum size.
@@ -40,8 +41,8 @@ impl<G: PoolNaming, J: Job, E: Edge> PoolOf<G, J, E> {
         maximum: u32,
         pass: &mut Pass<G>,
     ) -> Result<(), PoolError>
-        ensures step { OnOk result (AddsStep G.config pass.old (Ask.Maximum maximum) (Did.Maximum maximum) pass.new) }
-        ensures refused { IfErr result (Refuses G.config (pass.old.room < 1) pass.new.front (Ask.Maximum maximum)) }
+        ensures step { OnOk result (AddsStep (K.terms G.config) pass.old (Ask.Maximum maximum) (Did.Maximum maximum) pass.new) }
+        ensures refused { IfErr result (Refuses true (K.terms G.config) (pass.old.room < 1) pass.new.front (Ask.Maximum maximum)) }
         ensures unchanged { OnErr result (AddsNone pass.old pass.new) }
     {
         self.shared().control(rt, Maximum(maximum), pass)
@@ -50,8 +51,8 @@ impl<G: PoolNaming, J: Job, E: Edge> PoolOf<G, J, E> {
     /// Sets the keep-alive, in ticks, as `setKeepAliveTime`. NoMemory (4) for its receipt, else KeepZero (11)
     /// for 0 while core workers time out, else BookFull (5).
     pub fn set_keep<R: Wait>(&self, rt: &R, keep: u64, pass: &mut Pass<G>) -> Result<(), PoolError>
-        ensures step { OnOk result (AddsStep G.config pass.old (Ask.Keep keep) (Did.Keep keep) pass.new) }
-        ensures refused { IfErr result (Refuses G.config (pass.old.room < 1) pass.new.front (Ask.Keep keep)) }
+        ensures step { OnOk result (AddsStep (K.terms G.config) pass.old (Ask.Keep keep) (Did.Keep keep) pass.new) }
+        ensures refused { IfErr result (Refuses true (K.terms G.config) (pass.old.room < 1) pass.new.front (Ask.Keep keep)) }
         ensures unchanged { OnErr result (AddsNone pass.old pass.new) }
     {
         self.shared().control(rt, Keep(keep), pass)
@@ -65,8 +66,8 @@ impl<G: PoolNaming, J: Job, E: Edge> PoolOf<G, J, E> {
         on: bool,
         pass: &mut Pass<G>,
     ) -> Result<(), PoolError>
-        ensures step { OnOk result (AddsStep G.config pass.old (Ask.CoreTimeout on) (Did.CoreTimeout on) pass.new) }
-        ensures refused { IfErr result (Refuses G.config (pass.old.room < 1) pass.new.front (Ask.CoreTimeout on)) }
+        ensures step { OnOk result (AddsStep (K.terms G.config) pass.old (Ask.CoreTimeout on) (Did.CoreTimeout on) pass.new) }
+        ensures refused { IfErr result (Refuses true (K.terms G.config) (pass.old.room < 1) pass.new.front (Ask.CoreTimeout on)) }
         ensures unchanged { OnErr result (AddsNone pass.old pass.new) }
     {
         self.shared().control(rt, CoreTimeout(on), pass)
@@ -75,8 +76,8 @@ impl<G: PoolNaming, J: Job, E: Edge> PoolOf<G, J, E> {
     /// Sets the moment, in ticks; Java's pool reads a clock instead. Keep-alives and deadlines are measured
     /// by it. NoMemory (4) for its receipt, else ClockBack (10) for a moment below now, else BookFull (5).
     pub fn tick<R: Wait>(&self, rt: &R, now: u64, pass: &mut Pass<G>) -> Result<(), PoolError>
-        ensures step { OnOk result (AddsStep G.config pass.old (Ask.Tick now) (Did.Tick now) pass.new) }
-        ensures refused { IfErr result (Refuses G.config (pass.old.room < 1) pass.new.front (Ask.Tick now)) }
+        ensures step { OnOk result (AddsStep (K.terms G.config) pass.old (Ask.Tick now) (Did.Tick now) pass.new) }
+        ensures refused { IfErr result (Refuses true (K.terms G.config) (pass.old.room < 1) pass.new.front (Ask.Tick now)) }
         ensures unchanged { OnErr result (AddsNone pass.old pass.new) }
     {
         self.shared().control(rt, Tick(now), pass)
@@ -86,8 +87,8 @@ impl<G: PoolNaming, J: Job, E: Edge> PoolOf<G, J, E> {
     /// were. Where that leaves a pool that is shut down without a task and a worker, this call ends the pool.
     /// NoMemory (4) for its receipt, else BookFull (5).
     pub fn purge<R: Wait>(&self, rt: &R, pass: &mut Pass<G>) -> Result<u32, PoolError>
-        ensures step { IfOk result (λ n. AddsStep G.config pass.old Ask.Purge (Did.Purge n) pass.new) }
-        ensures refused { IfErr result (Refuses G.config (pass.old.room < 1) pass.new.front Ask.Purge) }
+        ensures step { IfOk result (λ n. AddsStep (K.terms G.config) pass.old Ask.Purge (Did.Purge n) pass.new) }
+        ensures refused { IfErr result (Refuses true (K.terms G.config) (pass.old.room < 1) pass.new.front Ask.Purge) }
         ensures unchanged { OnErr result (AddsNone pass.old pass.new) }
     {
         self.shared().control_and_end(rt, Purge, pass)
@@ -103,9 +104,9 @@ impl<G: PoolNaming, J: Job, E: Edge> PoolOf<G, J, E> {
         t: TaskId,
         pass: &mut Pass<G>,
     ) -> Result<Removal<J>, PoolError>
-        ensures job { IfOk result (λ r. Removes J G.config pass.old.number pass.old.front t r pass.new.front) }
-        ensures step { IfOk result (λ r. AddsStep G.config pass.old (Ask.Remove t) (Did.Remove t (is_removed r)) pass.new) }
-        ensures refused { IfErr result (Refuses G.config (pass.old.room < 1) pass.new.front (Ask.Remove t)) }
+        ensures job { IfOk result (λ r. Removes J (K.terms G.config) pass.old.number pass.old.front t r pass.new.front) }
+        ensures step { IfOk result (λ r. AddsStep (K.terms G.config) pass.old (Ask.Remove t) (Did.Remove t (is_removed r)) pass.new) }
+        ensures refused { IfErr result (Refuses K.RECEIPTS (K.terms G.config) (pass.old.room < 1) pass.new.front (Ask.Remove t)) }
         ensures unchanged { OnErr result (AddsNone pass.old pass.new) }
     {
         match self.shared().control_and_end(rt, Remove(t), pass) {
@@ -125,8 +126,8 @@ impl<G: PoolNaming, J: Job, E: Edge> PoolOf<G, J, E> {
         flag: bool,
         pass: &mut Pass<G>,
     ) -> Result<bool, PoolError>
-        ensures step { IfOk result (λ effective. AddsStep G.config pass.old (Ask.Cancel t flag) (Did.Cancel t flag effective) pass.new) }
-        ensures refused { IfErr result (Refuses G.config (pass.old.room < 1) pass.new.front (Ask.Cancel t flag)) }
+        ensures step { IfOk result (λ effective. AddsStep (K.terms G.config) pass.old (Ask.Cancel t flag) (Did.Cancel t flag effective) pass.new) }
+        ensures refused { IfErr result (Refuses K.RECEIPTS (K.terms G.config) (pass.old.room < 1) pass.new.front (Ask.Cancel t flag)) }
         ensures unchanged { OnErr result (AddsNone pass.old pass.new) }
     {
         match self.shared().control(rt, Cancel(t, flag), pass) {

@@ -1,6 +1,6 @@
 //! The calls that end a pool, and the wait for its end. A thread that finds that the pool can end makes the
 //! step `tidy`, calls the terminated hook with no lock held, and makes the step `ended`.
-ghost use Rattle.std.specs.Prelude.{◌≡◌, ◌⊎◌, ◌<◌, ◌≤◌, [], ◌∷◌, List, length, IfOk, IfErr, OnOk, OnErr};
+ghost use Rattle.std.specs.Prelude.{◌≡◌, ◌⊎◌, ◌<◌, ◌≤◌, true, [], ◌∷◌, List, length, IfOk, IfErr, OnOk, OnErr};
 ghost use Rattle.tp_record.specs.declared.entries.Entry.{Entry};
 ghost use Rattle.tp_record.specs.Fields.{rank};
 ghost use Rattle.tp_glance.specs.Word.{IsFrontOf};
@@ -17,6 +17,7 @@ use tp_book::passes::Pass;
 use tp_callbacks::jobs::Job;
 use tp_locked::answers::Drained;
 use tp_locked::names::PoolNaming;
+use tp_machine::machine::releases::Keeper;
 use tp_machine::typed::controllers::Shutdown;
 use tp_record::entries::{Ask, Did};
 use tp_types::refusals::PoolError;
@@ -25,7 +26,8 @@ impl<
     G: PoolNaming + Send + Sync + 'static,
     J: Job + 'static,
     E: Edge + Send + Sync + 'static,
-> PoolOf<G, J, E> {
+    K: Keeper + Send + 'static,
+> PoolOf<G, J, E, K> {
     /// Shuts the pool down, as `ThreadPoolExecutor.shutdown`: it takes no more tasks, and runs those that it
     /// has. Where it can end at once, this call ends it. Where tasks are queued, no worker is there and the core
     /// size is above 0, this call has a worker made for them. The pass has then seen the shutdown.
@@ -45,9 +47,9 @@ impl<
         rt: &R,
         pass: &mut Pass<G>,
     ) -> Result<(), PoolError>
-        ensures steps { OnOk result (AddsAndEnds G.config pass.old Ask.Shutdown Did.Shutdown pass.new) }
+        ensures steps { OnOk result (AddsAndEnds (K.terms G.config) pass.old Ask.Shutdown Did.Shutdown pass.new) }
         ensures seen { OnOk result (1 ≤ rank pass.new.front) }
-        ensures refused { IfErr result (Refuses G.config (pass.old.room < 3) pass.new.front Ask.Shutdown) }
+        ensures refused { IfErr result (Refuses true (K.terms G.config) (pass.old.room < 3) pass.new.front Ask.Shutdown) }
         ensures unchanged { OnErr result (AddsNone pass.old pass.new) }
     {
         if let Err(error) = pass.reserve(3) {
@@ -66,7 +68,7 @@ impl<
     }
 }
 
-impl<G: PoolNaming, J: Job, E: Edge> PoolOf<G, J, E> {
+impl<G: PoolNaming, J: Job, E: Edge, K: Keeper> PoolOf<G, J, E, K> {
     /// Stops the pool, as `shutdownNow`: the tasks in its queue are handed back in their order and never
     /// begin. The cancel flags of tasks in slots are set, and a job that runs goes on. Where the pool can end
     /// at once, this call ends it. The pass has then seen the stop.
@@ -79,10 +81,10 @@ impl<G: PoolNaming, J: Job, E: Edge> PoolOf<G, J, E> {
         rt: &R,
         pass: &mut Pass<G>,
     ) -> Result<Vec<Drained<J>>, PoolError>
-        ensures handed { IfOk result (λ drained. (mid : List Entry) × Stops J G.config pass.old.number pass.old.front drained.items mid × IsFrontOf mid pass.new.front) }
-        ensures steps { IfOk result (λ drained. AddsAndEnds G.config pass.old Ask.Stop (Did.Stop (length drained.items)) pass.new) }
+        ensures handed { IfOk result (λ drained. (mid : List Entry) × Stops J (K.terms G.config) pass.old.number pass.old.front drained.items mid × IsFrontOf mid pass.new.front) }
+        ensures steps { IfOk result (λ drained. AddsAndEnds (K.terms G.config) pass.old Ask.Stop (Did.Stop (length drained.items)) pass.new) }
         ensures seen { OnOk result (2 ≤ rank pass.new.front) }
-        ensures refused { IfErr result (Refuses G.config ((pass.old.room < 3) ⊎ AtFront G.config pass.new.front (λ s. 0 < length s.queue)) pass.new.front Ask.Stop) }
+        ensures refused { IfErr result (Refuses true (K.terms G.config) ((pass.old.room < 3) ⊎ AtFront (K.terms G.config) pass.new.front (λ s. 0 < length s.queue)) pass.new.front Ask.Stop) }
         ensures unchanged { OnErr result (AddsNone pass.old pass.new) }
     {
         if let Err(error) = pass.reserve(3) {
@@ -111,12 +113,12 @@ impl<G: PoolNaming, J: Job, E: Edge> PoolOf<G, J, E> {
         deadline: u64,
         pass: &mut Pass<G>,
     ) -> Result<(), PoolError>
-        ensures steps { OnOk result (Adds G.config pass.old [] pass.new ⊎ Adds G.config pass.old (tidied pass.old.number ∷ ended pass.old.number ∷ []) pass.new) }
+        ensures steps { OnOk result (Adds (K.terms G.config) pass.old [] pass.new ⊎ Adds (K.terms G.config) pass.old (tidied pass.old.number ∷ ended pass.old.number ∷ []) pass.new) }
         ensures seen { OnOk result (rank pass.new.front ≡ 4) }
-        ensures late { IfErr result (λ e. e ≡ PoolError.TimedOut → AtFront G.config pass.new.front (λ s. (deadline ≤ s.now) × ¬ (s.rank ≡ 4))) }
+        ensures late { IfErr result (λ e. e ≡ PoolError.TimedOut → AtFront (K.terms G.config) pass.new.front (λ s. (deadline ≤ s.now) × ¬ (s.rank ≡ 4))) }
         ensures refused { IfErr result (λ e. ((e ≡ PoolError.NoMemory) × (pass.old.room < 2) × AddsNone pass.old pass.new)
-            ⊎ ((e ≡ PoolError.TimedOut) × Adds G.config pass.old [] pass.new)
-            ⊎ ((e ≡ PoolError.TornRecord) × IsBarred G.config pass.new.front Ask.Ended × Adds G.config pass.old (tidied pass.old.number ∷ []) pass.new)) }
+            ⊎ ((e ≡ PoolError.TimedOut) × Adds (K.terms G.config) pass.old [] pass.new)
+            ⊎ ((e ≡ PoolError.TornRecord) × IsBarred (K.terms G.config) pass.new.front Ask.Ended × Adds (K.terms G.config) pass.old (tidied pass.old.number ∷ []) pass.new)) }
     {
         if let Err(error) = pass.reserve(2) {
             return Err(error);

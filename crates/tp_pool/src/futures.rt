@@ -1,6 +1,6 @@
 //! Waits for futures, for done tasks of a group, and for steps. A waiter begins to wait with the guard of the
 //! hold in which its look failed, so no step falls between the look and the sleep.
-ghost use Rattle.std.specs.Prelude.{◌≡◌, ◌⊎◌, ◌<◌, length, IfOk, IfErr, OnErr};
+ghost use Rattle.std.specs.Prelude.{◌≡◌, ◌⊎◌, ◌<◌, true, length, IfOk, IfErr, OnErr};
 ghost use Rattle.tp_locked.specs.Passes.{AddsStep, AddsNone, LooksOnly, Refuses};
 ghost use Rattle.tp_locked.specs.Moments.{AtFront, BookAt, BookAtSome};
 ghost use Rattle.tp_locked.specs.Readings.{got, IsFound, IsUndoneAt};
@@ -15,6 +15,7 @@ use tp_book::passes::Pass;
 use tp_callbacks::jobs::Job;
 use tp_locked::answers::Admitted;
 use tp_locked::names::PoolNaming;
+use tp_machine::machine::releases::Keeper;
 use tp_machine::typed::controllers::TakeDone;
 use tp_record::entries::{Ask, Did};
 use tp_types::ids::TaskId;
@@ -29,7 +30,7 @@ pub fn task_of(admitted: Admitted) -> TaskId
     }
 }
 
-impl<G: PoolNaming, J: Job, E: Edge> PoolOf<G, J, E> {
+impl<G: PoolNaming, J: Job, E: Edge, K: Keeper> PoolOf<G, J, E, K> {
     /// Waits until the task's future is not open any more, and answers its value, as `Future.get`. An outcome
     /// is as the job promised. The call makes no step.
     ///
@@ -42,7 +43,7 @@ impl<G: PoolNaming, J: Job, E: Edge> PoolOf<G, J, E> {
         t: TaskId,
         deadline: Option<u64>,
     ) -> Result<i64, PoolError>
-        ensures { BookAtSome (Task J) G.config (λ b. IsFound b t.0 deadline (got result)) }
+        ensures { BookAtSome (Task J) (K.terms G.config) (λ b. IsFound b t.0 K.RECEIPTS deadline (got result)) }
     {
         let shared = self.shared();
         let mut core = shared.hold(rt);
@@ -64,8 +65,8 @@ impl<G: PoolNaming, J: Job, E: Edge> PoolOf<G, J, E> {
         deadline: Option<u64>,
         pass: &mut Pass<G>,
     ) -> Result<i64, PoolError>
-        ensures reads { BookAt (Task J) G.config pass.new.front (λ b. IsFound b t.0 deadline (got result)) }
-        ensures looks { LooksOnly G.config pass.old pass.new }
+        ensures reads { BookAt (Task J) (K.terms G.config) pass.new.front (λ b. IsFound b t.0 K.RECEIPTS deadline (got result)) }
+        ensures looks { LooksOnly (K.terms G.config) pass.old pass.new }
     {
         let shared = self.shared();
         let mut core = shared.hold(rt);
@@ -88,8 +89,8 @@ impl<G: PoolNaming, J: Job, E: Edge> PoolOf<G, J, E> {
         group: u32,
         pass: &mut Pass<G>,
     ) -> Result<TaskId, PoolError>
-        ensures step { IfOk result (λ t. AddsStep G.config pass.old (Ask.TakeDone group) (Did.TakeDone group t) pass.new) }
-        ensures refused { IfErr result (Refuses G.config (pass.old.room < 1) pass.new.front (Ask.TakeDone group)) }
+        ensures step { IfOk result (λ t. AddsStep (K.terms G.config) pass.old (Ask.TakeDone group) (Did.TakeDone group t) pass.new) }
+        ensures refused { IfErr result (Refuses true (K.terms G.config) (pass.old.room < 1) pass.new.front (Ask.TakeDone group)) }
         ensures unchanged { OnErr result (AddsNone pass.old pass.new) }
     {
         self.shared().control(rt, TakeDone(group), pass)
@@ -104,8 +105,8 @@ impl<G: PoolNaming, J: Job, E: Edge> PoolOf<G, J, E> {
         group: u32,
         pass: &mut Pass<G>,
     ) -> Result<TaskId, PoolError>
-        ensures step { IfOk result (λ t. AddsStep G.config pass.old (Ask.TakeDone group) (Did.TakeDone group t) pass.new) }
-        ensures refused { IfErr result (λ e. ((e ≡ PoolError.NoMemory) × (pass.old.room < 1)) ⊎ AtFront G.config pass.new.front (λ s. IsUndoneAt G.config s group e)) }
+        ensures step { IfOk result (λ t. AddsStep (K.terms G.config) pass.old (Ask.TakeDone group) (Did.TakeDone group t) pass.new) }
+        ensures refused { IfErr result (λ e. ((e ≡ PoolError.NoMemory) × (pass.old.room < 1)) ⊎ AtFront (K.terms G.config) pass.new.front (λ s. IsUndoneAt (K.terms G.config) s group e)) }
         ensures unchanged { OnErr result (AddsNone pass.old pass.new) }
     {
         if let Err(error) = pass.reserve(1) {
@@ -118,7 +119,7 @@ impl<G: PoolNaming, J: Job, E: Edge> PoolOf<G, J, E> {
     /// A caller reads `steps`, looks, and waits with the number that it read: a step that falls after the
     /// reading ends the wait.
     pub fn wait_step<R: Wait>(&self, rt: &R, seen: u64) -> u64
-        ensures { (seen < result) × BookAtSome (Task J) G.config (λ b. result ≡ length b.history) }
+        ensures { (seen < result) × BookAtSome (Task J) (K.terms G.config) (λ b. result ≡ length b.history) }
     {
         let shared = self.shared();
         let mut core = shared.hold(rt);
@@ -132,7 +133,7 @@ impl<G: PoolNaming, J: Job, E: Edge> PoolOf<G, J, E> {
     }
 }
 
-impl<G: PoolNaming, J: Job, E: Edge> Shared<G, J, E> {
+impl<G: PoolNaming, J: Job, E: Edge, K: Keeper> Shared<G, J, E, K> {
     // The looks of `await_done`, with a pass that has room for the receipt.
     fn await_done<R: Wait>(
         &self,
@@ -141,9 +142,9 @@ impl<G: PoolNaming, J: Job, E: Edge> Shared<G, J, E> {
         pass: &mut Pass<G>,
     ) -> Result<TaskId, PoolError>
         requires room { 0 < pass.old.room }
-        ensures step { IfOk result (λ t. AddsStep G.config pass.old (Ask.TakeDone group) (Did.TakeDone group t) pass.new) }
-        ensures refused { IfErr result (λ e. AtFront G.config pass.new.front (λ s. IsUndoneAt G.config s group e)) }
-        ensures unchanged { OnErr result (LooksOnly G.config pass.old pass.new) }
+        ensures step { IfOk result (λ t. AddsStep (K.terms G.config) pass.old (Ask.TakeDone group) (Did.TakeDone group t) pass.new) }
+        ensures refused { IfErr result (λ e. AtFront (K.terms G.config) pass.new.front (λ s. IsUndoneAt (K.terms G.config) s group e)) }
+        ensures unchanged { OnErr result (LooksOnly (K.terms G.config) pass.old pass.new) }
     {
         let mut core = self.hold(rt);
         for _ in rt.forever() {

@@ -1,33 +1,35 @@
 //! Handles of a pool, for several owners; and its close with one pass.
-ghost use Rattle.std.specs.Prelude.{◌≡◌, ◌⊎◌, [], ◌∷◌, IfOk, IfErr};
+ghost use Rattle.std.specs.Prelude.{◌≡◌, ◌⊎◌, [], ◌∷◌, length, IfOk, IfErr};
 ghost use Rattle.tp_locked.specs.Closing.{KeepsOpen};
 ghost use Rattle.tp_locked.specs.declared.tasks.Task.{Task};
-ghost use Rattle.tp_pool.specs.Closing.{Reports};
+ghost use Rattle.tp_pool.specs.Closing.{Reports, Tallies};
 
-use crate::closing::{CloseFault, Report};
+use crate::closing::{CloseFault, Report, TallyReport};
 use crate::edges::Edge;
 use crate::pool::{Hold, PoolOf};
 use std::sync::{Arc, Wait};
 use tp_book::passes::Pass;
 use tp_callbacks::jobs::Job;
 use tp_locked::names::PoolNaming;
+use tp_machine::machine::releases::Keeper;
+use tp_record::recorders::{Full, Recorder, Tally};
 use tp_types::refusals::PoolError;
 
 /// The answer of a close with one pass that was refused: the pool comes back, with the pass.
 #[derive(Drop)]
-pub struct CloseOneFault<G: PoolNaming, J, E> {
+pub struct CloseOneFault<G: PoolNaming, J, E, K: Keeper = Full> {
     /// The refusal: NoMemory (4), NotTerminated (20), MissingPass (21) or TornRecord (22).
     pub error: PoolError,
     /// The pool, handed back.
-    pub pool: PoolOf<G, J, E>,
+    pub pool: PoolOf<G, J, E, K>,
     /// The pass, handed back.
     pub pass: Pass<G>,
 }
 
-impl<G: PoolNaming, J: Job, E: Edge> PoolOf<G, J, E> {
+impl<G: PoolNaming, J: Job, E: Edge, K: Keeper> PoolOf<G, J, E, K> {
     /// One more handle of this pool, for an owner of its own, as a copied reference in Java. A close by one handle waits until
     /// the others are dropped. NoMemory (4), or TornRecord (22) where a close found the pool's record torn.
-    pub fn handle(&self) -> Result<PoolOf<G, J, E>, PoolError>
+    pub fn handle(&self) -> Result<PoolOf<G, J, E, K>, PoolError>
         ensures refused { IfErr result (λ e. (e ≡ PoolError.NoMemory) ⊎ (e ≡ PoolError.TornRecord)) }
     {
         let Hold::Many(shared) = &self.hold else {
@@ -42,6 +44,46 @@ impl<G: PoolNaming, J: Job, E: Edge> PoolOf<G, J, E> {
     }
 }
 
+// A close of the pool with this pass that was refused, as the answer of a close with one pass.
+fn of_one<G: PoolNaming, J, E, K: Keeper>(
+    fault: CloseFault<G, J, E, K>,
+) -> CloseOneFault<G, J, E, K>
+    requires one { length fault.passes.items ≡ 1 }
+    ensures error { result.error ≡ fault.error }
+    ensures pass { fault.passes.items ≡ result.pass ∷ [] }
+{
+    let CloseFault {
+        error,
+        pool,
+        mut passes,
+    } = fault;
+    let Some(pass) = passes.pop() else {
+        unreachable!()
+    };
+    CloseOneFault { error, pool, pass }
+}
+
+impl<G: PoolNaming, J: Job, E: Edge, K: Keeper> PoolOf<G, J, E, K> {
+    // The pool, and this pass in a list. NoMemory (4).
+    fn with_one(
+        self,
+        pass: Pass<G>,
+    ) -> Result<(PoolOf<G, J, E, K>, Vec<Pass<G>>), CloseOneFault<G, J, E, K>>
+        ensures one { IfOk result (λ r. r.1.items ≡ pass ∷ []) }
+        ensures refused { IfErr result (λ f. (f.error ≡ PoolError.NoMemory) × (f.pass ≡ pass)) }
+    {
+        let mut passes = Vec::new(self.shared().alloc);
+        match passes.push(pass) {
+            Ok(()) => Ok((self, passes)),
+            Err(failed) => Err(CloseOneFault {
+                error: PoolError::NoMemory,
+                pool: self,
+                pass: failed.value,
+            }),
+        }
+    }
+}
+
 impl<G: PoolNaming, J: Job, E: Edge> PoolOf<G, J, E> {
     /// As `close`, with the one pass of a pool that has one caller. NoMemory (4) for the list of passes, else
     /// refused as `close`; after a refusal the pool and the pass come back.
@@ -50,27 +92,36 @@ impl<G: PoolNaming, J: Job, E: Edge> PoolOf<G, J, E> {
         ensures refused { IfErr result (λ f. (f.error ≡ PoolError.NoMemory) ⊎ KeepsOpen (Task J) G.config (pass ∷ []) f.error) }
         ensures returned { IfErr result (λ f. f.pass ≡ pass) }
     {
-        let mut passes = Vec::new(self.shared().alloc);
-        if let Err(failed) = passes.push(pass) {
-            return Err(CloseOneFault {
-                error: PoolError::NoMemory,
-                pool: self,
-                pass: failed.value,
-            });
-        }
-        match self.close(rt, passes) {
+        let (pool, passes) = match self.with_one(pass) {
+            Ok(one) => one,
+            Err(fault) => return Err(fault),
+        };
+        match pool.close(rt, passes) {
             Ok(report) => Ok(report),
-            Err(fault) => {
-                let CloseFault {
-                    error,
-                    pool,
-                    mut passes,
-                } = fault;
-                let Some(pass) = passes.pop() else {
-                    unreachable!()
-                };
-                Err(CloseOneFault { error, pool, pass })
-            }
+            Err(fault) => Err(of_one(fault)),
+        }
+    }
+}
+
+impl<G: PoolNaming, J: Job, E: Edge> PoolOf<G, J, E, Tally> {
+    /// As `close`, with the one pass of a pool that has one caller. NoMemory (4) for the list of passes, else
+    /// refused as `close`; after a refusal the pool and the pass come back.
+    pub fn close_one<R: Wait>(
+        self,
+        rt: &R,
+        pass: Pass<G>,
+    ) -> Result<TallyReport, CloseOneFault<G, J, E, Tally>>
+        ensures report { IfOk result (Tallies G.config (pass ∷ [])) }
+        ensures refused { IfErr result (λ f. (f.error ≡ PoolError.NoMemory) ⊎ KeepsOpen (Task J) (⟦<Tally as Recorder>⟧.terms G.config) (pass ∷ []) f.error) }
+        ensures returned { IfErr result (λ f. f.pass ≡ pass) }
+    {
+        let (pool, passes) = match self.with_one(pass) {
+            Ok(one) => one,
+            Err(fault) => return Err(fault),
+        };
+        match pool.close(rt, passes) {
+            Ok(report) => Ok(report),
+            Err(fault) => Err(of_one(fault)),
         }
     }
 }

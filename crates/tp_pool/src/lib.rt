@@ -24,6 +24,7 @@ pub mod pool;
 mod prestarts;
 pub mod readings;
 mod refusing;
+pub mod releases;
 pub mod reports;
 mod rescues;
 mod shared;
@@ -35,7 +36,7 @@ mod working;
 
 pub use bodies::{Any, Body};
 pub use callers::{PoolName, Runtime, in_two};
-pub use closing::{CloseFault, Report};
+pub use closing::{CloseFault, Report, TallyReport};
 pub use defaults::Defaults;
 pub use edges::Edge;
 pub use futures::task_of;
@@ -51,6 +52,7 @@ pub use tp_callbacks::{factories, gates, handlers, hooks};
 pub use tp_locked::answers::{Admitted, Drained, Refused, Removal};
 pub use tp_locked::{answers, names};
 pub use tp_record::entries::{Ask, Did, Entry, Ruled};
+pub use tp_record::recorders::{Full, Tally};
 pub use tp_types::configs::{Config, Policy, QueueKind, Verdict};
 pub use tp_types::ids::{SlotId, TaskId};
 pub use tp_types::refusals::PoolError;
@@ -67,7 +69,7 @@ pub mod jobs {
 pub mod prelude {
     pub use crate::bodies::{Any, Body};
     pub use crate::callers::{PoolName, Runtime, in_two};
-    pub use crate::closing::Report;
+    pub use crate::closing::{Report, TallyReport};
     pub use crate::defaults::Defaults;
     pub use crate::edges::Edge;
     pub use crate::lives::{Answer, run_all};
@@ -79,6 +81,7 @@ pub mod prelude {
     pub use tp_callbacks::jobs::Job;
     pub use tp_locked::answers::{Admitted, Refused};
     pub use tp_record::entries::{Did, Entry, Ruled};
+    pub use tp_record::recorders::{Full, Tally};
     pub use tp_types::configs::{Config, Policy, QueueKind, Verdict};
     pub use tp_types::ids::{SlotId, TaskId};
     pub use tp_types::refusals::PoolError;

@@ -1,5 +1,5 @@
 //! Jobs on a pool of their own, in one call: the pool is opened, runs them, is shut down, waited for and closed.
-ghost use Rattle.std.specs.Prelude.{◌≡◌, ◌⊎◌, ◌≤◌, [], ◌∷◌, IfOk, IfErr, OnOk};
+ghost use Rattle.std.specs.Prelude.{◌≡◌, ◌⊎◌, ◌≤◌, true, [], ◌∷◌, IfOk, IfErr, OnOk};
 ghost use Rattle.tp_record.specs.Fields.{rank};
 ghost use Rattle.tp_record.specs.Step.{Legal};
 ghost use Rattle.tp_book.specs.PassView.{PassView};
@@ -194,7 +194,7 @@ fn submitted<G: PoolName, J: Job + 'static, E: Edge + Send + Sync + 'static, R: 
     job: J,
     pass: &mut Pass<G>,
 ) -> Result<TaskId, PoolError>
-    ensures { Submits G.config job (J.promised job) (J.urgency job) result pass.old pass.new }
+    ensures { Submits true G.config job (J.promised job) (J.urgency job) result pass.old pass.new }
 {
     match pool.execute_as(rt, Kind::Future, job, pass) {
         Ok(admitted) => Ok(task_of(admitted)),

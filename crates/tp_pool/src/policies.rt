@@ -4,12 +4,13 @@ ghost use Rattle.tp_record.specs.Step.{allows};
 
 use std::marker::{Model, PhantomData};
 use tp_locked::names::PoolNaming;
+use tp_record::recorders::Recorder;
 use tp_types::configs::{Config, Policy, Verdict};
 
 /// The rejection policy of the pool of this name: that of its settings.
 #[derive(Drop)]
 pub struct PolicyOf<G: PoolNaming> {
-    policy: Policy,
+    settings: Config,
     of: PhantomData<G>,
 }
 
@@ -20,7 +21,7 @@ impl<G: PoolNaming> Model for PolicyOf<G> {
 
     ghost view = { λ _. tt };
 
-    ghost invariant = { λ p. p.policy ≡ G.config.policy };
+    ghost invariant = { λ p. p.settings ≡ G.config };
 }
 
 impl<G: PoolNaming> PolicyOf<G> {
@@ -29,17 +30,19 @@ impl<G: PoolNaming> PolicyOf<G> {
         requires { settings.now ≡ G.config }
     {
         PolicyOf {
-            policy: settings.policy,
+            settings: *settings,
             of: PhantomData,
         }
     }
 
-    /// Its verdict, which is the same on each refused task; None under `Policy::Own`, where the handler is asked.
-    pub fn verdict(&self) -> Option<Verdict>
-        ensures given { IfSome result (λ v. allows G.config.policy v ≡ true) }
-        ensures own { IfNone result (G.config.policy ≡ Policy.Own) }
+    /// Its verdict, which is the same on each refused task; None under `Policy::Own`, where the handler is asked. By a recorder's
+    /// terms it is the same policy: they are these settings at another limit.
+    pub fn verdict<K: Recorder>(&self) -> Option<Verdict>
+        ensures given { IfSome result (λ v. allows (K.terms G.config).policy v ≡ true) }
+        ensures own { IfNone result ((K.terms G.config).policy ≡ Policy.Own) }
     {
-        match self.policy {
+        let _ = K::limit(&self.settings);
+        match self.settings.policy {
             Policy::Abort => Some(Verdict::Abort),
             Policy::CallerRuns => Some(Verdict::CallerRuns),
             Policy::Discard => Some(Verdict::Discard),

@@ -26,35 +26,38 @@ use tp_glance::glance::Glance;
 use tp_locked::locked::Core;
 use tp_locked::locks::PoolLock;
 use tp_locked::names::PoolNaming;
+use tp_machine::machine::releases::Keeper;
+use tp_record::recorders::Full;
 use tp_types::configs::Config;
 use tp_types::limits::MAX_WORKERS;
 use tp_types::refusals::PoolError;
 use tp_types::states::RunState;
 
-/// A pool of threads, as `ThreadPoolExecutor`, over jobs `J` and the caller's objects `E`. Its calls take
-/// `&self`, so that many threads may share it. A call that makes steps takes a pass: each entry of the record
+/// A pool of threads, as `ThreadPoolExecutor`, over jobs `J` and the caller's objects `E`. What keeps its record is
+/// `Full` unless another is named: a pool over `Tally` keeps none, forgets its plain tasks once nothing is owed to
+/// them, and serves without end. Its calls take `&self`, so that many threads may share it. A call that makes steps takes a pass: each entry of the record
 /// has the number of the pass that asked for it.
 ///
 /// A pool that is dropped is not shut down: its workers run what is queued, then wait, and end with the process.
 /// A drop has no runtime by which it could take the lock.
 #[derive(Drop)]
-pub struct PoolOf<G: PoolNaming, J, E> {
-    pub(crate) hold: Hold<G, J, E>,
+pub struct PoolOf<G: PoolNaming, J, E, K: Keeper = Full> {
+    pub(crate) hold: Hold<G, J, E, K>,
 }
 
-/// A pool whose jobs, factory, handler, hooks and gate are boxes of the caller.
-pub type Pool<G> = PoolOf<G, Boxed, Boxes>;
+/// A pool whose jobs, factory, handler, hooks and gate are boxes of the caller, over `Full` unless `Tally` is named.
+pub type Pool<G, R = Full> = PoolOf<G, Boxed, Boxes, R>;
 
 // The pool's value: shared with its threads, or taken back from them by a close that was then refused.
 #[derive(Drop)]
-pub(crate) enum Hold<G: PoolNaming, J, E> {
-    Many(Arc<Shared<G, J, E>>),
-    One(Shared<G, J, E>),
+pub(crate) enum Hold<G: PoolNaming, J, E, K: Keeper = Full> {
+    Many(Arc<Shared<G, J, E, K>>),
+    One(Shared<G, J, E, K>),
 }
 
-impl<G: PoolNaming, J, E> PoolOf<G, J, E> {
+impl<G: PoolNaming, J, E, K: Keeper> PoolOf<G, J, E, K> {
     // The value that the pool's threads share.
-    pub(crate) fn shared(&self) -> &Shared<G, J, E> {
+    pub(crate) fn shared(&self) -> &Shared<G, J, E, K> {
         match &self.hold {
             Hold::Many(shared) => &**shared,
             Hold::One(shared) => shared,
@@ -62,7 +65,7 @@ impl<G: PoolNaming, J, E> PoolOf<G, J, E> {
     }
 }
 
-impl<G: PoolNaming> PoolOf<G, Boxed, Boxes> {
+impl<G: PoolNaming, K: Keeper> PoolOf<G, Boxed, Boxes, K> {
     /// Makes a pool with these settings, as `ThreadPoolExecutor`'s constructor, and its first pass, of number
     /// 0. The pool runs, has no tasks, and stands at tick 0.
     ///
@@ -77,10 +80,10 @@ impl<G: PoolNaming> PoolOf<G, Boxed, Boxes> {
         handler: Box<dyn RejectionHandler>,
         hooks: Box<dyn Hooks>,
         gate: Box<dyn Gate>,
-    ) -> Result<(Pool<G>, Pass<G>), PoolError>
+    ) -> Result<(Pool<G, K>, Pass<G>), PoolError>
         requires named { unopened ≡ record { ledger = G.name; parts = G.parts; table = G.table } }
         requires settings { config ≡ G.config }
-        ensures pass { IfOk result (λ r. r.1 ≡ record { number = 0; amount = 0; front = []; receipts = []; room = r.1.room }) }
+        ensures pass { IfOk result (λ r. r.1 ≡ record { number = 0; amount = 0; front = []; keeps = K.RECEIPTS; receipts = []; room = r.1.room }) }
         ensures good { OnOk result (IsConfig config) }
         ensures refused { IfErr result (λ e. (checked config ≡ Err e) ⊎ ((e ≡ PoolError.NoMemory) × IsConfig config)) }
     {
@@ -93,17 +96,17 @@ impl<G: PoolNaming> PoolOf<G, Boxed, Boxes> {
     }
 }
 
-impl<G: PoolNaming, J: Job, E: Edge> PoolOf<G, J, E> {
+impl<G: PoolNaming, J: Job, E: Edge, K: Keeper> PoolOf<G, J, E, K> {
     /// As `Pool::new`, with the caller's objects behind one `Edge`.
     pub fn over(
         alloc: Global,
         unopened: Unopened,
         config: Config,
         edge: E,
-    ) -> Result<(PoolOf<G, J, E>, Pass<G>), PoolError>
+    ) -> Result<(PoolOf<G, J, E, K>, Pass<G>), PoolError>
         requires named { unopened ≡ record { ledger = G.name; parts = G.parts; table = G.table } }
         requires settings { config ≡ G.config }
-        ensures pass { IfOk result (λ r. r.1 ≡ record { number = 0; amount = 0; front = []; receipts = []; room = r.1.room }) }
+        ensures pass { IfOk result (λ r. r.1 ≡ record { number = 0; amount = 0; front = []; keeps = K.RECEIPTS; receipts = []; room = r.1.room }) }
         ensures good { OnOk result (IsConfig config) }
         ensures refused { IfErr result (λ e. (checked config ≡ Err e) ⊎ ((e ≡ PoolError.NoMemory) × IsConfig config)) }
     {
@@ -124,8 +127,8 @@ impl<G: PoolNaming, J: Job, E: Edge> PoolOf<G, J, E> {
     /// Callers' and workers' passes are numbered from 0, in the order in which they are made.
     /// BookFull (5) where the next number would be 4,294,967,295. This caller's pass stays as it is.
     pub fn split_pass<R: Wait>(&self, rt: &R, pass: &mut Pass<G>) -> Result<Pass<G>, PoolError>
-        ensures new { IfOk result (λ p. BookAtSome (Task J) G.config (λ b. p ≡ record { number = b.accounts.made; amount = 0; front = pass.old.front; receipts = []; room = p.room })) }
-        ensures refused { IfErr result (λ e. (e ≡ PoolError.BookFull) × BookAtSome (Task J) G.config (λ b. 4294967295 ≤ b.accounts.made)) }
+        ensures new { IfOk result (λ p. BookAtSome (Task J) (K.terms G.config) (λ b. p ≡ record { number = b.accounts.made; amount = 0; front = pass.old.front; keeps = K.RECEIPTS; receipts = []; room = p.room })) }
+        ensures refused { IfErr result (λ e. (e ≡ PoolError.BookFull) × BookAtSome (Task J) (K.terms G.config) (λ b. 4294967295 ≤ b.accounts.made)) }
         ensures same { pass.new ≡ pass.old }
     {
         let shared = self.shared();
@@ -147,14 +150,14 @@ impl<G: PoolNaming, J: Job, E: Edge> PoolOf<G, J, E> {
 }
 
 // The value that a new pool's lock guards, the word that publishes its run state, and its first pass.
-fn begin<G: PoolNaming, J: Drop>(
+fn begin<G: PoolNaming, J: Drop, K: Keeper>(
     alloc: Global,
     unopened: Unopened,
     config: Config,
-) -> Result<(PoolLock<G, J>, Glance<G>, Pass<G>), PoolError>
+) -> Result<(PoolLock<G, J, K>, Glance<G>, Pass<G>), PoolError>
     requires named { unopened ≡ record { ledger = G.name; parts = G.parts; table = G.table } }
     requires settings { config ≡ G.config }
-    ensures pass { IfOk result (λ r. r.2 ≡ record { number = 0; amount = 0; front = []; receipts = []; room = r.2.room }) }
+    ensures pass { IfOk result (λ r. r.2 ≡ record { number = 0; amount = 0; front = []; keeps = K.RECEIPTS; receipts = []; room = r.2.room }) }
     ensures good { OnOk result (IsConfig config) }
     ensures refused { IfErr result (λ e. (checked config ≡ Err e) ⊎ ((e ≡ PoolError.NoMemory) × IsConfig config)) }
 {
@@ -162,20 +165,25 @@ fn begin<G: PoolNaming, J: Drop>(
         Ok(opened) => opened,
         Err(error) => return Err(error),
     };
-    match Core::new(alloc, book, config.runs() as usize) {
+    let tasks = if K::RECEIPTS {
+        config.runs() as usize
+    } else {
+        usize::MAX
+    };
+    match Core::new(alloc, book, tasks) {
         Ok(core) => Ok((PoolLock::new(core), glance, pass)),
         Err(error) => Err(error),
     }
 }
 
 // What all threads of a new pool share.
-fn share<G: PoolNaming, J: Drop, E: Drop>(
+fn share<G: PoolNaming, J: Drop, E: Drop, K: Keeper>(
     alloc: Global,
-    core: PoolLock<G, J>,
+    core: PoolLock<G, J, K>,
     glance: Glance<G>,
     edge: E,
     policy: PolicyOf<G>,
-) -> Result<Arc<Shared<G, J, E>>, AllocError> {
+) -> Result<Arc<Shared<G, J, E, K>>, AllocError> {
     let parkers = parkers(alloc)?;
     let shared = Shared {
         core,

@@ -1,6 +1,6 @@
 //! Workers that are started before there is a task for them. Each start is two steps: a slot is reserved, and
 //! once its thread was made or refused it is opened or given back.
-ghost use Rattle.std.specs.Prelude.{ℕ, ◌≡◌, ◌+◌, ◌*◌, ◌<◌, ◌≤◌, [], ◌∷◌, IfOk, IfErr, OnOk, OnErr};
+ghost use Rattle.std.specs.Prelude.{ℕ, true, ◌≡◌, ◌+◌, ◌*◌, ◌<◌, ◌≤◌, [], ◌∷◌, IfOk, IfErr, OnOk, OnErr};
 ghost use Rattle.tp_record.specs.Step.{Legal};
 ghost use Rattle.tp_locked.specs.Passes.{AddsNone, IsRefusal, LooksOnly, Refuses, entry_of};
 ghost use Rattle.tp_pool.specs.Prestarts.{is_live as is_live_opening, AddsPrestart, AddsStarts, IsRefusedMore, IsServed};
@@ -12,6 +12,7 @@ use std::thread::Threads;
 use tp_book::passes::Pass;
 use tp_callbacks::jobs::Job;
 use tp_locked::names::PoolNaming;
+use tp_machine::machine::releases::Keeper;
 use tp_machine::typed::settings::{Core, Prestart};
 use tp_record::entries::{Ask, Did, Opened};
 use tp_types::ids::SlotId;
@@ -32,7 +33,8 @@ impl<
     G: PoolNaming + Send + Sync + 'static,
     J: Job + 'static,
     E: Edge + Send + Sync + 'static,
-> PoolOf<G, J, E> {
+    K: Keeper + Send + 'static,
+> PoolOf<G, J, E, K> {
     /// Sets the core size, in workers, as `setCorePoolSize`. A larger one starts a worker for each queued
     /// task, at most as many as the size grew. The starts end at the first worker that is not made or not
     /// opened live, at an empty queue, or at a refusal, which is not answered.
@@ -45,8 +47,8 @@ impl<
         core: u32,
         pass: &mut Pass<G>,
     ) -> Result<(), PoolError>
-        ensures steps { OnOk result ((added most live : ℕ) × (most ≤ added) × (most < added → most < core → 1024 ≤ most) × AddsStarts G.config (IsServed G.config) most (entry_of pass.old.number (Ask.Core core) (Did.Core core added) ∷ []) pass.old live pass.new) }
-        ensures refused { IfErr result (Refuses G.config ((pass.old.room < 1 + 2 * core) × (pass.old.room < 2049)) pass.new.front (Ask.Core core)) }
+        ensures steps { OnOk result ((added most live : ℕ) × (most ≤ added) × (most < added → most < core → 1024 ≤ most) × AddsStarts (K.terms G.config) (IsServed (K.terms G.config)) most (entry_of pass.old.number (Ask.Core core) (Did.Core core added) ∷ []) pass.old live pass.new) }
+        ensures refused { IfErr result (Refuses true (K.terms G.config) ((pass.old.room < 1 + 2 * core) × (pass.old.room < 2049)) pass.new.front (Ask.Core core)) }
         ensures unchanged { OnErr result (AddsNone pass.old pass.new) }
     {
         let most = core.min(MAX_WORKERS);
@@ -72,8 +74,8 @@ impl<
         pass: &mut Pass<G>,
     )
         requires room { 2 * most ≤ pass.old.room }
-        requires legal { Legal G.config pass.old.front }
-        ensures { (live : ℕ) × AddsStarts G.config (IsServed G.config) most [] pass.old live pass.new }
+        requires legal { Legal (K.terms G.config) pass.old.front }
+        ensures { (live : ℕ) × AddsStarts (K.terms G.config) (IsServed (K.terms G.config)) most [] pass.old live pass.new }
     {
         for _ in 0..most {
             if self.look(&rt, pass).counts.queued == 0 {
@@ -96,8 +98,8 @@ impl<
         rt: &R,
         pass: &mut Pass<G>,
     ) -> Result<bool, PoolError>
-        ensures steps { IfOk result (λ live. AddsPrestart G.config pass.old live pass.new) }
-        ensures refused { IfErr result (Refuses G.config (pass.old.room < 2) pass.new.front Ask.Prestart) }
+        ensures steps { IfOk result (λ live. AddsPrestart (K.terms G.config) pass.old live pass.new) }
+        ensures refused { IfErr result (Refuses true (K.terms G.config) (pass.old.room < 2) pass.new.front Ask.Prestart) }
         ensures unchanged { OnErr result (AddsNone pass.old pass.new) }
     {
         if let Err(error) = pass.reserve(2) {
@@ -117,9 +119,9 @@ impl<
         rt: &R,
         pass: &mut Pass<G>,
     ) -> Result<u32, PoolError>
-        ensures steps { IfOk result (λ live. AddsStarts G.config (IsRefusedMore G.config) 1024 [] pass.old live pass.new) }
+        ensures steps { IfOk result (λ live. AddsStarts (K.terms G.config) (IsRefusedMore (K.terms G.config)) 1024 [] pass.old live pass.new) }
         ensures asked { OnOk result (pass.old.amount < pass.new.amount) }
-        ensures refused { IfErr result (Refuses G.config (pass.old.room < 2048) pass.new.front Ask.Prestart) }
+        ensures refused { IfErr result (Refuses true (K.terms G.config) (pass.old.room < 2048) pass.new.front Ask.Prestart) }
         ensures unchanged { OnErr result (AddsNone pass.old pass.new) }
     {
         if let Err(error) = pass.reserve(2 * MAX_WORKERS as usize) {
@@ -144,10 +146,10 @@ impl<
         pass: &mut Pass<G>,
     ) -> Result<bool, PoolError>
         requires room { 2 ≤ pass.old.room }
-        ensures steps { IfOk result (λ live. AddsPrestart G.config pass.old live pass.new) }
+        ensures steps { IfOk result (λ live. AddsPrestart (K.terms G.config) pass.old live pass.new) }
         ensures left { OnOk result (pass.old.room ≤ pass.new.room + 2) }
-        ensures refused { IfErr result (IsRefusal G.config pass.new.front Ask.Prestart) }
-        ensures unchanged { OnErr result (LooksOnly G.config pass.old pass.new) }
+        ensures refused { IfErr result (IsRefusal true (K.terms G.config) pass.new.front Ask.Prestart) }
+        ensures unchanged { OnErr result (LooksOnly (K.terms G.config) pass.old pass.new) }
     {
         let w = match self.shared().ask(&rt, Prestart, pass) {
             Ok(Some(w)) => w,

@@ -1,13 +1,14 @@
 //! Readings of a pool, each in one hold of its lock. No reading makes a step. Each answer holds of some
 //! moment: before its caller acts on it, another thread may have made a step.
-ghost use Rattle.std.specs.Prelude.{◌≡◌, ◌↔◌, length, IsTrue};
+ghost use Rattle.std.specs.Prelude.{◌≡◌, ◌↔◌, length, Err, IsTrue};
 ghost use Rattle.tp_types.specs.RunState.{state_rank};
+ghost use Rattle.tp_record.specs.Left.{MayRelease};
 ghost use Rattle.tp_record.specs.State.{counts as counts_of, fate_of, slot_at};
 ghost use Rattle.tp_machine.specs.Readings.{HasOpen};
 ghost use Rattle.tp_machine.specs.Seen.{task_of_row};
 ghost use Rattle.tp_locked.specs.Readings.{known, IsPromiseOf, IsResult};
 ghost use Rattle.tp_glance.specs.Word.{IsFrontOf};
-ghost use Rattle.tp_book.specs.BookView.{state_of};
+ghost use Rattle.tp_book.specs.BookView.{OrReleased, state_of};
 ghost use Rattle.tp_locked.specs.Moments.{AtFront, AtSome, BookAt, BookAtSome};
 ghost use Rattle.tp_locked.specs.Passes.{LooksOnly};
 ghost use Rattle.tp_locked.specs.declared.tasks.Task.{Task};
@@ -20,6 +21,7 @@ use tp_book::sights::Sight;
 use tp_callbacks::jobs::Job;
 use tp_locked::locked::Core;
 use tp_locked::names::PoolNaming;
+use tp_machine::machine::releases::Keeper;
 use tp_types::ids::{SlotId, TaskId};
 use tp_types::refusals::PoolError;
 use tp_types::states::{Counts, RunState};
@@ -39,7 +41,7 @@ pub struct Reading {
 }
 
 // What is read of the value under the lock, which shows this run state.
-fn reading_of<G: PoolNaming, J: Job>(core: &Core<G, J>, state: RunState) -> Reading
+fn reading_of<G: PoolNaming, J: Job, K: Keeper>(core: &Core<G, J, K>, state: RunState) -> Reading
     ensures state { result.state ≡ state }
     ensures counts { result.counts ≡ counts_of (state_of core.now.book) }
     ensures now { result.now ≡ (state_of core.now.book).now }
@@ -53,30 +55,30 @@ fn reading_of<G: PoolNaming, J: Job>(core: &Core<G, J>, state: RunState) -> Read
     }
 }
 
-impl<G: PoolNaming, J: Job, E: Edge> PoolOf<G, J, E> {
+impl<G: PoolNaming, J: Job, E: Edge, K: Keeper> PoolOf<G, J, E, K> {
     /// The run state, the counters, the moment and the record's length, as they are after the record that the
     /// pass knows then. That record goes on from the one that it knew; the call makes no step.
     pub fn look<R: Wait>(&self, rt: &R, pass: &mut Pass<G>) -> Reading
-        ensures reads { AtFront G.config pass.new.front (λ s. (state_rank result.state ≡ s.rank) × (result.counts ≡ counts_of s) × (result.now ≡ s.now)) }
+        ensures reads { AtFront (K.terms G.config) pass.new.front (λ s. (state_rank result.state ≡ s.rank) × (result.counts ≡ counts_of s) × (result.now ≡ s.now)) }
         ensures steps { result.steps ≡ length pass.new.front }
-        ensures looks { LooksOnly G.config pass.old pass.new }
+        ensures looks { LooksOnly (K.terms G.config) pass.old pass.new }
     {
         let shared = self.shared();
         let mut core = shared.hold(rt);
-        core.is_book();
+        core.law_is_book();
         let state = core.show(&shared.glance, pass);
         reading_of(&core, state)
     }
 
     /// As `look`, with a sight in place of a pass: for a thread that looks at the pool and makes no step.
     pub fn look_by<R: Wait>(&self, rt: &R, sight: &mut Sight<G>) -> Reading
-        ensures reads { AtFront G.config sight.new (λ s. (state_rank result.state ≡ s.rank) × (result.counts ≡ counts_of s) × (result.now ≡ s.now)) }
+        ensures reads { AtFront (K.terms G.config) sight.new (λ s. (state_rank result.state ≡ s.rank) × (result.counts ≡ counts_of s) × (result.now ≡ s.now)) }
         ensures steps { result.steps ≡ length sight.new }
         ensures goes_on { IsFrontOf sight.old sight.new }
     {
         let shared = self.shared();
         let mut core = shared.hold(rt);
-        core.is_book();
+        core.law_is_book();
         let state = core.show_sight(&shared.glance, sight);
         reading_of(&core, state)
     }
@@ -91,56 +93,56 @@ impl<G: PoolNaming, J: Job, E: Edge> PoolOf<G, J, E> {
 
     /// The run state, as the record has it. `glance` answers without the lock.
     pub fn state<R: Wait>(&self, rt: &R) -> RunState
-        ensures { AtSome G.config (λ s. state_rank result ≡ s.rank) }
+        ensures { AtSome (K.terms G.config) (λ s. state_rank result ≡ s.rank) }
     {
         self.shared().hold(rt).state()
     }
 
     /// The twelve counters, all of one moment, as `getTaskCount`, `getPoolSize` and their like.
     pub fn counts<R: Wait>(&self, rt: &R) -> Counts
-        ensures { AtSome G.config (λ s. result ≡ counts_of s) }
+        ensures { AtSome (K.terms G.config) (λ s. result ≡ counts_of s) }
     {
         self.shared().hold(rt).counts()
     }
 
     /// The moment, in ticks.
     pub fn now<R: Wait>(&self, rt: &R) -> u64
-        ensures { AtSome G.config (λ s. result ≡ s.now) }
+        ensures { AtSome (K.terms G.config) (λ s. result ≡ s.now) }
     {
         self.shared().hold(rt).now()
     }
 
     /// Whether a task of the group has no fate yet.
     pub fn group_open<R: Wait>(&self, rt: &R, g: u32) -> bool
-        ensures { AtSome G.config (λ s. IsTrue result ↔ HasOpen g s) }
+        ensures { AtSome (K.terms G.config) (λ s. IsTrue result ↔ HasOpen g s) }
     {
         self.shared().hold(rt).group_open(g)
     }
 
     /// The task in the slot of this number, None where the slot has none or there is no such slot.
     pub fn task_in<R: Wait>(&self, rt: &R, w: SlotId) -> Option<TaskId>
-        ensures { AtSome G.config (λ s. result ≡ task_of_row (slot_at s.slots w.0)) }
+        ensures { AtSome (K.terms G.config) (λ s. result ≡ task_of_row (slot_at s.slots w.0)) }
     {
         self.shared().hold(rt).task_in(w)
     }
 
     /// The task's place. UnknownTask (6) where no submission got this number.
     pub fn place<R: Wait>(&self, rt: &R, t: TaskId) -> Result<Place, PoolError>
-        ensures { AtSome G.config (λ s. result ≡ known s t.0 (λ r. r.place)) }
+        ensures { AtSome (K.terms G.config) (λ s. OrReleased K.RECEIPTS (result ≡ known s t.0 (λ r. r.place)) ((result ≡ Err PoolError.UnknownTask) × MayRelease s t.0)) }
     {
         self.shared().hold(rt).place(t)
     }
 
     /// The promise of the task's job. UnknownTask (6) where no submission got this number.
     pub fn promise<R: Wait>(&self, rt: &R, t: TaskId) -> Result<Promise, PoolError>
-        ensures { BookAtSome (Task J) G.config (λ b. IsPromiseOf b t.0 result) }
+        ensures { BookAtSome (Task J) (K.terms G.config) (λ b. IsPromiseOf b t.0 K.RECEIPTS result) }
     {
         self.shared().hold(rt).promise(t)
     }
 
     /// The task's fate, None while it is open. UnknownTask (6) where no submission got this number.
     pub fn fate<R: Wait>(&self, rt: &R, t: TaskId) -> Result<Option<Fate>, PoolError>
-        ensures { AtSome G.config (λ s. result ≡ known s t.0 fate_of) }
+        ensures { AtSome (K.terms G.config) (λ s. OrReleased K.RECEIPTS (result ≡ known s t.0 fate_of) ((result ≡ Err PoolError.UnknownTask) × MayRelease s t.0)) }
     {
         self.shared().hold(rt).fate(t)
     }
@@ -153,7 +155,7 @@ impl<G: PoolNaming, J: Job, E: Edge> PoolOf<G, J, E> {
     /// `ExecutionException`; Lost (15) with the fate of a task that left without running, at which Java's
     /// `get` waits for ever.
     pub fn result<R: Wait>(&self, rt: &R, t: TaskId) -> Result<Option<i64>, PoolError>
-        ensures { BookAtSome (Task J) G.config (λ b. IsResult b t.0 result) }
+        ensures { BookAtSome (Task J) (K.terms G.config) (λ b. IsResult b t.0 K.RECEIPTS result) }
     {
         self.shared().hold(rt).result(t)
     }
@@ -166,8 +168,8 @@ impl<G: PoolNaming, J: Job, E: Edge> PoolOf<G, J, E> {
         t: TaskId,
         pass: &mut Pass<G>,
     ) -> Result<Option<i64>, PoolError>
-        ensures reads { BookAt (Task J) G.config pass.new.front (λ b. IsResult b t.0 result) }
-        ensures looks { LooksOnly G.config pass.old pass.new }
+        ensures reads { BookAt (Task J) (K.terms G.config) pass.new.front (λ b. IsResult b t.0 K.RECEIPTS result) }
+        ensures looks { LooksOnly (K.terms G.config) pass.old pass.new }
     {
         let shared = self.shared();
         shared.hold(rt).show_result(t, &shared.glance, pass)
@@ -175,7 +177,7 @@ impl<G: PoolNaming, J: Job, E: Edge> PoolOf<G, J, E> {
 
     /// The record's length, in entries.
     pub fn steps<R: Wait>(&self, rt: &R) -> u64
-        ensures { BookAtSome (Task J) G.config (λ b. result ≡ length b.history) }
+        ensures { BookAtSome (Task J) (K.terms G.config) (λ b. result ≡ length b.history) }
     {
         self.shared().hold(rt).steps()
     }

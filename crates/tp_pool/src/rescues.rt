@@ -14,19 +14,20 @@ use std::thread::Threads;
 use tp_book::passes::WorkerPass;
 use tp_callbacks::jobs::Job;
 use tp_locked::names::PoolNaming;
+use tp_machine::machine::releases::Keeper;
 use tp_machine::typed::controllers::{Ended, Tidy};
 use tp_machine::typed::settings::Prestart;
 use tp_machine::typed::workers::Fail;
 use tp_turns::rescues::{House, Remains, rescue};
 use tp_types::ids::SlotId;
 
-impl<G: PoolNaming, J: Drop, E: Edge, R: Wait> House<R> for Shared<G, J, E> {
+impl<G: PoolNaming, J: Drop, E: Edge, K: Keeper, R: Wait> House<R> for Shared<G, J, E, K> {
     ghost use Rattle.std.specs.Prelude.{◌≡◌};
     ghost use Rattle.tp_pool.specs.Rescues.{IsDone};
 
     type Pass = WorkerPass<G>;
 
-    ghost did = { λ old d new. (new.number ≡ old.number) × IsDone J G.config old.number old.front new.front d };
+    ghost did = { λ old d new. (new.number ≡ old.number) × IsDone J K.RECEIPTS (K.terms G.config) old.number old.front new.front d };
 
     fn tidy(&self, rt: &R, pass: &mut WorkerPass<G>) -> bool {
         self.step(rt, Tidy, pass).is_ok()
@@ -48,7 +49,7 @@ impl<G: PoolNaming, J: Drop, E: Edge, R: Wait> House<R> for Shared<G, J, E> {
     }
 }
 
-impl<G: PoolNaming, J: Drop, E: Edge> Shared<G, J, E> {
+impl<G: PoolNaming, J: Drop, E: Edge, K: Keeper> Shared<G, J, E, K> {
     /// A pass of the pool's own, which is to be handed in; None where there is no memory or no number for it.
     fn engage<R: Wait>(&self, rt: &R) -> Option<WorkerPass<G>> {
         self.hold(rt).engage(&self.glance).ok()
@@ -75,9 +76,9 @@ impl<G: PoolNaming, J: Drop, E: Edge> Shared<G, J, E> {
         staffed: bool,
         pass: &mut WorkerPass<G>,
     ) -> Remains
-        ensures asks { HandsOver J G.config pass.old.number pass.old.front w staffed pass.new.front }
+        ensures asks { HandsOver J K.RECEIPTS (K.terms G.config) pass.old.number pass.old.front w staffed pass.new.front }
         ensures number { pass.new.number ≡ pass.old.number }
-        ensures left { IsLeft (state G.config pass.new.front) result }
+        ensures left { IsLeft (state (K.terms G.config) pass.new.front) result }
     {
         if staffed {
             self.open_place(rt, w, pass)
@@ -88,9 +89,9 @@ impl<G: PoolNaming, J: Drop, E: Edge> Shared<G, J, E> {
 
     // The step `open` of a slot with no task.
     fn open_place<R: Wait>(&self, rt: &R, w: SlotId, pass: &mut WorkerPass<G>) -> Remains
-        ensures asks { Opens J G.config pass.old.number pass.old.front w pass.new.front }
+        ensures asks { Opens J K.RECEIPTS (K.terms G.config) pass.old.number pass.old.front w pass.new.front }
         ensures number { pass.new.number ≡ pass.old.number }
-        ensures left { IsLeft (state G.config pass.new.front) result }
+        ensures left { IsLeft (state (K.terms G.config) pass.new.front) result }
     {
         let mut core = self.hold(rt);
         let _ = core.open(w, &self.glance, pass);
@@ -102,9 +103,9 @@ impl<G: PoolNaming, J: Drop, E: Edge> Shared<G, J, E> {
 
     // The step `fail` of a slot with no task.
     fn fail_place<R: Wait>(&self, rt: &R, w: SlotId, pass: &mut WorkerPass<G>) -> Remains
-        ensures asks { Fails J G.config pass.old.number pass.old.front w pass.new.front }
+        ensures asks { Fails J K.RECEIPTS (K.terms G.config) pass.old.number pass.old.front w pass.new.front }
         ensures number { pass.new.number ≡ pass.old.number }
-        ensures left { IsLeft (state G.config pass.new.front) result }
+        ensures left { IsLeft (state (K.terms G.config) pass.new.front) result }
     {
         let mut core = self.hold(rt);
         let _ = core.step(Fail(w), &self.glance, pass);
@@ -118,7 +119,8 @@ impl<
     G: PoolNaming + Send + Sync + 'static,
     J: Job + 'static,
     E: Edge + Send + Sync + 'static,
-> PoolOf<G, J, E> {
+    K: Keeper + Send + 'static,
+> PoolOf<G, J, E, K> {
     /// Does what a step of this thread left to do, with a pass of the pool's own. Where there is no memory or
     /// no number for that pass, it is left to the next such step.
     #[inline(always)]
@@ -153,8 +155,9 @@ fn rescue_with_own<
     G: PoolNaming + Send + Sync + 'static,
     J: Job + 'static,
     E: Edge + Send + Sync + 'static,
+    K: Keeper + Send + 'static,
     R: Threads + Wait + Copy + Send + 'static,
->(rt: R, shared: &Arc<Shared<G, J, E>>, remains: Remains) {
+>(rt: R, shared: &Arc<Shared<G, J, E, K>>, remains: Remains) {
     let Some(mut pass) = shared.engage(&rt) else {
         return;
     };

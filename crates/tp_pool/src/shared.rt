@@ -1,5 +1,5 @@
 //! The value that all threads of a pool share, and the holds of its lock.
-ghost use Rattle.std.specs.Prelude.{◌≡◌, ◌⊎◌, ◌+◌, ◌<◌, ◌≤◌, [], ◌∷◌, length, IsTrue, IfOk, IfErr, OnOk, OnErr};
+ghost use Rattle.std.specs.Prelude.{true, ◌≡◌, ◌⊎◌, ◌+◌, ◌<◌, ◌≤◌, [], ◌∷◌, length, IsTrue, IfOk, IfErr, OnOk, OnErr};
 ghost use Rattle.tp_record.specs.Fields.{rank};
 ghost use Rattle.tp_record.specs.State.{counts as counts_of, state};
 ghost use Rattle.tp_types.specs.RunState.{state_rank};
@@ -10,6 +10,7 @@ ghost use Rattle.tp_locked.specs.Passes.{Adds, AddsNone, AddsStep, KnowsStep, Is
 ghost use Rattle.tp_locked.specs.Steps.{Makes, Refused as IsRefusedAt, Stops};
 ghost use Rattle.tp_locked.specs.Waits.{HasNoOutcome};
 ghost use Rattle.tp_pool.specs.Endings.{AddsEnding, IsBarred};
+ghost use Rattle.tp_pool.specs.Refusals.{none_forgotten};
 
 use crate::edges::Edge;
 use crate::lock::{CALLER, WORKER, polite};
@@ -25,9 +26,11 @@ use tp_locked::locked::{Core, Look, Marks};
 use tp_locked::locks::PoolLock;
 use tp_locked::names::PoolNaming;
 use tp_locked::tasks::Task;
+use tp_machine::machine::releases::Keeper;
 use tp_machine::typed::Step;
 use tp_machine::typed::controllers::{Ended, Tidy};
 use tp_record::entries::{Ask, Did};
+use tp_record::recorders::Full;
 use tp_turns::rescues::Remains;
 use tp_types::ids::SlotId;
 use tp_types::refusals::PoolError;
@@ -76,9 +79,9 @@ impl Conditions {
 
 /// The one lock, the places where threads sleep, the word, and the caller's objects.
 #[derive(Drop)]
-pub struct Shared<G: PoolNaming, J, E> {
+pub struct Shared<G: PoolNaming, J, E, K: Keeper = Full> {
     /// The value under the lock.
-    pub core: PoolLock<G, J>,
+    pub core: PoolLock<G, J, K>,
     /// The places where waiters sleep.
     pub conditions: Conditions,
     /// The places where workers sleep, one for each slot number.
@@ -95,30 +98,30 @@ pub struct Shared<G: PoolNaming, J, E> {
 
 /// What is left to do in the pool, as its hold knows.
 #[inline(always)]
-pub fn left_in<G: PoolNaming, J: Drop>(core: &Core<G, J>) -> Remains
-    ensures { IsLeft (state G.config core.now.book.history) result }
+pub fn left_in<G: PoolNaming, J: Drop, K: Keeper>(core: &Core<G, J, K>) -> Remains
+    ensures { IsLeft (state (K.terms G.config) core.now.book.history) result }
 {
-    core.is_book();
+    core.law_is_book();
     core.remains()
 }
 
-impl<G: PoolNaming, J: Drop, E: Edge> Shared<G, J, E> {
+impl<G: PoolNaming, J: Drop, E: Edge, K: Keeper> Shared<G, J, E, K> {
     /// Takes the lock, for a caller.
     #[inline(always)]
-    pub fn hold<R: Wait>(&self, rt: &R) -> MutexGuard<'_, Core<G, J>> {
+    pub fn hold<R: Wait>(&self, rt: &R) -> MutexGuard<'_, Core<G, J, K>> {
         polite(rt, self.core.mutex(), CALLER)
     }
 
     /// Takes the lock, for a worker.
     #[inline(always)]
-    pub fn hold_as_worker<R: Wait>(&self, rt: &R) -> MutexGuard<'_, Core<G, J>> {
+    pub fn hold_as_worker<R: Wait>(&self, rt: &R) -> MutexGuard<'_, Core<G, J, K>> {
         polite(rt, self.core.mutex(), WORKER)
     }
 
     /// Lets go of the lock, and only then wakes the threads that the hold concerned: a thread that is woken
     /// needs the lock. Most holds concern none.
     #[inline(always)]
-    pub fn release(&self, core: MutexGuard<'_, Core<G, J>>) {
+    pub fn release(&self, core: MutexGuard<'_, Core<G, J, K>>) {
         if core.calls_nobody() {
             return drop(core);
         }
@@ -126,7 +129,7 @@ impl<G: PoolNaming, J: Drop, E: Edge> Shared<G, J, E> {
     }
 
     #[inline(never)]
-    fn release_and_wake(&self, core: MutexGuard<'_, Core<G, J>>) {
+    fn release_and_wake(&self, core: MutexGuard<'_, Core<G, J, K>>) {
         let mut core = core;
         let calls = core.release();
         drop(core);
@@ -170,9 +173,9 @@ impl<G: PoolNaming, J: Drop, E: Edge> Shared<G, J, E> {
         requires brings { S.brings step tt }
         requires ready { A.ready pass.old (S.ask step) }
         ensures answers { IfOk result (λ x. S.answers step x) }
-        ensures makes { IfOk result (λ x. Makes J G.config (A.number pass.old) (A.front pass.old) (S.ask step) (S.did step x) (S.moves step tt x) (A.front pass.new)) }
+        ensures makes { IfOk result (λ x. Makes J (K.terms G.config) (A.number pass.old) (A.front pass.old) (S.ask step) (S.did step x) (S.moves step tt x) (A.front pass.new)) }
         ensures paid { IfOk result (λ x. A.paid pass.old (entry_of (A.number pass.old) (S.ask step) (S.did step x)) pass.new) }
-        ensures refused { IfErr result (λ e. IsRefusedAt J G.config (A.front pass.old) (S.ask step) e (A.front pass.new)) }
+        ensures refused { IfErr result (λ e. IsRefusedAt J K.RECEIPTS (K.terms G.config) (A.front pass.old) (S.ask step) e (A.front pass.new)) }
         ensures shown { OnErr result (A.shown pass.old pass.new) }
         ensures number { A.number pass.new ≡ A.number pass.old }
     {
@@ -193,11 +196,11 @@ impl<G: PoolNaming, J: Drop, E: Edge> Shared<G, J, E> {
         requires brings { S.brings step tt }
         requires room { 0 < pass.old.room }
         ensures answers { IfOk result (λ x. S.answers step x) }
-        ensures makes { IfOk result (λ x. Makes J G.config pass.old.number pass.old.front (S.ask step) (S.did step x) (S.moves step tt x) pass.new.front) }
-        ensures step { IfOk result (λ x. AddsStep G.config pass.old (S.ask step) (S.did step x) pass.new) }
+        ensures makes { IfOk result (λ x. Makes J (K.terms G.config) pass.old.number pass.old.front (S.ask step) (S.did step x) (S.moves step tt x) pass.new.front) }
+        ensures step { IfOk result (λ x. AddsStep (K.terms G.config) pass.old (S.ask step) (S.did step x) pass.new) }
         ensures left { OnOk result (pass.old.room ≤ pass.new.room + 1) }
-        ensures refused { IfErr result (λ e. HasNoOutcome (S.ask step) → IsRefusal G.config pass.new.front (S.ask step) e) }
-        ensures unchanged { OnErr result (LooksOnly G.config pass.old pass.new) }
+        ensures refused { IfErr result (λ e. HasNoOutcome (S.ask step) → IsRefusal (none_forgotten K.RECEIPTS (S.ask step)) (K.terms G.config) pass.new.front (S.ask step) e) }
+        ensures unchanged { OnErr result (LooksOnly (K.terms G.config) pass.old pass.new) }
     {
         let mut core = self.hold(rt);
         let answer = core.ask(step, &self.glance, pass);
@@ -216,13 +219,13 @@ impl<G: PoolNaming, J: Drop, E: Edge> Shared<G, J, E> {
         requires brings { S.brings step tt }
         requires room { 0 < pass.old.room }
         ensures answers { IfOk result.0 (λ x. S.answers step x) }
-        ensures makes { IfOk result.0 (λ x. Makes J G.config pass.old.number pass.old.front (S.ask step) (S.did step x) (S.moves step tt x) pass.new.front) }
-        ensures step { IfOk result.0 (λ x. AddsStep G.config pass.old (S.ask step) (S.did step x) pass.new) }
-        ensures known { IfOk result.0 (λ x. KnowsStep pass.old (S.ask step) (S.did step x) (S.says step x G.config) pass.new) }
+        ensures makes { IfOk result.0 (λ x. Makes J (K.terms G.config) pass.old.number pass.old.front (S.ask step) (S.did step x) (S.moves step tt x) pass.new.front) }
+        ensures step { IfOk result.0 (λ x. AddsStep (K.terms G.config) pass.old (S.ask step) (S.did step x) pass.new) }
+        ensures known { IfOk result.0 (λ x. KnowsStep pass.old (S.ask step) (S.did step x) (S.says step x (K.terms G.config)) pass.new) }
         ensures left { OnOk result.0 (pass.old.room ≤ pass.new.room + 1) }
-        ensures refused { IfErr result.0 (λ e. HasNoOutcome (S.ask step) → IsRefusal G.config pass.new.front (S.ask step) e) }
-        ensures unchanged { OnErr result.0 (LooksOnly G.config pass.old pass.new) }
-        ensures remains { IsLeft (state G.config pass.new.front) result.1 }
+        ensures refused { IfErr result.0 (λ e. HasNoOutcome (S.ask step) → IsRefusal (none_forgotten K.RECEIPTS (S.ask step)) (K.terms G.config) pass.new.front (S.ask step) e) }
+        ensures unchanged { OnErr result.0 (LooksOnly (K.terms G.config) pass.old pass.new) }
+        ensures remains { IsLeft (state (K.terms G.config) pass.new.front) result.1 }
     {
         let mut core = self.hold(rt);
         let answer = core.ask(step, &self.glance, pass);
@@ -242,9 +245,9 @@ impl<G: PoolNaming, J: Drop, E: Edge> Shared<G, J, E> {
         requires brings { S.brings step tt }
         requires no_outcome { HasNoOutcome (S.ask step) }
         ensures answers { IfOk result (λ x. S.answers step x) }
-        ensures makes { IfOk result (λ x. Makes J G.config pass.old.number pass.old.front (S.ask step) (S.did step x) (S.moves step tt x) pass.new.front) }
-        ensures step { IfOk result (λ x. AddsStep G.config pass.old (S.ask step) (S.did step x) pass.new) }
-        ensures refused { IfErr result (Refuses G.config (pass.old.room < 1) pass.new.front (S.ask step)) }
+        ensures makes { IfOk result (λ x. Makes J (K.terms G.config) pass.old.number pass.old.front (S.ask step) (S.did step x) (S.moves step tt x) pass.new.front) }
+        ensures step { IfOk result (λ x. AddsStep (K.terms G.config) pass.old (S.ask step) (S.did step x) pass.new) }
+        ensures refused { IfErr result (Refuses (none_forgotten K.RECEIPTS (S.ask step)) (K.terms G.config) (pass.old.room < 1) pass.new.front (S.ask step)) }
         ensures unchanged { OnErr result (AddsNone pass.old pass.new) }
     {
         if let Err(error) = pass.reserve(1) {
@@ -264,10 +267,10 @@ impl<G: PoolNaming, J: Drop, E: Edge> Shared<G, J, E> {
         requires brings { S.brings step tt }
         requires no_outcome { HasNoOutcome (S.ask step) }
         ensures answers { IfOk result (λ x. S.answers step x) }
-        ensures makes { IfOk result (λ x. Makes J G.config pass.old.number pass.old.front (S.ask step) (S.did step x) (S.moves step tt x) pass.new.front) }
-        ensures step { IfOk result (λ x. AddsStep G.config pass.old (S.ask step) (S.did step x) pass.new) }
-        ensures known { IfOk result (λ x. KnowsStep pass.old (S.ask step) (S.did step x) (S.says step x G.config) pass.new) }
-        ensures refused { IfErr result (Refuses G.config (pass.old.room < 1) pass.new.front (S.ask step)) }
+        ensures makes { IfOk result (λ x. Makes J (K.terms G.config) pass.old.number pass.old.front (S.ask step) (S.did step x) (S.moves step tt x) pass.new.front) }
+        ensures step { IfOk result (λ x. AddsStep (K.terms G.config) pass.old (S.ask step) (S.did step x) pass.new) }
+        ensures known { IfOk result (λ x. KnowsStep pass.old (S.ask step) (S.did step x) (S.says step x (K.terms G.config)) pass.new) }
+        ensures refused { IfErr result (Refuses (none_forgotten K.RECEIPTS (S.ask step)) (K.terms G.config) (pass.old.room < 1) pass.new.front (S.ask step)) }
         ensures unchanged { OnErr result (AddsNone pass.old pass.new) }
     {
         if let Err(error) = pass.reserve(1) {
@@ -287,10 +290,10 @@ impl<G: PoolNaming, J: Drop, E: Edge> Shared<G, J, E> {
     /// before the step, so that no job is lost for want of memory. NoMemory (4) comes only where a task is queued.
     pub fn stop<R: Wait>(&self, rt: &R, pass: &mut Pass<G>) -> Result<Vec<Drained<J>>, PoolError>
         requires room { 0 < pass.old.room }
-        ensures stops { IfOk result (λ drained. Stops J G.config pass.old.number pass.old.front drained.items pass.new.front) }
-        ensures step { IfOk result (λ drained. AddsStep G.config pass.old Ask.Stop (Did.Stop (length drained.items)) pass.new) }
+        ensures stops { IfOk result (λ drained. Stops J (K.terms G.config) pass.old.number pass.old.front drained.items pass.new.front) }
+        ensures step { IfOk result (λ drained. AddsStep (K.terms G.config) pass.old Ask.Stop (Did.Stop (length drained.items)) pass.new) }
         ensures left { OnOk result (pass.old.room ≤ pass.new.room + 1) }
-        ensures refused { IfErr result (Refuses G.config (AtFront G.config pass.new.front (λ s. 0 < length s.queue)) pass.new.front Ask.Stop) }
+        ensures refused { IfErr result (Refuses true (K.terms G.config) (AtFront (K.terms G.config) pass.new.front (λ s. 0 < length s.queue)) pass.new.front Ask.Stop) }
         ensures unchanged { OnErr result (AddsNone pass.old pass.new) }
     {
         let mut core = self.hold(rt);
@@ -302,7 +305,7 @@ impl<G: PoolNaming, J: Drop, E: Edge> Shared<G, J, E> {
     /// Ends the pool, where it can end now: the step `tidy`, the terminated hook and the step `ended`.
     pub fn try_end<R: Wait>(&self, rt: &R, pass: &mut Pass<G>)
         requires room { 2 ≤ pass.old.room }
-        ensures { AddsEnding G.config pass.old pass.new }
+        ensures { AddsEnding (K.terms G.config) pass.old pass.new }
     {
         if self.tidy(rt, pass) {
             let _ = self.terminate(rt, pass);
@@ -312,10 +315,10 @@ impl<G: PoolNaming, J: Drop, E: Edge> Shared<G, J, E> {
     // The step `tidy`, where the pool can end: whether it was made.
     fn tidy<R: Wait>(&self, rt: &R, pass: &mut Pass<G>) -> bool
         requires room { 0 < pass.old.room }
-        ensures tidied { IsTrue result → Adds G.config pass.old (tidied pass.old.number ∷ []) pass.new }
+        ensures tidied { IsTrue result → Adds (K.terms G.config) pass.old (tidied pass.old.number ∷ []) pass.new }
         ensures left { pass.old.room ≤ pass.new.room + 1 }
-        ensures refused { ¬ IsTrue result → IsBarred G.config pass.new.front Ask.Tidy }
-        ensures unchanged { ¬ IsTrue result → LooksOnly G.config pass.old pass.new }
+        ensures refused { ¬ IsTrue result → IsBarred (K.terms G.config) pass.new.front Ask.Tidy }
+        ensures unchanged { ¬ IsTrue result → LooksOnly (K.terms G.config) pass.old pass.new }
     {
         self.ask(rt, Tidy, pass).is_ok()
     }
@@ -324,10 +327,10 @@ impl<G: PoolNaming, J: Drop, E: Edge> Shared<G, J, E> {
     // `tidy`. TornRecord (22) where the book does not take it.
     pub(crate) fn terminate<R: Wait>(&self, rt: &R, pass: &mut Pass<G>) -> Result<(), PoolError>
         requires room { 0 < pass.old.room }
-        ensures step { OnOk result (Adds G.config pass.old (ended pass.old.number ∷ []) pass.new) }
+        ensures step { OnOk result (Adds (K.terms G.config) pass.old (ended pass.old.number ∷ []) pass.new) }
         ensures seen { OnOk result (rank pass.new.front ≡ 4) }
-        ensures refused { IfErr result (λ e. (e ≡ PoolError.TornRecord) × IsBarred G.config pass.new.front Ask.Ended) }
-        ensures unchanged { OnErr result (LooksOnly G.config pass.old pass.new) }
+        ensures refused { IfErr result (λ e. (e ≡ PoolError.TornRecord) × IsBarred (K.terms G.config) pass.new.front Ask.Ended) }
+        ensures unchanged { OnErr result (LooksOnly (K.terms G.config) pass.old pass.new) }
     {
         self.edge.terminated(rt);
         match self.ask(rt, Ended, pass) {
@@ -346,10 +349,10 @@ impl<G: PoolNaming, J: Drop, E: Edge> Shared<G, J, E> {
         pass: &mut Pass<G>,
     ) -> Result<(), PoolError>
         requires room { 2 ≤ pass.old.room }
-        ensures steps { OnOk result (Adds G.config pass.old [] pass.new ⊎ Adds G.config pass.old (tidied pass.old.number ∷ ended pass.old.number ∷ []) pass.new) }
+        ensures steps { OnOk result (Adds (K.terms G.config) pass.old [] pass.new ⊎ Adds (K.terms G.config) pass.old (tidied pass.old.number ∷ ended pass.old.number ∷ []) pass.new) }
         ensures seen { OnOk result (rank pass.new.front ≡ 4) }
-        ensures late { IfErr result (λ e. e ≡ PoolError.TimedOut → AtFront G.config pass.new.front (λ s. (deadline ≤ s.now) × ¬ (s.rank ≡ 4))) }
-        ensures refused { IfErr result (λ e. ((e ≡ PoolError.TimedOut) × Adds G.config pass.old [] pass.new) ⊎ ((e ≡ PoolError.TornRecord) × IsBarred G.config pass.new.front Ask.Ended × Adds G.config pass.old (tidied pass.old.number ∷ []) pass.new)) }
+        ensures late { IfErr result (λ e. e ≡ PoolError.TimedOut → AtFront (K.terms G.config) pass.new.front (λ s. (deadline ≤ s.now) × ¬ (s.rank ≡ 4))) }
+        ensures refused { IfErr result (λ e. ((e ≡ PoolError.TimedOut) × Adds (K.terms G.config) pass.old [] pass.new) ⊎ ((e ≡ PoolError.TornRecord) × IsBarred (K.terms G.config) pass.new.front Ask.Ended × Adds (K.terms G.config) pass.old (tidied pass.old.number ∷ []) pass.new)) }
     {
         let mut core = self.hold(rt);
         for _ in rt.forever() {

@@ -19,6 +19,7 @@ use tp_glance::glance::Glance;
 pub use tp_locked::locked::Busy;
 use tp_locked::locked::Core;
 use tp_locked::names::PoolNaming;
+use tp_machine::machine::releases::Keeper;
 use tp_record::entries::Entry;
 use tp_types::refusals::PoolError;
 use tp_types::states::{Counts, RunState};
@@ -63,8 +64,8 @@ impl fmt::Display for Snapshot {
 }
 
 // What is read of the value under the lock.
-fn snapshot_of<G: PoolNaming, J: Job>(
-    core: &Core<G, J>,
+fn snapshot_of<G: PoolNaming, J: Job, K: Keeper>(
+    core: &Core<G, J, K>,
     alloc: Global,
 ) -> Result<Snapshot, PoolError>
     ensures reads { IfOk result (IsSnapshot (state_of core.now.book)) }
@@ -83,17 +84,17 @@ fn snapshot_of<G: PoolNaming, J: Job>(
 }
 
 // The same, as it is after the record that the sight knows then.
-fn snapshot_shown<G: PoolNaming, J: Job>(
-    core: &mut Core<G, J>,
+fn snapshot_shown<G: PoolNaming, J: Job, K: Keeper>(
+    core: &mut Core<G, J, K>,
     glance: &Glance<G>,
     sight: &mut Sight<G>,
     alloc: Global,
 ) -> Result<Snapshot, PoolError>
-    ensures reads { IfOk result (λ v. AtFront G.config sight.new (λ s. IsSnapshot s v)) }
+    ensures reads { IfOk result (λ v. AtFront (K.terms G.config) sight.new (λ s. IsSnapshot s v)) }
     ensures refused { IfErr result (λ e. e ≡ PoolError.NoMemory) }
     ensures goes_on { IsFrontOf sight.old sight.new }
 {
-    core.is_book();
+    core.law_is_book();
     core.show_sight(glance, sight);
     snapshot_of(core, alloc)
 }
@@ -107,18 +108,18 @@ fn entries_since<G: PoolNaming, J: Job>(
     ensures entries { IfOk result (λ v. BookAtSome (Task J) G.config (λ b. v.items ≡ drop n (reverse b.history))) }
     ensures refused { IfErr result (λ e. e ≡ PoolError.NoMemory) }
 {
-    core.is_book();
+    core.law_is_book();
     core.record_since(alloc, n)
 }
 
-impl<G: PoolNaming, J: Job, E: Edge> PoolOf<G, J, E> {
+impl<G: PoolNaming, J: Job, E: Edge, K: Keeper> PoolOf<G, J, E, K> {
     /// What the pool does now; Java has `toString` and single getters. NoMemory (4) for the list of slots.
     pub fn snapshot<R: Wait>(&self, rt: &R, alloc: Global) -> Result<Snapshot, PoolError>
-        ensures reads { IfOk result (λ v. AtSome G.config (λ s. IsSnapshot s v)) }
+        ensures reads { IfOk result (λ v. AtSome (K.terms G.config) (λ s. IsSnapshot s v)) }
         ensures refused { IfErr result (λ e. e ≡ PoolError.NoMemory) }
     {
         let core = self.shared().hold(rt);
-        core.is_book();
+        core.law_is_book();
         snapshot_of(&core, alloc)
     }
 
@@ -130,7 +131,7 @@ impl<G: PoolNaming, J: Job, E: Edge> PoolOf<G, J, E> {
         alloc: Global,
         sight: &mut Sight<G>,
     ) -> Result<Snapshot, PoolError>
-        ensures reads { IfOk result (λ v. AtFront G.config sight.new (λ s. IsSnapshot s v)) }
+        ensures reads { IfOk result (λ v. AtFront (K.terms G.config) sight.new (λ s. IsSnapshot s v)) }
         ensures refused { IfErr result (λ e. e ≡ PoolError.NoMemory) }
         ensures goes_on { IsFrontOf sight.old sight.new }
     {
@@ -138,7 +139,9 @@ impl<G: PoolNaming, J: Job, E: Edge> PoolOf<G, J, E> {
         let mut held = shared.hold(rt);
         snapshot_shown(&mut held, &shared.glance, sight, alloc)
     }
+}
 
+impl<G: PoolNaming, J: Job, E: Edge> PoolOf<G, J, E> {
     /// The entries of the record from the n-th on, counted from 0, the oldest first: a thread that asks with the
     /// number of entries that it has seen gets each entry once. The copy is made in the hold, so who asks for many
     /// holds up the pool. NoMemory (4) for the copy.
@@ -171,7 +174,7 @@ impl<G: PoolNaming, J: Job, E: Edge> PoolOf<G, J, E> {
     {
         let shared = self.shared();
         let mut held = shared.hold(rt);
-        held.is_book();
+        held.law_is_book();
         held.show_sight(&shared.glance, sight);
         held.record_since(alloc, n)
     }

@@ -10,6 +10,7 @@ use std::thread::{Builder, Threads};
 use tp_book::passes::WorkerPass;
 use tp_callbacks::jobs::Job;
 use tp_locked::names::PoolNaming;
+use tp_machine::machine::releases::Keeper;
 use tp_turns::rescues::{Remains, rescue};
 use tp_types::ids::SlotId;
 
@@ -24,8 +25,9 @@ pub fn staff<
     G: PoolNaming + Send + Sync + 'static,
     J: Job + 'static,
     E: Edge + Send + Sync + 'static,
+    K: Keeper + Send + 'static,
     R: Threads + Wait + Copy + Send + 'static,
->(rt: R, shared: &Arc<Shared<G, J, E>>, w: SlotId) -> bool {
+>(rt: R, shared: &Arc<Shared<G, J, E, K>>, w: SlotId) -> bool {
     staff_heir(rt, shared, w, u64::MAX)
 }
 
@@ -35,8 +37,9 @@ pub fn staff_heir<
     G: PoolNaming + Send + Sync + 'static,
     J: Job + 'static,
     E: Edge + Send + Sync + 'static,
+    K: Keeper + Send + 'static,
     R: Threads + Wait + Copy + Send + 'static,
->(rt: R, shared: &Arc<Shared<G, J, E>>, w: SlotId, heirs: u64) -> bool {
+>(rt: R, shared: &Arc<Shared<G, J, E, K>>, w: SlotId, heirs: u64) -> bool {
     let Some(heirs) = heirs.checked_sub(1) else {
         return false;
     };
@@ -54,9 +57,9 @@ pub fn staff_heir<
 }
 
 // A pass for this slot's worker, in both ends of what keeps it. None for want of memory, or of a number.
-fn enlisted<G: PoolNaming, J: Drop, E: Edge, R: Wait>(
+fn enlisted<G: PoolNaming, J: Drop, E: Edge, K: Keeper, R: Wait>(
     rt: &R,
-    shared: &Shared<G, J, E>,
+    shared: &Shared<G, J, E, K>,
     w: SlotId,
 ) -> Option<(Kept<G>, Kept<G>)> {
     let (kept, theirs) = keepers(shared.alloc)?;
@@ -69,9 +72,9 @@ fn enlisted<G: PoolNaming, J: Drop, E: Edge, R: Wait>(
 }
 
 // Hands in the pass of a worker that has no thread.
-fn hand_back<G: PoolNaming, J: Drop, E: Edge, R: Wait>(
+fn hand_back<G: PoolNaming, J: Drop, E: Edge, K: Keeper, R: Wait>(
     rt: &R,
-    shared: &Shared<G, J, E>,
+    shared: &Shared<G, J, E, K>,
     kept: &Kept<G>,
 ) {
     let left = kept.lock(rt).take();
@@ -94,8 +97,9 @@ fn launch<
     G: PoolNaming + Send + Sync + 'static,
     J: Job + 'static,
     E: Edge + Send + Sync + 'static,
+    K: Keeper + Send + 'static,
     R: Threads + Wait + Copy + Send + 'static,
->(rt: R, shared: &Arc<Shared<G, J, E>>, w: SlotId, kept: Kept<G>, heirs: u64) -> bool {
+>(rt: R, shared: &Arc<Shared<G, J, E, K>>, w: SlotId, kept: Kept<G>, heirs: u64) -> bool {
     let Ok(theirs) = Arc::try_clone(shared) else {
         return false;
     };
@@ -110,29 +114,52 @@ fn launch<
     thread.spawn(&rt, work).is_ok()
 }
 
-// The work of a worker's thread: its turns once its slot is live, then a worker in its place where one is
-// wanted, and what is left to do where that leaves the pool to nobody. At last it hands in its pass and lets go
-// of the pool. Each heir is made by the thread before it, so the line of heirs is counted down.
+// The work of a worker's thread: its turns, and then a worker in its place where one is wanted, and what is left to do
+// where that leaves the pool to nobody. At last it hands in its pass and lets go of the pool. Each heir is made by the
+// thread before it, so the line of heirs is counted down.
 #[cycle(staffing)]
 fn run_worker<
     G: PoolNaming + Send + Sync + 'static,
     J: Job + 'static,
     E: Edge + Send + Sync + 'static,
+    K: Keeper + Send + 'static,
     R: Threads + Wait + Copy + Send + 'static,
->(rt: R, shared: Arc<Shared<G, J, E>>, w: SlotId, kept: Kept<G>, heirs: u64) {
-    let Some(pass) = kept.lock(&rt).take() else {
+>(rt: R, shared: Arc<Shared<G, J, E, K>>, w: SlotId, kept: Kept<G>, heirs: u64) {
+    let Some((shared, mut pass, heir)) = worked(rt, shared, w, kept) else {
         return;
+    };
+    let staffed = staff_heir(rt, &shared, heir, heirs);
+    let remains = shared.hand_over(&rt, heir, staffed, &mut pass);
+    save(rt, &shared, &mut pass, remains, heirs);
+    shared.hand_in(&rt, pass);
+    drop(shared);
+}
+
+// A worker's turns, once its slot is live. Where a slot is reserved in its place after them, the pool, the pass and that
+// slot; else it hands in the pass and lets go of the pool.
+fn worked<
+    G: PoolNaming + Send + Sync + 'static,
+    J: Job + 'static,
+    E: Edge + Send + Sync + 'static,
+    K: Keeper + Send + 'static,
+    R: Threads + Wait + Copy + Send + 'static,
+>(
+    rt: R,
+    shared: Arc<Shared<G, J, E, K>>,
+    w: SlotId,
+    kept: Kept<G>,
+) -> Option<(Arc<Shared<G, J, E, K>>, WorkerPass<G>, SlotId)> {
+    let Some(pass) = kept.lock(&rt).take() else {
+        return None;
     };
     let mut post = Post::new(shared, w, pass);
     let heir = post.work(&rt);
-    let (shared, mut pass) = post.into_parts();
+    let (shared, pass) = post.into_parts();
     if let Some(heir) = heir {
-        let staffed = staff_heir(rt, &shared, heir, heirs);
-        let remains = shared.hand_over(&rt, heir, staffed, &mut pass);
-        save(rt, &shared, &mut pass, remains, heirs);
+        return Some((shared, pass, heir));
     }
     shared.hand_in(&rt, pass);
-    drop(shared);
+    None
 }
 
 /// Does what is left to do in a pool that is shut down, round by round: it ends the pool where it can end, or has
@@ -143,8 +170,9 @@ pub fn save<
     G: PoolNaming + Send + Sync + 'static,
     J: Job + 'static,
     E: Edge + Send + Sync + 'static,
+    K: Keeper + Send + 'static,
     R: Threads + Wait + Copy + Send + 'static,
->(rt: R, shared: &Arc<Shared<G, J, E>>, pass: &mut WorkerPass<G>, remains: Remains, heirs: u64) {
+>(rt: R, shared: &Arc<Shared<G, J, E, K>>, pass: &mut WorkerPass<G>, remains: Remains, heirs: u64) {
     let mut remains = remains;
     for tried in 0..u32::MAX {
         let Some(w) = rescue(&rt, &**shared, pass, remains, tried) else {

@@ -12,8 +12,7 @@ ghost use Rattle.tp_locked.specs.Passes.{AddsStep, AddsNone, IsRefusal, LooksOnl
 ghost use Rattle.tp_locked.specs.Steps.{Makes};
 ghost use Rattle.tp_locked.specs.declared.tasks.Task.{Task as TaskOf};
 ghost use Rattle.tp_machine.specs.Answers.{ComesBack};
-ghost use Rattle.tp_pool.specs.Admissions.{task_of, end_of, Admits, AtPriority, Awaits, IsAdmitted, IsTurnedAway, IsUndone, TakesOut};
-ghost use Rattle.tp_pool.specs.Endings.{IsBarred};
+ghost use Rattle.tp_pool.specs.Admissions.{task_of, end_of, Admits, AtPriority, Awaits, IsAdmitted, IsHalted, IsTurnedAway, IsUndone, TakesOut};
 
 use crate::boxes::Boxed;
 use crate::edges::{Boxes, Edge};
@@ -23,15 +22,16 @@ use crate::staffing::staff;
 use std::sync::{Arc, MutexGuard, Wait};
 use std::thread::Threads;
 use tp_book::passes::Pass;
-use tp_callbacks::flags::FlagPair;
+use tp_callbacks::flags::CancelFlag;
 use tp_callbacks::jobs::Job;
 use tp_locked::answers::{Admitted, Refused};
 use tp_locked::locked::Core;
 use tp_locked::names::PoolNaming;
 use tp_locked::tasks::Task;
+use tp_machine::machine::releases::Keeper;
 use tp_machine::typed::submitters::{CallerEnd, Grow, Judge, Look, Offer, Second, Submit};
 use tp_machine::typed::workers::Fail;
-use tp_paths::laws::fronts_are_paths;
+use tp_paths::laws::law_fronts_are_paths;
 use tp_paths::paths::{Ending, Next, follows};
 use tp_record::entries::{Ask, Did, Looked, Seconded};
 use tp_turns::rescues::Remains;
@@ -83,11 +83,11 @@ fn answer<J: Drop>(t: TaskId, ending: Ending, held: Option<Task<J>>) -> Result<A
 
 // What is left to do after a second look: it is looked for only where the task came back.
 #[inline(always)]
-fn left_by_second<G: PoolNaming, J: Drop>(
-    core: &Core<G, J>,
+fn left_by_second<G: PoolNaming, J: Drop, K: Keeper>(
+    core: &Core<G, J, K>,
     answer: &Result<Seconded, PoolError>,
 ) -> Remains
-    ensures { answer.now ≡ Ok Seconded.Back → IsLeft (state G.config core.now.book.history) result }
+    ensures { answer.now ≡ Ok Seconded.Back → IsLeft (state (K.terms G.config) core.now.book.history) result }
 {
     match answer {
         Ok(Seconded::Back) => left_in(core),
@@ -106,7 +106,8 @@ impl<
     G: PoolNaming + Send + Sync + 'static,
     J: Job + 'static,
     E: Edge + Send + Sync + 'static,
-> PoolOf<G, J, E> {
+    K: Keeper + Send + 'static,
+> PoolOf<G, J, E, K> {
     /// Submits a task of this kind, as `ThreadPoolExecutor.execute`, and follows it to the end of its
     /// submission. The answer has the task's number. `Accepted`: the pool has the task, or it was cancelled
     /// before its submitter was to run it. `RanHere` and `Discarded`: the pool could not take the task, and
@@ -126,8 +127,8 @@ impl<
         job: J,
         pass: &mut Pass<G>,
     ) -> Result<Admitted, Refused<J>>
-        ensures admitted { Admits G.config kind (J.urgency job) job (J.promised job) pass.old pass.new result }
-        ensures refused { IfErr result (λ r. AtPriority (J.urgency job) (λ p. IsTurnedAway G.config kind p job (J.promised job) pass.old pass.new r)) }
+        ensures admitted { Admits (K.terms G.config) kind (J.urgency job) job (J.promised job) pass.old pass.new result }
+        ensures refused { IfErr result (λ r. AtPriority (J.urgency job) (λ p. IsTurnedAway K.RECEIPTS (K.terms G.config) kind p job (J.promised job) pass.old pass.new r)) }
     {
         self.execute_at(rt, kind, job.priority(), job, pass)
     }
@@ -141,8 +142,8 @@ impl<
         job: J,
         pass: &mut Pass<G>,
     ) -> Result<Admitted, Refused<J>>
-        ensures admitted { IfOk result (IsAdmitted G.config kind priority job (J.promised job) pass.old pass.new) }
-        ensures refused { IfErr result (IsTurnedAway G.config kind priority job (J.promised job) pass.old pass.new) }
+        ensures admitted { IfOk result (IsAdmitted (K.terms G.config) kind priority job (J.promised job) pass.old pass.new) }
+        ensures refused { IfErr result (IsTurnedAway K.RECEIPTS (K.terms G.config) kind priority job (J.promised job) pass.old pass.new) }
     {
         match reserve(pass) {
             Ok(()) => self.submit(*rt, kind, priority, job, pass),
@@ -163,8 +164,8 @@ impl<
         pass: &mut Pass<G>,
     ) -> Result<Admitted, Refused<J>>
         requires room { 512 ≤ pass.old.room }
-        ensures admitted { IfOk result (IsAdmitted G.config kind priority job (J.promised job) pass.old pass.new) }
-        ensures refused { IfErr result (IsTurnedAway G.config kind priority job (J.promised job) pass.old pass.new) }
+        ensures admitted { IfOk result (IsAdmitted (K.terms G.config) kind priority job (J.promised job) pass.old pass.new) }
+        ensures refused { IfErr result (IsTurnedAway K.RECEIPTS (K.terms G.config) kind priority job (J.promised job) pass.old pass.new) }
     {
         let (t, look) = match self.shared().submit(&rt, kind, priority, job, pass) {
             Ok(submitted) => submitted,
@@ -175,7 +176,7 @@ impl<
                 });
             }
         };
-        fronts_are_paths();
+        law_fronts_are_paths();
         let mut next = follows(t, &Did::Submit(t, kind, priority, look));
         let mut held = None;
         for _ in 1..MOST_STEPS {
@@ -206,12 +207,12 @@ impl<
         pass: &mut Pass<G>,
     ) -> Option<Did>
         requires room { 0 < pass.old.room }
-        ensures step { IfSome result (λ d. (ask : AskOf) × AddsStep G.config pass.old ask d pass.new) }
+        ensures step { IfSome result (λ d. (ask : AskOf) × AddsStep (K.terms G.config) pass.old ask d pass.new) }
         ensures left { OnSome result (pass.old.room ≤ pass.new.room + 1) }
         ensures on_path { OnSome result (Awaits (follow_of t.0 next)) }
-        ensures undone { IfNone result (Awaits (follow_of t.0 next) → IsUndone G.config t next pass.new.front) }
-        ensures returned { IfSome result (λ d. goes t.0 (follow_of t.0 next) d ≡ Ends Rejected → ComesBack t.0 held.new pass.new.front × TakesOut G.config pass.old.number t.0 held.new pass.old.front pass.new.front) }
-        ensures unchanged { IfNone result ((pass.new ≡ pass.old) ⊎ LooksOnly G.config pass.old pass.new) }
+        ensures undone { IfNone result (Awaits (follow_of t.0 next) → IsUndone K.RECEIPTS (K.terms G.config) t next pass.new.front) }
+        ensures returned { IfSome result (λ d. goes t.0 (follow_of t.0 next) d ≡ Ends Rejected → ComesBack t.0 held.new pass.new.front × TakesOut (K.terms G.config) pass.old.number t.0 held.new pass.old.front pass.new.front) }
+        ensures unchanged { IfNone result ((pass.new ≡ pass.old) ⊎ LooksOnly (K.terms G.config) pass.old pass.new) }
     {
         let shared = self.shared();
         match next {
@@ -235,10 +236,10 @@ impl<
         pass: &mut Pass<G>,
     ) -> Option<Did>
         requires room { 0 < pass.old.room }
-        ensures step { IfSome result (λ d. AddsStep G.config pass.old (Ask.Second t) d pass.new) }
+        ensures step { IfSome result (λ d. AddsStep (K.terms G.config) pass.old (Ask.Second t) d pass.new) }
         ensures left { OnSome result (pass.old.room ≤ pass.new.room + 1) }
-        ensures refused { IfNone result (IsBarred G.config pass.new.front (Ask.Second t)) }
-        ensures unchanged { IfNone result (LooksOnly G.config pass.old pass.new) }
+        ensures refused { IfNone result (IsHalted K.RECEIPTS (K.terms G.config) pass.new.front (Ask.Second t)) }
+        ensures unchanged { IfNone result (LooksOnly (K.terms G.config) pass.old pass.new) }
     {
         let (did, remains) = self.shared().second(&rt, t, pass);
         self.rescue(rt, remains);
@@ -256,11 +257,11 @@ impl<
         pass: &mut Pass<G>,
     ) -> Option<Did>
         requires room { 0 < pass.old.room }
-        ensures step { IfSome result (λ d. AddsStep G.config pass.old (Ask.Verdict t verdict) d pass.new) }
+        ensures step { IfSome result (λ d. AddsStep (K.terms G.config) pass.old (Ask.Verdict t verdict) d pass.new) }
         ensures left { OnSome result (pass.old.room ≤ pass.new.room + 1) }
-        ensures refused { IfNone result (IsBarred G.config pass.new.front (Ask.Verdict t verdict)) }
-        ensures returned { IfSome result (λ d. what_follows t.0 d ≡ Ends Rejected → ComesBack t.0 held.new pass.new.front × TakesOut G.config pass.old.number t.0 held.new pass.old.front pass.new.front) }
-        ensures unchanged { IfNone result (LooksOnly G.config pass.old pass.new) }
+        ensures refused { IfNone result (IsHalted K.RECEIPTS (K.terms G.config) pass.new.front (Ask.Verdict t verdict)) }
+        ensures returned { IfSome result (λ d. what_follows t.0 d ≡ Ends Rejected → ComesBack t.0 held.new pass.new.front × TakesOut (K.terms G.config) pass.old.number t.0 held.new pass.old.front pass.new.front) }
+        ensures unchanged { IfNone result (LooksOnly (K.terms G.config) pass.old pass.new) }
     {
         let (did, remains) = self.shared().judge(&rt, t, verdict, held, pass);
         self.rescue(rt, remains);
@@ -276,10 +277,10 @@ impl<
         pass: &mut Pass<G>,
     ) -> Result<Did, PoolError>
         requires room { 0 < pass.old.room }
-        ensures step { IfOk result (λ d. AddsStep G.config pass.old (opening w staffed) d pass.new) }
+        ensures step { IfOk result (λ d. AddsStep (K.terms G.config) pass.old (opening w staffed) d pass.new) }
         ensures left { OnOk result (pass.old.room ≤ pass.new.room + 1) }
-        ensures refused { IfErr result (IsRefusal G.config pass.new.front (opening w staffed)) }
-        ensures unchanged { OnErr result (LooksOnly G.config pass.old pass.new) }
+        ensures refused { IfErr result (IsRefusal true (K.terms G.config) pass.new.front (opening w staffed)) }
+        ensures unchanged { OnErr result (LooksOnly (K.terms G.config) pass.old pass.new) }
     {
         let (opened, remains) = self.shared().open(&rt, w, staffed, pass);
         self.rescue(rt, remains);
@@ -288,10 +289,10 @@ impl<
 
     // The verdict on a refused task: the policy's, or the handler's under `Policy::Own`.
     fn verdict<R: Wait>(&self, rt: &R, t: TaskId) -> Verdict
-        ensures { allows G.config.policy result ≡ true }
+        ensures { allows (K.terms G.config).policy result ≡ true }
     {
         let shared = self.shared();
-        match shared.policy.verdict() {
+        match shared.policy.verdict::<K>() {
             Some(verdict) => verdict,
             None => {
                 let state = shared.hold(rt).state();
@@ -313,7 +314,7 @@ impl<
     }
 }
 
-impl<G: PoolNaming + Send + Sync + 'static> PoolOf<G, Boxed, Boxes> {
+impl<G: PoolNaming + Send + Sync + 'static, K: Keeper + Send + 'static> PoolOf<G, Boxed, Boxes, K> {
     /// Submits a plain task, as `ThreadPoolExecutor.execute`, in a box and with the answers of `execute_as`.
     /// NoMemory (4) or BookFull (5), with the job and with nothing done; Rejected (12), with the job;
     /// TornRecord (22), which does not come as long as the pool's book is sound.
@@ -323,15 +324,15 @@ impl<G: PoolNaming + Send + Sync + 'static> PoolOf<G, Boxed, Boxes> {
         job: Box<dyn Job>,
         pass: &mut Pass<G>,
     ) -> Result<Admitted, Refused<Boxed>>
-        ensures admitted { Admits G.config Kind.Plain (urgency job) (record { job = job }) (promised job) pass.old pass.new result }
-        ensures refused { IfErr result (λ r. AtPriority (urgency job) (λ p. IsTurnedAway G.config Kind.Plain p (record { job = job }) (promised job) pass.old pass.new r)) }
+        ensures admitted { Admits (K.terms G.config) Kind.Plain (urgency job) (record { job = job }) (promised job) pass.old pass.new result }
+        ensures refused { IfErr result (λ r. AtPriority (urgency job) (λ p. IsTurnedAway K.RECEIPTS (K.terms G.config) Kind.Plain p (record { job = job }) (promised job) pass.old pass.new r)) }
         ensures returned { IfErr result (λ r. r.error ≢ PoolError.TornRecord → IsSome r.job) }
     {
         self.execute_as(rt, Kind::Plain, Boxed { job }, pass)
     }
 }
 
-impl<G: PoolNaming, J: Job, E: Edge> Shared<G, J, E> {
+impl<G: PoolNaming, J: Job, E: Edge, K: Keeper> Shared<G, J, E, K> {
     // The first step of a submission, in a hold of its own. NoMemory (4) or BookFull (5), with the job.
     #[inline(always)]
     fn submit<R: Wait>(
@@ -343,25 +344,25 @@ impl<G: PoolNaming, J: Job, E: Edge> Shared<G, J, E> {
         pass: &mut Pass<G>,
     ) -> Result<(TaskId, Looked), (PoolError, J)>
         requires room { 0 < pass.old.room }
-        ensures makes { IfOk result (λ x. (task : TaskOf J) × (task.job ≡ job) × Makes J G.config pass.old.number pass.old.front (Ask.Submit kind priority) (Did.Submit x.0 kind priority x.1) (λ old new. PutsIn old new x.0.0 (J.promised job) task) pass.new.front) }
-        ensures step { IfOk result (λ x. AddsStep G.config pass.old (Ask.Submit kind priority) (Did.Submit x.0 kind priority x.1) pass.new) }
+        ensures makes { IfOk result (λ x. (task : TaskOf J) × (task.job ≡ job) × Makes J (K.terms G.config) pass.old.number pass.old.front (Ask.Submit kind priority) (Did.Submit x.0 kind priority x.1) (λ old new. PutsIn old new x.0.0 (J.promised job) task) pass.new.front) }
+        ensures step { IfOk result (λ x. AddsStep (K.terms G.config) pass.old (Ask.Submit kind priority) (Did.Submit x.0 kind priority x.1) pass.new) }
         ensures left { OnOk result (pass.old.room ≤ pass.new.room + 1) }
-        ensures refused { IfErr result (λ r. Refuses G.config ⊤ pass.new.front (Ask.Submit kind priority) r.0) }
+        ensures refused { IfErr result (λ r. Refuses true (K.terms G.config) ⊤ pass.new.front (Ask.Submit kind priority) r.0) }
         ensures returned { IfErr result (λ r. r.1 ≡ job) }
         ensures unchanged { OnErr result (AddsNone pass.old pass.new) }
     {
         let promise = job.promise();
-        let (mut core, FlagPair { kept, lent }) = match self.hold_with_flag(rt) {
+        let (mut core, flag) = match self.hold_with_flag(rt) {
             Ok(held) => held,
             Err(error) => return Err((error, job)),
         };
-        let task = Task { job, flag: lent };
+        let task = Task { job, flag };
         let step = Submit {
             kind,
             priority,
             promise,
         };
-        let submitted = core.submit(step, task, kept, &self.glance, pass);
+        let submitted = core.submit(step, task, &self.glance, pass);
         self.release(core);
         match submitted {
             Ok(submitted) => Ok(submitted),
@@ -375,26 +376,26 @@ impl<G: PoolNaming, J: Job, E: Edge> Shared<G, J, E> {
     fn hold_with_flag<R: Wait>(
         &self,
         rt: &R,
-    ) -> Result<(MutexGuard<'_, Core<G, J>>, FlagPair), PoolError>
+    ) -> Result<(MutexGuard<'_, Core<G, J, K>>, CancelFlag), PoolError>
         ensures { IfErr result (λ e. e ≡ PoolError.NoMemory) }
     {
         let mut core = self.hold(rt);
-        if let Some(flags) = core.take_flag() {
-            return Ok((core, flags));
+        if let Some(flag) = core.take_flag() {
+            return Ok((core, flag));
         }
         self.release(core);
-        let flags = FlagPair::new(self.alloc)?;
-        Ok((self.hold(rt), flags))
+        let flag = CancelFlag::new(self.alloc)?;
+        Ok((self.hold(rt), flag))
     }
 
     // The step `look`, after a retry: what it did.
     #[inline(always)]
     fn look_again<R: Wait>(&self, rt: &R, t: TaskId, pass: &mut Pass<G>) -> Option<Did>
         requires room { 0 < pass.old.room }
-        ensures step { IfSome result (λ d. AddsStep G.config pass.old (Ask.Look t) d pass.new) }
+        ensures step { IfSome result (λ d. AddsStep (K.terms G.config) pass.old (Ask.Look t) d pass.new) }
         ensures left { OnSome result (pass.old.room ≤ pass.new.room + 1) }
-        ensures refused { IfNone result (IsBarred G.config pass.new.front (Ask.Look t)) }
-        ensures unchanged { IfNone result (LooksOnly G.config pass.old pass.new) }
+        ensures refused { IfNone result (IsHalted K.RECEIPTS (K.terms G.config) pass.new.front (Ask.Look t)) }
+        ensures unchanged { IfNone result (LooksOnly (K.terms G.config) pass.old pass.new) }
     {
         match self.ask(rt, Look(t), pass) {
             Ok(answer) => Some(Did::Look(t, answer)),
@@ -406,10 +407,10 @@ impl<G: PoolNaming, J: Job, E: Edge> Shared<G, J, E> {
     #[inline(always)]
     fn offer<R: Wait>(&self, rt: &R, t: TaskId, pass: &mut Pass<G>) -> Option<Did>
         requires room { 0 < pass.old.room }
-        ensures step { IfSome result (λ d. AddsStep G.config pass.old (Ask.Offer t) d pass.new) }
+        ensures step { IfSome result (λ d. AddsStep (K.terms G.config) pass.old (Ask.Offer t) d pass.new) }
         ensures left { OnSome result (pass.old.room ≤ pass.new.room + 1) }
-        ensures refused { IfNone result (IsBarred G.config pass.new.front (Ask.Offer t)) }
-        ensures unchanged { IfNone result (LooksOnly G.config pass.old pass.new) }
+        ensures refused { IfNone result (IsHalted K.RECEIPTS (K.terms G.config) pass.new.front (Ask.Offer t)) }
+        ensures unchanged { IfNone result (LooksOnly (K.terms G.config) pass.old pass.new) }
     {
         match self.ask(rt, Offer(t), pass) {
             Ok(answer) => Some(Did::Offer(t, answer)),
@@ -421,11 +422,11 @@ impl<G: PoolNaming, J: Job, E: Edge> Shared<G, J, E> {
     #[inline(always)]
     fn second<R: Wait>(&self, rt: &R, t: TaskId, pass: &mut Pass<G>) -> (Option<Did>, Remains)
         requires room { 0 < pass.old.room }
-        ensures step { IfSome result.0 (λ d. AddsStep G.config pass.old (Ask.Second t) d pass.new) }
+        ensures step { IfSome result.0 (λ d. AddsStep (K.terms G.config) pass.old (Ask.Second t) d pass.new) }
         ensures left { OnSome result.0 (pass.old.room ≤ pass.new.room + 1) }
-        ensures refused { IfNone result.0 (IsBarred G.config pass.new.front (Ask.Second t)) }
-        ensures unchanged { IfNone result.0 (LooksOnly G.config pass.old pass.new) }
-        ensures remains { result.0 ≡ Some (Did.Second t Seconded.Back) → IsLeft (state G.config pass.new.front) result.1 }
+        ensures refused { IfNone result.0 (IsHalted K.RECEIPTS (K.terms G.config) pass.new.front (Ask.Second t)) }
+        ensures unchanged { IfNone result.0 (LooksOnly (K.terms G.config) pass.old pass.new) }
+        ensures remains { result.0 ≡ Some (Did.Second t Seconded.Back) → IsLeft (state (K.terms G.config) pass.new.front) result.1 }
     {
         let mut core = self.hold(rt);
         let answer = core.ask(Second(t), &self.glance, pass);
@@ -441,10 +442,10 @@ impl<G: PoolNaming, J: Job, E: Edge> Shared<G, J, E> {
     #[inline(always)]
     fn grow<R: Wait>(&self, rt: &R, t: TaskId, pass: &mut Pass<G>) -> Option<Did>
         requires room { 0 < pass.old.room }
-        ensures step { IfSome result (λ d. AddsStep G.config pass.old (Ask.Grow t) d pass.new) }
+        ensures step { IfSome result (λ d. AddsStep (K.terms G.config) pass.old (Ask.Grow t) d pass.new) }
         ensures left { OnSome result (pass.old.room ≤ pass.new.room + 1) }
-        ensures refused { IfNone result (IsBarred G.config pass.new.front (Ask.Grow t)) }
-        ensures unchanged { IfNone result (LooksOnly G.config pass.old pass.new) }
+        ensures refused { IfNone result (IsHalted K.RECEIPTS (K.terms G.config) pass.new.front (Ask.Grow t)) }
+        ensures unchanged { IfNone result (LooksOnly (K.terms G.config) pass.old pass.new) }
     {
         match self.ask(rt, Grow(t), pass) {
             Ok(answer) => Some(Did::Grow(t, answer)),
@@ -463,12 +464,12 @@ impl<G: PoolNaming, J: Job, E: Edge> Shared<G, J, E> {
         pass: &mut Pass<G>,
     ) -> (Option<Did>, Remains)
         requires room { 0 < pass.old.room }
-        ensures step { IfSome result.0 (λ d. AddsStep G.config pass.old (Ask.Verdict t verdict) d pass.new) }
+        ensures step { IfSome result.0 (λ d. AddsStep (K.terms G.config) pass.old (Ask.Verdict t verdict) d pass.new) }
         ensures left { OnSome result.0 (pass.old.room ≤ pass.new.room + 1) }
-        ensures refused { IfNone result.0 (IsBarred G.config pass.new.front (Ask.Verdict t verdict)) }
-        ensures returned { IfSome result.0 (λ d. what_follows t.0 d ≡ Ends Rejected → ComesBack t.0 held.new pass.new.front × TakesOut G.config pass.old.number t.0 held.new pass.old.front pass.new.front) }
-        ensures unchanged { IfNone result.0 (LooksOnly G.config pass.old pass.new) }
-        ensures remains { IsLeft (state G.config pass.new.front) result.1 }
+        ensures refused { IfNone result.0 (IsHalted K.RECEIPTS (K.terms G.config) pass.new.front (Ask.Verdict t verdict)) }
+        ensures returned { IfSome result.0 (λ d. what_follows t.0 d ≡ Ends Rejected → ComesBack t.0 held.new pass.new.front × TakesOut (K.terms G.config) pass.old.number t.0 held.new pass.old.front pass.new.front) }
+        ensures unchanged { IfNone result.0 (LooksOnly (K.terms G.config) pass.old pass.new) }
+        ensures remains { IsLeft (state (K.terms G.config) pass.new.front) result.1 }
     {
         let (judged, remains) = self.ask_left(rt, Judge(t, verdict), pass);
         match judged {
@@ -489,9 +490,9 @@ impl<G: PoolNaming, J: Job, E: Edge> Shared<G, J, E> {
         pass: &mut Pass<G>,
     ) -> Option<Did>
         requires room { 0 < pass.old.room }
-        ensures step { IfSome result (λ d. AddsStep G.config pass.old (Ask.CallerEnd t outcome) d pass.new) }
+        ensures step { IfSome result (λ d. AddsStep (K.terms G.config) pass.old (Ask.CallerEnd t outcome) d pass.new) }
         ensures left { OnSome result (pass.old.room ≤ pass.new.room + 1) }
-        ensures unchanged { IfNone result (LooksOnly G.config pass.old pass.new) }
+        ensures unchanged { IfNone result (LooksOnly (K.terms G.config) pass.old pass.new) }
     {
         match self.ask(rt, CallerEnd(t, outcome), pass) {
             Ok(()) => Some(Did::CallerEnd(t, outcome)),
@@ -509,11 +510,11 @@ impl<G: PoolNaming, J: Job, E: Edge> Shared<G, J, E> {
         pass: &mut Pass<G>,
     ) -> (Result<Did, PoolError>, Remains)
         requires room { 0 < pass.old.room }
-        ensures step { IfOk result.0 (λ d. AddsStep G.config pass.old (opening w staffed) d pass.new) }
+        ensures step { IfOk result.0 (λ d. AddsStep (K.terms G.config) pass.old (opening w staffed) d pass.new) }
         ensures left { OnOk result.0 (pass.old.room ≤ pass.new.room + 1) }
-        ensures refused { IfErr result.0 (IsRefusal G.config pass.new.front (opening w staffed)) }
-        ensures unchanged { OnErr result.0 (LooksOnly G.config pass.old pass.new) }
-        ensures remains { IsLeft (state G.config pass.new.front) result.1 }
+        ensures refused { IfErr result.0 (IsRefusal true (K.terms G.config) pass.new.front (opening w staffed)) }
+        ensures unchanged { OnErr result.0 (LooksOnly (K.terms G.config) pass.old pass.new) }
+        ensures remains { IsLeft (state (K.terms G.config) pass.new.front) result.1 }
     {
         if staffed {
             self.open_live(rt, w, pass)
@@ -530,11 +531,11 @@ impl<G: PoolNaming, J: Job, E: Edge> Shared<G, J, E> {
         pass: &mut Pass<G>,
     ) -> (Result<Did, PoolError>, Remains)
         requires room { 0 < pass.old.room }
-        ensures step { IfOk result.0 (λ d. AddsStep G.config pass.old (Ask.Open w) d pass.new) }
+        ensures step { IfOk result.0 (λ d. AddsStep (K.terms G.config) pass.old (Ask.Open w) d pass.new) }
         ensures left { OnOk result.0 (pass.old.room ≤ pass.new.room + 1) }
-        ensures refused { IfErr result.0 (IsRefusal G.config pass.new.front (Ask.Open w)) }
-        ensures unchanged { OnErr result.0 (LooksOnly G.config pass.old pass.new) }
-        ensures remains { IsLeft (state G.config pass.new.front) result.1 }
+        ensures refused { IfErr result.0 (IsRefusal true (K.terms G.config) pass.new.front (Ask.Open w)) }
+        ensures unchanged { OnErr result.0 (LooksOnly (K.terms G.config) pass.old pass.new) }
+        ensures remains { IsLeft (state (K.terms G.config) pass.new.front) result.1 }
     {
         let mut core = self.hold(rt);
         let opened = core.open(w, &self.glance, pass);
@@ -555,11 +556,11 @@ impl<G: PoolNaming, J: Job, E: Edge> Shared<G, J, E> {
         pass: &mut Pass<G>,
     ) -> (Result<Did, PoolError>, Remains)
         requires room { 0 < pass.old.room }
-        ensures step { IfOk result.0 (λ d. AddsStep G.config pass.old (Ask.Fail w) d pass.new) }
+        ensures step { IfOk result.0 (λ d. AddsStep (K.terms G.config) pass.old (Ask.Fail w) d pass.new) }
         ensures left { OnOk result.0 (pass.old.room ≤ pass.new.room + 1) }
-        ensures refused { IfErr result.0 (IsRefusal G.config pass.new.front (Ask.Fail w)) }
-        ensures unchanged { OnErr result.0 (LooksOnly G.config pass.old pass.new) }
-        ensures remains { IsLeft (state G.config pass.new.front) result.1 }
+        ensures refused { IfErr result.0 (IsRefusal true (K.terms G.config) pass.new.front (Ask.Fail w)) }
+        ensures unchanged { OnErr result.0 (LooksOnly (K.terms G.config) pass.old pass.new) }
+        ensures remains { IsLeft (state (K.terms G.config) pass.new.front) result.1 }
     {
         let (failed, remains) = self.ask_left(rt, Fail(w), pass);
         match failed {

@@ -14,10 +14,11 @@ use tp_book::passes::Pass;
 use tp_callbacks::jobs::Job;
 use tp_locked::locked::Look;
 use tp_locked::names::PoolNaming;
+use tp_machine::machine::releases::Keeper;
 use tp_record::entries::Ask;
 use tp_types::refusals::PoolError;
 
-impl<G: PoolNaming, J: Job, E: Edge> PoolOf<G, J, E> {
+impl<G: PoolNaming, J: Job, E: Edge, K: Keeper> PoolOf<G, J, E, K> {
     /// As `await_termination`, with a deadline in ticks or, where it is None, with none. NoMemory (4) for its
     /// receipts, else TimedOut (16) once now has reached the deadline, or TornRecord (22), which does not come
     /// as long as the pool's book is sound.
@@ -27,12 +28,12 @@ impl<G: PoolNaming, J: Job, E: Edge> PoolOf<G, J, E> {
         deadline: Option<u64>,
         pass: &mut Pass<G>,
     ) -> Result<(), PoolError>
-        ensures steps { OnOk result (Adds G.config pass.old [] pass.new ⊎ Adds G.config pass.old (tidied pass.old.number ∷ ended pass.old.number ∷ []) pass.new) }
+        ensures steps { OnOk result (Adds (K.terms G.config) pass.old [] pass.new ⊎ Adds (K.terms G.config) pass.old (tidied pass.old.number ∷ ended pass.old.number ∷ []) pass.new) }
         ensures seen { OnOk result (rank pass.new.front ≡ 4) }
-        ensures late { IfErr result (λ e. e ≡ PoolError.TimedOut → AtFront G.config pass.new.front (λ s. (has_come deadline s.now ≡ true) × ¬ (s.rank ≡ 4))) }
+        ensures late { IfErr result (λ e. e ≡ PoolError.TimedOut → AtFront (K.terms G.config) pass.new.front (λ s. (has_come deadline s.now ≡ true) × ¬ (s.rank ≡ 4))) }
         ensures refused { IfErr result (λ e. ((e ≡ PoolError.NoMemory) × (pass.old.room < 2) × AddsNone pass.old pass.new)
-            ⊎ ((e ≡ PoolError.TimedOut) × Adds G.config pass.old [] pass.new)
-            ⊎ ((e ≡ PoolError.TornRecord) × IsBarred G.config pass.new.front Ask.Ended × Adds G.config pass.old (tidied pass.old.number ∷ []) pass.new)) }
+            ⊎ ((e ≡ PoolError.TimedOut) × Adds (K.terms G.config) pass.old [] pass.new)
+            ⊎ ((e ≡ PoolError.TornRecord) × IsBarred (K.terms G.config) pass.new.front Ask.Ended × Adds (K.terms G.config) pass.old (tidied pass.old.number ∷ []) pass.new)) }
     {
         if let Some(deadline) = deadline {
             return self.await_termination(rt, deadline, pass);
@@ -44,13 +45,13 @@ impl<G: PoolNaming, J: Job, E: Edge> PoolOf<G, J, E> {
     }
 }
 
-impl<G: PoolNaming, J: Drop, E: Edge> Shared<G, J, E> {
+impl<G: PoolNaming, J: Drop, E: Edge, K: Keeper> Shared<G, J, E, K> {
     /// As `await_end`, with no deadline.
     pub fn await_end_on<R: Wait>(&self, rt: &R, pass: &mut Pass<G>) -> Result<(), PoolError>
         requires room { 2 ≤ pass.old.room }
-        ensures steps { OnOk result (Adds G.config pass.old [] pass.new ⊎ Adds G.config pass.old (tidied pass.old.number ∷ ended pass.old.number ∷ []) pass.new) }
+        ensures steps { OnOk result (Adds (K.terms G.config) pass.old [] pass.new ⊎ Adds (K.terms G.config) pass.old (tidied pass.old.number ∷ ended pass.old.number ∷ []) pass.new) }
         ensures seen { OnOk result (rank pass.new.front ≡ 4) }
-        ensures refused { IfErr result (λ e. (e ≡ PoolError.TornRecord) × IsBarred G.config pass.new.front Ask.Ended × Adds G.config pass.old (tidied pass.old.number ∷ []) pass.new) }
+        ensures refused { IfErr result (λ e. (e ≡ PoolError.TornRecord) × IsBarred (K.terms G.config) pass.new.front Ask.Ended × Adds (K.terms G.config) pass.old (tidied pass.old.number ∷ []) pass.new) }
     {
         let mut core = self.hold(rt);
         for _ in rt.forever() {

@@ -1,5 +1,5 @@
 //! A worker's thread: its turns, and its end.
-ghost use Rattle.std.specs.Prelude.{◌≡◌};
+ghost use Rattle.std.specs.Prelude.{◌≡◌, IfSome, IfNone};
 ghost use Rattle.tp_record.specs.State.{state};
 ghost use Rattle.tp_turns.specs.Turns.{bare, told};
 ghost use Rattle.tp_locked.specs.Steps.{taking_of, begun_of, departed_of, IsEndOf};
@@ -19,8 +19,10 @@ use tp_locked::names::PoolNaming;
 use tp_locked::roster::Start;
 use tp_locked::tasks::Task;
 use tp_machine::answers::Begun as Started;
+use tp_machine::machine::releases::Keeper;
 use tp_machine::typed::controllers;
 use tp_machine::typed::workers::{Begin, End, Leave};
+use tp_record::recorders::Full;
 use tp_turns::deeds::{Departed, Ended, Taken};
 use tp_turns::turns::{Begun, Workplace, one_turn};
 use tp_types::ids::{SlotId, TaskId};
@@ -55,6 +57,18 @@ struct Pace {
     streak: u32,
     // How often it has waited since it gave way last.
     waits: u32,
+    // Whether it is to give way first in its wait.
+    gives_way: bool,
+    // So many short pauses come next in its wait, before it parks.
+    dozes: u32,
+}
+
+// What a worker does before it looks whether it was called.
+#[derive(Clone, Copy)]
+enum Pause {
+    GiveWay,
+    Doze,
+    Park,
 }
 
 impl Pace {
@@ -65,6 +79,8 @@ impl Pace {
             soon: false,
             streak: 0,
             waits: 0,
+            gives_way: false,
+            dozes: 0,
         }
     }
 
@@ -76,28 +92,37 @@ impl Pace {
         self.streak = self.streak.saturating_add(1);
     }
 
-    // A wait begins: whether the worker is to give way.
-    fn gives_way(&mut self) -> bool {
-        let gives_way = self.streak >= STREAM || self.waits >= WAITS;
+    // A wait begins.
+    fn begin_wait(&mut self) {
+        self.gives_way = self.streak >= STREAM || self.waits >= WAITS;
         self.streak = 0;
-        self.waits = if gives_way {
+        self.waits = if self.gives_way {
             0
         } else {
             self.waits.saturating_add(1)
         };
-        gives_way
+        self.dozes = if self.soon && !self.parked { DOZES } else { 0 };
     }
 
-    // Whether the worker looks for a while before it parks.
-    fn dozes(&self) -> bool {
-        self.soon && !self.parked
+    // The next pause of the wait.
+    fn next_pause(&mut self) -> Pause {
+        if self.gives_way {
+            self.gives_way = false;
+            return Pause::GiveWay;
+        }
+        if let Some(left) = self.dozes.checked_sub(1) {
+            self.dozes = left;
+            return Pause::Doze;
+        }
+        self.parked = true;
+        Pause::Park
     }
 }
 
 /// A worker at its slot.
 #[derive(Drop)]
-pub struct Post<G: PoolNaming, J, E> {
-    shared: Arc<Shared<G, J, E>>,
+pub struct Post<G: PoolNaming, J, E, K: Keeper = Full> {
+    shared: Arc<Shared<G, J, E, K>>,
     w: SlotId,
     pass: WorkerPass<G>,
     // The slot that is reserved in its place, once it has left.
@@ -112,12 +137,13 @@ impl<
     G: PoolNaming + Send + Sync + 'static,
     J: Job + 'static,
     E: Edge + Send + Sync + 'static,
+    K: Keeper + Send + 'static,
     R: Threads + Wait + Copy + Send + 'static,
-> Workplace<J, R> for Post<G, J, E> {
+> Workplace<J, R> for Post<G, J, E, K> {
     ghost use Rattle.std.specs.Prelude.{◌≡◌};
     ghost use Rattle.tp_pool.specs.Deeds.{IsDone, heir_after};
 
-    ghost did = { λ old d new. (new.w ≡ old.w) × (new.pass.number ≡ old.pass.number) × (new.heir ≡ heir_after old.heir d.0) × IsDone J G.config old.w old.pass.number old.pass.front new.pass.front old.heir d.0 d.1 };
+    ghost did = { λ old d new. (new.w ≡ old.w) × (new.pass.number ≡ old.pass.number) × (new.heir ≡ heir_after old.heir d.0) × IsDone J K.RECEIPTS (K.terms G.config) old.w old.pass.number old.pass.front new.pass.front old.heir d.0 d.1 };
 
     ghost owes = { λ _ _. Unit {0} };
 
@@ -126,15 +152,18 @@ impl<
     }
 
     fn take(&mut self, rt: &R) -> Taken {
+        let mut taking = self.shared.take(rt, self.w, &mut self.pass);
         for _ in rt.forever() {
-            match self.shared.take(rt, self.w, &mut self.pass) {
+            match taking {
                 Taking::Task => {
                     self.pace.found();
                     return Taken::Task;
                 }
                 Taking::Left => return Taken::Left,
                 Taking::Refused => return Taken::Refused,
-                Taking::Sleeps => self.shared.sleep(rt, self.w, &mut self.pace),
+                Taking::Sleeps => {
+                    taking = (self.shared).sleep(rt, self.w, &mut self.pace, &mut self.pass);
+                }
             }
         }
         unreachable!()
@@ -181,13 +210,18 @@ impl<
     }
 }
 
-impl<G: PoolNaming + Send + Sync + 'static, J: Job + 'static, E: Edge + Send + Sync + 'static> Post<
-    G,
-    J,
-    E,
-> {
+impl<
+    G: PoolNaming + Send + Sync + 'static,
+    J: Job + 'static,
+    E: Edge + Send + Sync + 'static,
+    K: Keeper + Send + 'static,
+> Post<G, J, E, K> {
     /// A worker that is yet to hear of its slot.
-    pub fn new(shared: Arc<Shared<G, J, E>>, w: SlotId, pass: WorkerPass<G>) -> Post<G, J, E> {
+    pub fn new(
+        shared: Arc<Shared<G, J, E, K>>,
+        w: SlotId,
+        pass: WorkerPass<G>,
+    ) -> Post<G, J, E, K> {
         Post {
             shared,
             w,
@@ -213,7 +247,7 @@ impl<G: PoolNaming + Send + Sync + 'static, J: Job + 'static, E: Edge + Send + S
     }
 
     /// Its pool and its pass, once its turns are over.
-    pub fn into_parts(self) -> (Arc<Shared<G, J, E>>, WorkerPass<G>) {
+    pub fn into_parts(self) -> (Arc<Shared<G, J, E, K>>, WorkerPass<G>) {
         let Post {
             shared,
             w: _,
@@ -226,11 +260,11 @@ impl<G: PoolNaming + Send + Sync + 'static, J: Job + 'static, E: Edge + Send + S
     }
 }
 
-impl<G: PoolNaming, J: Drop, E: Edge> Shared<G, J, E> {
+impl<G: PoolNaming, J: Drop, E: Edge, K: Keeper> Shared<G, J, E, K> {
     // One hold of a worker that asks for its next task.
     #[inline(always)]
     fn take<R: Wait>(&self, rt: &R, w: SlotId, pass: &mut WorkerPass<G>) -> Taking
-        ensures asks { Takes J G.config pass.old.number pass.old.front w pass.new.front (λ r. result ≡ taking_of r) }
+        ensures asks { Takes J K.RECEIPTS (K.terms G.config) pass.old.number pass.old.front w pass.new.front (λ r. result ≡ taking_of r) }
         ensures number { pass.new.number ≡ pass.old.number }
     {
         let mut core = self.hold_as_worker(rt);
@@ -242,7 +276,7 @@ impl<G: PoolNaming, J: Drop, E: Edge> Shared<G, J, E> {
     // One hold of a worker that begins the task that it took.
     #[inline(always)]
     fn begin<R: Wait>(&self, rt: &R, w: SlotId, pass: &mut WorkerPass<G>) -> Begun<J>
-        ensures asks { BeginsAt J G.config pass.old.number pass.old.front w pass.new.front (λ r. result ≡ begun_of r) }
+        ensures asks { BeginsAt J K.RECEIPTS (K.terms G.config) pass.old.number pass.old.front w pass.new.front (λ r. result ≡ begun_of r) }
         ensures number { pass.new.number ≡ pass.old.number }
     {
         match self.step(rt, Begin(w), pass) {
@@ -263,7 +297,7 @@ impl<G: PoolNaming, J: Drop, E: Edge> Shared<G, J, E> {
         flag: Option<CancelFlag>,
         pass: &mut WorkerPass<G>,
     ) -> Ended
-        ensures asks { Ends J G.config pass.old.number pass.old.front w outcome pass.new.front (IsEndOf (state G.config pass.new.front) w.0 result) }
+        ensures asks { Ends J K.RECEIPTS (K.terms G.config) pass.old.number pass.old.front w outcome pass.new.front (IsEndOf (state (K.terms G.config) pass.new.front) w.0 result) }
         ensures number { pass.new.number ≡ pass.old.number }
     {
         let mut core = self.hold_as_worker(rt);
@@ -284,7 +318,7 @@ impl<G: PoolNaming, J: Drop, E: Edge> Shared<G, J, E> {
 
     // One hold of a worker that leaves after a fault.
     fn leave<R: Wait>(&self, rt: &R, w: SlotId, pass: &mut WorkerPass<G>) -> Departed
-        ensures asks { Leaves J G.config pass.old.number pass.old.front w pass.new.front (λ r. result ≡ departed_of r) }
+        ensures asks { Leaves J K.RECEIPTS (K.terms G.config) pass.old.number pass.old.front w pass.new.front (λ r. result ≡ departed_of r) }
         ensures number { pass.new.number ≡ pass.old.number }
     {
         match self.step(rt, Leave(w), pass) {
@@ -294,48 +328,47 @@ impl<G: PoolNaming, J: Drop, E: Edge> Shared<G, J, E> {
         }
     }
 
-    // Sleeps until another thread took the worker off the list of sleepers. Where a task comes before the worker parks,
-    // neither thread makes a system call. Each wake is checked under the lock, since one may be left over from an
-    // earlier sleep.
-    fn sleep<R: Wait>(&self, rt: &R, w: SlotId, pace: &mut Pace) {
-        if pace.gives_way() {
-            yield_now();
-            if self.is_called(rt, w) {
-                return;
-            }
+    // One hold of a worker that was listed among the sleepers: where another thread took it off the list, it asks for its
+    // next task in the same hold. A worker that is listed still must not ask, since it might get a task and be called for
+    // another one while it runs.
+    fn take_if_called<R: Wait>(&self, rt: &R, w: SlotId, pass: &mut WorkerPass<G>) -> Option<Taking>
+        ensures asks { IfSome result (λ k. Takes J K.RECEIPTS (K.terms G.config) pass.old.number pass.old.front w pass.new.front (λ r. k ≡ taking_of r)) }
+        ensures unchanged { IfNone result (pass.new ≡ pass.old) }
+        ensures number { pass.new.number ≡ pass.old.number }
+    {
+        let mut core = self.hold_as_worker(rt);
+        if core.is_asleep(w) {
+            return None;
         }
-        if pace.dozes() && self.doze(rt, w) {
-            return;
-        }
-        pace.parked = true;
+        let taking = core.take(w, &self.glance, pass);
+        self.release(core);
+        Some(taking)
+    }
+
+    // Sleeps until another thread took the worker off the list of sleepers, and asks for its next task then. Where a task
+    // comes before the worker parks, neither thread makes a system call. Each wake is checked under the lock, since one
+    // may be left over from an earlier sleep.
+    fn sleep<R: Wait>(&self, rt: &R, w: SlotId, pace: &mut Pace, pass: &mut WorkerPass<G>) -> Taking
+        ensures asks { Takes J K.RECEIPTS (K.terms G.config) pass.old.number pass.old.front w pass.new.front (λ r. result ≡ taking_of r) }
+        ensures number { pass.new.number ≡ pass.old.number }
+    {
+        pace.begin_wait();
         for _ in rt.forever() {
-            self.park(rt, w);
-            if self.is_called(rt, w) {
-                return;
+            match pace.next_pause() {
+                Pause::GiveWay => yield_now(),
+                Pause::Doze => rest(DOZE),
+                Pause::Park => self.park(rt, w),
+            }
+            if let Some(taking) = self.take_if_called(rt, w, pass) {
+                return taking;
             }
         }
         unreachable!()
     }
 
-    // Looks a few times whether the worker was called.
-    fn doze<R: Wait>(&self, rt: &R, w: SlotId) -> bool {
-        for _ in 0..DOZES {
-            rest(DOZE);
-            if self.is_called(rt, w) {
-                return true;
-            }
-        }
-        false
-    }
-
-    // Whether another thread took the worker off the list of sleepers.
-    fn is_called<R: Wait>(&self, rt: &R, w: SlotId) -> bool {
-        !self.hold_as_worker(rt).is_asleep(w)
-    }
-
     // Ends the pool, where it can end now, by a worker's steps.
     fn try_end_as_worker<R: Wait>(&self, rt: &R, pass: &mut WorkerPass<G>)
-        ensures ends { EndsPool J G.config pass.old.number pass.old.front pass.new.front }
+        ensures ends { EndsPool J K.RECEIPTS (K.terms G.config) pass.old.number pass.old.front pass.new.front }
         ensures number { pass.new.number ≡ pass.old.number }
     {
         if self.step(rt, controllers::Tidy, pass).is_ok() {

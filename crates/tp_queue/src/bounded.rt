@@ -42,8 +42,8 @@ impl WorkQueue for Bounded {
     ghost waiting = { λ q. q };
 
     #[inline(always)]
-    fn is_lawful(&self) {
-        self.line.rises();
+    fn law_is_lawful(&self) {
+        self.line.law_rises();
         self.line.len();
     }
 
@@ -65,7 +65,7 @@ impl WorkQueue for Bounded {
 
     #[inline(always)]
     fn offer(&mut self, task: TaskId, _priority: u32) -> Result<u64, TaskId> {
-        self.line.rises();
+        self.line.law_rises();
         self.line.offer(task)
     }
 

@@ -17,7 +17,7 @@ impl WorkQueue for HandoffQueue {
     ghost waiting = { λ _. first_waiting NoPlaces };
 
     #[inline(always)]
-    fn is_lawful(&self) {}
+    fn law_is_lawful(&self) {}
 
     #[inline(always)]
     fn len(&self) -> usize {

@@ -42,8 +42,8 @@ impl Priority {
 impl WorkQueue for Priority {
     ghost waiting = { λ q. q };
 
-    fn is_lawful(&self) {
-        self.ranking.rises();
+    fn law_is_lawful(&self) {
+        self.ranking.law_rises();
         self.ranking.len();
     }
 

@@ -48,12 +48,12 @@ impl WorkQueue for Queue {
     ghost waiting = { waiting_of };
 
     #[inline(always)]
-    fn is_lawful(&self) {
+    fn law_is_lawful(&self) {
         match self {
-            Queue::Handoff(queue) => queue.is_lawful(),
-            Queue::Unbounded(queue) => queue.is_lawful(),
-            Queue::Bounded(queue) => queue.is_lawful(),
-            Queue::Priority(queue) => queue.is_lawful(),
+            Queue::Handoff(queue) => queue.law_is_lawful(),
+            Queue::Unbounded(queue) => queue.law_is_lawful(),
+            Queue::Bounded(queue) => queue.law_is_lawful(),
+            Queue::Priority(queue) => queue.law_is_lawful(),
         }
     }
 

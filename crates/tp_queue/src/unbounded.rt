@@ -42,8 +42,8 @@ impl WorkQueue for Unbounded {
     ghost waiting = { λ q. q };
 
     #[inline(always)]
-    fn is_lawful(&self) {
-        self.line.rises();
+    fn law_is_lawful(&self) {
+        self.line.law_rises();
         self.line.len();
     }
 
@@ -64,7 +64,7 @@ impl WorkQueue for Unbounded {
 
     #[inline(always)]
     fn offer(&mut self, task: TaskId, _priority: u32) -> Result<u64, TaskId> {
-        self.line.rises();
+        self.line.law_rises();
         self.line.offer(task)
     }
 

@@ -23,7 +23,7 @@ pub trait WorkQueue {
 
     /// The law of each queue: keys rise, place numbers stay below the number of accepted offers and none comes twice. No more
     /// tasks wait than were accepted, nor more than the capacity, and the capacity is its kind's.
-    fn is_lawful(&self)
+    fn law_is_lawful(&self)
         ensures keys { Ordered 0 (waiting self.now).items (key_bound (waiting self.now).kind (waiting self.now).offers) }
         ensures numbers { AreNumbered (waiting self.now).offers (waiting self.now).items }
         ensures few { length (waiting self.now).items ≤ (waiting self.now).offers }

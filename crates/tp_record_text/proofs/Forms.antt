@@ -229,7 +229,7 @@ config_fits c config keep =
 
 pub legal_has_text : (c : Config) (es : List Entry) → IsConfig c → Fits64 c.keep → Legal c (reverse es) → AllByRecursion IsInRange es → HasText version.Two c es
 legal_has_text c es config keep legal fits =
-    let room = room_is_enough c (reverse es) config legal in
+    let room = room_is_enough c (reverse es) config.least_limit legal in
     let limit = config.greatest_limit in
     record {
       config = (config_fits c config keep, tt);

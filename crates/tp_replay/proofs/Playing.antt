@@ -10,11 +10,11 @@ use Rattle.tp_record.specs.State.{state}
 use Rattle.tp_text.specs.RunText.{Answer, after, after_all, answer_lines, run_lines}
 use Rattle.tp_text.proofs.RunLaws.{after_all-push}
 use Rattle.tp_scenario.specs.declared.lines.ScenarioLine.{ScenarioLine}
-use Rattle.tp_scenario.specs.Answered.{AnswersLine, IsAt, Playing, Running, Stands, outcomes_all, played}
+use Rattle.tp_scenario.specs.declared.step.Told.{Told}
+use Rattle.tp_scenario.specs.Answered.{IsAt, Playing, Running, Stands, TellsLine, answer_of, asked_by, outcomes_all, played}
 use Rattle.tp_scenario.specs.Played.{IsPlay, Outcomes, ask_of, asks_of, outcomes_after}
 use Rattle.tp_scenario.proofs.PlayLaws.{one_each, play, stands_first, stands_on}
-use Rattle.tp_replay.specs.declared.plays.Answered.{Answered}
-use Rattle.tp_replay.specs.Plays.{PlaysOf, answers_of, asked_of, entries_in, refusals_in}
+use Rattle.tp_replay.specs.Plays.{Answered, PlaysOf, answers_of, asked_of, entries_in, refusals_in}
 
 -- what one more line asks
 asks_on : (c : Config) (h : List Entry) (os : Outcomes) (lines : List ScenarioLine) (answers : List Answer) (l : ScenarioLine) (a : Answer) → length answers ≡ length lines
@@ -36,25 +36,25 @@ pub going_first : (c : Config) (lines : List ScenarioLine) (r : Running) → IsA
 going_first c lines r start = record { stands = stands_first c r [] start refl; asked = refl }
 
 -- one more line is answered
-pub going_on : (c : Config) (lines : List ScenarioLine) (n : ℕ) (r p : Running) (xs : List Answered) (d : ScenarioLine) (x : Answered) → Going c lines n r xs → n < length lines
-    → ((q : Playing) → IsAt r q → x.ask ≡ ask_of (state q.config q.history) q.outcomes (get_or lines n d))
-    → ((q : Playing) → IsAt r q → AnswersLine q (get_or lines n d) x.answer p)
-    → Going c lines (n + 1) p (xs ++ x ∷ [])
-going_on c lines n r p xs d x so_far below asks answers =
+pub going_on : (c : Config) (lines : List ScenarioLine) (n : ℕ) (r p : Running) (xs : List Answered) (d : ScenarioLine) (t : Told) → Going c lines n r xs → n < length lines
+    → ((q : Playing) → IsAt r q → TellsLine q (get_or lines n d) t p)
+    → Going c lines (n + 1) p (xs ++ t.answer ∷ [])
+going_on c lines n r p xs d t so_far below tells =
     let l : ScenarioLine = get_or lines n d in
-    let a : Answer = x.answer in
+    let x : Answered = t.answer in
+    let a : Answer = answer_of x in
     let front : List ScenarioLine = take n lines in
     let given : List Answer = answers_of xs in
     let at : Playing = played c front given in
     let more : take (n + 1) lines ≡ front ++ l ∷ [] = take_more lines n d below in
-    let told : answers_of (xs ++ x ∷ []) ≡ given ++ a ∷ [] = map_push (λ (y : Answered). y.answer) xs x in
+    let of_line : TellsLine at l t p = tells at so_far.stands.runner in
+    let told : answers_of (xs ++ x ∷ []) ≡ given ++ a ∷ [] = map_push answer_of xs x in
     let next : Stands c (front ++ l ∷ []) (given ++ a ∷ []) p (run_lines c [] given ++ answer_lines c (after_all [] given) a) =
-    stands_on c front given r p (run_lines c [] given) (run_lines c [] given ++ answer_lines c (after_all [] given) a) l a so_far.stands (answers at so_far.stands.runner) refl in
+    stands_on c front given r p (run_lines c [] given) (run_lines c [] given ++ answer_lines c (after_all [] given) a) l a so_far.stands of_line.answers refl in
     let whole : Stands c (front ++ l ∷ []) (given ++ a ∷ []) p (run_lines c [] (given ++ a ∷ [])) = record { plays = next.plays; runner = next.runner; output = refl } in
-    let there : x.ask ≡ ask_of (state c (after_all [] given)) (outcomes_all [] front given) l = asks at so_far.stands.runner in
     let each : length given ≡ length front = one_each c [] [] front given so_far.stands.plays in
     let asked : asked_of (xs ++ x ∷ []) ≡ asks_of c [] [] (front ++ l ∷ []) (given ++ a ∷ []) =
-    map_push (λ (y : Answered). (0, y.ask)) xs x ∙ ap (λ q. asked_of xs ++ (0, q) ∷ []) there
+    map_push (λ (y : Answered). (0, asked_by y)) xs x ∙ ap (λ q. asked_of xs ++ (0, q) ∷ []) of_line.asks
     ∙ ap (λ q. q ++ (0, ask_of (state c (after_all [] given)) (outcomes_all [] front given) l) ∷ []) so_far.asked
     ∙ sym (asks_on c [] [] front given l a each) in
     let all : List Answer = answers_of (xs ++ x ∷ []) in
@@ -76,25 +76,25 @@ going_whole c lines n r xs so_far all =
     }
 
 -- the history after an answer, oldest entry first
-kept_on : (h : List Entry) (a : Answer) → reverse (after h a) ≡ reverse h ++ option_to_list (result_ok a)
+kept_on : (h : List Entry) (x : Answered) → reverse (after h (answer_of x)) ≡ reverse h ++ option_to_list (result_ok x)
 kept_on h (Ok e) = reverse-append (e ∷ []) h
 kept_on h (Err r) = sym (append-nil (reverse h))
 
 -- the entries among one more answer
-pub entries_more : (xs : List Answered) (n : ℕ) (d : Answered) → n < length xs → entries_in (take (n + 1) xs) ≡ entries_in (take n xs) ++ option_to_list (result_ok (get_or xs n d).answer)
+pub entries_more : (xs : List Answered) (n : ℕ) (d : Answered) → n < length xs → entries_in (take (n + 1) xs) ≡ entries_in (take n xs) ++ option_to_list (result_ok (get_or xs n d))
 entries_more xs n d below =
     let x : Answered = get_or xs n d in
     let front : List Answered = take n xs in
-    ap entries_in (take_more xs n d below) ∙ ap (λ given. reverse (after_all [] given)) (map_push (λ (y : Answered). y.answer) front x)
-    ∙ ap reverse (after_all-push [] (answers_of front) x.answer) ∙ kept_on (after_all [] (answers_of front)) x.answer
+    ap entries_in (take_more xs n d below) ∙ ap (λ given. reverse (after_all [] given)) (map_push answer_of front x)
+    ∙ ap reverse (after_all-push [] (answers_of front) (answer_of x)) ∙ kept_on (after_all [] (answers_of front)) x
 
 -- one more answer is counted
-pub counted_on : (xs : List Answered) (n : ℕ) (d : Answered) (k m : ℕ) (b : Bool) → n < length xs → k ≡ refusals_in (take n xs) → b ≡ is_err (get_or xs n d).answer
+pub counted_on : (xs : List Answered) (n : ℕ) (d : Answered) (k m : ℕ) (b : Bool) → n < length xs → k ≡ refusals_in (take n xs) → b ≡ is_err (get_or xs n d)
     → ((b ≡ true) × (m ≡ k + 1)) ⊎ ((b ≡ false) × (m ≡ k)) → m ≡ refusals_in (take (n + 1) xs)
 counted_on xs n d k m b below so_far test (inl more) =
-    let yes = count_by_more_yes (λ (x : Answered). is_err x.answer) xs n d below (sym test ∙ more.0) in more.1 ∙ ap (λ j. j + 1) so_far ∙ sym yes
+    let yes = count_by_more_yes is_err xs n d below (sym test ∙ more.0) in more.1 ∙ ap (λ j. j + 1) so_far ∙ sym yes
 counted_on xs n d k m b below so_far test (inr same) =
-    let no = count_by_more_no (λ (x : Answered). is_err x.answer) xs n d below (sym test ∙ same.0) in same.1 ∙ so_far ∙ sym no
+    let no = count_by_more_no is_err xs n d below (sym test ∙ same.0) in same.1 ∙ so_far ∙ sym no
 
 pub at_most : (n m k : ℕ) (b : Bool) → n ≤ k → ((b ≡ true) × (m ≡ n + 1)) ⊎ ((b ≡ false) × (m ≡ n)) → m ≤ k + 1
 at_most n m k b few (inl more) = omega (arith, more.1)

@@ -10,22 +10,27 @@ use Rattle.tp_text.specs.Pools.{config_of}
 use Rattle.tp_text.specs.RunText.{Answer, after_all}
 use Rattle.tp_text.specs.declared.pools.PoolLine.{PoolLine}
 use Rattle.tp_scenario.specs.declared.lines.ScenarioLine.{ScenarioLine}
+use Rattle.tp_scenario.specs.declared.step.Refusal.{Refusal}
+use Rattle.tp_scenario.specs.Answered.{answer_of, asked_by}
 use Rattle.tp_scenario.specs.Played.{IsPlay, asks_of}
 use Rattle.tp_scenario.specs.Scenario.{Asked as Lines, IsScenario, Said}
-use Rattle.tp_replay.specs.declared.plays.Answered.{Answered}
 use Rattle.tp_replay.specs.declared.plays.Play.{Play}
 
 -- what a scenario says: its pool and its lines
 abbrev pub Asked : Type 0
 Asked = PoolLine × Lines
 
+-- how the pool answered a step, and what was asked where it refused
+abbrev pub Answered : Type 0
+Answered = Result Entry Refusal
+
 -- how the pool answered
 abbrev pub answers_of : List Answered → List Answer
-answers_of xs = map (λ x. x.answer) xs
+answers_of xs = map answer_of xs
 
 -- what pass 0 asked
 abbrev pub asked_of : List Answered → List (ℕ × Ask)
-asked_of xs = map (λ x. (0, x.ask)) xs
+asked_of xs = map (λ x. (0, asked_by x)) xs
 
 -- the entries of the record, oldest first
 abbrev pub entries_in : List Answered → List Entry
@@ -49,7 +54,7 @@ IsPlayIn text p = (s : Asked) × IsScenario text (Ok s) × IsPlayOf s p
 
 -- how many steps were refused
 abbrev pub refusals_in : List Answered → ℕ
-refusals_in xs = count_by (λ x. is_err x.answer) xs
+refusals_in xs = count_by is_err xs
 
 -- why there is no play of what a text says: a bad line up to the pool line, refused settings, or want of memory
 abbrev pub RefusesSaid : Said → PoolError → Type 0

@@ -1,26 +1,20 @@
 //! What comes of the steps of a scenario: its answers, without the pool that gave them.
 
 ghost use Rattle.std.specs.Prelude.{◌≡◌, ◌≤◌, [], length, Ok, IfOk, IfErr, IsOkUnless};
-ghost use Rattle.tp_scenario.specs.Answered.{IsAt, answer_of, settings_of};
+ghost use Rattle.tp_scenario.specs.Answered.{IsAt, settings_of};
 ghost use Rattle.tp_scenario.specs.Read.{lines_said};
 ghost use Rattle.tp_replay.specs.Plays.{IsPlayIn, IsPlayOf, PlaysOf, RefusesPlay, RefusesSaid, refusals_in};
 
 use std::alloc::Global;
-use tp_record::entries::{Ask, Entry};
+use tp_record::entries::Entry;
 use tp_scenario::lines::ScenarioLine;
 use tp_scenario::scenarios::{Scenario, read_scenario};
-use tp_scenario::step::{Runner, Told};
+use tp_scenario::step::{Refusal, Runner};
 use tp_types::configs::Config;
 use tp_types::refusals::PoolError;
 
-/// What a step asked of the pool, and the answer: the entry that it added to the record, or its refusal.
-#[derive(Clone, Copy, Debug)]
-pub struct Answered {
-    /// What was asked.
-    pub ask: Ask,
-    /// How the pool answered.
-    pub answer: Result<Entry, PoolError>,
-}
+/// How the pool answered a step: the entry that it added to the record, or its refusal.
+pub type Answered = Result<Entry, Refusal>;
 
 /// What came of a scenario's steps.
 #[derive(Debug, Drop)]
@@ -31,16 +25,6 @@ pub struct Play {
     pub answers: Vec<Answered>,
     /// The number of the first bad line behind the pool line, where there is one. Lines count from 1.
     pub bad: Option<u32>,
-}
-
-/// The entry that a step added to the record, or its refusal.
-fn answer_of(told: Told) -> Result<Entry, PoolError>
-    ensures { result ≡ answer_of told }
-{
-    match told {
-        Ok((entry, _)) => Ok(entry),
-        Err(refusal) => Err(refusal),
-    }
 }
 
 /// Plays the steps on a new pool; NoMemory (4) of the player's own.
@@ -55,12 +39,10 @@ fn play_steps(
 {
     let mut answers = Vec::new(alloc);
     for step in steps {
-        let ask = runner.ask(step);
         let Ok(told) = runner.step(step) else {
             return Err(PoolError::NoMemory);
         };
-        let answer = answer_of(told);
-        answers.push(Answered { ask, answer })?;
+        answers.push(told.answer)?;
     }
     Ok(answers)
 }
@@ -110,7 +92,7 @@ fn refused_in(answers: &[Answered]) -> usize
 {
     let mut count = 0;
     for answered in answers {
-        if answered.answer.is_err() {
+        if answered.is_err() {
             count += 1;
         }
     }

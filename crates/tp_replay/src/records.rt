@@ -19,10 +19,10 @@ use tp_text::writing::write_text;
 use tp_types::refusals::PoolError;
 
 /// Puts the entry behind the others, where the answer is one.
-fn keep(entries: &mut Vec<Entry>, answer: Result<Entry, PoolError>) -> Result<(), AllocError>
-    ensures { OnOk result (entries.new.items ≡ entries.old.items ++ option_to_list (result_ok answer)) }
+fn keep(entries: &mut Vec<Entry>, answered: Answered) -> Result<(), AllocError>
+    ensures { OnOk result (entries.new.items ≡ entries.old.items ++ option_to_list (result_ok answered)) }
 {
-    match answer {
+    match answered {
         Ok(entry) => {
             entries.push(entry)?;
             Ok(())
@@ -37,7 +37,7 @@ fn entries_of(alloc: Global, answers: &[Answered]) -> Result<Vec<Entry>, AllocEr
 {
     let mut entries = Vec::new(alloc);
     for answered in answers {
-        keep(&mut entries, answered.answer)?;
+        keep(&mut entries, *answered)?;
     }
     Ok(entries)
 }

@@ -7,6 +7,7 @@ use tp_audit::summary::Flaw;
 use tp_auditor::auditor::Auditor;
 use tp_causes::causes::Cause;
 use tp_record::entries::Entry;
+use tp_scenario::step::Refusal;
 use tp_text::lines::next_line;
 use tp_types::refusals::PoolError;
 
@@ -76,14 +77,14 @@ impl Play {
             let Some(line) = lines.next_said() else {
                 return Ok(());
             };
-            match answered.answer {
-                Ok(entry) => note(&mut auditor, &entry)?,
-                Err(refusal) => {
+            match answered {
+                Ok(entry) => note(&mut auditor, entry)?,
+                Err(Refusal { ask, error }) => {
                     let cause = Cause {
                         config: &self.config,
                         tables: auditor.tables(),
-                        ask: answered.ask,
-                        refusal,
+                        ask: *ask,
+                        refusal: *error,
                     };
                     tell(alloc, out, lines.number, line, cause);
                 }

@@ -22,4 +22,6 @@ mod runs;
 #[cfg(test)]
 mod streams;
 #[cfg(test)]
+mod tallied;
+#[cfg(test)]
 mod tests;

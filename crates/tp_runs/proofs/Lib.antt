@@ -1,1 +1,3 @@
+pub mod Others
 pub mod Running
+pub mod Tallying

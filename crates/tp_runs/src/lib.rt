@@ -3,3 +3,4 @@
 #![tactic(auto)]
 
 pub mod runs;
+pub mod tallies;

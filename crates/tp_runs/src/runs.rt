@@ -4,6 +4,7 @@ ghost use Rattle.std.specs.Prelude.{◌≡◌, ◌⊎◌, reverse, IfOk, IfErr, 
 ghost use Rattle.tp_types.specs.Config.{IsConfig, checked};
 ghost use Rattle.tp_types.specs.Promise.{FitsPromise};
 ghost use Rattle.tp_record.specs.Step as steps;
+ghost use Rattle.tp_machine.specs.Seen.{config_of};
 ghost use Rattle.tp_machine.specs.Steps.{IsStep, Stays, IsRefusedBy};
 ghost use Rattle.tp_laws.specs.Lawful.{IsLawful};
 ghost use Rattle.tp_runs.specs.Runs.{AllPromise, IfOutcome};
@@ -11,7 +12,7 @@ ghost use Rattle.tp_runs.specs.Runs.{AllPromise, IfOutcome};
 use std::alloc::Global;
 use tp_machine::machine::Machine;
 use tp_record::entries::{Ask, Did, Entry};
-use tp_record::recorders::{Full, Recorder};
+use tp_record::recorders::Recorder;
 use tp_types::configs::Config;
 use tp_types::refusals::PoolError;
 use tp_types::tasks::WIDEST;
@@ -37,11 +38,16 @@ fn widest_allows(ask: Ask) -> bool
 }
 
 /// Makes the step of an ask: its answer, or its refusal, after which nothing has changed.
-fn answer(machine: &mut Machine<(), Full>, by: u32, ask: Ask) -> Result<Did, PoolError>
+pub(crate) fn answer<R: Recorder>(
+    machine: &mut Machine<(), R>,
+    by: u32,
+    ask: Ask,
+) -> Result<Did, PoolError>
     requires { AllPromise WIDEST machine.old }
-    ensures step { IfOk result (λ d. IsStep ⟦<Full as Recorder>⟧.tells machine.old machine.new by ask d) }
-    ensures refused { IfErr result (λ e. IsRefusedBy ⟦<Full as Recorder>⟧.tells machine.old ask e) }
-    ensures unchanged { OnErr result (Stays ⟦<Full as Recorder>⟧.tells machine.old machine.new) }
+    ensures step { IfOk result (λ d. IsStep R.tells machine.old machine.new by ask d) }
+    ensures refused { IfErr result (λ e. IsRefusedBy R.tells machine.old ask e) }
+    ensures unchanged { OnErr result (Stays R.tells machine.old machine.new) }
+    ensures config { config_of machine.new ≡ config_of machine.old }
     ensures promises { AllPromise WIDEST machine.new }
 {
     if let Ask::Submit(kind, priority) = ask {

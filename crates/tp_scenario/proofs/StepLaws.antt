@@ -1,10 +1,13 @@
 -- How the machine's answers are the runner's.
 use Rattle.std.proofs.Common.{◌≡◌, ◌≢◌, ℕ, zero, suc, List, [], ◌∷◌, ◌++◌, length, Option, Some, Ok, Err, refl, sym, ◌∙◌, ap, subst, arith, inl, inr}
-use Rattle.std.specs.Prelude.{◌==◌, nat_lt, is_some, option_map, slice_get, if◌then◌else◌}
+use Rattle.std.specs.Prelude.{◌==◌, nat_lt, is_some, map, option_map, slice_get, if◌then◌else◌}
+use Rattle.std.specs.declared.alloc.Global.{Global}
+use Rattle.std.specs.declared.vec.Vec.{Vec}
 use Rattle.std.specs.Option.{option_to_list}
 use Rattle.std.proofs.lemmas.Bool.Decides.{nat_tests}
 use Rattle.std.proofs.lemmas.Bool.{cases_lt, ltb-true, lt-ltb}
 use Rattle.tp_types.specs.declared.configs.Config.{Config}
+use Rattle.tp_types.specs.declared.ids.TaskId.{TaskId}
 use Rattle.tp_types.specs.declared.refusals.PoolError.{PoolError}
 use Rattle.tp_record.specs.declared.entries.Entry.{Entry}
 use Rattle.tp_record.specs.declared.entries.Ask.{Ask}
@@ -24,9 +27,8 @@ use Rattle.tp_machine.specs.Typed.{IsDeniedBy}
 use Rattle.tp_machine.proofs.Refusals.{refused_as}
 use Rattle.tp_text.specs.RunText.{drained}
 use Rattle.tp_scenario.specs.declared.counted.Counted.{Counted}
-use Rattle.tp_scenario.specs.declared.lines.ScenarioLine.{ScenarioLine}
-use Rattle.tp_scenario.specs.Played.{Outcomes, ask_of}
-use Rattle.tp_scenario.specs.Answered.{AnswersAsk, ArePromised, IsAt, Playing, notes, promise_of}
+use Rattle.tp_scenario.specs.Played.{Outcomes}
+use Rattle.tp_scenario.specs.Answered.{ArePromised, IsAt, Playing, Tells, notes, promise_of}
 
 -- only a stop says how many tasks it handed back
 stop_asked : (c : Config) (s : State) (w : ℕ) (a : Ask) (n : ℕ) → fitting c s w a ≡ Ok (did.Stop n) → a ≡ ask.Stop
@@ -66,19 +68,29 @@ not_torn tells m a e fits (inl torn) = absurd (torn.1 fits)
 not_torn tells m a e fits (inr refused) = refused.1
 
 module _ (m n : Seen (Unit {0}) Counted) (os : Outcomes) (p : Playing) (is : IsAt (record { machine = m; outcomes = os }) p) where
-  -- an accepted step is answered with its entry
-  pub accepted : (zs : Outcomes) (o : Option Outcome) (a : Ask) (d : Did) → IsStep notes m n 0 a d → zs ≡ os ++ option_to_list o
-      → AnswersAsk p a o (Ok (record { by = 0; ask = a; did = d })) (record { machine = n; outcomes = zs })
-  accepted zs o a d step grows = record {
-    answers = (refl, subst (λ c. Gives c (state c p.history) a d) is.config (step.gives p.history [] is.at));
-    leads = record { at = step.writes p.history [] is.at; config = step.config ∙ is.config; outcomes = grows ∙ ap (λ ys. ys ++ option_to_list o) is.outcomes };
+  -- an accepted step is told with its entry
+  pub accepted : (zs : Outcomes) (o : Option Outcome) (a : Ask) (d : Did) (v : Vec (TaskId × Option (Unit {0})) Global) → IsStep notes m n 0 a d → zs ≡ os ++ option_to_list o
+      → map (λ y. y.0.0) v.items ≡ drained p.config p.history d
+      → Tells p a o (record { answer = Ok (record { by = 0; ask = a; did = d }); handed = v }) (record { machine = n; outcomes = zs })
+  accepted zs o a d v step grows back = record {
+    answers = record {
+      answers = (refl, subst (λ c. Gives c (state c p.history) a d) is.config (step.gives p.history [] is.at));
+      leads = record { at = step.writes p.history [] is.at; config = step.config ∙ is.config; outcomes = grows ∙ ap (λ ys. ys ++ option_to_list o) is.outcomes };
+    };
+    asks = refl;
+    back = back;
   }
 
   -- a refused one with its refusal, and nothing has changed
-  pub denied : (o : Option Outcome) (a : Ask) (e : PoolError) → Stays notes m n → IsRefusedBy notes m a e → AnswersAsk p a o (Err e) (record { machine = n; outcomes = os })
-  denied o a e stays says = record {
-    answers = subst (λ c. IsRefused c (state c p.history) a e) is.config (refused_as (config_of m) (state (config_of m) p.history) a e (says p.history [] is.at));
-    leads = record { at = stays.stands p.history [] is.at; config = stays.config ∙ is.config; outcomes = is.outcomes };
+  pub denied : (o : Option Outcome) (a : Ask) (e : PoolError) (v : Vec (TaskId × Option (Unit {0})) Global) → Stays notes m n → IsRefusedBy notes m a e
+      → Tells p a o (record { answer = Err (record { ask = a; error = e }); handed = v }) (record { machine = n; outcomes = os })
+  denied o a e v stays says = record {
+    answers = record {
+      answers = subst (λ c. IsRefused c (state c p.history) a e) is.config (refused_as (config_of m) (state (config_of m) p.history) a e (says p.history [] is.at));
+      leads = record { at = stays.stands p.history [] is.at; config = stays.config ∙ is.config; outcomes = is.outcomes };
+    };
+    asks = refl;
+    back = tt;
   }
 
   -- a step that is no stop hands no task back
@@ -88,11 +100,6 @@ module _ (m n : Seen (Unit {0}) Counted) (os : Outcomes) (p : Playing) (is : IsA
   -- what is read of the machine, said of where the runner stands
   pub seen : (F : State → Type 0) → EachState notes m F → F (state p.config p.history)
   seen F each = subst (λ c. F (state c p.history)) is.config (each p.history [] is.at)
-
-  -- what a line asks there
-  pub asked : (l : ScenarioLine) (a : Ask) → EachState notes m (λ s. a ≡ ask_of s os l) → a ≡ ask_of (state p.config p.history) p.outcomes l
-  asked l a asks =
-      seen (λ s. a ≡ ask_of s os l) asks ∙ ap (λ ys. ask_of (state p.config p.history) ys l) is.outcomes
 
 -- promises stay, or one more comes
 module _ (m n : Seen (Unit {0}) Counted) (os : Outcomes) (promised : ArePromised m os) where

@@ -1,5 +1,5 @@
 -- How a runner answers lines, one after another.
-use Rattle.std.specs.Prelude.{◌≡◌, ℕ, true, false, List, [], ◌∷◌, ◌++◌, length, take, slice_get, option_map, Option, Result, Ok, Err, pos}
+use Rattle.std.specs.Prelude.{◌≡◌, ℕ, true, false, List, [], ◌∷◌, ◌++◌, length, take, slice_get, option_map, map, Option, Result, Ok, Err, IfOk, pos}
 use Rattle.std.specs.Option.{option_to_list}
 use Rattle.tp_types.specs.declared.configs.Config.{Config}
 use Rattle.tp_types.specs.declared.refusals.PoolError.{PoolError}
@@ -13,9 +13,11 @@ use Rattle.tp_record.specs.Step.{Gives, IsRefused}
 use Rattle.tp_tasks.specs.declared.tasks.Tasks.{Tasks}
 use Rattle.tp_tasks.specs.Tasks.{promise_of as promise_in}
 use Rattle.tp_machine.specs.Seen.{Seen, At, config_of, promise}
-use Rattle.tp_text.specs.RunText.{Answer, after, after_all, answer_lines, run_lines}
+use Rattle.tp_text.specs.RunText.{Answer, after, after_all, answer_lines, drained, run_lines}
 use Rattle.tp_scenario.specs.declared.counted.Counted.{Counted}
 use Rattle.tp_scenario.specs.declared.lines.ScenarioLine.{ScenarioLine}
+use Rattle.tp_scenario.specs.declared.step.Refusal.{Refusal}
+use Rattle.tp_scenario.specs.declared.step.Told.{Told}
 use Rattle.tp_scenario.specs.Played.{Outcomes, ask_of, outcome_said, outcomes_after}
 
 -- a pool's settings and its record, latest entry first, and how its tasks end
@@ -38,10 +40,6 @@ module _ {P R : Type 0} where
   -- each task of a machine promised to end so, and there is no other
   abbrev pub ArePromised : Seen P R → Outcomes → Type 0
   ArePromised m os = (t : ℕ) → promise m t ≡ option_map promise_of (slice_get os t)
-
--- what a submission comes with, whose task ends so: what its job promises, and no payload to speak of
-abbrev pub submission : Option Outcome → Option (Promise × Unit {0})
-submission o = option_map (λ x. (promise_of x, tt)) o
 
 -- no promise comes or goes
 abbrev pub KeepsPromises : {P : Type 0} → Tasks P → Tasks P → Type 0
@@ -66,10 +64,15 @@ pub record IsAt (r : Running) (p : Playing) : Type 0 where
   pub config : settings_of r ≡ p.config
   pub outcomes : r.outcomes ≡ p.outcomes
 
--- an answer without what the step handed back
-abbrev pub answer_of : {H : Type 0} → Result (Entry × H) PoolError → Answer
-answer_of (Ok x) = Ok x.0
-answer_of (Err e) = Err e
+-- how the pool answered
+abbrev pub answer_of : Result Entry Refusal → Answer
+answer_of (Ok e) = Ok e
+answer_of (Err r) = Err r.error
+
+-- what it was asked
+abbrev pub asked_by : Result Entry Refusal → Ask
+asked_by (Ok e) = e.ask
+asked_by (Err r) = r.ask
 
 -- how tasks end after this answer to an ask: an accepted submission says how one more ends
 abbrev pub outcomes_kept : Outcomes → Option Outcome → Answer → Outcomes
@@ -84,6 +87,16 @@ pub record AnswersAsk (p : Playing) (a : Ask) (o : Option Outcome) (x : Answer) 
 -- the same of a line
 abbrev pub AnswersLine : Playing → ScenarioLine → Answer → Running → Type 0
 AnswersLine p l x new = AnswersAsk p (ask_of (state p.config p.history) p.outcomes l) (outcome_said l) x new
+
+-- what is told of an ask there: the answer, what was asked, and the tasks handed back, in the queue's order
+pub record Tells (p : Playing) (a : Ask) (o : Option Outcome) (x : Told) (new : Running) : Type 0 where
+  pub answers : AnswersAsk p a o (answer_of x.answer) new
+  pub asks : asked_by x.answer ≡ a
+  pub back : IfOk x.answer (λ e. map (λ y. y.0.0) x.handed.items ≡ drained p.config p.history e.did)
+
+-- the same of a line
+abbrev pub TellsLine : Playing → ScenarioLine → Told → Running → Type 0
+TellsLine p l x new = Tells p (ask_of (state p.config p.history) p.outcomes l) (outcome_said l) x new
 
 -- a line is answered there, and the answer written: so many entries are in the record then
 pub record PlaysLine (p : Playing) (l : ScenarioLine) (new : Running) (accepted : ℕ) (old out : List ℕ) : Type 0 where

@@ -1,9 +1,11 @@
 //! A recorder that counts.
 
-ghost use Rattle.std.specs.Prelude.{◌≡◌, ◌+◌, ◌<◌, ◌^◌, [], length};
+ghost use Rattle.std.specs.Prelude.{◌≡◌, ◌+◌, ◌<◌, ◌^◌, [], false, length};
 
+use std::alloc::{AllocError, Global};
 use tp_record::entries::Entry;
 use tp_record::recorders::Recorder;
+use tp_types::configs::Config;
 
 /// Counts the entries of a record, and keeps none: what comes of a scenario is written line by line, and no entry is read again.
 #[derive(Drop)]
@@ -32,6 +34,20 @@ impl Recorder for Counted {
     ghost tells = { λ f h rs. (length h ≡ f.noted) × (rs ≡ []) };
 
     ghost places = { λ f. f.places };
+
+    ghost terms = { λ c. c };
+
+    ghost RECEIPTS = { false };
+
+    const RECEIPTS: bool = false;
+
+    fn limit(config: &Config) -> u64 {
+        u64::from(config.record_limit)
+    }
+
+    fn make(_alloc: Global, config: &Config) -> Result<Counted, AllocError> {
+        Ok(Counted::new(config.record_limit))
+    }
 
     fn room(&self) -> u64 {
         self.places

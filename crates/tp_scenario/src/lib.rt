@@ -2,7 +2,6 @@
 //! what comes of each line. Beside them files of jobs, which are read.
 #![tactic(auto)]
 
-pub mod asks;
 pub mod counted;
 pub mod forms;
 pub mod jobs;

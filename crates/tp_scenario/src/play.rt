@@ -62,15 +62,15 @@ fn play_line(
     let Ok(told) = runner.step(line) else {
         return Err(PoolError::NoMemory);
     };
-    match told {
-        Ok((entry, handed)) => {
-            let Ok(back) = without_payloads(alloc, handed.as_slice()) else {
+    match told.answer {
+        Ok(entry) => {
+            let Ok(back) = without_payloads(alloc, told.handed.as_slice()) else {
                 return Err(PoolError::NoMemory);
             };
             *accepted += 1;
             output.entry(*accepted, &entry, back.as_slice())
         }
-        Err(refusal) => output.refusal(refusal),
+        Err(refusal) => output.refusal(refusal.error),
     }
 }
 

@@ -1,17 +1,18 @@
 //! A pool that a scenario's lines are played on, step by step.
 
-ghost use Rattle.std.specs.Prelude.{◌≡◌, ◌≢◌, ◌⊎◌, ◌<◌, [], length, map, IfOk, IfErr, IsErr, IsSome, OnErr, Err, None, Some};
+ghost use Rattle.std.specs.Prelude.{◌≡◌, ◌≢◌, ◌⊎◌, ◌<◌, [], length, IfOk, IfErr, IfSome, IsErr, IsSome, OnErr, Err, None, Some};
 ghost use Rattle.tp_types.specs.Config.{checked, IsConfig};
+ghost use Rattle.tp_types.specs.Promise.{FitsPromise};
 ghost use Rattle.tp_types.specs.RunState.{state_rank};
 ghost use Rattle.tp_record.specs.declared.entries.Ask.TheVariants as ask;
-ghost use Rattle.tp_record.specs.State.{state, counts as counts_of, fate_of, task_at};
+ghost use Rattle.tp_record.specs.State.{state, counts as counts_of, fate_of, slot_at, task_at};
 ghost use Rattle.tp_tasks.specs.declared.tasks.Tasks.{Tasks};
-ghost use Rattle.tp_machine.specs.Stepped.{FitsOutcome, IsSubmission};
-ghost use Rattle.tp_text.specs.RunText.{drained};
-ghost use Rattle.tp_scenario.specs.Answered.{AnswersAsk, AnswersLine, IsAt, KeepsPromises, Playing, answer_of, promise_of};
-ghost use Rattle.tp_scenario.specs.Played.{ask_of, outcome_said};
+ghost use Rattle.tp_machine.specs.Seen.{promise, task_of_row, FitsThere};
+ghost use Rattle.tp_machine.specs.Stepped.{FitsOutcome};
+ghost use Rattle.tp_scenario.specs.declared.lines.ScenarioLine.TheVariants as line;
+ghost use Rattle.tp_scenario.specs.Answered.{IsAt, KeepsPromises, Playing, Tells, TellsLine, promise_of};
+ghost use Rattle.tp_scenario.specs.Played.{outcome_of, outcome_said, outcome_there};
 
-use crate::asks::ask_of;
 use crate::counted::Counted;
 use crate::lines::ScenarioLine;
 use std::alloc::{AllocError, Global};
@@ -25,17 +26,30 @@ use tp_machine::typed::settings::{Core, CoreTimeout, Keep, Maximum, Prestart, Ti
 use tp_machine::typed::submitters::{CallerEnd, Grow, Judge, Look, Offer, Second, Submit};
 use tp_machine::typed::workers::{Begin, End, Fail, Leave, Open, Take};
 use tp_record::entries::{Ask, Entry};
+use tp_text::commands::{PoolVerb, SizeVerb, SlotVerb, TaskVerb, TickVerb};
 use tp_types::configs::Config;
-use tp_types::ids::TaskId;
+use tp_types::ids::{SlotId, TaskId};
 use tp_types::refusals::PoolError;
 use tp_types::states::{Counts, RunState};
-use tp_types::tasks::{Fate, Outcome, Promise};
+use tp_types::tasks::{Fate, Kind, Outcome, Promise};
 
-/// The tasks that a step handed back, in the queue's order: none but at a stop.
-pub type Handed = Vec<(TaskId, Option<()>)>;
+/// A step that was refused.
+#[derive(Clone, Copy, Debug, PartialEq, Eq)]
+pub struct Refusal {
+    /// What was asked.
+    pub ask: Ask,
+    /// Why it was refused.
+    pub error: PoolError,
+}
 
-/// What comes of a line: the entry that it added to the record, with the tasks that the step handed back, or its refusal.
-pub type Told = Result<(Entry, Handed), PoolError>;
+/// What comes of a line.
+#[derive(Debug, Drop)]
+pub struct Told {
+    /// The entry that it added to the record, or its refusal.
+    pub answer: Result<Entry, Refusal>,
+    /// The tasks that the step handed back, in the queue's order: none but at a stop.
+    pub handed: Vec<(TaskId, Option<()>)>,
+}
 
 /// A pool that lines are played on. Every ask is by pass 0, and a task ends as the line said that
 /// submitted it. Of its record the runner keeps how long it is.
@@ -79,16 +93,6 @@ fn promise_of(outcome: Outcome) -> Promise
     }
 }
 
-/// How the task ends that a line submits.
-fn outcome_said(line: &ScenarioLine) -> Option<Outcome>
-    ensures { result ≡ outcome_said line.now }
-{
-    match *line {
-        ScenarioLine::Submit(_, outcome, _) => Some(outcome),
-        _ => None,
-    }
-}
-
 impl Runner {
     /// A pool with these settings and no tasks. BadSizes (1), BadCapacity (2), BadLimit (3), KeepZero (11), or NoMemory (4) for its
     /// queue and its slots.
@@ -108,11 +112,30 @@ impl Runner {
         })
     }
 
-    /// What a line asks of the pool as it stands.
-    pub fn ask(&self, line: &ScenarioLine) -> Ask
-        ensures { (p : Playing) → IsAt self.now p → result ≡ ask_of (state p.config p.history) p.outcomes line.now }
+    /// How a task ends. A task that was never submitted is refused its end, whatever it is.
+    #[inline(always)]
+    fn outcome_of(&self, task: TaskId) -> Outcome
+        ensures said { (p : Playing) → IsAt self.now p → result ≡ outcome_of p.outcomes task.0 }
+        ensures promised { IfSome (promise self.now.machine task.0) (λ p. FitsPromise p result) }
     {
-        ask_of(&self.machine, self.outcomes.as_slice(), line)
+        let TaskId(number) = task;
+        self.outcomes
+            .as_slice()
+            .get(number as usize)
+            .copied()
+            .unwrap_or(Ok(0))
+    }
+
+    /// How the task in a slot ends; where there is none, its end is refused, whatever it is.
+    #[inline(always)]
+    fn outcome_there(&self, slot: SlotId) -> Outcome
+        ensures said { (p : Playing) → IsAt self.now p → result ≡ outcome_there p.outcomes (task_of_row (slot_at (state p.config p.history).slots slot.0)) }
+        ensures promised { FitsThere self.now.machine slot result }
+    {
+        match self.machine.task_in(slot) {
+            None => Ok(0),
+            Some(task) => self.outcome_of(task),
+        }
     }
 
     /// Makes a step that hands no task back and is no submission.
@@ -122,9 +145,9 @@ impl Runner {
         requires outcome { FitsOutcome self.old.machine (S.ask step) }
         requires keeps { (x : A) (old new : Tasks (Unit {0})) → S.moves step tt x old new → KeepsPromises old new }
         requires quiet { S.ask step ≢ ask.Stop }
-        ensures answers { (p : Playing) → IsAt self.old p → AnswersAsk p (S.ask step) None (answer_of result) self.new }
-        ensures back { IfOk result (λ x. (p : Playing) → IsAt self.old p → map (λ y. y.0.0) x.1.items ≡ drained p.config p.history x.0.did) }
+        ensures { (p : Playing) → IsAt self.old p → Tells p (S.ask step) None result self.new }
     {
+        let handed = Vec::new(self.alloc);
         match step.make(0, (), &mut self.machine) {
             Ok(answer) => {
                 let entry = Entry {
@@ -132,96 +155,145 @@ impl Runner {
                     ask: step.ask(),
                     did: step.did(&answer),
                 };
-                Ok((entry, Vec::new(self.alloc)))
+                Told {
+                    answer: Ok(entry),
+                    handed,
+                }
             }
-            Err((error, ())) => Err(error),
+            Err((error, ())) => {
+                let ask = step.ask();
+                Told {
+                    answer: Err(Refusal { ask, error }),
+                    handed,
+                }
+            }
         }
     }
 
     /// Stops the pool.
     fn stop(&mut self) -> Told
-        ensures answers { (p : Playing) → IsAt self.old p → AnswersAsk p ask.Stop None (answer_of result) self.new }
-        ensures back { IfOk result (λ x. (p : Playing) → IsAt self.old p → map (λ y. y.0.0) x.1.items ≡ drained p.config p.history x.0.did) }
+        ensures { (p : Playing) → IsAt self.old p → Tells p ask.Stop None result self.new }
     {
+        let ask = Ask::Stop;
         match Stop.make(0, (), &mut self.machine) {
             Ok(handed) => {
-                let entry = Entry {
-                    by: 0,
-                    ask: Ask::Stop,
-                    did: Step::<()>::did(Stop, &handed),
-                };
-                Ok((entry, handed))
+                let did = Step::<()>::did(Stop, &handed);
+                Told {
+                    answer: Ok(Entry { by: 0, ask, did }),
+                    handed,
+                }
             }
-            Err((error, ())) => Err(error),
+            Err((error, ())) => Told {
+                answer: Err(Refusal { ask, error }),
+                handed: Vec::new(self.alloc),
+            }
         }
     }
 
-    /// Makes the step of an ask that is no submission.
+    /// Makes a step of a task. At its caller it ends as its submission said.
     #[inline(always)]
-    fn make_asked(&mut self, ask: Ask) -> Told
-        requires other { ¬ IsSubmission ask }
-        requires outcome { FitsOutcome self.old.machine ask }
-        ensures answers { (p : Playing) → IsAt self.old p → AnswersAsk p ask None (answer_of result) self.new }
-        ensures back { IfOk result (λ x. (p : Playing) → IsAt self.old p → map (λ y. y.0.0) x.1.items ≡ drained p.config p.history x.0.did) }
+    fn of_task(&mut self, verb: TaskVerb, task: TaskId) -> Told
+        ensures { (p : Playing) → IsAt self.old p → TellsLine p (line.OfTask verb task) result self.new }
     {
-        match ask {
-            Ask::Submit(..) => unreachable!(),
-            Ask::Look(task) => self.make(Look(task)),
-            Ask::Offer(task) => self.make(Offer(task)),
-            Ask::Second(task) => self.make(Second(task)),
-            Ask::Grow(task) => self.make(Grow(task)),
-            Ask::Verdict(task, verdict) => self.make(Judge(task, verdict)),
-            Ask::CallerEnd(task, outcome) => self.make(CallerEnd(task, outcome)),
-            Ask::Open(slot) => self.make(Open(slot)),
-            Ask::Fail(slot) => self.make(Fail(slot)),
-            Ask::Take(slot) => self.make(Take(slot)),
-            Ask::Begin(slot) => self.make(Begin(slot)),
-            Ask::End(slot, outcome) => self.make(End(slot, outcome)),
-            Ask::Leave(slot) => self.make(Leave(slot)),
-            Ask::Shutdown => self.make(Shutdown),
-            Ask::Stop => self.stop(),
-            Ask::Tidy => self.make(Tidy),
-            Ask::Ended => self.make(Ended),
-            Ask::Remove(task) => self.make(Remove(task)),
-            Ask::Purge => self.make(Purge),
-            Ask::Cancel(task, flag) => self.make(Cancel(task, flag)),
-            Ask::TakeDone(group) => self.make(TakeDone(group)),
-            Ask::Core(core) => self.make(Core(core)),
-            Ask::Maximum(maximum) => self.make(Maximum(maximum)),
-            Ask::Keep(keep) => self.make(Keep(keep)),
-            Ask::CoreTimeout(on) => self.make(CoreTimeout(on)),
-            Ask::Tick(now) => self.make(Tick(now)),
-            Ask::Prestart => self.make(Prestart),
+        match verb {
+            TaskVerb::Look => self.make(Look(task)),
+            TaskVerb::Offer => self.make(Offer(task)),
+            TaskVerb::Second => self.make(Second(task)),
+            TaskVerb::Grow => self.make(Grow(task)),
+            TaskVerb::CallerEnd => {
+                let outcome = self.outcome_of(task);
+                self.make(CallerEnd(task, outcome))
+            }
+            TaskVerb::Remove => self.make(Remove(task)),
+        }
+    }
+
+    /// Makes a step of a slot. The task there ends as its submission said.
+    #[inline(always)]
+    fn of_slot(&mut self, verb: SlotVerb, slot: SlotId) -> Told
+        ensures { (p : Playing) → IsAt self.old p → TellsLine p (line.OfSlot verb slot) result self.new }
+    {
+        match verb {
+            SlotVerb::Open => self.make(Open(slot)),
+            SlotVerb::Fail => self.make(Fail(slot)),
+            SlotVerb::Take => self.make(Take(slot)),
+            SlotVerb::Begin => self.make(Begin(slot)),
+            SlotVerb::End => {
+                let outcome = self.outcome_there(slot);
+                self.make(End(slot, outcome))
+            }
+            SlotVerb::Leave => self.make(Leave(slot)),
+        }
+    }
+
+    /// Makes a step of the pool.
+    #[inline(always)]
+    fn of_pool(&mut self, verb: PoolVerb) -> Told
+        ensures { (p : Playing) → IsAt self.old p → TellsLine p (line.OfPool verb) result self.new }
+    {
+        match verb {
+            PoolVerb::Shutdown => self.make(Shutdown),
+            PoolVerb::Stop => self.stop(),
+            PoolVerb::Tidy => self.make(Tidy),
+            PoolVerb::Ended => self.make(Ended),
+            PoolVerb::Purge => self.make(Purge),
+            PoolVerb::Prestart => self.make(Prestart),
+        }
+    }
+
+    /// Sets a size, or takes a group's next completed task.
+    #[inline(always)]
+    fn of_size(&mut self, verb: SizeVerb, number: u32) -> Told
+        ensures { (p : Playing) → IsAt self.old p → TellsLine p (line.OfSize verb number) result self.new }
+    {
+        match verb {
+            SizeVerb::TakeDone => self.make(TakeDone(number)),
+            SizeVerb::Core => self.make(Core(number)),
+            SizeVerb::Maximum => self.make(Maximum(number)),
+        }
+    }
+
+    /// Sets the keep-alive or the moment.
+    #[inline(always)]
+    fn of_ticks(&mut self, verb: TickVerb, ticks: u64) -> Told
+        ensures { (p : Playing) → IsAt self.old p → TellsLine p (line.OfTicks verb ticks) result self.new }
+    {
+        match verb {
+            TickVerb::Keep => self.make(Keep(ticks)),
+            TickVerb::Tick => self.make(Tick(ticks)),
         }
     }
 
     /// Makes a submission, whose task ends so. An error is want of memory for its outcome, and changes nothing.
     #[inline(always)]
-    fn submit(&mut self, ask: Ask, outcome: Outcome) -> Result<Told, AllocError>
-        requires submission { IsSubmission ask }
-        ensures answers { IfOk result (λ x. (p : Playing) → IsAt self.old p → AnswersAsk p ask (Some outcome) (answer_of x) self.new) }
-        ensures back { IfOk result (λ a. IfOk a (λ x. (p : Playing) → IsAt self.old p → map (λ y. y.0.0) x.1.items ≡ drained p.config p.history x.0.did)) }
+    fn submit(&mut self, kind: Kind, priority: u32, outcome: Outcome) -> Result<Told, AllocError>
+        ensures tells { IfOk result (λ x. (p : Playing) → IsAt self.old p → Tells p (ask.Submit kind priority) (Some outcome) x self.new) }
         ensures unchanged { OnErr result (self.new ≡ self.old) }
     {
-        let Ask::Submit(kind, priority) = ask else {
-            unreachable!()
-        };
         // Before the step, since no accepted submission is undone.
         self.outcomes.reserve(1)?;
+        let ask = Ask::Submit(kind, priority);
+        let handed = Vec::new(self.alloc);
         let step = Submit {
             kind,
             priority,
             promise: promise_of(outcome),
         };
-        self.machine.has_history();
-        self.machine.keeps_waiting();
+        self.machine.law_has_history();
+        self.machine.law_keeps_waiting();
         match step.make(0, (), &mut self.machine) {
             Ok(answer) => {
                 self.outcomes.push_reserved(outcome);
                 let did = Step::<()>::did(step, &answer);
-                Ok(Ok((Entry { by: 0, ask, did }, Vec::new(self.alloc))))
+                Ok(Told {
+                    answer: Ok(Entry { by: 0, ask, did }),
+                    handed,
+                })
             }
-            Err((error, ())) => Ok(Err(error)),
+            Err((error, ())) => Ok(Told {
+                answer: Err(Refusal { ask, error }),
+                handed,
+            }),
         }
     }
 
@@ -229,15 +301,22 @@ impl Runner {
     /// itself, where the line submits, and changes nothing.
     #[inline(always)]
     pub fn step(&mut self, line: &ScenarioLine) -> Result<Told, AllocError>
-        ensures answers { IfOk result (λ x. (p : Playing) → IsAt self.old p → AnswersLine p line.now (answer_of x) self.new) }
-        ensures back { IfOk result (λ a. IfOk a (λ x. (p : Playing) → IsAt self.old p → map (λ y. y.0.0) x.1.items ≡ drained p.config p.history x.0.did)) }
+        ensures tells { IfOk result (λ x. (p : Playing) → IsAt self.old p → TellsLine p line.now x self.new) }
         ensures unchanged { OnErr result (self.new ≡ self.old) }
         ensures submits { IsErr result → IsSome (outcome_said line.now) }
     {
-        let ask = ask_of(&self.machine, self.outcomes.as_slice(), line);
-        match outcome_said(line) {
-            None => Ok(self.make_asked(ask)),
-            Some(outcome) => self.submit(ask, outcome),
+        match *line {
+            ScenarioLine::Submit(kind, outcome, priority) => {
+                self.submit(kind, priority.unwrap_or(0), outcome)
+            }
+            ScenarioLine::OfTask(verb, task) => Ok(self.of_task(verb, task)),
+            ScenarioLine::Verdict(task, verdict) => Ok(self.make(Judge(task, verdict))),
+            ScenarioLine::OfSlot(verb, slot) => Ok(self.of_slot(verb, slot)),
+            ScenarioLine::OfPool(verb) => Ok(self.of_pool(verb)),
+            ScenarioLine::Cancel(task, flag) => Ok(self.make(Cancel(task, flag))),
+            ScenarioLine::OfSize(verb, number) => Ok(self.of_size(verb, number)),
+            ScenarioLine::OfTicks(verb, ticks) => Ok(self.of_ticks(verb, ticks)),
+            ScenarioLine::CoreTimeout(on) => Ok(self.make(CoreTimeout(on))),
         }
     }
 

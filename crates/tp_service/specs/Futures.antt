@@ -1,12 +1,12 @@
 -- What a pass is told of futures, each time at the front that it knows then.
-use Rattle.std.specs.Prelude.{ℕ, ℤ, ◌≡◌, ◌≢◌, List, Option, Some, None, Ok, Err}
+use Rattle.std.specs.Prelude.{ℕ, ℤ, Bool, true, ◌≡◌, ◌≢◌, List, Option, Some, None, Ok, Err}
 use Rattle.tp_types.specs.declared.configs.Config.{Config}
 use Rattle.tp_types.specs.declared.ids.TaskId.{TaskId}
 use Rattle.tp_types.specs.declared.refusals.PoolError.{PoolError}
 use Rattle.tp_types.specs.declared.refusals.PoolError.TheVariants.{Faulted, TimedOut, AllFailed}
 use Rattle.tp_record.specs.declared.entries.Entry.{Entry}
 use Rattle.tp_machine.specs.Readings.{value_in}
-use Rattle.tp_book.specs.BookView.{state_of}
+use Rattle.tp_book.specs.BookView.{IsReleased, OrReleased, state_of}
 use Rattle.tp_book.specs.PassView.{PassView}
 use Rattle.tp_locked.specs.Passes.{LooksOnly}
 use Rattle.tp_locked.specs.Readings.{IsFound, IsResult}
@@ -20,17 +20,19 @@ later_fault before _ = before
 
 -- P is what the pool keeps of a job, c its settings
 module _ (P : Type 0) (c : Config) where
-  -- at this history the future is not open
-  abbrev pub IsClosed : List Entry → TaskId → Type 0
-  IsClosed history t = BookAt P c history (λ b. value_in (state_of b) t.0 ≢ Ok None)
-
-  -- a wait for it finds there that now has reached the deadline
+  -- at this history a wait for the future finds that now has reached the deadline
   abbrev pub IsLate : ℕ → List Entry → TaskId → Type 0
-  IsLate deadline history t = BookAt P c history (λ b. IsFound b t.0 (Some deadline) (Err TimedOut))
+  IsLate deadline history t = BookAt P c history (λ b. IsFound b t.0 true (Some deadline) (Err TimedOut))
 
   -- it has this value there
   abbrev pub HasValue : ℤ → List Entry → TaskId → Type 0
-  HasValue v history t = BookAt P c history (λ b. IsResult b t.0 (Ok (Some v)))
+  HasValue v history t = BookAt P c history (λ b. IsResult b t.0 true (Ok (Some v)))
+
+-- and keeps says whether it keeps its record
+module _ (P : Type 0) (keeps : Bool) (c : Config) where
+  -- at this history the future is not open; where no record is kept, it may be that its task was released
+  abbrev pub IsClosed : List Entry → TaskId → Type 0
+  IsClosed history t = BookAt P c history (λ b. OrReleased keeps (value_in (state_of b) t.0 ≢ Ok None) (IsReleased b t.0))
 
   -- the pass looks, and the future is not open then
   abbrev pub Closes : TaskId → PassView → PassView → Type 0
@@ -42,7 +44,7 @@ module _ (P : Type 0) (c : Config) where
 
   -- the pass looks, and the future has no value and is not open then; and this is the last fault with it, where that was the last one before
   abbrev pub Fails : TaskId → PassView × Option ℕ → PassView × Option ℕ → Type 0
-  Fails t before after = LooksOnly c before.0 after.0 × ((e : PoolError) × BookAt P c after.0.front (λ b. IsResult b t.0 (Err e)) × (after.1 ≡ later_fault before.1 e))
+  Fails t before after = LooksOnly c before.0 after.0 × ((e : PoolError) × BookAt P c after.0.front (λ b. IsResult b t.0 keeps (Err e)) × (after.1 ≡ later_fault before.1 e))
 
   -- so it is with each of these, one after another, and the refusal has the last fault in their order
   abbrev pub HaveFailed : List TaskId → PoolError → PassView → PassView → Type 0

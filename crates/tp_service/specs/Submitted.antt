@@ -15,21 +15,21 @@ use Rattle.tp_pool.specs.Submissions.{AddsJob, Submits}
 use Rattle.tp_pool.specs.Turns.{Through, ThroughBoth}
 use Rattle.tp_service.specs.Futures.{IsClosed, IsLate, HasValue, CloseAll, HaveFailed}
 
--- P is what the pool keeps of a job, c its settings
-module _ (P : Type 0) (c : Config) where
+-- P is what the pool keeps of a job, keeps says whether it keeps its record, c are its settings
+module _ (P : Type 0) (keeps : Bool) (c : Config) where
   -- the step that cancels this task with its flag; or none, where at the pass's new front its future is not open or the step is refused
   abbrev pub AddsCancel : TaskId → PassView → PassView → Type 0
   AddsCancel t old new =
       ((effective : Bool) × AddsStep c old (ask.Cancel t true) (did.Cancel t true effective) new)
-      ⊎ (AddsNone old new × (IsClosed P c new.front t ⊎ ((e : PoolError) × Refuses c (old.room < 1) new.front (ask.Cancel t true) e)))
+      ⊎ (AddsNone old new × (IsClosed P keeps c new.front t ⊎ ((e : PoolError) × Refuses keeps c (old.room < 1) new.front (ask.Cancel t true) e)))
 
   -- that of each of these tasks, one after another
   abbrev pub AddsCancels : List TaskId → PassView → PassView → Type 0
   AddsCancels ts old new = Through AddsCancel ts old new
 
-  -- the pass looks, and at its new front one of these is late
-  abbrev pub IsOneLate : ℕ → List TaskId → PassView → PassView → Type 0
-  IsOneLate deadline ts old new = AddsNone old new × Any (IsLate P c deadline new.front) ts
+-- the pass looks, and at its new front one of these is late
+abbrev pub IsOneLate : Type 0 → Config → ℕ → List TaskId → PassView → PassView → Type 0
+IsOneLate P c deadline ts old new = AddsNone old new × Any (IsLate P c deadline new.front) ts
 
 -- c are the pool's settings, and a job promises so and names this priority
 module _ {J : Type 0} (c : Config) (promised : J → Promise) (urgency : J → ℕ) where
@@ -37,6 +37,8 @@ module _ {J : Type 0} (c : Config) (promised : J → Promise) (urgency : J → �
   abbrev pub AddsSubmissions : List J → List TaskId → PassView → PassView → Type 0
   AddsSubmissions jobs ts old new = ThroughBoth (λ job t. AddsJob c kind.Future job (promised job) (urgency job) t) jobs ts old new
 
+-- and keeps says whether the pool keeps its record
+module _ {J : Type 0} (keeps : Bool) (c : Config) (promised : J → Promise) (urgency : J → ℕ) where
   -- the first of these jobs were submitted, the next one was refused so, and those before it are cancelled
   pub record IsTurnedBack (jobs : List J) (e : PoolError) (old new : PassView) : Type 0 where
     pub before : List J
@@ -46,9 +48,9 @@ module _ {J : Type 0} (c : Config) (promised : J → Promise) (urgency : J → �
     pub earlier : List TaskId
     pub submitted : PassView
     pub refused : PassView
-    pub submits : AddsSubmissions before earlier old submitted
-    pub refuses : Submits c job (promised job) (urgency job) (Err e) submitted refused
-    pub cancels : AddsCancels (Task J) c earlier refused new
+    pub submits : AddsSubmissions c promised urgency before earlier old submitted
+    pub refuses : Submits keeps c job (promised job) (urgency job) (Err e) submitted refused
+    pub cancels : AddsCancels (Task J) keeps c earlier refused new
 
   -- these jobs are not all submitted: for want of memory before the first, or since one was refused
   abbrev pub AreTurnedBack : List J → PoolError → PassView → PassView → Type 0
@@ -56,23 +58,23 @@ module _ {J : Type 0} (c : Config) (promised : J → Promise) (urgency : J → �
 
   -- all these jobs are submitted, and then the pass finds each of their futures not open
   abbrev pub IsAll : List J → List TaskId → PassView → PassView → Type 0
-  IsAll jobs ts old new = (mid : PassView) × AddsSubmissions jobs ts old mid × CloseAll (Task J) c ts mid new
+  IsAll jobs ts old new = (mid : PassView) × AddsSubmissions c promised urgency jobs ts old mid × CloseAll (Task J) keeps c ts mid new
 
   -- all are submitted, and then found not open; or one of them is late, and all are cancelled
   abbrev pub IsAllUntil : ℕ → List J → List TaskId → PassView → PassView → Type 0
   IsAllUntil deadline jobs ts old new =
       IsAll jobs ts old new
-      ⊎ ((mid : PassView) × (late : PassView) × AddsSubmissions jobs ts old mid × IsOneLate (Task J) c deadline ts mid late × AddsCancels (Task J) c ts late new)
+      ⊎ ((mid : PassView) × (late : PassView) × AddsSubmissions c promised urgency jobs ts old mid × IsOneLate (Task J) c deadline ts mid late × AddsCancels (Task J) keeps c ts late new)
 
   -- these jobs are submitted; at a later front of the pass one of them has this value, and then all are cancelled
   pub record IsAnyValue (jobs : List J) (v : ℤ) (old new : PassView) : Type 0 where
     pub tasks : List TaskId
     pub mid : PassView
     pub told : PassView
-    pub submits : AddsSubmissions jobs tasks old mid
+    pub submits : AddsSubmissions c promised urgency jobs tasks old mid
     pub looks : AddsNone mid told
     pub value : Any (HasValue (Task J) c v told.front) tasks
-    pub cancels : AddsCancels (Task J) c tasks told new
+    pub cancels : AddsCancels (Task J) keeps c tasks told new
 
   -- these jobs are submitted, one at least, and none has a value
   pub record IsNoValue (jobs : List J) (e : PoolError) (old new : PassView) : Type 0 where
@@ -80,9 +82,9 @@ module _ {J : Type 0} (c : Config) (promised : J → Promise) (urgency : J → �
     pub tasks : List TaskId
     pub mid : PassView
     pub told : PassView
-    pub submits : AddsSubmissions jobs tasks old mid
+    pub submits : AddsSubmissions c promised urgency jobs tasks old mid
     pub looks : AddsNone mid told
-    pub failed : HaveFailed (Task J) c tasks e told new
+    pub failed : HaveFailed (Task J) keeps c tasks e told new
 
   -- none of these jobs gives a value: there are none; or they are not all submitted; or none of them has one
   abbrev pub HasNoValue : List J → PoolError → PassView → PassView → Type 0

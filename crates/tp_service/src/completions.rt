@@ -1,5 +1,5 @@
 //! Jobs of a group, taken in the order in which they are done.
-ghost use Rattle.std.specs.Prelude.{◌≡◌, ◌≢◌, ◌⊎◌, ◌<◌, IfOk, IfErr, IfSome, IfNone, OnErr};
+ghost use Rattle.std.specs.Prelude.{true, ◌≡◌, ◌≢◌, ◌⊎◌, ◌<◌, IfOk, IfErr, IfSome, IfNone, OnErr};
 ghost use Rattle.tp_types.specs.declared.tasks.Kind.TheVariants.{Group};
 ghost use Rattle.tp_locked.specs.Passes.{AddsNone, AddsStep, IsRefusal, Refuses};
 ghost use Rattle.tp_locked.specs.Moments.{AtFront};
@@ -10,6 +10,7 @@ ghost use Rattle.tp_pool.specs.Submissions.{AddsJob};
 use std::sync::Wait;
 use std::thread::Threads;
 use tp_book::passes::Pass;
+use tp_machine::machine::releases::Keeper;
 use tp_pool::answers::Refused;
 use tp_pool::edges::Edge;
 use tp_pool::jobs::Job;
@@ -43,16 +44,17 @@ impl CompletionService {
         G: PoolNaming + Send + Sync + 'static,
         J: Job + 'static,
         E: Edge + Send + Sync + 'static,
+        K: Keeper + Send + 'static,
         R: Threads + Wait + Copy + Send + 'static,
     >(
         &self,
-        pool: &PoolOf<G, J, E>,
+        pool: &PoolOf<G, J, E, K>,
         rt: &R,
         job: J,
         pass: &mut Pass<G>,
     ) -> Result<TaskId, Refused<J>>
-        ensures submitted { IfOk result (λ t. AddsJob G.config (Group self.now.group) job (J.promised job) (J.urgency job) t pass.old pass.new) }
-        ensures refused { IfErr result (λ r. AtPriority (J.urgency job) (λ p. IsTurnedAway G.config (Group self.now.group) p job (J.promised job) pass.old pass.new r)) }
+        ensures submitted { IfOk result (λ t. AddsJob (K.terms G.config) (Group self.now.group) job (J.promised job) (J.urgency job) t pass.old pass.new) }
+        ensures refused { IfErr result (λ r. AtPriority (J.urgency job) (λ p. IsTurnedAway K.RECEIPTS (K.terms G.config) (Group self.now.group) p job (J.promised job) pass.old pass.new r)) }
     {
         match pool.execute_as(rt, Kind::Group(self.group), job, pass) {
             Ok(admitted) => Ok(task_of(admitted)),
@@ -65,14 +67,14 @@ impl CompletionService {
     ///
     /// NoMemory (4) for its receipt, else NothingOpen (19) where no task of the group is done and none is
     /// open, at which Java waits, or BookFull (5). A refused call takes nothing and makes no step.
-    pub fn take<G: PoolNaming, J: Job, E: Edge, R: Wait>(
+    pub fn take<G: PoolNaming, J: Job, E: Edge, K: Keeper, R: Wait>(
         &self,
-        pool: &PoolOf<G, J, E>,
+        pool: &PoolOf<G, J, E, K>,
         rt: &R,
         pass: &mut Pass<G>,
     ) -> Result<TaskId, PoolError>
-        ensures step { IfOk result (λ t. AddsStep G.config pass.old (Ask.TakeDone self.now.group) (Did.TakeDone self.now.group t) pass.new) }
-        ensures refused { IfErr result (λ e. ((e ≡ PoolError.NoMemory) × (pass.old.room < 1)) ⊎ AtFront G.config pass.new.front (λ s. IsUndoneAt G.config s self.now.group e)) }
+        ensures step { IfOk result (λ t. AddsStep (K.terms G.config) pass.old (Ask.TakeDone self.now.group) (Did.TakeDone self.now.group t) pass.new) }
+        ensures refused { IfErr result (λ e. ((e ≡ PoolError.NoMemory) × (pass.old.room < 1)) ⊎ AtFront (K.terms G.config) pass.new.front (λ s. IsUndoneAt (K.terms G.config) s self.now.group e)) }
         ensures unchanged { OnErr result (AddsNone pass.old pass.new) }
     {
         pool.await_done(rt, self.group, pass)
@@ -81,15 +83,15 @@ impl CompletionService {
     /// Takes the next done task without waiting, as `CompletionService.poll`: None where no task of the group
     /// is done. NoMemory (4) for its receipt, else BookFull (5). A call that is refused or answers None makes
     /// no step.
-    pub fn poll<G: PoolNaming, J: Job, E: Edge, R: Wait>(
+    pub fn poll<G: PoolNaming, J: Job, E: Edge, K: Keeper, R: Wait>(
         &self,
-        pool: &PoolOf<G, J, E>,
+        pool: &PoolOf<G, J, E, K>,
         rt: &R,
         pass: &mut Pass<G>,
     ) -> Result<Option<TaskId>, PoolError>
-        ensures step { IfOk result (λ o. IfSome o (λ t. AddsStep G.config pass.old (Ask.TakeDone self.now.group) (Did.TakeDone self.now.group t) pass.new)) }
-        ensures none { IfOk result (λ o. IfNone o (IsRefusal G.config pass.new.front (Ask.TakeDone self.now.group) PoolError.NotThere × AddsNone pass.old pass.new)) }
-        ensures refused { IfErr result (λ e. (e ≢ PoolError.NotThere) × Refuses G.config (pass.old.room < 1) pass.new.front (Ask.TakeDone self.now.group) e) }
+        ensures step { IfOk result (λ o. IfSome o (λ t. AddsStep (K.terms G.config) pass.old (Ask.TakeDone self.now.group) (Did.TakeDone self.now.group t) pass.new)) }
+        ensures none { IfOk result (λ o. IfNone o (IsRefusal true (K.terms G.config) pass.new.front (Ask.TakeDone self.now.group) PoolError.NotThere × AddsNone pass.old pass.new)) }
+        ensures refused { IfErr result (λ e. (e ≢ PoolError.NotThere) × Refuses true (K.terms G.config) (pass.old.room < 1) pass.new.front (Ask.TakeDone self.now.group) e) }
         ensures unchanged { OnErr result (AddsNone pass.old pass.new) }
     {
         match pool.take_done(rt, self.group, pass) {

@@ -12,6 +12,7 @@ use std::alloc::Global;
 use std::sync::Wait;
 use std::thread::Threads;
 use tp_book::passes::Pass;
+use tp_machine::machine::releases::Keeper;
 use tp_pool::edges::Edge;
 use tp_pool::jobs::Job;
 use tp_pool::names::PoolNaming;
@@ -21,13 +22,13 @@ use tp_types::refusals::PoolError;
 
 // Has a task cancelled with its flag, where its future is open. Between the look and the cancel the task may
 // end: the cancel then has no effect. A cancel that is refused is left undone.
-fn cancel_open<G: PoolNaming, J: Job, E: Edge, R: Wait>(
-    pool: &PoolOf<G, J, E>,
+fn cancel_open<G: PoolNaming, J: Job, E: Edge, K: Keeper, R: Wait>(
+    pool: &PoolOf<G, J, E, K>,
     rt: &R,
     t: TaskId,
     pass: &mut Pass<G>,
 )
-    ensures { AddsCancel (Task J) G.config t pass.old pass.new }
+    ensures { AddsCancel (Task J) K.RECEIPTS (K.terms G.config) t pass.old pass.new }
 {
     if pool.result_with(rt, t, pass) != Ok(None) {
         return;
@@ -36,13 +37,13 @@ fn cancel_open<G: PoolNaming, J: Job, E: Edge, R: Wait>(
 }
 
 // Has each of these tasks cancelled likewise.
-fn cancel_all<G: PoolNaming, J: Job, E: Edge, R: Wait>(
-    pool: &PoolOf<G, J, E>,
+fn cancel_all<G: PoolNaming, J: Job, E: Edge, K: Keeper, R: Wait>(
+    pool: &PoolOf<G, J, E, K>,
     rt: &R,
     tasks: &[TaskId],
     pass: &mut Pass<G>,
 )
-    ensures { AddsCancels (Task J) G.config tasks.now pass.old pass.new }
+    ensures { AddsCancels (Task J) K.RECEIPTS (K.terms G.config) tasks.now pass.old pass.new }
 {
     for t in tasks {
         cancel_open(pool, rt, *t, pass);
@@ -50,25 +51,25 @@ fn cancel_all<G: PoolNaming, J: Job, E: Edge, R: Wait>(
 }
 
 // Waits until a future is not open any more.
-fn await_closed<G: PoolNaming, J: Job, E: Edge, R: Wait>(
-    pool: &PoolOf<G, J, E>,
+fn await_closed<G: PoolNaming, J: Job, E: Edge, K: Keeper, R: Wait>(
+    pool: &PoolOf<G, J, E, K>,
     rt: &R,
     t: TaskId,
     pass: &mut Pass<G>,
 )
-    ensures { Closes (Task J) G.config t pass.old pass.new }
+    ensures { Closes (Task J) K.RECEIPTS (K.terms G.config) t pass.old pass.new }
 {
     let _ = pool.await_result_with(rt, t, None, pass);
 }
 
 // Waits until none of these futures is open.
-fn await_all<G: PoolNaming, J: Job, E: Edge, R: Wait>(
-    pool: &PoolOf<G, J, E>,
+fn await_all<G: PoolNaming, J: Job, E: Edge, K: Keeper, R: Wait>(
+    pool: &PoolOf<G, J, E, K>,
     rt: &R,
     tasks: &[TaskId],
     pass: &mut Pass<G>,
 )
-    ensures { CloseAll (Task J) G.config tasks.now pass.old pass.new }
+    ensures { CloseAll (Task J) K.RECEIPTS (K.terms G.config) tasks.now pass.old pass.new }
 {
     for t in tasks {
         await_closed(pool, rt, *t, pass);
@@ -77,29 +78,29 @@ fn await_all<G: PoolNaming, J: Job, E: Edge, R: Wait>(
 
 // Waits until a future is not open any more, and answers whether that comes before now has reached the
 // deadline.
-fn closes_by<G: PoolNaming, J: Job, E: Edge, R: Wait>(
-    pool: &PoolOf<G, J, E>,
+fn closes_by<G: PoolNaming, J: Job, E: Edge, K: Keeper, R: Wait>(
+    pool: &PoolOf<G, J, E, K>,
     rt: &R,
     t: TaskId,
     deadline: u64,
     pass: &mut Pass<G>,
 ) -> bool
-    ensures closed { IsTrue result → Closes (Task J) G.config t pass.old pass.new }
-    ensures late { ¬ IsTrue result → LooksOnly G.config pass.old pass.new × IsLate (Task J) G.config deadline pass.new.front t }
+    ensures closed { IsTrue result → Closes (Task J) K.RECEIPTS (K.terms G.config) t pass.old pass.new }
+    ensures late { ¬ IsTrue result → LooksOnly (K.terms G.config) pass.old pass.new × IsLate (Task J) (K.terms G.config) deadline pass.new.front t }
 {
     pool.await_result_with(rt, t, Some(deadline), pass) != Err(PoolError::TimedOut)
 }
 
 // Waits until none of these futures is open, or the deadline has come for one of them.
-fn all_close_by<G: PoolNaming, J: Job, E: Edge, R: Wait>(
-    pool: &PoolOf<G, J, E>,
+fn all_close_by<G: PoolNaming, J: Job, E: Edge, K: Keeper, R: Wait>(
+    pool: &PoolOf<G, J, E, K>,
     rt: &R,
     tasks: &[TaskId],
     deadline: u64,
     pass: &mut Pass<G>,
 ) -> bool
-    ensures closed { IsTrue result → CloseAll (Task J) G.config tasks.now pass.old pass.new }
-    ensures late { ¬ IsTrue result → IsOneLate (Task J) G.config deadline tasks.now pass.old pass.new }
+    ensures closed { IsTrue result → CloseAll (Task J) K.RECEIPTS (K.terms G.config) tasks.now pass.old pass.new }
+    ensures late { ¬ IsTrue result → IsOneLate (Task J) (K.terms G.config) deadline tasks.now pass.old pass.new }
 {
     for t in tasks {
         if !closes_by(pool, rt, *t, deadline, pass) {
@@ -121,14 +122,14 @@ fn later_fault(before: Option<u32>, error: PoolError) -> Option<u32>
 
 // The answer of these futures together: the value of the first that has one; none while one is open; else
 // that all failed, with the last fault in their order.
-fn any_of<G: PoolNaming, J: Job, E: Edge, R: Wait>(
-    pool: &PoolOf<G, J, E>,
+fn any_of<G: PoolNaming, J: Job, E: Edge, K: Keeper, R: Wait>(
+    pool: &PoolOf<G, J, E, K>,
     rt: &R,
     tasks: &[TaskId],
     pass: &mut Pass<G>,
 ) -> Option<Result<i64, PoolError>>
-    ensures value { IfSome result (λ r. IfOk r (λ v. Any (HasValue (Task J) G.config v pass.new.front) tasks.now)) }
-    ensures failed { IfSome result (λ r. IfErr r (λ e. HaveFailed (Task J) G.config tasks.now e pass.old pass.new)) }
+    ensures value { IfSome result (λ r. IfOk r (λ v. Any (HasValue (Task J) (K.terms G.config) v pass.new.front) tasks.now)) }
+    ensures failed { IfSome result (λ r. IfErr r (λ e. HaveFailed (Task J) K.RECEIPTS (K.terms G.config) tasks.now e pass.old pass.new)) }
     ensures looks { AddsNone pass.old pass.new }
 {
     let mut open = false;
@@ -149,14 +150,14 @@ fn any_of<G: PoolNaming, J: Job, E: Edge, R: Wait>(
 
 // Waits until one of these futures has a value, or none is open. The record's length is read before each
 // look, so that no step falls unseen between a look and the sleep.
-fn await_any<G: PoolNaming, J: Job, E: Edge, R: Wait>(
-    pool: &PoolOf<G, J, E>,
+fn await_any<G: PoolNaming, J: Job, E: Edge, K: Keeper, R: Wait>(
+    pool: &PoolOf<G, J, E, K>,
     rt: &R,
     tasks: &[TaskId],
     pass: &mut Pass<G>,
 ) -> Result<i64, PoolError>
-    ensures value { IfOk result (λ v. Any (HasValue (Task J) G.config v pass.new.front) tasks.now) }
-    ensures failed { IfErr result (λ e. (mid : PassView) × AddsNone pass.old mid × HaveFailed (Task J) G.config tasks.now e mid pass.new) }
+    ensures value { IfOk result (λ v. Any (HasValue (Task J) (K.terms G.config) v pass.new.front) tasks.now) }
+    ensures failed { IfErr result (λ e. (mid : PassView) × AddsNone pass.old mid × HaveFailed (Task J) K.RECEIPTS (K.terms G.config) tasks.now e mid pass.new) }
     ensures looks { AddsNone pass.old pass.new }
 {
     for _ in rt.forever() {
@@ -175,17 +176,18 @@ fn submit_all<
     G: PoolNaming + Send + Sync + 'static,
     J: Job + 'static,
     E: Edge + Send + Sync + 'static,
+    K: Keeper + Send + 'static,
     R: Threads + Wait + Copy + Send + 'static,
 >(
-    pool: &PoolOf<G, J, E>,
+    pool: &PoolOf<G, J, E, K>,
     rt: &R,
     alloc: Global,
     jobs: Vec<J>,
     pass: &mut Pass<G>,
 ) -> Result<Vec<TaskId>, PoolError>
     ensures count { IfOk result (λ tasks. vec_len tasks ≡ vec_len jobs) }
-    ensures submitted { IfOk result (λ tasks. AddsSubmissions G.config J.promised J.urgency jobs.items tasks.items pass.old pass.new) }
-    ensures refused { IfErr result (λ e. AreTurnedBack G.config J.promised J.urgency jobs.items e pass.old pass.new) }
+    ensures submitted { IfOk result (λ tasks. AddsSubmissions (K.terms G.config) J.promised J.urgency jobs.items tasks.items pass.old pass.new) }
+    ensures refused { IfErr result (λ e. AreTurnedBack K.RECEIPTS (K.terms G.config) J.promised J.urgency jobs.items e pass.old pass.new) }
 {
     let Ok(mut tasks) = Vec::with_capacity(alloc, jobs.len()) else {
         return Err(PoolError::NoMemory);
@@ -213,17 +215,18 @@ pub fn invoke_all<
     G: PoolNaming + Send + Sync + 'static,
     J: Job + 'static,
     E: Edge + Send + Sync + 'static,
+    K: Keeper + Send + 'static,
     R: Threads + Wait + Copy + Send + 'static,
 >(
-    pool: &PoolOf<G, J, E>,
+    pool: &PoolOf<G, J, E, K>,
     rt: &R,
     alloc: Global,
     jobs: Vec<J>,
     pass: &mut Pass<G>,
 ) -> Result<Vec<TaskId>, PoolError>
     ensures count { IfOk result (λ tasks. vec_len tasks ≡ vec_len jobs) }
-    ensures all { IfOk result (λ tasks. IsAll G.config J.promised J.urgency jobs.items tasks.items pass.old pass.new) }
-    ensures refused { IfErr result (λ e. AreTurnedBack G.config J.promised J.urgency jobs.items e pass.old pass.new) }
+    ensures all { IfOk result (λ tasks. IsAll K.RECEIPTS (K.terms G.config) J.promised J.urgency jobs.items tasks.items pass.old pass.new) }
+    ensures refused { IfErr result (λ e. AreTurnedBack K.RECEIPTS (K.terms G.config) J.promised J.urgency jobs.items e pass.old pass.new) }
 {
     let tasks = submit_all(pool, rt, alloc, jobs, pass)?;
     await_all(pool, rt, tasks.as_slice(), pass);
@@ -237,9 +240,10 @@ pub fn invoke_all_until<
     G: PoolNaming + Send + Sync + 'static,
     J: Job + 'static,
     E: Edge + Send + Sync + 'static,
+    K: Keeper + Send + 'static,
     R: Threads + Wait + Copy + Send + 'static,
 >(
-    pool: &PoolOf<G, J, E>,
+    pool: &PoolOf<G, J, E, K>,
     rt: &R,
     alloc: Global,
     jobs: Vec<J>,
@@ -247,8 +251,8 @@ pub fn invoke_all_until<
     pass: &mut Pass<G>,
 ) -> Result<Vec<TaskId>, PoolError>
     ensures count { IfOk result (λ tasks. vec_len tasks ≡ vec_len jobs) }
-    ensures all { IfOk result (λ tasks. IsAllUntil G.config J.promised J.urgency deadline jobs.items tasks.items pass.old pass.new) }
-    ensures refused { IfErr result (λ e. AreTurnedBack G.config J.promised J.urgency jobs.items e pass.old pass.new) }
+    ensures all { IfOk result (λ tasks. IsAllUntil K.RECEIPTS (K.terms G.config) J.promised J.urgency deadline jobs.items tasks.items pass.old pass.new) }
+    ensures refused { IfErr result (λ e. AreTurnedBack K.RECEIPTS (K.terms G.config) J.promised J.urgency jobs.items e pass.old pass.new) }
 {
     let tasks = submit_all(pool, rt, alloc, jobs, pass)?;
     if all_close_by(pool, rt, tasks.as_slice(), deadline, pass) {
@@ -268,16 +272,17 @@ pub fn invoke_any<
     G: PoolNaming + Send + Sync + 'static,
     J: Job + 'static,
     E: Edge + Send + Sync + 'static,
+    K: Keeper + Send + 'static,
     R: Threads + Wait + Copy + Send + 'static,
 >(
-    pool: &PoolOf<G, J, E>,
+    pool: &PoolOf<G, J, E, K>,
     rt: &R,
     alloc: Global,
     jobs: Vec<J>,
     pass: &mut Pass<G>,
 ) -> Result<i64, PoolError>
-    ensures value { IfOk result (λ v. IsAnyValue G.config J.promised J.urgency jobs.items v pass.old pass.new) }
-    ensures refused { IfErr result (λ e. HasNoValue G.config J.promised J.urgency jobs.items e pass.old pass.new) }
+    ensures value { IfOk result (λ v. IsAnyValue K.RECEIPTS (K.terms G.config) J.promised J.urgency jobs.items v pass.old pass.new) }
+    ensures refused { IfErr result (λ e. HasNoValue K.RECEIPTS (K.terms G.config) J.promised J.urgency jobs.items e pass.old pass.new) }
 {
     if jobs.is_empty() {
         return Err(PoolError::NoTasks);

@@ -2,6 +2,7 @@ mod answers;
 mod cancels;
 mod chores;
 mod compare;
+mod endless;
 mod lives;
 mod playing;
 mod refusals;

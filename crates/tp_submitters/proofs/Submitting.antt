@@ -1,7 +1,7 @@
 -- What a submission answers.
-use Rattle.std.proofs.Common.{◌≡◌, ℕ, Bool, true, false, cond, List, None, Ok, Err, refl, arith, ap, ◌∙◌}
+use Rattle.std.proofs.Common.{◌≡◌, ℕ, ◌<◌, Bool, true, false, cond, List, None, Ok, Err, refl, arith, ap, ◌∙◌}
 use Rattle.std.specs.Prelude.{◌^◌, ◌-◌, ◌||◌, length, nat_lt, is_none, unwrap_or, IfSome}
-use Rattle.std.proofs.lemmas.Bool.{lt-ltb}
+use Rattle.std.proofs.lemmas.Bool.{lt-ltb, ltb-true}
 use Rattle.tp_record.specs.Left.{mark}
 use Rattle.tp_types.specs.declared.configs.Config.{Config}
 use Rattle.tp_types.specs.declared.ids.TaskId.{TaskId}
@@ -21,8 +21,8 @@ use Rattle.tp_shapes.specs.View.{View, Effect}
 use Rattle.tp_shapes.proofs.Submitters.Submit.{submit_reserve, submit_queue, submit_refuse}
 use Rattle.tp_parts.specs.declared.parts.Parts.{Parts}
 use Rattle.tp_parts.specs.Shows.{Shows}
-use Rattle.tp_parts.specs.Steps.{Stands}
-use Rattle.tp_parts.proofs.Few.{few_tasks}
+use Rattle.tp_parts.specs.Steps.{Stands, Fits}
+use Rattle.tp_parts.specs.Terms.{terms}
 use Rattle.tp_submitters.specs.Owed.{rise_of}
 
 -- a look answers by two tests, and reserves the number that it is told
@@ -59,12 +59,26 @@ submit_moves c h t k r (looked.Reserve w) legal given = (_, submit_reserve c h t
 submit_moves c h t k r looked.Queue legal given = (_, submit_queue c h t k r legal given)
 submit_moves c h t k r looked.Refuse legal given = (_, submit_refuse c h t k r legal given)
 
--- a submission fits always, and gets the next number
-pub submit_fits : {P : Type 0} (p : Parts P) → Stands p → (k : Kind) (r : ℕ) (h : List Entry) (rs : List ℕ) → Shows p (mark rs (state p.config h)) → (w : ℕ) →
-    fitting p.config (mark rs (state p.config h)) w (ask.Submit k r) ≡ Ok (did.Submit (record { 0 = submissions p.tasks }) k r (look (mark rs (state p.config h)) w))
-submit_fits p stands k r h rs sh w =
-    let s = mark rs (state p.config h) in
-    let few = few_tasks p stands in
+-- a submission fits where a number is left, and gets the next one
+pub submit_fits : {P : Type 0} (p : Parts P) → submissions p.tasks < 2 ^ 32 - 1 → (k : Kind) (r : ℕ) (h : List Entry) (rs : List ℕ) → Shows p (mark rs (state (terms p) h)) → (w : ℕ) →
+    fitting (terms p) (mark rs (state (terms p) h)) w (ask.Submit k r) ≡ Ok (did.Submit (record { 0 = submissions p.tasks }) k r (look (mark rs (state (terms p) h)) w))
+submit_fits p few k r h rs sh w =
+    let s = mark rs (state (terms p) h) in
     let counted = sh.seen.submitted in
     let below : nat_lt (length s.tasks) (2 ^ 32 - 1) ≡ true = lt-ltb _ _ (omega (arith, few, counted)) in
     ap (λ b. cond b (Ok (did.Submit (record { 0 = length s.tasks }) k r (look s w))) (Err BookFull)) below ∙ ap (λ n. Ok (did.Submit (record { 0 = n }) k r (look s w))) sh.seen.submitted
+
+-- a number is left
+pub few_left : (n m : ℕ) → n ≡ m → m < 2 ^ 32 → (n ≡ 4294967295 → ⊥) → m < 2 ^ 32 - 1
+few_left n m same small other = omega (arith, same, small, other)
+
+-- one that fits has a number
+pub few_fits : {P : Type 0} (p : Parts P) → Stands p → (k : Kind) (r : ℕ) (t : TaskId) (l : Looked) → Fits p (ask.Submit k r) (did.Submit t k r l) → submissions p.tasks < 2 ^ 32 - 1
+few_fits p stands k r t l fits = by (nat_lt (length s.tasks) (2 ^ 32 - 1)) refl (fits stands.history stands.released stands.legal stands.may stands.shows).0
+  where
+    s : State
+    s = mark stands.released (state (terms p) stands.history)
+
+    by : (b : Bool) → nat_lt (length s.tasks) (2 ^ 32 - 1) ≡ b → cond b (Ok (did.Submit (record { 0 = length s.tasks }) k r (look s (unwrap_or (reserved_looked l) 0)))) (Err BookFull) ≡ Ok (did.Submit t k r l) → submissions p.tasks < 2 ^ 32 - 1
+    by true is fit = let below = ltb-true _ _ is in let counted = stands.shows.seen.submitted in omega (arith, below, counted)
+    by false is fit = absurd (let no : ⊥ = cc in no)

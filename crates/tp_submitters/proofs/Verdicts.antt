@@ -32,6 +32,7 @@ use Rattle.tp_parts.specs.declared.parts.Parts.{Parts}
 use Rattle.tp_parts.specs.Room.{TellsRoom}
 use Rattle.tp_parts.specs.Shows.{Shows}
 use Rattle.tp_parts.specs.Steps.{Stands, Fits, Accepts}
+use Rattle.tp_parts.specs.Terms.{terms}
 use Rattle.tp_parts.proofs.Standing.{accepts_owed}
 use Rattle.tp_parts.proofs.Answering.{marked_effect}
 use Rattle.tp_parts.proofs.Reading.{row_shown, task_answers}
@@ -44,21 +45,21 @@ retry_moves c h t v legal there runs few [] is = (_, verdict_retry c h t v legal
 retry_moves c h t v legal there runs few (u ∷ us) is =
     (_, verdict_retry_drop c h t (record { 0 = u }) v legal (there, (runs, few, (us, is), head_at c h (sound_legal c h legal) u us is)))
 
-module _ {P : Type 0} (p : Parts P) (h : List Entry) (rs : List ℕ) (sh : Shows p (mark rs (state p.config h))) (t : TaskId) (row : TaskRow) (there : row_of p.tasks t.0 ≡ Some row) where
+module _ {P : Type 0} (p : Parts P) (h : List Entry) (rs : List ℕ) (sh : Shows p (mark rs (state (terms p) h))) (t : TaskId) (row : TaskRow) (there : row_of p.tasks t.0 ≡ Some row) where
   -- a retry by its tests: b tells whether there is room for it
-  pub retried_by : Legal p.config h → row.place ≡ at.Refused → rank h ≡ 0 → row.retries < 64 → (b : Bool) → TellsRoom p 0 (retry_rise (retry_of (queue p.config h))) b →
-      (if b then retry_of (queue p.config h) else ruled.Discarded) ≡ retried p.config (mark rs (state p.config h)) t row
+  pub retried_by : Legal (terms p) h → row.place ≡ at.Refused → rank h ≡ 0 → row.retries < 64 → (b : Bool) → TellsRoom p 0 (retry_rise (retry_of (queue (terms p) h))) b →
+      (if b then retry_of (queue (terms p) h) else ruled.Discarded) ≡ retried (terms p) (mark rs (state (terms p) h)) t row
   retried_by legal refused runs few b tells =
-      let s = mark rs (state p.config h) in
-      let d = did.Verdict t verdict.DiscardOldest (retry_of (queue p.config h)) in
+      let s = mark rs (state (terms p) h) in
+      let d = did.Verdict t verdict.DiscardOldest (retry_of (queue (terms p) h)) in
       let counted = tasks_counted h in
       let shown = row_shown p s sh t.0 row there in
       let known : t.0 < submitted h = let k = ltb-true t.0 (length s.tasks) (and_parts (not (is_among t.0 rs)) (nat_lt t.0 (length s.tasks)) shown.0).1 in omega (arith, counted, k) in
       let read = sym (row_read h t.0 known) ∙ shown.1 in
       let tried = ap (λ r. r.retries) read in
-      let moves = retry_moves p.config h t verdict.DiscardOldest legal (known, ap (λ r. r.place) read ∙ refused) runs (omega (arith, few, tried)) (queue p.config h) refl in
-      sym (ap (λ x. cond x ruled.Discarded (cond (leaves_room p.config s d) (retry_of (queue p.config h)) ruled.Discarded)) (may (rank h) row.retries runs few)
-      ∙ ap (λ x. cond x (retry_of (queue p.config h)) ruled.Discarded) (sym (tells s d (record moves.0 { left_out = rs }) sh (marked_effect rs (state p.config h) d moves.0 0 (retry_rise (retry_of (queue p.config h))) moves.1))))
+      let moves = retry_moves (terms p) h t verdict.DiscardOldest legal (known, ap (λ r. r.place) read ∙ refused) runs (omega (arith, few, tried)) (queue (terms p) h) refl in
+      sym (ap (λ x. cond x ruled.Discarded (cond (leaves_room (terms p) s d) (retry_of (queue (terms p) h)) ruled.Discarded)) (may (rank h) row.retries runs few)
+      ∙ ap (λ x. cond x (retry_of (queue (terms p) h)) ruled.Discarded) (sym (tells s d (record moves.0 { left_out = rs }) sh (marked_effect rs (state (terms p) h) d moves.0 0 (retry_rise (retry_of (queue (terms p) h))) moves.1))))
     where
       may : (n m : ℕ) → n ≡ 0 → m < 64 → (nat_lt 0 n || nat_le 64 m) ≡ false
       may n m none few = grind (arith, nat_tests)
@@ -83,15 +84,15 @@ rule_leaves c s t r verdict.DiscardOldest is = by (nat_lt 0 s.rank || nat_le 64 
 
 -- an allowed verdict on a refused task is accepted, with the room that a retry needs
 pub accepts_verdict : {P : Type 0} (p : Parts P) → Stands p → (t : TaskId) (row : TaskRow) (v : Verdict) (r : Ruled) → row_of p.tasks t.0 ≡ Some row → row.place ≡ at.Refused → allows p.config.policy v ≡ true →
-    ((h : List Entry) (rs : List ℕ) → Legal p.config h → Shows p (mark rs (state p.config h)) → r ≡ rule p.config (mark rs (state p.config h)) t row v) → Accepts p (ask.Verdict t v) (did.Verdict t v r)
+    ((h : List Entry) (rs : List ℕ) → Legal (terms p) h → Shows p (mark rs (state (terms p) h)) → r ≡ rule (terms p) (mark rs (state (terms p) h)) t row v) → Accepts p (ask.Verdict t v) (did.Verdict t v r)
 accepts_verdict p stands t row v r there refused allowed ruled_so = by (is_retry r) refl
   where
     fits : Fits p (ask.Verdict t v) (did.Verdict t v r)
     fits h rs legal may sh =
-        let s = mark rs (state p.config h) in (
-          task_answers p s sh t row (verdict_answer p.config s t v) there
-              ∙ ap (λ b. cond (b && allows p.config.policy v) (Ok (did.Verdict t v (rule p.config s t row v))) (Err NotThere)) (ap is_refused_place refused)
-              ∙ ap (λ b. cond b (Ok (did.Verdict t v (rule p.config s t row v))) (Err NotThere)) allowed
+        let s = mark rs (state (terms p) h) in (
+          task_answers p s sh t row (verdict_answer (terms p) s t v) there
+              ∙ ap (λ b. cond (b && allows p.config.policy v) (Ok (did.Verdict t v (rule (terms p) s t row v))) (Err NotThere)) (ap is_refused_place refused)
+              ∙ ap (λ b. cond b (Ok (did.Verdict t v (rule (terms p) s t row v))) (Err NotThere)) allowed
               ∙ ap (λ x. Ok (did.Verdict t v x)) (sym (ruled_so h rs legal sh)),
           tt,
         )
@@ -99,7 +100,7 @@ accepts_verdict p stands t row v r there refused allowed ruled_so = by (is_retry
     by : (b : Bool) → is_retry r ≡ b → Accepts p (ask.Verdict t v) (did.Verdict t v r)
     by false is = accepts_owed p stands (ask.Verdict t v) (did.Verdict t v r) (λ n. ap not is) fits
     by true is = λ h rs legal may sh.
-        let s = mark rs (state p.config h) in
+        let s = mark rs (state (terms p) h) in
         let e = ruled_so h rs legal sh in
-        let leaves = subst (λ x. leaves_room p.config s (did.Verdict t v x) ≡ true) (sym e) (rule_leaves p.config s t row v (ap is_retry (sym e) ∙ is)) in
-        (ap (within_room p.config s) (fits h rs legal may sh).0 ∙ ap (λ b. cond b (Ok (did.Verdict t v r)) (Err BookFull)) leaves, tt)
+        let leaves = subst (λ x. leaves_room (terms p) s (did.Verdict t v x) ≡ true) (sym e) (rule_leaves (terms p) s t row v (ap is_retry (sym e) ∙ is)) in
+        (ap (within_room (terms p) s) (fits h rs legal may sh).0 ∙ ap (λ b. cond b (Ok (did.Verdict t v r)) (Err BookFull)) leaves, tt)

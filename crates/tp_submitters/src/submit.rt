@@ -9,7 +9,7 @@ ghost use Rattle.tp_tasks.specs.Tasks.{submissions};
 ghost use Rattle.tp_parts.specs.Memory.{HasMemory};
 ghost use Rattle.tp_parts.specs.Payloads.{Keeps, PutsIn};
 ghost use Rattle.tp_parts.specs.Shows.{Shows};
-ghost use Rattle.tp_parts.specs.Steps.{Stands, Fits, Accepts, Refuses, Leads};
+ghost use Rattle.tp_parts.specs.Steps.{Stands, Accepts, Refuses, Leads};
 ghost use Rattle.tp_submitters.specs.Owed.{rise_of};
 
 use tp_parts::parts::Parts;
@@ -20,7 +20,7 @@ use tp_types::refusals::PoolError;
 use tp_types::tasks::{Kind, Place, Promise};
 
 /// Whether the next task, of this kind and priority, is held by a new core slot, is to be offered, or is refused. BookFull (5)
-/// where the record has no room for it.
+/// where the record has no room for it, or its number would be 4,294,967,295.
 #[inline(always)]
 pub fn answer<P>(parts: &Parts<P>, kind: Kind, priority: u32) -> Result<Looked, PoolError>
     requires stands { Stands parts.now }
@@ -28,6 +28,9 @@ pub fn answer<P>(parts: &Parts<P>, kind: Kind, priority: u32) -> Result<Looked, 
     ensures next { IfOk result (λ l. IfSome (reserved_looked l) (λ w. w ≡ parts.now.slots.next)) }
     ensures refuses { IfErr result (λ e. Refuses parts.now (Ask.Submit kind priority) e) }
 {
+    if parts.tasks.submitted() == u32::MAX {
+        return Err(PoolError::BookFull);
+    }
     let looked = parts.look();
     if parts.has_room(0, rise(looked)) {
         Ok(looked)
@@ -68,7 +71,7 @@ where
     P: Drop,
     requires stands { Stands parts.old }
     requires memory { HasMemory parts.old kind }
-    requires fits { Fits parts.old (Ask.Submit kind priority) (Did.Submit (record { 0 = submissions parts.old.tasks }) kind priority looked) }
+    requires accepts { Accepts parts.old (Ask.Submit kind priority) (Did.Submit (record { 0 = submissions parts.old.tasks }) kind priority looked) }
     requires next { IfSome (reserved_looked looked) (λ w. w ≡ parts.old.slots.next) }
     ensures number { result.0 ≡ submissions parts.old.tasks }
     ensures leads { Leads parts.old (Did.Submit result kind priority looked) parts.new }
@@ -108,7 +111,7 @@ where
     P: Drop,
     requires stands { Stands parts.old }
     requires memory { HasMemory parts.old kind }
-    requires fits { Fits parts.old (Ask.Submit kind priority) (Did.Submit (record { 0 = submissions parts.old.tasks }) kind priority (Looked.Reserve w)) }
+    requires accepts { Accepts parts.old (Ask.Submit kind priority) (Did.Submit (record { 0 = submissions parts.old.tasks }) kind priority (Looked.Reserve w)) }
     requires next { w.0 ≡ parts.old.slots.next }
     ensures number { result.0 ≡ submissions parts.old.tasks }
     ensures leads { Leads parts.old (Did.Submit result kind priority (Looked.Reserve w)) parts.new }
@@ -127,7 +130,7 @@ where
     P: Drop,
     requires stands { Stands parts.old }
     requires memory { HasMemory parts.old kind }
-    requires fits { Fits parts.old (Ask.Submit kind priority) (Did.Submit (record { 0 = submissions parts.old.tasks }) kind priority Looked.Queue) }
+    requires accepts { Accepts parts.old (Ask.Submit kind priority) (Did.Submit (record { 0 = submissions parts.old.tasks }) kind priority Looked.Queue) }
     ensures number { result.0 ≡ submissions parts.old.tasks }
     ensures leads { Leads parts.old (Did.Submit result kind priority Looked.Queue) parts.new }
     ensures payloads { PutsIn parts.old.tasks parts.new.tasks result.0 promise payload }
@@ -149,7 +152,7 @@ where
     P: Drop,
     requires stands { Stands parts.old }
     requires memory { HasMemory parts.old kind }
-    requires fits { Fits parts.old (Ask.Submit kind priority) (Did.Submit (record { 0 = submissions parts.old.tasks }) kind priority Looked.Refuse) }
+    requires accepts { Accepts parts.old (Ask.Submit kind priority) (Did.Submit (record { 0 = submissions parts.old.tasks }) kind priority Looked.Refuse) }
     ensures number { result.0 ≡ submissions parts.old.tasks }
     ensures leads { Leads parts.old (Did.Submit result kind priority Looked.Refuse) parts.new }
     ensures payloads { PutsIn parts.old.tasks parts.new.tasks result.0 promise payload }

@@ -8,7 +8,8 @@ ghost use Rattle.tp_record.specs.Step.{Legal, allows, rule, retried, retry_of};
 ghost use Rattle.tp_tasks.specs.Tasks.{row_of};
 ghost use Rattle.tp_parts.specs.Payloads.{Keeps, HandsOut};
 ghost use Rattle.tp_parts.specs.Shows.{Shows};
-ghost use Rattle.tp_parts.specs.Steps.{Stands, Fits, Accepts, Refuses, Leads};
+ghost use Rattle.tp_parts.specs.Steps.{Stands, Accepts, Refuses, Leads};
+ghost use Rattle.tp_parts.specs.Terms.{terms};
 ghost use Rattle.tp_submitters.specs.Owed.{retry_rise};
 ghost use Rattle.tp_submitters.specs.Verdicts.{Yields};
 
@@ -47,7 +48,7 @@ pub fn answer<P>(parts: &Parts<P>, t: TaskId, verdict: Verdict) -> Result<Ruled,
 /// own, or the dropped head's where the refused task is to look again.
 pub fn apply<P>(parts: &mut Parts<P>, t: TaskId, verdict: Verdict, ruled: Ruled) -> Option<P>
     requires stands { Stands parts.old }
-    requires fits { Fits parts.old (Ask.Verdict t verdict) (Did.Verdict t verdict ruled) }
+    requires accepts { Accepts parts.old (Ask.Verdict t verdict) (Did.Verdict t verdict ruled) }
     ensures leads { Leads parts.old (Did.Verdict t verdict ruled) parts.new }
     ensures payloads { Yields parts.old.tasks parts.new.tasks t ruled result }
     ensures run { ruled ≡ Ruled.Caller → is_some result ≡ true }
@@ -87,8 +88,8 @@ fn rule<P>(parts: &Parts<P>, t: TaskId, row: TaskRow, verdict: Verdict) -> Ruled
     requires stands { Stands parts.now }
     requires known { row_of parts.now.tasks t.0 ≡ Some row }
     requires refused { row.place ≡ Place.Refused }
-    ensures { (h : List Entry) (rs : List ℕ) → Legal parts.now.config h → Shows parts.now (mark rs (state parts.now.config h)) →
-        result ≡ rule parts.now.config (mark rs (state parts.now.config h)) t row verdict }
+    ensures { (h : List Entry) (rs : List ℕ) → Legal (terms parts.now) h → Shows parts.now (mark rs (state (terms parts.now) h)) →
+        result ≡ rule (terms parts.now) (mark rs (state (terms parts.now) h)) t row verdict }
 {
     match verdict {
         Verdict::Abort => Ruled::Rejected,
@@ -106,8 +107,8 @@ fn retried<P>(parts: &Parts<P>, t: TaskId, row: TaskRow) -> Ruled
     requires stands { Stands parts.now }
     requires known { row_of parts.now.tasks t.0 ≡ Some row }
     requires refused { row.place ≡ Place.Refused }
-    ensures { (h : List Entry) (rs : List ℕ) → Legal parts.now.config h → Shows parts.now (mark rs (state parts.now.config h)) →
-        result ≡ retried parts.now.config (mark rs (state parts.now.config h)) t row }
+    ensures { (h : List Entry) (rs : List ℕ) → Legal (terms parts.now) h → Shows parts.now (mark rs (state (terms parts.now) h)) →
+        result ≡ retried (terms parts.now) (mark rs (state (terms parts.now) h)) t row }
 {
     let RunState::Running = parts.state else {
         return Ruled::Discarded;
@@ -147,7 +148,7 @@ fn rise(retry: Ruled) -> u64
 /// The task is gone, rejected.
 fn reject<P>(parts: &mut Parts<P>, t: TaskId, verdict: Verdict) -> Option<P>
     requires stands { Stands parts.old }
-    requires fits { Fits parts.old (Ask.Verdict t verdict) (Did.Verdict t verdict Ruled.Rejected) }
+    requires accepts { Accepts parts.old (Ask.Verdict t verdict) (Did.Verdict t verdict Ruled.Rejected) }
     ensures leads { Leads parts.old (Did.Verdict t verdict Ruled.Rejected) parts.new }
     ensures payloads { HandsOut parts.old.tasks parts.new.tasks t.0 result }
 {
@@ -158,7 +159,7 @@ fn reject<P>(parts: &mut Parts<P>, t: TaskId, verdict: Verdict) -> Option<P>
 /// The task is gone, discarded.
 fn discard<P>(parts: &mut Parts<P>, t: TaskId, verdict: Verdict) -> Option<P>
     requires stands { Stands parts.old }
-    requires fits { Fits parts.old (Ask.Verdict t verdict) (Did.Verdict t verdict Ruled.Discarded) }
+    requires accepts { Accepts parts.old (Ask.Verdict t verdict) (Did.Verdict t verdict Ruled.Discarded) }
     ensures leads { Leads parts.old (Did.Verdict t verdict Ruled.Discarded) parts.new }
     ensures payloads { HandsOut parts.old.tasks parts.new.tasks t.0 result }
 {
@@ -169,7 +170,7 @@ fn discard<P>(parts: &mut Parts<P>, t: TaskId, verdict: Verdict) -> Option<P>
 /// The submitter runs the task, and has its payload.
 fn run<P>(parts: &mut Parts<P>, t: TaskId, verdict: Verdict) -> P
     requires stands { Stands parts.old }
-    requires fits { Fits parts.old (Ask.Verdict t verdict) (Did.Verdict t verdict Ruled.Caller) }
+    requires accepts { Accepts parts.old (Ask.Verdict t verdict) (Did.Verdict t verdict Ruled.Caller) }
     ensures leads { Leads parts.old (Did.Verdict t verdict Ruled.Caller) parts.new }
     ensures payloads { HandsOut parts.old.tasks parts.new.tasks t.0 (Some result) }
 {
@@ -180,7 +181,7 @@ fn run<P>(parts: &mut Parts<P>, t: TaskId, verdict: Verdict) -> P
 /// The task was cancelled: it is gone, and its payload went out with the cancel.
 fn skip<P>(parts: &mut Parts<P>, t: TaskId, verdict: Verdict)
     requires stands { Stands parts.old }
-    requires fits { Fits parts.old (Ask.Verdict t verdict) (Did.Verdict t verdict Ruled.Skip) }
+    requires accepts { Accepts parts.old (Ask.Verdict t verdict) (Did.Verdict t verdict Ruled.Skip) }
     ensures leads { Leads parts.old (Did.Verdict t verdict Ruled.Skip) parts.new }
     ensures payloads { HandsOut parts.old.tasks parts.new.tasks t.0 None }
 {
@@ -191,7 +192,7 @@ fn skip<P>(parts: &mut Parts<P>, t: TaskId, verdict: Verdict)
 /// The task is to look again.
 fn retry<P>(parts: &mut Parts<P>, t: TaskId, verdict: Verdict)
     requires stands { Stands parts.old }
-    requires fits { Fits parts.old (Ask.Verdict t verdict) (Did.Verdict t verdict Ruled.Retry) }
+    requires accepts { Accepts parts.old (Ask.Verdict t verdict) (Did.Verdict t verdict Ruled.Retry) }
     ensures leads { Leads parts.old (Did.Verdict t verdict Ruled.Retry) parts.new }
     ensures payloads { Keeps parts.old.tasks parts.new.tasks }
 {
@@ -202,7 +203,7 @@ fn retry<P>(parts: &mut Parts<P>, t: TaskId, verdict: Verdict)
 /// The task is to look again in place of the queue's head, which is gone, discarded.
 fn retry_drop<P>(parts: &mut Parts<P>, t: TaskId, verdict: Verdict, head: TaskId) -> Option<P>
     requires stands { Stands parts.old }
-    requires fits { Fits parts.old (Ask.Verdict t verdict) (Did.Verdict t verdict (Ruled.RetryDrop head)) }
+    requires accepts { Accepts parts.old (Ask.Verdict t verdict) (Did.Verdict t verdict (Ruled.RetryDrop head)) }
     ensures leads { Leads parts.old (Did.Verdict t verdict (Ruled.RetryDrop head)) parts.new }
     ensures payloads { HandsOut parts.old.tasks parts.new.tasks head.0 result }
 {

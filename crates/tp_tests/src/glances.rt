@@ -60,7 +60,7 @@ fn look_on<G: Naming>(
 ) {
     sees(rt, 5, glance, seat, RunState::Tidying);
     glance.show(book, seat);
-    glance.is_front(book, seat);
+    glance.law_is_front(book, seat);
     same(rt, 6, &glance.published(book), &RunState::Tidying);
 }
 

@@ -1,6 +1,6 @@
 -- The end of a pool, and what its record says of the caller that made it run.
-use Rattle.std.proofs.Common.{◌≡◌, ◌⊎◌, ℕ, List, [], ◌∷◌, ◌++◌, refl, sym, ap, subst, ◌∙◌, inl, inr, ⊎_elim}
-use Rattle.std.specs.Prelude.{All, Some}
+use Rattle.std.proofs.Common.{◌≡◌, ◌⊎◌, ℕ, true, List, [], ◌∷◌, ◌++◌, refl, sym, ap, subst, ◌∙◌, inl, inr, ⊎_elim}
+use Rattle.std.specs.Prelude.{All, Some, if◌then◌else◌}
 use Rattle.std.proofs.lemmas.List.{append-nil}
 use Rattle.std.proofs.lemmas.List.Elements.{All-nil, All-cons, All-append, All-pop}
 use Rattle.tp_types.specs.declared.configs.Config.{Config}
@@ -9,7 +9,7 @@ use Rattle.tp_record.specs.declared.entries.Did.TheVariants as did
 use Rattle.tp_record.specs.declared.entries.Entry.{Entry}
 use Rattle.tp_record.specs.Fields.{rank}
 use Rattle.tp_record.specs.Paths.{own}
-use Rattle.tp_book.specs.PassView.{PassView}
+use Rattle.tp_book.specs.PassView.{PassView, receipts_with}
 use Rattle.tp_book.specs.declared.book.closing.Report.{Report}
 use Rattle.tp_locked.specs.Passes.{Adds, entry_of, tidied, ended}
 use Rattle.tp_pool.specs.Closing.{Reports}
@@ -33,7 +33,7 @@ are_endings c by steps history is =
 -- a shutdown, and the wait for the end
 pub adds_end : (c : Config) (old mid new : PassView) → AddsAndEnds c old ask.Shutdown did.Shutdown mid
     → Adds c mid [] new ⊎ Adds c mid (tidied mid.number ∷ ended mid.number ∷ []) new → rank new.front ≡ 4 → AddsEnd c old new
-adds_end c old mid new first then seen =
+adds_end c old mid new first waited seen =
     let P : Entry → Type 0 = λ e. (e ≡ tidied old.number) ⊎ (e ≡ ended old.number) in
     let by = first.2.number in
     let steps = entry_of old.number ask.Shutdown did.Shutdown ∷ first.0 in
@@ -46,7 +46,7 @@ adds_end c old mid new first then seen =
       adds_both c old mid new steps last first.2 (subst (λ n. Adds c mid (tidied n ∷ ended n ∷ []) new) by x),
       seen,
     ))
-    then
+    waited
 
 -- the list of one caller's pass
 pub one_pass : (passes pushed : List PassView) (now : PassView) → passes ≡ [] → pushed ≡ passes ++ now ∷ [] → pushed ≡ now ∷ []
@@ -60,14 +60,15 @@ closed_by c pass now r end reports =
       legal = reports.legal;
       ended = reports.ended;
       counts = reports.counts;
-      receipts = (end.0, end.1, subst (λ n. own n r.entries.items ≡ pass.receipts ++ end.0) end.2.number (own_now ∙ end.2.receipts));
+      receipts = (end.0, end.1, subst (λ n. own n r.entries.items ≡ receipts_with pass end.0) end.2.number (own_now ∙ end.2.receipts));
     }
 
 -- the whole life
-pub run_of : (c : Config) (first mid : PassView) (ks : List Asked) (r : Report) → first.number ≡ 0 → first.receipts ≡ [] → AddsSubmissions c ks first mid → IsClosed c mid r → IsRun c ks r
-run_of c first mid ks r zeroth none before closed =
+pub run_of : (c : Config) (first mid : PassView) (ks : List Asked) (r : Report) → first.number ≡ 0 → first.keeps ≡ true → first.receipts ≡ [] → AddsSubmissions c ks first mid → IsClosed c mid r → IsRun c ks r
+run_of c first mid ks r zeroth whole none before closed =
     let number : mid.number ≡ 0 = before.2.number ∙ zeroth in
-    let receipts : mid.receipts ≡ before.0 = before.2.receipts ∙ ap (λ rs. rs ++ before.0) none in record {
+    let receipts : mid.receipts ≡ before.0 = before.2.receipts ∙ ap (λ k. if k then first.receipts ++ before.0 else first.receipts) whole ∙ ap (λ rs. rs ++ before.0) none in
+    let keeps : mid.keeps ≡ true = before.2.keeps ∙ whole in record {
       good = closed.good;
       legal = closed.legal;
       ended = closed.ended;
@@ -77,6 +78,7 @@ run_of c first mid ks r zeroth none before closed =
         closed.receipts.0,
         before.1,
         subst (λ by. IsEnd by closed.receipts.0) number closed.receipts.1,
-        subst (λ by. own by r.entries.items ≡ mid.receipts ++ closed.receipts.0) number closed.receipts.2 ∙ ap (λ rs. rs ++ closed.receipts.0) receipts,
+        subst (λ by. own by r.entries.items ≡ receipts_with mid closed.receipts.0) number closed.receipts.2
+            ∙ ap (λ k. if k then mid.receipts ++ closed.receipts.0 else mid.receipts) keeps ∙ ap (λ rs. rs ++ closed.receipts.0) receipts,
       );
     }

@@ -1,5 +1,5 @@
 -- Submissions one after another, with their receipts.
-use Rattle.std.proofs.Common.{suc, ◌≡◌, ◌≢◌, ◌⊎◌, ◌+◌, ◌<◌, ℕ, List, [], ◌∷◌, ◌++◌, length, get_or, take, drop, drop-cons, refl, sym, ap, subst, ◌∙◌, inl, inr, ⊎_elim, append_assoc, arith}
+use Rattle.std.proofs.Common.{suc, Bool, true, ◌≡◌, ◌≢◌, ◌⊎◌, ◌+◌, ◌<◌, ℕ, List, [], ◌∷◌, ◌++◌, length, get_or, take, drop, drop-cons, refl, sym, ap, subst, ◌∙◌, inl, inr, ⊎_elim, append_assoc, arith}
 use Rattle.std.specs.Prelude.{map, Some, ⊤}
 use Rattle.std.proofs.lemmas.List.{append-nil, length-map, take_all, take_more, take-append-drop, get_or-map}
 use Rattle.tp_types.specs.declared.configs.Config.{Config}
@@ -51,29 +51,29 @@ next_submission c old mid new jobs n d within a b =
 pub all_submissions : (c : Config) (old new : PassView) (jobs : List JobLine) (n : ℕ) → n ≡ length jobs → AddsSubmissions c (take n (asked jobs)) old new → AddsSubmissions c (asked jobs) old new
 all_submissions c old new jobs n is a = subst (λ ks. AddsSubmissions c ks old new) (take_all n (asked jobs) (omega (arith, length-map jobs asked_of))) a
 
-module _ {J : Type 0} (c : Config) (kind : Kind) (priority : ℕ) (job : J) (promise : Promise) where
+module _ {J : Type 0} (keeps : Bool) (c : Config) (kind : Kind) (priority : ℕ) (job : J) (promise : Promise) where
   -- a submission that was turned away by the policy is followed to its end
   pub turned_whole : (old mid new : PassView) (x : Refused J) (t : TaskId) → x.error ≡ error.Rejected t → AddsNone old mid →
-      IsTurnedAway c kind priority job promise mid new x → AddsSubmissions c ((kind, priority) ∷ []) old new
+      IsTurnedAway keeps c kind priority job promise mid new x → AddsSubmissions c ((kind, priority) ∷ []) old new
   turned_whole old mid new x t rejected none is =
       ⊎_elim (λ (y : (t : TaskId) × (x.error ≡ error.Rejected t) × AddsPath c kind priority t Rejected mid new × GotJob c kind priority job promise mid.number t.0 mid.front new.front × ComesBack t.0 x.job new.front × IsJobOut c mid.number t.0 x.job mid.front new.front). one_submission c (kind, priority) y.0 Rejected old mid new none y.2)
-      (⊎_elim (λ (y : (t : TaskId) × (x.error ≡ error.TornRecord) × AddsFront c kind priority t mid new × GotJob c kind priority job promise mid.number t.0 mid.front new.front). let torn = y.1 in absurd (grind arith))
-      (λ (y : Refuses c ⊤ new.front (ask.Submit kind priority) x.error × (x.job ≡ Some job) × AddsNone mid new).
+      (⊎_elim (λ (y : (t : TaskId) × (x.error ≡ error.TornRecord) × AddsFront keeps c kind priority t mid new × GotJob c kind priority job promise mid.number t.0 mid.front new.front). let torn = y.1 in absurd (grind arith))
+      (λ (y : Refuses true c ⊤ new.front (ask.Submit kind priority) x.error × (x.job ≡ Some job) × AddsNone mid new).
       ⊎_elim (λ (e : x.error ≡ error.NoMemory). absurd (grind arith)) (λ (e : x.error ≡ error.BookFull). absurd (grind arith)) (before_first c new.front kind priority x.error y.0)))
       is
 
   -- one that was turned away otherwise
   pub turned_torn : (old mid new : PassView) (x : Refused J) → ((t : TaskId) → x.error ≢ error.Rejected t) → AddsNone old mid →
-      IsTurnedAway c kind priority job promise mid new x → IsTorn c (kind, priority) x.error old new
+      IsTurnedAway keeps c kind priority job promise mid new x → IsTorn keeps c (kind, priority) x.error old new
   turned_torn old mid new x other none is =
       ⊎_elim (λ (y : (t : TaskId) × (x.error ≡ error.Rejected t) × AddsPath c kind priority t Rejected mid new × GotJob c kind priority job promise mid.number t.0 mid.front new.front × ComesBack t.0 x.job new.front × IsJobOut c mid.number t.0 x.job mid.front new.front). absurd (other y.0 y.1))
-      (⊎_elim (λ (y : (t : TaskId) × (x.error ≡ error.TornRecord) × AddsFront c kind priority t mid new × GotJob c kind priority job promise mid.number t.0 mid.front new.front). inr (y.1, (y.0, front_behind c kind priority y.0 old mid new none y.2)))
-      (λ (y : Refuses c ⊤ new.front (ask.Submit kind priority) x.error × (x.job ≡ Some job) × AddsNone mid new). inl (before_first c new.front kind priority x.error y.0, none_behind old mid new none y.2)))
+      (⊎_elim (λ (y : (t : TaskId) × (x.error ≡ error.TornRecord) × AddsFront keeps c kind priority t mid new × GotJob c kind priority job promise mid.number t.0 mid.front new.front). inr (y.1, (y.0, front_behind c keeps kind priority y.0 old mid new none y.2)))
+      (λ (y : Refuses true c ⊤ new.front (ask.Submit kind priority) x.error × (x.job ≡ Some job) × AddsNone mid new). inl (before_first c new.front kind priority x.error y.0, none_behind old mid new none y.2)))
       is
 
-pub breaks_off : (c : Config) (old mid new : PassView) (jobs : List JobLine) (n : ℕ) (d : JobLine) (e : PoolError) → n < length jobs → AddsSubmissions c (take n (asked jobs)) old mid →
-    IsTorn c (asked_of (get_or jobs n d)) e mid new → BreaksOff c (asked jobs) e old new
-breaks_off c old mid new jobs n d e within before torn =
+pub breaks_off : (keeps : Bool) (c : Config) (old mid new : PassView) (jobs : List JobLine) (n : ℕ) (d : JobLine) (e : PoolError) → n < length jobs → AddsSubmissions c (take n (asked jobs)) old mid →
+    IsTorn keeps c (asked_of (get_or jobs n d)) e mid new → BreaksOff keeps c (asked jobs) e old new
+breaks_off keeps c old mid new jobs n d e within before torn =
     let ks = asked jobs in
     let k = asked_of (get_or jobs n d) in
     let next : drop n ks ≡ k ∷ drop (suc n) ks =

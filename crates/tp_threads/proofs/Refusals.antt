@@ -23,7 +23,7 @@ by_room : (c : Config) (s : State) (b : Bool) (d : Did) (e : PoolError) → ◌�
 by_room c s true d e is = by_test (leaves_room c s d) d BookFull e is
 by_room c s false d e is = grind arith
 
-pub before_first : (c : Config) (history : List Entry) (k : Kind) (p : ℕ) (e : PoolError) → Refuses c ⊤ history (ask.Submit k p) e → (e ≡ NoMemory) ⊎ (e ≡ BookFull)
+pub before_first : (c : Config) (history : List Entry) (k : Kind) (p : ℕ) (e : PoolError) → Refuses true c ⊤ history (ask.Submit k p) e → (e ≡ NoMemory) ⊎ (e ≡ BookFull)
 before_first c history k p e (inl none) = inl none.0
 before_first c history k p e (inr at) =
     let s = state c history in

@@ -1,11 +1,13 @@
 -- What a run of a file of jobs leaves: in its caller's pass, in the record of its pool, and where it is written.
-use Rattle.std.specs.Prelude.{ℕ, ◌≡◌, ◌⊎◌, List, [], ◌∷◌, ◌++◌, All, map, reverse, Option, unwrap_or, Ok, Err, if◌then◌else◌}
+use Rattle.std.specs.Prelude.{ℕ, Bool, false, ◌≡◌, ◌⊎◌, List, [], ◌∷◌, ◌++◌, All, map, reverse, Option, unwrap_or, Ok, Err, if◌then◌else◌}
 use Rattle.std.specs.Io.KnownBytes.{Appends}
 use Rattle.tp_types.specs.Config.{IsConfig, checked}
 use Rattle.tp_types.specs.declared.configs.Config.{Config}
 use Rattle.tp_types.specs.declared.ids.TaskId.{TaskId}
 use Rattle.tp_types.specs.declared.refusals.PoolError.{PoolError}
 use Rattle.tp_types.specs.declared.refusals.PoolError.TheVariants.{NoMemory, BookFull, TornRecord}
+use Rattle.tp_types.specs.declared.states.Counts.{Counts}
+use Rattle.tp_types.specs.declared.states.RunState.TheVariants.{Terminated}
 use Rattle.tp_types.specs.declared.tasks.Kind.{Kind}
 use Rattle.tp_types.specs.declared.tasks.Kind.TheVariants as kind
 use Rattle.tp_record.specs.declared.entries.Ask.TheVariants as ask
@@ -15,15 +17,19 @@ use Rattle.tp_record.specs.Fields.{rank}
 use Rattle.tp_record.specs.Paths.{Admission, IsPath, own}
 use Rattle.tp_record.specs.State.{state, counts}
 use Rattle.tp_record.specs.Step.{Legal}
+use Rattle.tp_text.specs.EndLines.{state_line, counts_line}
 use Rattle.tp_record_text.specs.declared.versions.Version.TheVariants as version
 use Rattle.tp_record_text.specs.RecordText.{record_text}
 use Rattle.tp_scenario.specs.Jobs.{IsRead}
 use Rattle.tp_scenario.specs.declared.jobs.JobLine.{JobLine}
 use Rattle.tp_scenario.specs.declared.jobs.Jobs.{Jobs}
-use Rattle.tp_book.specs.PassView.{PassView}
+use Rattle.tp_book.specs.PassView.{PassView, receipts_with}
 use Rattle.tp_book.specs.declared.book.closing.Report.{Report}
+use Rattle.tp_book.specs.declared.book.closing.TallyReport.{TallyReport}
 use Rattle.tp_locked.specs.Passes.{Adds, AddsNone, entry_of, tidied, ended}
 use Rattle.tp_pool.specs.Admissions.{AddsFront, AsksFor}
+use Rattle.tp_record.specs.Terms.{without_end}
+use Rattle.tp_pool.specs.Closing.{Tallies}
 
 -- as what a task is submitted: its kind and its priority
 abbrev pub Asked : Type 0
@@ -50,12 +56,12 @@ abbrev pub AddsSubmissions : Config → List Asked → PassView → PassView →
 AddsSubmissions c ks old new = (steps : List Entry) × AreSubmissions ks steps × Adds c old steps new
 
 -- a submission of a task as this is refused: torn off on its path, or before its first step
-abbrev pub IsTorn : Config → Asked → PoolError → PassView → PassView → Type 0
-IsTorn c k e old new = (((e ≡ NoMemory) ⊎ (e ≡ BookFull)) × AddsNone old new) ⊎ ((e ≡ TornRecord) × ((t : TaskId) × AddsFront c k.0 k.1 t old new))
+abbrev pub IsTorn : Bool → Config → Asked → PoolError → PassView → PassView → Type 0
+IsTorn keeps c k e old new = (((e ≡ NoMemory) ⊎ (e ≡ BookFull)) × AddsNone old new) ⊎ ((e ≡ TornRecord) × ((t : TaskId) × AddsFront keeps c k.0 k.1 t old new))
 
 -- the first of these submissions are followed to their end, and the one behind them is refused: it is the last
-abbrev pub BreaksOff : Config → List Asked → PoolError → PassView → PassView → Type 0
-BreaksOff c ks e old new = (before : List Asked) × (k : Asked) × (behind : List Asked) × (mid : PassView) × (ks ≡ before ++ k ∷ behind) × AddsSubmissions c before old mid × IsTorn c k e mid new
+abbrev pub BreaksOff : Bool → Config → List Asked → PoolError → PassView → PassView → Type 0
+BreaksOff keeps c ks e old new = (before : List Asked) × (k : Asked) × (behind : List Asked) × (mid : PassView) × (ks ≡ before ++ k ∷ behind) × AddsSubmissions c before old mid × IsTorn keeps c k e mid new
 
 -- a shutdown, and steps of the pool's end
 abbrev pub IsEnd : ℕ → List Entry → Type 0
@@ -71,7 +77,7 @@ pub record IsClosed (c : Config) (pass : PassView) (r : Report) : Type 0 where
   pub legal : Legal c (reverse r.entries.items)
   pub ended : (state c (reverse r.entries.items)).rank ≡ 4
   pub counts : r.counts ≡ counts (state c (reverse r.entries.items))
-  pub receipts : (last : List Entry) × IsEnd pass.number last × (own pass.number r.entries.items ≡ pass.receipts ++ last)
+  pub receipts : (last : List Entry) × IsEnd pass.number last × (own pass.number r.entries.items ≡ receipts_with pass last)
 
 -- the report of a pool with these settings that ran jobs of these kinds and priorities: its record is legal and ends it, and pass 0 submitted
 -- such tasks in their order, each to the end of its submission, and then shut the pool down
@@ -81,6 +87,17 @@ pub record IsRun (c : Config) (ks : List Asked) (r : Report) : Type 0 where
   pub ended : (state c (reverse r.entries.items)).rank ≡ 4
   pub counts : r.counts ≡ counts (state c (reverse r.entries.items))
   pub submissions : (steps last : List Entry) × AreSubmissions ks steps × IsEnd 0 last × (own 0 r.entries.items ≡ steps ++ last)
+
+-- the report of a pool with these settings that kept no record and ran jobs of these kinds and priorities: its first pass submitted such tasks in
+-- their order, each to the end of its submission, and then shut the pool down; with it the pool was closed
+pub record IsTally (c : Config) (ks : List Asked) (r : TallyReport) : Type 0 where
+  pub first : PassView
+  pub opened : first ≡ record { number = 0; amount = 0; front = []; keeps = false; receipts = []; room = first.room }
+  pub submitted : PassView
+  pub submits : AddsSubmissions (without_end c) ks first submitted
+  pub last : PassView
+  pub ends : AddsEnd (without_end c) submitted last
+  pub tallies : Tallies c (last ∷ []) r
 
 -- there is no memory, or no room in the record, or it is torn
 abbrev pub IsShort : PoolError → Type 0
@@ -94,6 +111,14 @@ RefusesRun c e = (checked c ≡ Err e) ⊎ IsShort e
 abbrev pub WritesRun : Option (List ℕ) → Option (List ℕ) → Option (List ℕ) → Type 0
 WritesRun input old new = (jobs : Jobs) × (r : Report) × IsRead input (Ok jobs) × IsRun jobs.config (asked jobs.jobs.items) r
     × Appends old new (record_text version.Two jobs.config r.entries.items)
+
+-- the run state of a closed pool, and these counters
+abbrev pub tally_lines : Counts → List ℕ
+tally_lines c = state_line Terminated ++ counts_line c
+
+-- the jobs of the text that a reader has were run without a record, and the run state and the counters were written
+abbrev pub WritesTally : Option (List ℕ) → Option (List ℕ) → Option (List ℕ) → Type 0
+WritesTally input old new = (jobs : Jobs) × (r : TallyReport) × IsRead input (Ok jobs) × IsTally jobs.config (asked jobs.jobs.items) r × Appends old new (tally_lines r.counts)
 
 -- the text is refused, or the run of its jobs
 abbrev pub RefusesText : Option (List ℕ) → PoolError → Type 0

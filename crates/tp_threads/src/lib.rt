@@ -4,4 +4,5 @@
 pub mod runs;
 mod scripted;
 mod submissions;
+pub mod tallies;
 pub mod texts;

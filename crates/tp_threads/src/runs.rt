@@ -9,6 +9,7 @@ use std::sync::Wait;
 use std::thread::Threads;
 use tp_book::opening::Unopened;
 use tp_book::passes::Pass;
+use tp_machine::machine::releases::Keeper;
 use tp_pool::closing::Report;
 use tp_pool::defaults::Defaults;
 use tp_pool::names::PoolNaming;
@@ -17,7 +18,7 @@ use tp_types::configs::Config;
 use tp_types::refusals::PoolError;
 
 // What is told of a refusal at a pool's end: those that do not come there say that its record is torn.
-fn at_the_end(error: PoolError) -> PoolError
+pub(crate) fn at_the_end(error: PoolError) -> PoolError
     ensures { IsShort result }
 {
     match error {
@@ -27,12 +28,12 @@ fn at_the_end(error: PoolError) -> PoolError
 }
 
 // Shuts the pool down and waits for its end.
-fn end<G: PoolNaming + Send + Sync + 'static, R: Threads + Wait + Copy + Send + 'static>(
-    rt: &R,
-    pool: &Company<G>,
-    pass: &mut Pass<G>,
-) -> Result<(), PoolError>
-    ensures ends { OnOk result (AddsEnd G.config pass.old pass.new) }
+pub(crate) fn end<
+    G: PoolNaming + Send + Sync + 'static,
+    K: Keeper + Send + 'static,
+    R: Threads + Wait + Copy + Send + 'static,
+>(rt: &R, pool: &Company<G, K>, pass: &mut Pass<G>) -> Result<(), PoolError>
+    ensures ends { OnOk result (AddsEnd (K.terms G.config) pass.old pass.new) }
     ensures refused { IfErr result IsShort }
 {
     if let Err(error) = pool.shutdown(rt, pass) {

@@ -65,6 +65,7 @@ fn status_of<R: Read + Drop>(
         }
         Choice::Audit(_path, any) => run_audit(alloc, *any, name, reader, &mut out, errors, plain),
         Choice::Threads(_path, _record) => 99,
+        Choice::Tally(_path) => 99,
     }
 }
 

@@ -1,5 +1,5 @@
 -- A reserved slot that is given back: what is seen and owed after either entry.
-use Rattle.std.proofs.Common.{◌≡◌, ℕ, ◌-◌, ◌⊎◌, inl, inr, List, Option, Some, None, true, sym, subst, ap}
+use Rattle.std.proofs.Common.{◌≡◌, ℕ, ◌-◌, ◌⊎◌, inl, inr, List, Option, Some, None, true, sym, subst, ap, ◌≤◌, arith}
 use Rattle.std.specs.Prelude.{IfSome}
 use Rattle.tp_types.specs.declared.configs.Config.{Config}
 use Rattle.tp_types.specs.declared.ids.SlotId.{SlotId}
@@ -46,6 +46,10 @@ IsFirst o t n = ((o ≡ Some (for_core t)) × (n ≡ 10)) ⊎ ((o ≡ Some (for_
 pub is_first : (o : Option SlotRow) (t : TaskId) (n : ℕ) → IsFor o t → IfSome o (λ r. n ≡ first_weight r.stage) → IsFirst o t n
 is_first o t n (inl e) weighs = inl (e, subst (λ x. IfSome x (λ r. n ≡ first_weight r.stage)) e weighs)
 is_first o t n (inr e) weighs = inr (e, subst (λ x. IfSome x (λ r. n ≡ first_weight r.stage)) e weighs)
+
+pub first_least : (o : Option SlotRow) (t : TaskId) (n : ℕ) → IsFirst o t n → 1 ≤ n
+first_least o t n (inl first) = let is = first.1 in omega (arith, is)
+first_least o t n (inr first) = let is = first.1 in omega (arith, is)
 
 pub first_reserved : (o : Option SlotRow) (t : TaskId) → IsFor o t → is_reserved_row o ≡ true
 first_reserved o t (inl e) = ap is_reserved_row e

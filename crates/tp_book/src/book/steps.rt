@@ -1,13 +1,15 @@
 //! Steps of a book: one body for all of them, and for callers' and workers' passes alike.
-ghost use Rattle.std.specs.Prelude.{◌≡◌, ◌<◌, ◌≤◌, ◌+◌, ◌++◌, [], ◌∷◌, option_map, IfOk, IfErr, OnOk, OnErr};
+ghost use Rattle.std.specs.Prelude.{◌≡◌, ◌<◌, ◌≤◌, ◌+◌, [], ◌∷◌, option_map, IfOk, IfErr, OnOk, OnErr};
 ghost use Rattle.tp_machine.specs.Stepped.{IsPaid, did_of};
 ghost use Rattle.tp_glance.specs.Word.{IsFrontOf};
+ghost use Rattle.tp_book.specs.PassView.{receipts_with};
 ghost use Rattle.tp_book.specs.BookView.{config, Advances, IsAdvanced, IsUnmoved, IsDenied};
 
 use super::Book;
 use crate::passes::Pass;
 use crate::payers::Payer;
 use tp_glance::glance::{Glance, Naming};
+use tp_machine::machine::releases::Keeper;
 use tp_machine::steps::Stepped;
 use tp_machine::typed::Step;
 use tp_machine::typed::asked::Asked;
@@ -15,7 +17,7 @@ use tp_record::entries::{Ask, Entry};
 use tp_types::refusals::PoolError;
 use tp_types::tasks::Promise;
 
-impl<G: Naming, P> Book<G, P> {
+impl<G: Naming, P, R: Keeper> Book<G, P, R> {
     /// Makes this step with a caller's or a worker's pass.
     ///
     /// An accepted step writes one entry with the pass's number. That entry is one unit of the pass's share and,
@@ -41,7 +43,7 @@ impl<G: Naming, P> Book<G, P> {
         ensures paid { IfOk result (λ x. A.paid pass.old (record { by = A.number pass.old; ask = S.ask step; did = S.did step x }) pass.new) }
         ensures number { A.number pass.new ≡ A.number pass.old }
         ensures front { A.front pass.new ≡ self.new.history }
-        ensures refused { IfErr result (λ r. IsDenied self.old (S.ask step) r.0) }
+        ensures refused { IfErr result (λ r. IsDenied R.RECEIPTS self.old (S.ask step) r.0) }
         ensures returned { IfErr result (λ r. r.1 ≡ load) }
         ensures unchanged { OnErr result (IsUnmoved self.old self.new) }
         ensures shown { OnErr result (A.shown pass.old pass.new) }
@@ -53,6 +55,7 @@ impl<G: Naming, P> Book<G, P> {
             accounts,
             seat,
         } = self;
+        R::law_forgets_at_will();
         let before = machine.state();
         let by = pass.payer();
         let answer = match step.make(by, load, machine) {
@@ -90,11 +93,12 @@ impl<G: Naming, P> Book<G, P> {
           number = pass.old.number;
           amount = pass.old.amount + 1;
           front = self.new.history;
-          receipts = pass.old.receipts ++ record { by = pass.old.number; ask = ask; did = did_of ask s } ∷ [];
+          keeps = pass.old.keeps;
+          receipts = receipts_with pass.old (record { by = pass.old.number; ask = ask; did = did_of ask s } ∷ []);
           room = pass.new.room;
         }) }
         ensures left { pass.old.room ≤ pass.new.room + 1 }
-        ensures refused { IfErr result (λ r. IsDenied self.old ask r.0) }
+        ensures refused { IfErr result (λ r. IsDenied R.RECEIPTS self.old ask r.0) }
         ensures returned { IfErr result (λ r. r.1 ≡ option_map (λ x. x.1) submitted) }
         ensures unchanged { OnErr result (IsUnmoved self.old self.new) }
         ensures shown { OnErr result (pass.new ≡ record pass.old { front = self.old.history }) }

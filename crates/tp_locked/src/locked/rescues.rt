@@ -10,6 +10,7 @@ use super::Core;
 use crate::names::PoolNaming;
 use tp_book::passes::WorkerPass;
 use tp_glance::glance::Glance;
+use tp_machine::machine::releases::Keeper;
 use tp_turns::rescues::Remains;
 use tp_types::refusals::PoolError;
 use tp_types::states::RunState;
@@ -31,7 +32,7 @@ fn left_in(state: RunState, slots: usize, queued: u32, core: u32) -> Remains
     }
 }
 
-impl<G: PoolNaming, J: Drop> Core<G, J> {
+impl<G: PoolNaming, J: Drop, R: Keeper> Core<G, J, R> {
     /// What is left to do in a pool that is shut down and has no slot: its end, or a worker for the tasks that
     /// are queued.
     #[inline(always)]
@@ -55,10 +56,10 @@ impl<G: PoolNaming, J: Drop> Core<G, J> {
         ensures running { OnOk result (self.new.roster.running ≡ self.old.roster.running + 1) }
         ensures others { (self.new.roster.seats ≡ self.old.roster.seats) × (self.new.roster.ended ≡ self.old.roster.ended) }
         ensures asleep { self.new.waking ≡ self.old.waking }
-        ensures unchanged { OnErr result (self.new ≡ record self.old { roster = record self.old.roster { room = self.new.roster.room } }) }
+        ensures unchanged { OnErr result (self.new ≡ self.old) }
         ensures refused { IfErr result (λ e. (e ≡ PoolError.NoMemory) ⊎ ((e ≡ PoolError.BookFull) × (4294967295 ≤ self.old.book.accounts.made))) }
     {
-        if let Err(error) = self.roster.make_room() {
+        if let Err(error) = self.roster.admits_guest() {
             return Err(error);
         }
         match self.book.new_worker_pass(glance) {

@@ -12,6 +12,7 @@ use crate::names::PoolNaming;
 use std::alloc::Global;
 use tp_book::passes::Pass;
 use tp_glance::glance::Glance;
+use tp_machine::machine::releases::Keeper;
 use tp_machine::typed::controllers::Tidy;
 use tp_record::entries::{Ask, Did, Entry};
 use tp_types::ids::{SlotId, TaskId};
@@ -28,7 +29,7 @@ pub struct Busy {
     pub task: TaskId,
 }
 
-impl<G: PoolNaming, J: Drop> Core<G, J> {
+impl<G: PoolNaming, J: Drop, R: Keeper> Core<G, J, R> {
     /// The slots that have a task, in the order of their numbers. NoMemory (4).
     pub fn busy(&self, alloc: Global) -> Result<Vec<Busy>, PoolError>
         ensures busy { IfOk result (λ v. AreBusy (state_of self.now.book).slots v.items) }
@@ -46,6 +47,36 @@ impl<G: PoolNaming, J: Drop> Core<G, J> {
         Ok(busy)
     }
 
+    /// As `look`, with no deadline: the answer is never `Look::Late`.
+    pub fn look_on(&mut self, glance: &Glance<G>, pass: &mut Pass<G>) -> Look
+        requires room { 0 < pass.old.room }
+        ensures terminated { result ≡ Look.Terminated → rank pass.new.front ≡ 4 }
+        ensures never { result ≢ Look.Late }
+        ensures unended { result ≡ Look.Waits → ¬ ((state_of self.old.book).rank ≡ 4) }
+        ensures untidy { result ≡ Look.Waits → (e : PoolError) × IsDenied R.RECEIPTS self.old.book Ask.Tidy e }
+        ensures awaits { result ≡ Look.Waits → IsTrue self.new.waking.awaited.end }
+        ensures holds { result ≡ Look.Tidied → Holds R.RECEIPTS self.old self.new pass.old.number Ask.Tidy Did.Tidy Keeps }
+        ensures tidied { result ≡ Look.Tidied → AddsStep (R.terms G.config) pass.old Ask.Tidy Did.Tidy pass.new }
+        ensures left { result ≡ Look.Tidied → pass.old.room ≤ pass.new.room + 1 }
+        ensures others { result ≢ Look.Tidied → LooksOnly (R.terms G.config) pass.old pass.new }
+        ensures asleep { result ≢ Look.Tidied → self.new.waking ≡ record self.old.waking { awaited = self.new.waking.awaited } }
+        ensures unmoved { result ≢ Look.Tidied → IsUnmoved self.old.book self.new.book }
+        ensures threads { self.new.roster ≡ self.old.roster }
+    {
+        self.law_is_book();
+        if self.show(glance, pass) == RunState::Terminated {
+            return Look::Terminated;
+        }
+        match self.ask(Tidy, glance, pass) {
+            Ok(()) => return Look::Tidied,
+            Err(_) => {}
+        }
+        self.waking.await_end();
+        Look::Waits
+    }
+}
+
+impl<G: PoolNaming, J: Drop> Core<G, J> {
     /// The entries of the record from the n-th on, counted from 0, the oldest first; none where the record is
     /// not longer. NoMemory (4).
     pub fn record_since(&self, alloc: Global, n: u64) -> Result<Vec<Entry>, PoolError>
@@ -62,33 +93,5 @@ impl<G: PoolNaming, J: Drop> Core<G, J> {
             Ok(since) => Ok(since),
             Err(_) => Err(PoolError::NoMemory),
         }
-    }
-
-    /// As `look`, with no deadline: the answer is never `Look::Late`.
-    pub fn look_on(&mut self, glance: &Glance<G>, pass: &mut Pass<G>) -> Look
-        requires room { 0 < pass.old.room }
-        ensures terminated { result ≡ Look.Terminated → rank pass.new.front ≡ 4 }
-        ensures never { result ≢ Look.Late }
-        ensures unended { result ≡ Look.Waits → ¬ ((state_of self.old.book).rank ≡ 4) }
-        ensures untidy { result ≡ Look.Waits → (e : PoolError) × IsDenied self.old.book Ask.Tidy e }
-        ensures awaits { result ≡ Look.Waits → IsTrue self.new.waking.awaited.end }
-        ensures holds { result ≡ Look.Tidied → Holds self.old self.new pass.old.number Ask.Tidy Did.Tidy Keeps }
-        ensures tidied { result ≡ Look.Tidied → AddsStep G.config pass.old Ask.Tidy Did.Tidy pass.new }
-        ensures left { result ≡ Look.Tidied → pass.old.room ≤ pass.new.room + 1 }
-        ensures others { result ≢ Look.Tidied → LooksOnly G.config pass.old pass.new }
-        ensures asleep { result ≢ Look.Tidied → self.new.waking ≡ record self.old.waking { awaited = self.new.waking.awaited } }
-        ensures unmoved { result ≢ Look.Tidied → IsUnmoved self.old.book self.new.book }
-        ensures threads { self.new.roster ≡ self.old.roster }
-    {
-        self.is_book();
-        if self.show(glance, pass) == RunState::Terminated {
-            return Look::Terminated;
-        }
-        match self.ask(Tidy, glance, pass) {
-            Ok(()) => return Look::Tidied,
-            Err(_) => {}
-        }
-        self.waking.await_end();
-        Look::Waits
     }
 }

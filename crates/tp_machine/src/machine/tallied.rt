@@ -5,7 +5,8 @@ ghost use Rattle.tp_types.specs.Config.{IsConfig, checked};
 ghost use Rattle.tp_record.specs.declared.entries.Entry.{Entry};
 ghost use Rattle.tp_record.specs.Left.{left, MayRelease};
 ghost use Rattle.tp_record.specs.State.{state};
-ghost use Rattle.tp_tasks.specs.Tasks.{KeepsOthers};
+ghost use Rattle.tp_record.specs.Terms.{without_end};
+ghost use Rattle.tp_tasks.specs.Tasks.{task_of, KeepsOthers};
 ghost use Rattle.tp_parts.specs.Releases.{IsKept};
 ghost use Rattle.tp_machine.specs.Readings.{EachState};
 ghost use Rattle.tp_machine.specs.Seen.{At, config_of, payload, promise};
@@ -26,7 +27,7 @@ impl<P> Machine<P, Tally> {
         ensures stands { IfOk result (λ m. At ⟦<Tally as Recorder>⟧.tells m [] []) }
         ensures payloads { IfOk result (λ m. (t : ℕ) → payload m t ≡ None) }
         ensures promises { IfOk result (λ m. (t : ℕ) → promise m t ≡ None) }
-        ensures config { IfOk result (λ m. config_of m ≡ config) }
+        ensures config { IfOk result (λ m. config_of m ≡ without_end config) }
         ensures good { OnOk result (IsConfig config) }
         ensures refuses { IfErr result (λ e. (checked config ≡ Err e) ⊎ ((e ≡ PoolError.NoMemory) × IsConfig config)) }
     {
@@ -44,6 +45,7 @@ impl<P> Machine<P, Tally> {
         ensures refused { IfErr result (λ e. EachState ⟦<Tally as Recorder>⟧.tells self.old (λ s. IsKept s t.0 e)) }
         ensures unchanged { OnErr result (self.new ≡ self.old) }
         ensures config { config_of self.new ≡ config_of self.old }
+        ensures gone { OnOk result (task_of self.new.parts.tasks t.0 ≡ None) }
         ensures others { KeepsOthers self.old.parts.tasks self.new.parts.tasks t.0 }
     {
         let Some(row) = self.parts.tasks.row(t) else {

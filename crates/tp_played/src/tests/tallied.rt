@@ -19,7 +19,7 @@ const TASKS: u32 = 20_000;
 
 const ENDLESS: Config = Config {
     queue: QueueKind::Unbounded,
-    record_limit: 1_048_576,
+    record_limit: 64,
     ..SMALL
 };
 

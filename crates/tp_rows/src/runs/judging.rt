@@ -47,8 +47,11 @@ fn asks_of(alloc: Global, config: Config, text: &str) -> Result<Vec<(u32, Ask)>,
     let mut asks = Vec::new(alloc);
     for line in text.lines() {
         if let LineRead::Says(step) = read_line::<ScenarioLine>(line.as_bytes()) {
-            asks.push((0, runner.ask(&step)))?;
-            let _ = runner.step(&step)?;
+            let ask = match runner.step(&step)?.answer {
+                Ok(entry) => entry.ask,
+                Err(refusal) => refusal.ask,
+            };
+            asks.push((0, ask))?;
         }
     }
     Ok(asks)

@@ -73,6 +73,27 @@ fn runs_jobs_by_threads(rt: HostRuntime) -> Result<(), Fail> {
     Ok(())
 }
 
+/// Without a record, the counters alone are printed; a refused run is told as any other. No record goes to a file then.
+#[test]
+fn runs_jobs_without_a_record(rt: HostRuntime) -> Result<(), Fail> {
+    let alloc = rt.alloc();
+    let ran = call_on(&rt, alloc, "threads --tally", "tallied-jobs.txt", ROW_23)?;
+    let counters = "state terminated
+counts submitted=2 run=2 caller=0 rejected=0 discarded=0 handedback=0 removed=0 cancelled=0 completed=2 queued=0 live=0 largest=1
+";
+    assert!(rt; ran.gave(0, counters, ""), "{ran:?}");
+    let text = "pool 3 2 unbounded keep 0 abort\nexecute 5\n";
+    let refused = call_on(&rt, alloc, "threads --tally", "untallied-jobs.txt", text)?;
+    let told = "error: a CORE of 3 is above the MAX of 2\n --> untallied-jobs.txt:1:6\n";
+    assert!(rt;
+        refused.told(1, "refused 1 BadSizes\n", told),
+        "{refused:?}"
+    );
+    let both = call(&rt, alloc, "poolrun threads --tally --record a b")?;
+    assert!(rt; both.status == 2 && both.out.is_empty(), "{both:?}");
+    Ok(())
+}
+
 #[test]
 fn runs_jobs_by_their_priorities(rt: HostRuntime) -> Result<(), Fail> {
     let text = "pool 1 1 priority keep 0 abort

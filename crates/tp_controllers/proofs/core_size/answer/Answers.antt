@@ -12,6 +12,7 @@ use Rattle.tp_queue.specs.Queues.{waiting_of}
 use Rattle.tp_shapes.proofs.Controllers.Settings.{core as core_effect}
 use Rattle.tp_parts.specs.declared.parts.Parts.{Parts}
 use Rattle.tp_parts.specs.Steps.{Fits, Accepts}
+use Rattle.tp_parts.specs.Terms.{terms}
 use Rattle.tp_parts.proofs.Answering.{Moves, accepts_room, refuses_fitting}
 use Rattle.tp_controllers.proofs.core_size.answer.Goals as goal
 
@@ -23,7 +24,7 @@ module _ {P : Type 0} (p : Parts P) (n : ℕ) where
   fits : n ≤ p.maximum → Fits p (ask.Core n) (did.Core n (asked p n))
   fits within = λ h rs legal may sh.
       let m = sh.seen.maximum_size in
-      let s = mark rs (state p.config h) in (
+      let s = mark rs (state (terms p) h) in (
         ap (λ b. cond b (Ok (did.Core n (added s n))) (Err BadSizes)) (le-leb n s.maximum (omega (arith, m, within)))
             ∙ ap (λ k. Ok (did.Core n (min (n - k) (length s.queue)))) sh.seen.core_size
             ∙ ap (λ k. Ok (did.Core n (min (n - p.core) k))) (ap length sh.seen.queued ∙ length-map (waiting_of p.queue).items (λ x. x.0.0)),
@@ -31,7 +32,7 @@ module _ {P : Type 0} (p : Parts P) (n : ℕ) where
       )
 
   moves : (k : ℕ) → Moves p 0 0 (did.Core n k)
-  moves k = λ h rs legal sh given. (_, core_effect p.config h n k legal given)
+  moves k = λ h rs legal sh given. (_, core_effect (terms p) h n k legal given)
 
 pub returns-then-not-has_room-clause-refuses : goal.returns-then-not-has_room-clause-refuses
 returns-then-not-has_room-clause-refuses g c =

@@ -7,6 +7,7 @@ use Rattle.tp_types.specs.declared.refusals.PoolError.TheVariants.{KeepZero}
 use Rattle.tp_shapes.proofs.Controllers.Settings.{core_timeout as core_timeout_effect}
 use Rattle.tp_parts.specs.declared.parts.Parts.{Parts}
 use Rattle.tp_parts.specs.Steps.{Fits}
+use Rattle.tp_parts.specs.Terms.{terms}
 use Rattle.tp_parts.proofs.Answering.{Moves, accepts_room, refuses_fitting}
 use Rattle.tp_controllers.proofs.core_timeout.answer.Goals as goal
 use Rattle.tp_controllers.proofs.core_timeout.answer.Goals.{else-on-via-then-on+else-parts-eq0, else-on-via-else-on}
@@ -17,7 +18,7 @@ module _ {P : Type 0} (p : Parts P) (on : Bool) where
       (ap (λ n. cond (on && n == 0) (Err KeepZero) (Ok (did.CoreTimeout on))) sh.seen.keep_alive ∙ ap (λ b. cond b (Err KeepZero) (Ok (did.CoreTimeout on))) good, tt)
 
   moves : Moves p 0 0 (did.CoreTimeout on)
-  moves = λ h rs legal sh given. (_, core_timeout_effect p.config h on legal given)
+  moves = λ h rs legal sh given. (_, core_timeout_effect (terms p) h on legal given)
 
 good : (on : Bool) (n : ℕ) → (on ≡ true → n ≡ 0 → ⊥) → (on && n == 0) ≡ false
 good true n is = grind (arith, nat_tests)

@@ -7,6 +7,7 @@ use Rattle.tp_types.specs.declared.refusals.PoolError.TheVariants.{KeepZero}
 use Rattle.tp_shapes.proofs.Controllers.Settings.{keep as keep_effect}
 use Rattle.tp_parts.specs.declared.parts.Parts.{Parts}
 use Rattle.tp_parts.specs.Steps.{Fits}
+use Rattle.tp_parts.specs.Terms.{terms}
 use Rattle.tp_parts.proofs.Answering.{Moves, accepts_room, refuses_fitting}
 use Rattle.tp_controllers.proofs.keep.answer.Goals as goal
 use Rattle.tp_controllers.proofs.keep.answer.Goals.{else-keep-eq0-via-then-keep-eq0+else-parts, else-keep-eq0-via-else-keep-eq0}
@@ -16,7 +17,7 @@ module _ {P : Type 0} (p : Parts P) (n : ℕ) where
   fits good = λ h rs legal may sh. (ap (λ b. cond (n == 0 && b) (Err KeepZero) (Ok (did.Keep n))) sh.seen.times_out ∙ ap (λ b. cond b (Err KeepZero) (Ok (did.Keep n))) good, tt)
 
   moves : Moves p 0 0 (did.Keep n)
-  moves = λ h rs legal sh given. (_, keep_effect p.config h n legal given)
+  moves = λ h rs legal sh given. (_, keep_effect (terms p) h n legal given)
 
 good : (n : ℕ) (b : Bool) → (n ≡ 0 → b ≡ false) → (n == 0 && b) ≡ false
 good n true is = grind (arith, nat_tests)

@@ -9,6 +9,7 @@ use Rattle.tp_record.specs.State.{state}
 use Rattle.tp_shapes.proofs.Controllers.Settings.{maximum as maximum_effect}
 use Rattle.tp_parts.specs.declared.parts.Parts.{Parts}
 use Rattle.tp_parts.specs.Steps.{Fits}
+use Rattle.tp_parts.specs.Terms.{terms}
 use Rattle.tp_parts.proofs.Answering.{Moves, accepts_room, refuses_fitting}
 use Rattle.tp_controllers.proofs.maximum.answer.Goals as goal
 
@@ -16,13 +17,13 @@ module _ {P : Type 0} (p : Parts P) (n : ℕ) where
   fits : 1 ≤ n → n ≤ 1024 → p.core ≤ n → Fits p (ask.Maximum n) (did.Maximum n)
   fits least most within = λ h rs legal may sh.
       let m = sh.seen.core_size in
-      (ap (λ b. cond b (Ok (did.Maximum n)) (Err BadSizes)) (all (mark rs (state p.config h)).core (omega (arith, m, within))), tt)
+      (ap (λ b. cond b (Ok (did.Maximum n)) (Err BadSizes)) (all (mark rs (state (terms p) h)).core (omega (arith, m, within))), tt)
     where
       all : (k : ℕ) → k ≤ n → (nat_le 1 n && nat_le n 1024 && nat_le k n) ≡ true
       all k below = grind (arith, nat_tests)
 
   moves : Moves p 0 0 (did.Maximum n)
-  moves = λ h rs legal sh given. (_, maximum_effect p.config h n legal given)
+  moves = λ h rs legal sh given. (_, maximum_effect (terms p) h n legal given)
 
 pub returns-then-not-has_room-clause-refuses : goal.returns-then-not-has_room-clause-refuses
 returns-then-not-has_room-clause-refuses g c =

@@ -9,6 +9,7 @@ use Rattle.tp_shapes.proofs.Controllers.Prestart.{prestart as prestart_effect, p
 use Rattle.tp_parts.specs.declared.parts.Parts.{Parts}
 use Rattle.tp_parts.specs.Shows.{Shows}
 use Rattle.tp_parts.specs.Steps.{Fits}
+use Rattle.tp_parts.specs.Terms.{terms}
 use Rattle.tp_parts.proofs.Answering.{Moves, accepts_room, refuses_room}
 use Rattle.tp_controllers.proofs.prestart.answer.Goals as goal
 
@@ -25,19 +26,19 @@ module _ {P : Type 0} (p : Parts P) where
   Wanted b = (s : State) → Shows p s → b ≡ (nat_lt (slot_count s) s.core && wants_worker s)
 
   fits_none : Wanted false → Fits p ask.Prestart (did.Prestart None)
-  fits_none wanted = λ h rs legal may sh. (answered (mark rs (state p.config h)) 0 false (wanted (mark rs (state p.config h)) sh) p.config, tt)
+  fits_none wanted = λ h rs legal may sh. (answered (mark rs (state (terms p) h)) 0 false (wanted (mark rs (state (terms p) h)) sh) (terms p), tt)
 
   moves_none : Moves p 0 0 (did.Prestart None)
-  moves_none = λ h rs legal sh given. (_, prestart_none p.config h legal given)
+  moves_none = λ h rs legal sh given. (_, prestart_none (terms p) h legal given)
 
   moves : (w : ℕ) → Moves p 0 3 (did.Prestart (Some (record { 0 = w })))
-  moves w = λ h rs legal sh given. (_, prestart_effect p.config h (record { 0 = w }) legal given)
+  moves w = λ h rs legal sh given. (_, prestart_effect (terms p) h (record { 0 = w }) legal given)
 
 pub returns-then-not-has_room-clause-refuses : goal.returns-then-not-has_room-clause-refuses
 returns-then-not-has_room-clause-refuses g c =
     let p = c.args.parts.now in
     refuses_room p ask.Prestart 0 0 c.has_room.result c.has_room.ensures c.if-not-has_room.true
-    (λ h rs legal may sh w free. (did.Prestart None, answered (mark rs (state p.config h)) w false (sym c.if-not-is_wanted.true ∙ c.is_wanted.ensures (mark rs (state p.config h)) sh) p.config, tt, moves_none p))
+    (λ h rs legal may sh w free. (did.Prestart None, answered (mark rs (state (terms p) h)) w false (sym c.if-not-is_wanted.true ∙ c.is_wanted.ensures (mark rs (state (terms p) h)) sh) (terms p), tt, moves_none p))
 
 pub returns-then-not-is_wanted-clause-accepts : goal.returns-then-not-is_wanted-clause-accepts
 returns-then-not-is_wanted-clause-accepts g c =
@@ -51,8 +52,8 @@ returns-then-not-has_room-2-clause-refuses g c =
     refuses_room p ask.Prestart 0 3 c.has_room-2.result c.has_room-2.ensures c.if-not-has_room-2.true
     (λ h rs legal may sh w free. (
       did.Prestart (Some (record { 0 = w })),
-      answered (mark rs (state p.config h)) w true (sym c.if-not-is_wanted.false ∙ c.is_wanted.ensures (mark rs (state p.config h)) sh) p.config,
-      free_now (mark rs (state p.config h)) w free,
+      answered (mark rs (state (terms p) h)) w true (sym c.if-not-is_wanted.false ∙ c.is_wanted.ensures (mark rs (state (terms p) h)) sh) (terms p),
+      free_now (mark rs (state (terms p) h)) w free,
       moves p w,
     ))
   where
@@ -66,7 +67,7 @@ returns-clause-accepts g c =
     let w = c.next_number.result in
     accepts_room p ask.Prestart (did.Prestart (Some w)) 0 3 c.has_room-2.result c.has_room-2.ensures c.if-not-has_room-2.false
     (λ h rs legal may sh. (
-      answered (mark rs (state p.config h)) w.0 true (sym c.if-not-is_wanted.false ∙ c.is_wanted.ensures (mark rs (state p.config h)) sh) p.config,
-      ap (λ o. is_none o || false) (ap (λ n. slot_at (mark rs (state p.config h)).slots n) c.next_number.ensures.next ∙ sh.seen.seats p.slots.next ∙ c.next_number.ensures.free),
+      answered (mark rs (state (terms p) h)) w.0 true (sym c.if-not-is_wanted.false ∙ c.is_wanted.ensures (mark rs (state (terms p) h)) sh) (terms p),
+      ap (λ o. is_none o || false) (ap (λ n. slot_at (mark rs (state (terms p) h)).slots n) c.next_number.ensures.next ∙ sh.seen.seats p.slots.next ∙ c.next_number.ensures.free),
     ))
     (moves p w.0)

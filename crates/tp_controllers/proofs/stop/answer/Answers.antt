@@ -6,6 +6,7 @@ use Rattle.tp_record.specs.State.{state}
 use Rattle.tp_queue.specs.Queues.{waiting_of}
 use Rattle.tp_parts.specs.declared.parts.Parts.{Parts}
 use Rattle.tp_parts.specs.Steps.{Fits}
+use Rattle.tp_parts.specs.Terms.{terms}
 use Rattle.tp_parts.proofs.Answering.{accepts_room, refuses_fitting}
 use Rattle.tp_parts.proofs.Few.{few_queued}
 use Rattle.std.specs.Prelude.{length}
@@ -14,7 +15,7 @@ use Rattle.tp_controllers.proofs.stop.answer.Goals as goal
 
 module _ {P : Type 0} (p : Parts P) where
   fits : (n : ℕ) → n ≡ length (waiting_of p.queue).items → Fits p ask.Stop (did.Stop n)
-  fits n is = λ h rs legal may sh. (ap (λ k. Ok (did.Stop k)) (queued_read p (mark rs (state p.config h)) sh ∙ sym is), tt)
+  fits n is = λ h rs legal may sh. (ap (λ k. Ok (did.Stop k)) (queued_read p (mark rs (state (terms p) h)) sh ∙ sym is), tt)
 
 pub overflow_cast-count : goal.overflow_cast-count
 overflow_cast-count g c = let few = few_queued c.args.parts.now c.requires.stands in let n = c.len-count.ensures in omega (arith, few, n)

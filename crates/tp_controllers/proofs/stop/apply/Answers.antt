@@ -1,4 +1,4 @@
-use Rattle.std.proofs.Common.{ℕ, suc, max, [], arith, subst}
+use Rattle.std.proofs.Common.{ℕ, suc, max, [], arith, subst, ap, ◌∙◌}
 use mathlib.Core.Path.{fun_ext}
 use Rattle.tp_record.specs.declared.entries.Ask.TheVariants as ask
 use Rattle.tp_record.specs.declared.entries.Did.TheVariants as did
@@ -10,7 +10,8 @@ use Rattle.tp_shapes.proofs.Controllers.Shutdown.{woken_slot}
 use Rattle.tp_record.specs.State.{slot_at}
 use Rattle.tp_parts.specs.Drained.{drained}
 use Rattle.tp_parts.specs.Shows.{Views}
-use Rattle.tp_parts.proofs.Standing.{entry_here}
+use Rattle.tp_parts.specs.Terms.{terms}
+use Rattle.tp_parts.proofs.Standing.{fits_accepted, falling_here}
 use Rattle.tp_parts.proofs.Leading.{leads_from}
 use Rattle.tp_parts.proofs.Drains.{queued_once, queued_open, gone_queued}
 use Rattle.tp_parts.proofs.Falls.{effect_by}
@@ -23,7 +24,7 @@ count_entry-requires g c =
     let old = c.args.parts.now in
     let stands = c.requires.stands in
     let n = c.fall.result in
-    let e = entry_here old stands ask.Stop (did.Stop c.args.count) _ n 0 n c.requires.fits (λ given. effect_by (state old.config stands.history) (did.Stop c.args.count) _ _ n 0 (stop_read old c.args.count n c.fall.ensures (mark stands.released (state old.config stands.history)) stands.shows) (stop_effect old.config stands.history c.args.count stands.legal given)) (omega arith) in
+    let e = falling_here old stands ask.Stop (did.Stop c.args.count) _ n 0 n c.requires.accepts (λ given. effect_by (state (terms old) stands.history) (did.Stop c.args.count) _ _ n 0 (stop_read old c.args.count n c.fall.ensures (mark stands.released (state (terms old) stands.history)) stands.shows) (stop_effect (terms old) stands.history c.args.count stands.legal given)) (omega arith) in
     record { few = e.0; fall = e.1 }
 
 pub drain_queue-requires-clause-known : goal.drain_queue-requires-clause-known
@@ -33,12 +34,13 @@ drain_queue-requires-clause-known g c =
     record {
       seen = _;
       views = c.wake_all.ensures.views _ (c.reach.ensures.views _ (c.count_entry.ensures.views _ stands.shows.seen));
-      once = queued_once old.config stands.history stands.legal;
-      unended = queued_open old.config stands.history stands.legal stands.released stands.may;
+      once = queued_once (terms old) stands.history stands.legal;
+      unended = queued_open (terms old) stands.history stands.legal stands.released stands.may;
     }
 
 pub returns-clause-leads : goal.returns-clause-leads
 returns-clause-leads g c =
+    let fits = fits_accepted c.args.parts.now ask.Stop (did.Stop c.args.count) c.requires.accepts in
     let old = c.args.parts.now in
     let new = c.drain_queue.new.self in
     let n = c.fall.result in
@@ -46,11 +48,11 @@ returns-clause-leads g c =
     let m = c.reach.ensures.rest in
     let r = c.wake_all.ensures.rest in
     let q = c.drain_queue.ensures.rest in
-    leads_from old new ask.Stop (did.Stop c.args.count) n 0 n c.requires.stands c.requires.fits
+    leads_from old new ask.Stop (did.Stop c.args.count) n 0 n c.requires.stands fits
     (λ h rs legal given sh.
-    let s = mark rs (state old.config h) in
+    let s = mark rs (state (terms old) h) in
     let v : View = drained (record (view s) { rank = max 2 s.rank; slots = λ w. woken_slot (slot_at s.slots w); idling = [] }) in
     let V : (ℕ → TaskRow) → Type 0 = λ rows. Views new (record v { tasks = rows }) in
-    (_, effect_by (state old.config h) (did.Stop c.args.count) _ _ n 0 (stop_read old c.args.count n c.fall.ensures s sh) (stop_effect old.config h c.args.count legal given), subst V (fun_ext (gone_queued old.config h legal)) (c.drain_queue.ensures.views _ (c.wake_all.ensures.views _ (c.reach.ensures.views _ (c.count_entry.ensures.views _ sh.seen))))))
-    (omega arith) (cc) (cc) (cc)
-    (λ tied. c.drain_queue.ensures.tied old.config (suc old.steps) (c.wake_all.ensures.tied old.config (suc old.steps) (c.reach.ensures.tied old.config (suc old.steps) (c.count_entry.ensures.tied old.config (suc old.steps) tied))))
+    (_, effect_by (state (terms old) h) (did.Stop c.args.count) _ _ n 0 (stop_read old c.args.count n c.fall.ensures s sh) (stop_effect (terms old) h c.args.count legal given), subst V (fun_ext (gone_queued (terms old) h legal)) (c.drain_queue.ensures.views _ (c.wake_all.ensures.views _ (c.reach.ensures.views _ (c.count_entry.ensures.views _ sh.seen))))))
+    (omega arith) (ap terms q ∙ ap terms r ∙ ap terms m ∙ ap terms k) (cc) (cc)
+    (λ tied. c.drain_queue.ensures.tied (terms old) (suc old.steps) (c.wake_all.ensures.tied (terms old) (suc old.steps) (c.reach.ensures.tied (terms old) (suc old.steps) (c.count_entry.ensures.tied (terms old) (suc old.steps) tied))))

@@ -8,15 +8,16 @@ use Rattle.tp_record.specs.State.{state}
 use Rattle.tp_shapes.proofs.Controllers.Settings.{tick as tick_effect}
 use Rattle.tp_parts.specs.declared.parts.Parts.{Parts}
 use Rattle.tp_parts.specs.Steps.{Fits}
+use Rattle.tp_parts.specs.Terms.{terms}
 use Rattle.tp_parts.proofs.Answering.{Moves, accepts_room, refuses_fitting}
 use Rattle.tp_controllers.proofs.tick.answer.Goals as goal
 
 module _ {P : Type 0} (p : Parts P) (n : ℕ) where
   fits : p.moment ≤ n → Fits p (ask.Tick n) (did.Tick n)
-  fits later = λ h rs legal may sh. let m = sh.seen.present in (ap (λ b. cond b (Ok (did.Tick n)) (Err ClockBack)) (le-leb (mark rs (state p.config h)).now n (omega (arith, m, later))), tt)
+  fits later = λ h rs legal may sh. let m = sh.seen.present in (ap (λ b. cond b (Ok (did.Tick n)) (Err ClockBack)) (le-leb (mark rs (state (terms p) h)).now n (omega (arith, m, later))), tt)
 
   moves : Moves p 0 0 (did.Tick n)
-  moves = λ h rs legal sh given. (_, tick_effect p.config h n legal given)
+  moves = λ h rs legal sh given. (_, tick_effect (terms p) h n legal given)
 
 pub returns-then-not-has_room-clause-refuses : goal.returns-then-not-has_room-clause-refuses
 returns-then-not-has_room-clause-refuses g c =

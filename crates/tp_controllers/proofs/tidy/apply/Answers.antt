@@ -1,4 +1,4 @@
-use Rattle.std.proofs.Common.{◌≡◌, ℕ, ◌+◌, ◌-◌, ◌≤◌, ◌⊎◌, max, suc, List, [], arith, sym, subst, inl, inr, ◌∙◌}
+use Rattle.std.proofs.Common.{◌≡◌, ℕ, ◌+◌, ◌-◌, ◌≤◌, ◌⊎◌, max, suc, List, [], arith, sym, subst, inl, inr, ◌∙◌, ap}
 use Rattle.std.specs.Prelude.{◌==◌, if◌then◌else◌, count_by}
 use Rattle.std.proofs.lemmas.Bool.Decides.{nat_tests}
 use Rattle.tp_types.specs.declared.configs.Config.{Config}
@@ -12,6 +12,7 @@ use Rattle.tp_slots.specs.Table.{is_at_take}
 use Rattle.tp_shapes.specs.View.{view}
 use Rattle.tp_shapes.proofs.Controllers.Tidy.{tidy as tidy_effect}
 use Rattle.tp_parts.specs.Shows.{Views}
+use Rattle.tp_parts.specs.Terms.{terms}
 use Rattle.tp_parts.proofs.Standing.{entry_here, given_here}
 use Rattle.tp_parts.proofs.Leading.{leads_from}
 use Rattle.tp_parts.proofs.Falls.{owed_read, effect_by}
@@ -30,11 +31,13 @@ pub count_entry-requires : goal.count_entry-requires
 count_entry-requires g c =
     let old = c.args.parts.now in
     let stands = c.requires.stands in
-    let s = state old.config stands.history in
+    let s = state (terms old) stands.history in
     let given = given_here old stands ask.Tidy did.Tidy c.requires.fits in
     let n = c.owed_until.result in
-    let falls = alone s.rank (count_by is_at_take s.slots) (between old.config stands.history given.1).0 ∙ owed_read old (mark stands.released s) 3 stands.shows ∙ sym c.owed_until.ensures.falls in
-    let e = entry_here old stands ask.Tidy did.Tidy _ n 0 n c.requires.fits (λ given. effect_by s did.Tidy _ _ n 0 falls (tidy_effect old.config stands.history stands.legal given)) (omega arith) in
+    let low = between (terms old) stands.history given.1 in
+    let falls : 3 - s.rank ≡ n = alone s.rank (count_by is_at_take s.slots) low.0 ∙ owed_read old (mark stands.released s) 3 stands.shows ∙ sym c.owed_until.ensures.falls in
+    let most : s.rank ≤ 2 = low.1 in
+    let e = entry_here old stands ask.Tidy did.Tidy _ n 0 n c.requires.fits (λ given. effect_by s did.Tidy _ _ n 0 falls (tidy_effect (terms old) stands.history stands.legal given)) (omega arith) (omega (arith, falls, most)) in
     record { few = e.0; fall = e.1 }
 
 pub returns-clause-leads : goal.returns-clause-leads
@@ -45,12 +48,12 @@ returns-clause-leads g c =
     let r = c.reach.ensures.rest in
     leads_from old c.reach.new.self ask.Tidy did.Tidy n 0 n c.requires.stands c.requires.fits
     (λ h rs legal given sh.
-    let s = mark rs (state old.config h) in
-    let low = between old.config h given.1 in
+    let s = mark rs (state (terms old) h) in
+    let low = between (terms old) h given.1 in
     let V : ℕ → Type 0 = λ m. Views c.reach.new.self (record (view s) { rank = m }) in
     let three : max 3 s.rank ≡ 3 = omega (arith, low.1) in (
       _,
-      effect_by (state old.config h) did.Tidy _ _ n 0 (alone s.rank (count_by is_at_take s.slots) low.0 ∙ owed_read old s 3 sh ∙ sym c.owed_until.ensures.falls) (tidy_effect old.config h legal given),
+      effect_by (state (terms old) h) did.Tidy _ _ n 0 (alone s.rank (count_by is_at_take s.slots) low.0 ∙ owed_read old s 3 sh ∙ sym c.owed_until.ensures.falls) (tidy_effect (terms old) h legal given),
       subst V three (c.reach.ensures.views _ (c.count_entry.ensures.views _ sh.seen)),
     ))
-    (omega arith) (cc) (cc) (cc) (λ tied. c.reach.ensures.tied old.config (suc old.steps) (c.count_entry.ensures.tied old.config (suc old.steps) tied))
+    (omega arith) (ap terms r ∙ ap terms k) (cc) (cc) (λ tied. c.reach.ensures.tied (terms old) (suc old.steps) (c.count_entry.ensures.tied (terms old) (suc old.steps) tied))

@@ -1,4 +1,4 @@
-use Rattle.std.proofs.Common.{◌≡◌, [], ◌∷◌, ◌++◌, append_assoc, ap, ◌∙◌, sym, subst, arith, rules}
+use Rattle.std.proofs.Common.{◌≡◌, true, [], ◌∷◌, ◌++◌, append_assoc, ap, ◌∙◌, sym, subst, arith, rules}
 use Rattle.tp_pool.specs.Lives.{AreSubmitted}
 use Rattle.tp_pool.specs.Submissions.{Submits}
 use Rattle.tp_pool.proofs.Turned.{all_passed, both_more}
@@ -17,7 +17,7 @@ loop-job-preserved g c =
       tt,
       append_assoc jobs (job ∷ []) c.next.new.self.rest.items ∙ ap (λ xs. jobs ++ xs) (sym c.in-Some.ensures.steps.0) ∙ c.loop-job.invariant.2,
       subst (λ ts. AreSubmitted config promised urgency (jobs ++ job ∷ []) ts c.args.pass.now c.submitted.new.pass) (sym c.in_ok-push.ensures.items)
-          (both_more (λ j t. Submits config j (promised j) (urgency j) t) jobs tasks job task c.args.pass.now c.loop-job.pass c.submitted.new.pass c.loop-job.invariant.3 c.submitted.ensures),
+          (both_more (λ j t. Submits true config j (promised j) (urgency j) t) jobs tasks job task c.args.pass.now c.loop-job.pass c.submitted.new.pass c.loop-job.invariant.3 c.submitted.ensures),
     )
 
 pub returns-clause-submitted : goal.returns-clause-submitted

@@ -4,4 +4,4 @@ use Rattle.tp_locked.specs.Left.{IsLeft}
 use Rattle.tp_pool.proofs.shared.left_in.Goals as goal
 
 pub returns : goal.returns
-returns g c = subst (λ k. IsLeft (state k c.args.core.now.book.history) c.remains.result) c.is_book.ensures.settings c.remains.ensures
+returns g c = subst (λ k. IsLeft (state k c.args.core.now.book.history) c.remains.result) c.law_is_book.ensures.settings c.remains.ensures

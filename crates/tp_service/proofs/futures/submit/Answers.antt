@@ -8,7 +8,7 @@ pub returns-in-Ok-clause-submitted : goal.returns-in-Ok-clause-submitted
 returns-in-Ok-clause-submitted g c =
     let old = c.args.pass.now in
     let new = c.execute_as.new.pass in
-    let config = g.G.PoolNaming.config in
+    let config = g.K.Recorder.terms g.G.PoolNaming.config in
     let job = c.args.job in
     let promise = g.J.Job.promised job in
     let urgency = g.J.Job.urgency job in

@@ -8,5 +8,5 @@ use Rattle.tp_service.proofs.invoking.any_of.Given as goal
 
 abbrev pub invariant-loop-t : goal.invariant-loop-t
 invariant-loop-t g l =
-    (l.open ≡ false → Through (Fails (Task g.row.J.Denot) g.G.PoolNaming.config) (take l.t-index l.tasks) (l.fn.pass, None) (l.pass, l.fault))
+    (l.open ≡ false → Through (Fails (Task g.row.J.Denot) g.K.Recorder.RECEIPTS (g.K.Recorder.terms g.G.PoolNaming.config)) (take l.t-index l.tasks) (l.fn.pass, None) (l.pass, l.fault))
     × AddsNone l.fn.pass l.pass

@@ -8,10 +8,10 @@ pub returns-then-ne : goal.returns-then-ne
 returns-then-ne g c =
     let told = c.result_with.ensures in
     let on : ¬ (c.result_with.result ≡ Ok None) = search rules in
-    needs_no_cancel g.G.PoolNaming.config c.args.t c.args.pass.now c.result_with.new.pass told.looks
-    (closed_read g.G.PoolNaming.config c.args.t c.result_with.new.pass.front c.result_with.result told.reads on)
+    needs_no_cancel g.K.Recorder.RECEIPTS (g.K.Recorder.terms g.G.PoolNaming.config) c.args.t c.args.pass.now c.result_with.new.pass told.looks
+    (closed_read g.K.Recorder.RECEIPTS (g.K.Recorder.terms g.G.PoolNaming.config) c.args.t c.result_with.new.pass.front c.result_with.result told.reads on)
 
 pub returns : goal.returns
 returns g c =
-    cancels g.G.PoolNaming.config c.args.t c.args.pass.now c.result_with.new.pass c.cancel.new.pass c.result_with.ensures.looks
+    cancels g.K.Recorder.RECEIPTS (g.K.Recorder.terms g.G.PoolNaming.config) c.args.t c.args.pass.now c.result_with.new.pass c.cancel.new.pass c.result_with.ensures.looks
     c.cancel.result c.cancel.ensures.step c.cancel.ensures.refused c.cancel.ensures.unchanged

@@ -5,7 +5,7 @@ use Rattle.tp_service.proofs.invoking.invoke_all_until.Goals as goal
 
 pub returns-clause-all : goal.returns-clause-all
 returns-clause-all g c =
-    let config = g.G.PoolNaming.config in
+    let config = g.K.Recorder.terms g.G.PoolNaming.config in
     let mid = c.submit_all.new.pass in
     let told = c.all_close_by.new.pass in
     let late = c.if-all_close_by.ensures.late (search rules) in
@@ -14,5 +14,5 @@ returns-clause-all g c =
       told,
       c.in_ok-tasks.ensures.submitted,
       subst (λ ts. IsOneLate (Task g.row.J.Denot) config c.args.deadline ts mid told) c.as_slice.ensures.value late,
-      subst (λ ts. AddsCancels (Task g.row.J.Denot) config ts told c.cancel_all.new.pass) c.as_slice-2.ensures.value c.cancel_all.ensures,
+      subst (λ ts. AddsCancels (Task g.row.J.Denot) g.K.Recorder.RECEIPTS config ts told c.cancel_all.new.pass) c.as_slice-2.ensures.value c.cancel_all.ensures,
     )

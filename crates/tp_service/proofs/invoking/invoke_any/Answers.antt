@@ -12,16 +12,16 @@ use Rattle.tp_service.proofs.invoking.invoke_any.Goals as goal
 
 pub returns-then-is_err-clause-refused : goal.returns-then-is_err-clause-refused
 returns-then-is_err-clause-refused g c =
-    let config = g.G.PoolNaming.config in
+    let config = g.K.Recorder.terms g.G.PoolNaming.config in
     let some : 0 < length c.args.jobs.items = grind (arith, nat_tests, c.args.jobs.ok.0, c.if-is_empty.ensures) in
-    no_value config g.J.Job.promised g.J.Job.urgency c.args.jobs.items c.in-Ok.tasks.items c.await_any-answer.result c.args.pass.now c.submit_all.new.pass c.await_any-answer.new.pass some c.in-Ok.ensures.submitted
-    (subst (λ ts. IfErr c.await_any-answer.result (λ e. (told : PassView) × AddsNone c.submit_all.new.pass told × HaveFailed (Task g.row.J.Denot) config ts e told c.await_any-answer.new.pass))
+    no_value g.K.Recorder.RECEIPTS config g.J.Job.promised g.J.Job.urgency c.args.jobs.items c.in-Ok.tasks.items c.await_any-answer.result c.args.pass.now c.submit_all.new.pass c.await_any-answer.new.pass some c.in-Ok.ensures.submitted
+    (subst (λ ts. IfErr c.await_any-answer.result (λ e. (told : PassView) × AddsNone c.submit_all.new.pass told × HaveFailed (Task g.row.J.Denot) g.K.Recorder.RECEIPTS config ts e told c.await_any-answer.new.pass))
     c.as_slice.ensures.value c.await_any-answer.ensures.failed)
 
 pub returns-in-Err-clause-refused : goal.returns-in-Err-clause-refused
 returns-in-Err-clause-refused g c =
     let some : 0 < length c.args.jobs.items = grind (arith, nat_tests, c.args.jobs.ok.0, c.if-is_empty.ensures) in
-    turned_back g.G.PoolNaming.config g.J.Job.promised g.J.Job.urgency c.args.jobs.items c.in-Err.error c.args.pass.now c.submit_all.new.pass some c.in-Err.ensures.refused
+    turned_back g.K.Recorder.RECEIPTS (g.K.Recorder.terms g.G.PoolNaming.config) g.J.Job.promised g.J.Job.urgency c.args.jobs.items c.in-Err.error c.args.pass.now c.submit_all.new.pass some c.in-Err.ensures.refused
 
 pub returns-clause-value : goal.returns-clause-value
 returns-clause-value g c =
@@ -31,6 +31,6 @@ returns-clause-value g c =
       told = c.await_any-answer.new.pass;
       submits = c.in-Ok.ensures.submitted;
       looks = c.await_any-answer.ensures.looks;
-      value = subst (Any (HasValue (Task g.row.J.Denot) g.G.PoolNaming.config v c.await_any-answer.new.pass.front)) c.as_slice.ensures.value value;
-      cancels = subst (λ ts. AddsCancels (Task g.row.J.Denot) g.G.PoolNaming.config ts c.await_any-answer.new.pass c.cancel_all.new.pass) c.as_slice-2.ensures.value c.cancel_all.ensures;
+      value = subst (Any (HasValue (Task g.row.J.Denot) (g.K.Recorder.terms g.G.PoolNaming.config) v c.await_any-answer.new.pass.front)) c.as_slice.ensures.value value;
+      cancels = subst (λ ts. AddsCancels (Task g.row.J.Denot) g.K.Recorder.RECEIPTS (g.K.Recorder.terms g.G.PoolNaming.config) ts c.await_any-answer.new.pass c.cancel_all.new.pass) c.as_slice-2.ensures.value c.cancel_all.ensures;
     }) c.await_any-answer.ensures.value

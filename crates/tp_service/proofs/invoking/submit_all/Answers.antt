@@ -9,7 +9,7 @@ use Rattle.tp_service.proofs.invoking.submit_all.Goals as goal
 
 pub loop-job-preserved : goal.loop-job-preserved
 loop-job-preserved g c =
-    let config = g.G.PoolNaming.config in
+    let config = g.K.Recorder.terms g.G.PoolNaming.config in
     let promised = g.J.Job.promised in
     let urgency = g.J.Job.urgency in
     let job = c.in-Some.job in
@@ -29,7 +29,7 @@ loop-job-preserved g c =
 
 pub returns-in-Err-clause-refused : goal.returns-in-Err-clause-refused
 returns-in-Err-clause-refused g c =
-    let config = g.G.PoolNaming.config in
+    let config = g.K.Recorder.terms g.G.PoolNaming.config in
     let submitted = c.submit.new.pass in
     let gives : c.into_iter-job-iterator.result.rest.items ≡ c.args.jobs.items = search rules in
     inr (record {
@@ -42,7 +42,7 @@ returns-in-Err-clause-refused g c =
       refused = submitted;
       submits = c.loop-job.invariant.5;
       refuses = (c.in-Err.refused, refl, c.in-Err.ensures.refused);
-      cancels = subst (λ ts. AddsCancels (Task g.row.J.Denot) config ts submitted c.cancel_all.new.pass) c.as_slice-earlier.ensures.value c.cancel_all.ensures;
+      cancels = subst (λ ts. AddsCancels (Task g.row.J.Denot) g.K.Recorder.RECEIPTS config ts submitted c.cancel_all.new.pass) c.as_slice-earlier.ensures.value c.cancel_all.ensures;
     })
 
 pub returns-clause-submitted : goal.returns-clause-submitted
@@ -50,4 +50,4 @@ returns-clause-submitted g c =
     let rest = c.loop-job.job-iterator.rest in
     let gives : c.into_iter-job-iterator.result.rest.items ≡ c.args.jobs.items = search rules in
     let all = all_passed c.loop-job.yielded rest.items c.args.jobs.items (c.loop-job.invariant.4 ∙ gives) (omega (arith, c.in-None.ensures.steps.0, rest.ok.0)) in
-    subst (λ jobs. AddsSubmissions g.G.PoolNaming.config g.J.Job.promised g.J.Job.urgency jobs c.loop-job.tasks.items c.args.pass.now c.loop-job.pass) all c.loop-job.invariant.5
+    subst (λ jobs. AddsSubmissions (g.K.Recorder.terms g.G.PoolNaming.config) g.J.Job.promised g.J.Job.urgency jobs c.loop-job.tasks.items c.args.pass.now c.loop-job.pass) all c.loop-job.invariant.5

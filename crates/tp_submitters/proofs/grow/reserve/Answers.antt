@@ -11,16 +11,17 @@ use Rattle.tp_shapes.specs.View.{view, put}
 use Rattle.tp_shapes.proofs.Rows.{moved_to, for_maximum}
 use Rattle.tp_shapes.proofs.Submitters.Grow.{grow_reserve}
 use Rattle.tp_parts.proofs.Ties.{tied_more}
-use Rattle.tp_parts.proofs.Standing.{entry_here, given_here, known_here}
+use Rattle.tp_parts.proofs.Standing.{entry_here, given_here, known_here, fall_here}
 use Rattle.tp_parts.proofs.Leading.{leads_by}
 use Rattle.tp_parts.proofs.Slots.{seats_left, views_numbered}
+use Rattle.tp_parts.specs.Terms.{terms}
 use Rattle.tp_submitters.proofs.grow.reserve.Goals as goal
 
 pub count_entry-requires : goal.count_entry-requires
 count_entry-requires g c =
     let old = c.args.parts.now in
     let stands = c.requires.stands in
-    let here = entry_here old stands (ask.Grow c.args.t) (did.Grow c.args.t (grown.Reserve c.args.w)) _ 1 0 1 c.requires.fits (grow_reserve old.config stands.history c.args.t c.args.w stands.legal) (omega arith) in
+    let here = entry_here old stands (ask.Grow c.args.t) (did.Grow c.args.t (grown.Reserve c.args.w)) _ 1 0 1 c.requires.fits (grow_reserve (terms old) stands.history c.args.t c.args.w stands.legal) (omega arith) (omega arith) in
     record { few = here.0; fall = here.1 }
 
 pub reserve-requires : goal.reserve-requires
@@ -46,19 +47,19 @@ returns-clause-leads g c =
     let k = c.count_entry.ensures.rest in
     let m = c.place_task.ensures.rest in
     let r = c.reserve.ensures.rest in
-    let here = entry_here old stands (ask.Grow t) d _ 1 0 1 c.requires.fits (grow_reserve old.config stands.history t w stands.legal) (omega arith) in
+    let here = fall_here old stands (ask.Grow t) d _ 1 0 1 c.requires.fits (grow_reserve (terms old) stands.history t w stands.legal) (omega arith) in
     let due : c.reserve.new.self.due ≡ old.due - 1 = cc in
     let number = c.reserve.ensures.number ∙ ap (λ p. p.slots.next) m ∙ ap (λ p. p.slots.next) k ∙ sym c.requires.next in
     leads_by old c.reserve.new.self (ask.Grow t) d 1 0 c.requires.fits
     (λ h rs legal given sh.
-    let s = mark rs (state old.config h) in
+    let s = mark rs (state (terms old) h) in
     let v = record (view s) { tasks = put t.0 (moved_to (at.Held w) (task_at s t.0)) (task_at s) } in (
       _,
-      grow_reserve old.config h t w legal given,
+      grow_reserve (terms old) h t w legal given,
       views_numbered c.reserve.new.self v _ _ (Some (for_maximum t)) (suc (slot_count s)) number (c.reserve.ensures.views v (c.place_task.ensures.views _ (c.count_entry.ensures.views _ sh.seen))),
     ))
-    (cc) (cc) (omega (arith, due, here))
-    (c.reserve.ensures.tied old.config (suc old.steps) (c.place_task.ensures.tied old.config (suc old.steps) (c.count_entry.ensures.tied old.config (suc old.steps) (tied_more old.config old.steps old stands.tied))))
+    (ap terms r ∙ ap terms m ∙ ap terms k) (cc) (omega (arith, due, here))
+    (c.reserve.ensures.tied (terms old) (suc old.steps) (c.place_task.ensures.tied (terms old) (suc old.steps) (c.count_entry.ensures.tied (terms old) (suc old.steps) (tied_more (terms old) old.steps old stands.tied))))
 
 pub place_task-requires : goal.place_task-requires
 place_task-requires g c =

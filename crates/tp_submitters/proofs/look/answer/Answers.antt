@@ -7,12 +7,13 @@ use Rattle.tp_record.specs.State.{state}
 use Rattle.tp_record.specs.Step.{look, look_answer}
 use Rattle.tp_parts.proofs.Reading.{task_answers, number_free}
 use Rattle.tp_submitters.proofs.Submitting.{look_again}
+use Rattle.tp_parts.specs.Terms.{terms}
 use Rattle.tp_submitters.proofs.look.answer.Goals as goal
 
 pub returns-clause-fits : goal.returns-clause-fits
 returns-clause-fits g c = λ h rs legal may sh.
     let p = c.args.parts.now in
-    let s = mark rs (state p.config h) in
+    let s = mark rs (state (terms p) h) in
     let is = c.look.ensures.looked s sh in
     let w = unwrap_or (reserved_looked c.look.result) 0 in (
       task_answers p s sh c.args.t c.in-Some.row (λ r. look_answer s w c.args.t r.place) (sym c.row.ensures ∙ c.in-Some.is)

@@ -13,13 +13,14 @@ use Rattle.tp_shapes.proofs.Submitters.Look.{look_reserve}
 use Rattle.tp_parts.proofs.Slots.{seats_left, views_numbered}
 use Rattle.tp_parts.proofs.Standing.{entry_here, given_here, known_here}
 use Rattle.tp_parts.proofs.Leading.{leads_from}
+use Rattle.tp_parts.specs.Terms.{terms}
 use Rattle.tp_submitters.proofs.look.reserve.Goals as goal
 
 pub count_entry-requires : goal.count_entry-requires
 count_entry-requires g c =
     let old = c.args.parts.now in
     let stands = c.requires.stands in
-    let e = entry_here old stands (ask.Look c.args.t) (did.Look c.args.t (looked.Reserve c.args.w)) _ 1 0 1 c.requires.fits (λ given. look_reserve old.config stands.history c.args.t c.args.w stands.legal given) refl in
+    let e = entry_here old stands (ask.Look c.args.t) (did.Look c.args.t (looked.Reserve c.args.w)) _ 1 0 1 c.requires.fits (λ given. look_reserve (terms old) stands.history c.args.t c.args.w stands.legal given) refl (omega arith) in
     record { few = e.0; fall = e.1 }
 
 pub reserve-requires-clause-room : goal.reserve-requires-clause-room
@@ -45,14 +46,14 @@ returns-clause-leads g c =
     let number = r.number ∙ ap (λ p. p.slots.next) m.rest ∙ ap (λ p. p.slots.next) k.rest ∙ sym c.requires.next in
     leads_from old c.reserve.new.self (ask.Look c.args.t) (did.Look c.args.t (looked.Reserve c.args.w)) 1 0 1 c.requires.stands c.requires.fits
     (λ h rs legal given sh.
-    let s = mark rs (state old.config h) in
+    let s = mark rs (state (terms old) h) in
     let v = record (view s) { tasks = put c.args.t.0 (moved_to (at.Held w) (task_at s c.args.t.0)) (task_at s) } in (
       _,
-      look_reserve old.config h c.args.t w legal given,
+      look_reserve (terms old) h c.args.t w legal given,
       views_numbered c.reserve.new.self v _ w.0 (Some (for_core c.args.t)) (suc (slot_count s)) number (r.views v (m.views _ (k.views _ sh.seen))),
     ))
     refl
-    (ap (λ p. p.config) r.rest ∙ ap (λ p. p.config) m.rest ∙ ap (λ p. p.config) k.rest)
+    (ap terms r.rest ∙ ap terms m.rest ∙ ap terms k.rest)
     (ap (λ p. p.steps) r.rest ∙ ap (λ p. p.steps) m.rest ∙ ap (λ p. p.steps) k.rest)
     (ap (λ p. p.due) r.rest ∙ ap (λ p. p.due) m.rest ∙ ap (λ p. p.due) k.rest)
     (λ tied. r.tied _ _ (m.tied _ _ (k.tied _ _ tied)))

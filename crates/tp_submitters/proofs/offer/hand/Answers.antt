@@ -1,4 +1,4 @@
-use Rattle.std.proofs.Common.{None, drop, refl, sym, ap, ◌∙◌}
+use Rattle.std.proofs.Common.{None, drop, refl, sym, ap, ◌∙◌, arith}
 use Rattle.tp_record.specs.declared.entries.Ask.TheVariants as ask
 use Rattle.tp_record.specs.declared.entries.Did.TheVariants as did
 use Rattle.tp_record.specs.declared.entries.Offered.TheVariants as offered
@@ -13,6 +13,7 @@ use Rattle.tp_parts.proofs.Standing.{entry_here, given_here, seat_here, task_her
 use Rattle.tp_parts.proofs.Leading.{leads_from}
 use Rattle.tp_tasks.specs.Tasks.{row_of}
 use Rattle.tp_parts.specs.Tied.{is_before}
+use Rattle.tp_parts.specs.Terms.{terms}
 use Rattle.tp_types.specs.declared.tasks.Place.TheVariants as at
 use Rattle.tp_submitters.proofs.offer.hand.Goals as goal
 
@@ -20,7 +21,7 @@ pub count_entry-requires : goal.count_entry-requires
 count_entry-requires g c =
     let old = c.args.parts.now in
     let stands = c.requires.stands in
-    let e = entry_here old stands (ask.Offer c.args.t) (did.Offer c.args.t (offered.Hand c.args.w)) _ 1 0 1 c.requires.fits (λ given. offer_hand old.config stands.history c.args.t c.args.w stands.legal given) refl in
+    let e = entry_here old stands (ask.Offer c.args.t) (did.Offer c.args.t (offered.Hand c.args.w)) _ 1 0 1 c.requires.fits (λ given. offer_hand (terms old) stands.history c.args.t c.args.w stands.legal given) refl (omega arith) in
     record { few = e.0; fall = e.1 }
 
 pub wake-requires : goal.wake-requires
@@ -42,11 +43,11 @@ returns-clause-leads g c =
     leads_from old c.wake.new.self (ask.Offer c.args.t) (did.Offer c.args.t (offered.Hand c.args.w)) 1 0 1 c.requires.stands c.requires.fits
     (λ h rs legal given sh. (
       _,
-      offer_hand old.config h c.args.t c.args.w legal given,
+      offer_hand (terms old) h c.args.t c.args.w legal given,
       views_slots c.wake.new.self _ _ (drop 1 (idling h)) _ _ (λ x. refl) (sym (without_head c.args.w.0 (idling h) given.2.0 (once-idling h) given.2.1)) (r.views _ (m.views _ (k.views _ sh.seen))),
     ))
     refl
-    (ap (λ p. p.config) r.rest ∙ ap (λ p. p.config) m.rest ∙ ap (λ p. p.config) k.rest)
+    (ap terms r.rest ∙ ap terms m.rest ∙ ap terms k.rest)
     (ap (λ p. p.steps) r.rest ∙ ap (λ p. p.steps) m.rest ∙ ap (λ p. p.steps) k.rest)
     (ap (λ p. p.due) r.rest ∙ ap (λ p. p.due) m.rest ∙ ap (λ p. p.due) k.rest)
     (λ tied. r.tied _ _ (m.tied _ _ (k.tied _ _ tied)))
@@ -57,4 +58,4 @@ hand_task-requires g c =
     let stands = c.requires.stands in
     let given = given_here old stands (ask.Offer c.args.t) (did.Offer c.args.t (offered.Hand c.args.w)) c.requires.fits in
     let there = task_here old stands c.args.t.0 at.ToOffer given.0 refl in
-    record { known = (task_at (state old.config stands.history) c.args.t.0, ap (λ p. row_of p.tasks c.args.t.0) c.count_entry.ensures.rest ∙ there.0, ap is_before there.1) }
+    record { known = (task_at (state (terms old) stands.history) c.args.t.0, ap (λ p. row_of p.tasks c.args.t.0) c.count_entry.ensures.rest ∙ there.0, ap is_before there.1) }

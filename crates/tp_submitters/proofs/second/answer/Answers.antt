@@ -6,12 +6,13 @@ use Rattle.tp_record.specs.State.{state, slot_at}
 use Rattle.tp_record.specs.Step.{second_answer}
 use Rattle.tp_parts.proofs.Reading.{task_answers, number_free}
 use Rattle.tp_submitters.proofs.Seconds.{second_tested}
+use Rattle.tp_parts.specs.Terms.{terms}
 use Rattle.tp_submitters.proofs.second.answer.Goals as goal
 
 pub returns-then-comes_back-clause-fits : goal.returns-then-comes_back-clause-fits
 returns-then-comes_back-clause-fits g c = λ h rs legal may sh.
     let p = c.args.parts.now in
-    let s = mark rs (state p.config h) in
+    let s = mark rs (state (terms p) h) in
     let t = c.args.t in
     let r = c.in-Some.row in (
       task_answers p s sh t r (second_answer s 0 t) (sym c.row.ensures ∙ c.in-Some.is)
@@ -22,7 +23,7 @@ returns-then-comes_back-clause-fits g c = λ h rs legal may sh.
 pub returns-then-is_deserted-clause-fits : goal.returns-then-is_deserted-clause-fits
 returns-then-is_deserted-clause-fits g c = λ h rs legal may sh.
     let p = c.args.parts.now in
-    let s = mark rs (state p.config h) in
+    let s = mark rs (state (terms p) h) in
     let t = c.args.t in
     let r = c.in-Some.row in
     let w = c.next_number.result in (
@@ -34,7 +35,7 @@ returns-then-is_deserted-clause-fits g c = λ h rs legal may sh.
 pub returns-else-is_deserted-clause-fits : goal.returns-else-is_deserted-clause-fits
 returns-else-is_deserted-clause-fits g c = λ h rs legal may sh.
     let p = c.args.parts.now in
-    let s = mark rs (state p.config h) in
+    let s = mark rs (state (terms p) h) in
     let t = c.args.t in
     let r = c.in-Some.row in (
       task_answers p s sh t r (second_answer s 0 t) (sym c.row.ensures ∙ c.in-Some.is)

@@ -9,10 +9,11 @@ use Rattle.tp_record.specs.Step.{look}
 use Rattle.tp_tasks.specs.Tasks.{submissions}
 use Rattle.tp_shapes.specs.View.{View, Effect}
 use Rattle.tp_parts.specs.Room.{TellsRoom}
+use Rattle.tp_parts.specs.Terms.{terms}
 use Rattle.tp_parts.proofs.Answering.{accepts_room, refuses_room}
 use Rattle.tp_parts.proofs.Reading.{number_free}
 use Rattle.tp_submitters.specs.Owed.{rise_of}
-use Rattle.tp_submitters.proofs.Submitting.{look_again, look_free, same_rise, submit_moves, submit_fits}
+use Rattle.tp_submitters.proofs.Submitting.{look_again, look_free, same_rise, submit_moves, submit_fits, few_left}
 use Rattle.tp_submitters.proofs.submit.answer.Goals as goal
 
 pub returns-then-has_room-clause-accepts : goal.returns-then-has_room-clause-accepts
@@ -23,13 +24,13 @@ returns-then-has_room-clause-accepts g c =
     let r = c.args.priority in
     accepts_room p (ask.Submit k r) (did.Submit (record { 0 = submissions p.tasks }) k r l) 0 (rise_of l) c.has_room.result (subst (λ n. TellsRoom p 0 n c.has_room.result) c.rise.ensures.rise c.has_room.ensures) c.if-has_room.true
     (λ h rs legal may sh.
-    let s = mark rs (state p.config h) in
+    let s = mark rs (state (terms p) h) in
     let is = c.look-looked.ensures.looked s sh in
     let again = ap (λ x. look s (unwrap_or (reserved_looked x) 0)) is ∙ look_again s p.slots.next ∙ sym is in (
-      submit_fits p c.requires.stands k r h rs sh (unwrap_or (reserved_looked l) 0) ∙ ap (λ x. Ok (did.Submit (record { 0 = submissions p.tasks }) k r x)) again,
+      submit_fits p (few_left c.submitted.result (submissions p.tasks) c.submitted.ensures p.tasks.small c.if-submitted.false) k r h rs sh (unwrap_or (reserved_looked l) 0) ∙ ap (λ x. Ok (did.Submit (record { 0 = submissions p.tasks }) k r x)) again,
       number_free p s sh (did.Submit (record { 0 = submissions p.tasks }) k r l) (reserved_looked l) c.look-looked.ensures.free,
     ))
-    (λ h rs legal sh given. submit_moves p.config h (record { 0 = submissions p.tasks }) k r l legal given)
+    (λ h rs legal sh given. submit_moves (terms p) h (record { 0 = submissions p.tasks }) k r l legal given)
 
 pub returns-else-has_room-clause-refuses : goal.returns-else-has_room-clause-refuses
 returns-else-has_room-clause-refuses g c =
@@ -39,11 +40,11 @@ returns-else-has_room-clause-refuses g c =
     let r = c.args.priority in
     refuses_room p (ask.Submit k r) 0 (rise_of l) c.has_room.result (subst (λ n. TellsRoom p 0 n c.has_room.result) c.rise.ensures.rise c.has_room.ensures) c.if-has_room.false
     (λ h rs legal may sh w free.
-    let s = mark rs (state p.config h) in
+    let s = mark rs (state (terms p) h) in
     let d = did.Submit (record { 0 = submissions p.tasks }) k r (look s w) in
     let rise : rise_of (look s w) ≡ rise_of l = same_rise s p.slots.next w ∙ ap rise_of (sym (c.look-looked.ensures.looked s sh)) in (
       d,
-      submit_fits p c.requires.stands k r h rs sh w,
+      submit_fits p (few_left c.submitted.result (submissions p.tasks) c.submitted.ensures p.tasks.small c.if-submitted.false) k r h rs sh w,
       look_free s w (elim free [ inl f ↦ f | inr leave ↦ absurd (let n : ⊥ = cc in n) ]),
-      λ i xs lawful shown given. subst (λ n. (v : View) × Effect (state p.config i) d v 0 n) rise (submit_moves p.config i (record { 0 = submissions p.tasks }) k r (look s w) lawful given),
+      λ i xs lawful shown given. subst (λ n. (v : View) × Effect (state (terms p) i) d v 0 n) rise (submit_moves (terms p) i (record { 0 = submissions p.tasks }) k r (look s w) lawful given),
     ))

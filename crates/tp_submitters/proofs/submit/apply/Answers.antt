@@ -2,20 +2,20 @@ use Rattle.std.proofs.Common.{subst}
 use Rattle.tp_record.specs.declared.entries.Ask.TheVariants as ask
 use Rattle.tp_record.specs.declared.entries.Did.TheVariants as did
 use Rattle.tp_tasks.specs.Tasks.{submissions}
-use Rattle.tp_parts.specs.Steps.{Fits}
+use Rattle.tp_parts.specs.Steps.{Accepts}
 use Rattle.tp_submitters.proofs.submit.apply.Goals as goal
 
-pub reserve-requires-clause-fits : goal.reserve-requires-clause-fits
-reserve-requires-clause-fits g c =
+pub reserve-requires-clause-accepts : goal.reserve-requires-clause-accepts
+reserve-requires-clause-accepts g c =
     let p = c.args.parts.now in
-    subst (λ l. Fits p (ask.Submit c.args.kind c.args.priority) (did.Submit (record { 0 = submissions p.tasks }) c.args.kind c.args.priority l)) c.in-Reserve.is c.requires.fits
+    subst (λ l. Accepts p (ask.Submit c.args.kind c.args.priority) (did.Submit (record { 0 = submissions p.tasks }) c.args.kind c.args.priority l)) c.in-Reserve.is c.requires.accepts
 
-pub queue-requires-clause-fits : goal.queue-requires-clause-fits
-queue-requires-clause-fits g c =
+pub queue-requires-clause-accepts : goal.queue-requires-clause-accepts
+queue-requires-clause-accepts g c =
     let p = c.args.parts.now in
-    subst (λ l. Fits p (ask.Submit c.args.kind c.args.priority) (did.Submit (record { 0 = submissions p.tasks }) c.args.kind c.args.priority l)) c.in-Queue.is c.requires.fits
+    subst (λ l. Accepts p (ask.Submit c.args.kind c.args.priority) (did.Submit (record { 0 = submissions p.tasks }) c.args.kind c.args.priority l)) c.in-Queue.is c.requires.accepts
 
-pub refuse-requires-clause-fits : goal.refuse-requires-clause-fits
-refuse-requires-clause-fits g c =
+pub refuse-requires-clause-accepts : goal.refuse-requires-clause-accepts
+refuse-requires-clause-accepts g c =
     let p = c.args.parts.now in
-    subst (λ l. Fits p (ask.Submit c.args.kind c.args.priority) (did.Submit (record { 0 = submissions p.tasks }) c.args.kind c.args.priority l)) c.in-Refuse.is c.requires.fits
+    subst (λ l. Accepts p (ask.Submit c.args.kind c.args.priority) (did.Submit (record { 0 = submissions p.tasks }) c.args.kind c.args.priority l)) c.in-Refuse.is c.requires.accepts

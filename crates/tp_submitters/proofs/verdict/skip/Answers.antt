@@ -8,8 +8,9 @@ use Rattle.tp_record.specs.State.{state, task_at}
 use Rattle.tp_tasks.specs.Tasks.{row_of, payload_of}
 use Rattle.tp_shapes.proofs.Submitters.Verdict.{verdict_skip}
 use Rattle.tp_parts.specs.Tied.{is_before, waits}
+use Rattle.tp_parts.specs.Terms.{terms}
 use Rattle.tp_parts.proofs.Ties.{tied_more}
-use Rattle.tp_parts.proofs.Standing.{entry_here, given_here, task_here, cancelled_here}
+use Rattle.tp_parts.proofs.Standing.{given_here, task_here, cancelled_here, fits_accepted, fall_here, falling_here}
 use Rattle.tp_parts.proofs.Leading.{leads_by}
 use Rattle.tp_submitters.proofs.verdict.skip.Goals as goal
 use Rattle.tp_tasks.specs.Tasks.{promise_of}
@@ -19,23 +20,25 @@ pub count_entry-requires : goal.count_entry-requires
 count_entry-requires g c =
     let old = c.args.parts.now in
     let stands = c.requires.stands in
-    let here = entry_here old stands (ask.Verdict c.args.t c.args.verdict) (did.Verdict c.args.t c.args.verdict ruled.Skip) _ 2 0 2 c.requires.fits (verdict_skip old.config stands.history c.args.t c.args.verdict stands.legal) (omega arith) in
+    let here = falling_here old stands (ask.Verdict c.args.t c.args.verdict) (did.Verdict c.args.t c.args.verdict ruled.Skip) _ 2 0 2 c.requires.accepts (verdict_skip (terms old) stands.history c.args.t c.args.verdict stands.legal) (omega arith) in
     record { few = here.0; fall = here.1 }
 
 pub place_task-requires : goal.place_task-requires
 place_task-requires g c =
+    let fits = fits_accepted c.args.parts.now (ask.Verdict c.args.t c.args.verdict) (did.Verdict c.args.t c.args.verdict ruled.Skip) c.requires.accepts in
     let old = c.args.parts.now in
     let stands = c.requires.stands in
-    let given = given_here old stands (ask.Verdict c.args.t c.args.verdict) (did.Verdict c.args.t c.args.verdict ruled.Skip) c.requires.fits in
+    let given = given_here old stands (ask.Verdict c.args.t c.args.verdict) (did.Verdict c.args.t c.args.verdict ruled.Skip) fits in
     let there = task_here old stands c.args.t.0 at.Refused given.0 refl in
     let over = cancelled_here old stands c.args.t.0 true given.0.0 given.1.1 in
-    record { known = (task_at (state old.config stands.history) c.args.t.0, ap (λ p. row_of p.tasks c.args.t.0) c.count_entry.ensures.rest ∙ there.0, sym (λ i. is_before (there.1 i) && not (over i))) }
+    record { known = (task_at (state (terms old) stands.history) c.args.t.0, ap (λ p. row_of p.tasks c.args.t.0) c.count_entry.ensures.rest ∙ there.0, sym (λ i. is_before (there.1 i) && not (over i))) }
 
 pub returns-clause-payloads : goal.returns-clause-payloads
 returns-clause-payloads g c =
+    let fits = fits_accepted c.args.parts.now (ask.Verdict c.args.t c.args.verdict) (did.Verdict c.args.t c.args.verdict ruled.Skip) c.requires.accepts in
     let old = c.args.parts.now in
     let stands = c.requires.stands in
-    let given = given_here old stands (ask.Verdict c.args.t c.args.verdict) (did.Verdict c.args.t c.args.verdict ruled.Skip) c.requires.fits in
+    let given = given_here old stands (ask.Verdict c.args.t c.args.verdict) (did.Verdict c.args.t c.args.verdict ruled.Skip) fits in
     let there = task_here old stands c.args.t.0 at.Refused given.0 refl in
     let over = cancelled_here old stands c.args.t.0 true given.0.0 given.1.1 in
     let kept = c.place_task.ensures.payloads in
@@ -45,6 +48,7 @@ returns-clause-payloads g c =
 
 pub returns-clause-leads : goal.returns-clause-leads
 returns-clause-leads g c =
+    let fits = fits_accepted c.args.parts.now (ask.Verdict c.args.t c.args.verdict) (did.Verdict c.args.t c.args.verdict ruled.Skip) c.requires.accepts in
     let old = c.args.parts.now in
     let stands = c.requires.stands in
     let t = c.args.t in
@@ -52,9 +56,9 @@ returns-clause-leads g c =
     let d = did.Verdict t c.args.verdict ruled.Skip in
     let k = c.count_entry.ensures.rest in
     let m = c.place_task.ensures.rest in
-    let here = entry_here old stands a d _ 2 0 2 c.requires.fits (verdict_skip old.config stands.history t c.args.verdict stands.legal) (omega arith) in
+    let here = fall_here old stands a d _ 2 0 2 fits (verdict_skip (terms old) stands.history t c.args.verdict stands.legal) (omega arith) in
     let due = ap (λ p. p.due) m ∙ ap (λ p. p.due) k in
-    leads_by old c.place_task.new.self a d 2 0 c.requires.fits
-    (λ h rs legal given sh. (_, verdict_skip old.config h t c.args.verdict legal given, c.place_task.ensures.views _ (c.count_entry.ensures.views _ sh.seen)))
-    (ap (λ p. p.config) m ∙ ap (λ p. p.config) k) (ap (λ p. p.steps) m ∙ ap (λ p. p.steps) k) (omega (arith, due, here))
-    (c.place_task.ensures.tied old.config (suc old.steps) (c.count_entry.ensures.tied old.config (suc old.steps) (tied_more old.config old.steps old stands.tied)))
+    leads_by old c.place_task.new.self a d 2 0 fits
+    (λ h rs legal given sh. (_, verdict_skip (terms old) h t c.args.verdict legal given, c.place_task.ensures.views _ (c.count_entry.ensures.views _ sh.seen)))
+    (ap terms m ∙ ap terms k) (ap (λ p. p.steps) m ∙ ap (λ p. p.steps) k) (omega (arith, due, here))
+    (c.place_task.ensures.tied (terms old) (suc old.steps) (c.count_entry.ensures.tied (terms old) (suc old.steps) (tied_more (terms old) old.steps old stands.tied)))

@@ -12,5 +12,5 @@ returns-in-Ok-submitted-clause-run g c =
     let ks = asked c.args.jobs.now in
     IfOk-weaker c.closed-report.result (IsClosed config mid) (IsRun c.args.settings ks)
     (λ r closed. subst (λ s. IsRun s ks r) (sym c.requires.settings)
-    (run_of config first mid ks r (ap (λ p. p.number) c.in-Ok.ensures.pass) (ap (λ p. p.receipts) c.in-Ok.ensures.pass) c.in-Ok-submitted.ensures.whole closed))
+    (run_of config first mid ks r (ap (λ p. p.number) c.in-Ok.ensures.pass) (ap (λ p. p.keeps) c.in-Ok.ensures.pass) (ap (λ p. p.receipts) c.in-Ok.ensures.pass) c.in-Ok-submitted.ensures.whole closed))
     c.closed-report.ensures.report

@@ -1,4 +1,4 @@
-use Rattle.std.proofs.Common.{false, refl, ap, ◌∙◌}
+use Rattle.std.proofs.Common.{false, refl, ap, ◌∙◌, arith}
 use Rattle.std.specs.Prelude.{is_some, not, ◌&&◌}
 use Rattle.tp_types.specs.declared.tasks.Place.TheVariants as at
 use Rattle.tp_record.specs.declared.entries.Ask.TheVariants as ask
@@ -8,6 +8,7 @@ use Rattle.tp_record.specs.State.{task_at, state, slot_at}
 use Rattle.tp_tasks.specs.Tasks.{row_of, payload_of}
 use Rattle.tp_shapes.proofs.Workers.Begin.{begin_run}
 use Rattle.tp_parts.specs.Tied.{is_before, waits}
+use Rattle.tp_parts.specs.Terms.{terms}
 use Rattle.tp_parts.proofs.Standing.{entry_here, given_here, task_here, cancelled_here, seat_here}
 use Rattle.tp_parts.proofs.Leading.{leads_from}
 use Rattle.tp_slots.specs.Table.{is_awake}
@@ -17,7 +18,7 @@ pub count_entry-requires : goal.count_entry-requires
 count_entry-requires g c =
     let old = c.args.parts.now in
     let stands = c.requires.stands in
-    let entry = entry_here old stands (ask.Begin c.args.w) (did.Begin c.args.w (started.Run c.args.t)) _ 1 0 1 c.requires.fits (λ given. begin_run old.config stands.history c.args.w c.args.t stands.legal given) refl in
+    let entry = entry_here old stands (ask.Begin c.args.w) (did.Begin c.args.w (started.Run c.args.t)) _ 1 0 1 c.requires.fits (λ given. begin_run (terms old) stands.history c.args.w c.args.t stands.legal given) refl (omega arith) in
     record { few = entry.0; fall = entry.1 }
 
 pub begin_task-payload-requires : goal.begin_task-payload-requires
@@ -28,7 +29,7 @@ begin_task-payload-requires g c =
     let there = task_here old stands c.args.t.0 (at.Taken c.args.w) given.1 refl in
     let alive = cancelled_here old stands c.args.t.0 false given.1.0 given.2 in
     record {
-      known = (task_at (state old.config stands.history) c.args.t.0, ap (λ p. row_of p.tasks c.args.t.0) c.count_entry.ensures.rest ∙ there.0);
+      known = (task_at (state (terms old) stands.history) c.args.t.0, ap (λ p. row_of p.tasks c.args.t.0) c.count_entry.ensures.rest ∙ there.0);
       paid = ap (λ p. is_some (payload_of p.tasks c.args.t.0)) c.count_entry.ensures.rest ∙ stands.tied.payloads c.args.t.0 ∙ ap waits there.0 ∙ (λ i. is_before (there.1 i) && not (alive i));
       begun = refl;
     }
@@ -40,9 +41,9 @@ returns-clause-leads g c =
     let m = c.begin_task-payload.ensures in
     let r = c.set_slot.ensures in
     leads_from old c.set_slot.new.self (ask.Begin c.args.w) (did.Begin c.args.w (started.Run c.args.t)) 1 0 1 c.requires.stands c.requires.fits
-    (λ h rs legal given sh. (_, begin_run old.config h c.args.w c.args.t legal given, r.views _ (m.views _ (k.views _ sh.seen))))
+    (λ h rs legal given sh. (_, begin_run (terms old) h c.args.w c.args.t legal given, r.views _ (m.views _ (k.views _ sh.seen))))
     refl
-    (ap (λ p. p.config) r.rest ∙ ap (λ p. p.config) m.rest ∙ ap (λ p. p.config) k.rest)
+    (ap terms r.rest ∙ ap terms m.rest ∙ ap terms k.rest)
     (ap (λ p. p.steps) r.rest ∙ ap (λ p. p.steps) m.rest ∙ ap (λ p. p.steps) k.rest)
     (ap (λ p. p.due) r.rest ∙ ap (λ p. p.due) m.rest ∙ ap (λ p. p.due) k.rest)
     (λ tied. r.tied _ _ (m.tied _ _ (k.tied _ _ tied)))

@@ -8,6 +8,7 @@ use Rattle.tp_record.specs.State.{task_at, state, slot_at}
 use Rattle.tp_tasks.specs.Tasks.{row_of}
 use Rattle.tp_shapes.proofs.Workers.Begin.{begin_skip}
 use Rattle.tp_parts.specs.Tied.{is_before}
+use Rattle.tp_parts.specs.Terms.{terms}
 use Rattle.tp_parts.proofs.Standing.{entry_here, given_here, task_here, cancelled_here, seat_here}
 use Rattle.tp_parts.proofs.Few.{few_completions}
 use Rattle.tp_parts.proofs.Leading.{leads_from}
@@ -23,7 +24,7 @@ count_entry-requires g c =
     let n = c.owed_at_take.result in
     let small = c.owed_at_take.ensures.bound in
     let entry = entry_here old stands (ask.Begin c.args.w) d _ 6 n (6 - n) c.requires.fits
-    (λ given. rises_at_take old _ d _ stands.shows.seen.rank n 6 c.owed_at_take.ensures.owed (begin_skip old.config stands.history c.args.w c.args.t stands.legal given)) (omega (arith, small)) in
+    (λ given. rises_at_take old _ d _ stands.shows.seen.rank n 6 c.owed_at_take.ensures.owed (begin_skip (terms old) stands.history c.args.w c.args.t stands.legal given)) (omega (arith, small)) (omega (arith, small)) in
     record { few = entry.0; fall = entry.1 }
 
 pub place_task-requires : goal.place_task-requires
@@ -33,12 +34,13 @@ place_task-requires g c =
     let given = given_here old stands (ask.Begin c.args.w) (did.Begin c.args.w (started.Skip c.args.t)) c.requires.fits in
     let there = task_here old stands c.args.t.0 (at.Taken c.args.w) given.1 refl in
     let dead = cancelled_here old stands c.args.t.0 true given.1.0 given.2 in
-    record { known = (task_at (state old.config stands.history) c.args.t.0, ap (λ p. row_of p.tasks c.args.t.0) c.count_entry.ensures.rest ∙ there.0, sym (λ i. is_before (there.1 i) && not (dead i))) }
+    record { known = (task_at (state (terms old) stands.history) c.args.t.0, ap (λ p. row_of p.tasks c.args.t.0) c.count_entry.ensures.rest ∙ there.0, sym (λ i. is_before (there.1 i) && not (dead i))) }
 
 pub count_completion-requires : goal.count_completion-requires
 count_completion-requires g c =
     let old = c.args.parts.now in
-    let few = few_completions old c.requires.stands in
+    let given = given_here old c.requires.stands (ask.Begin c.args.w) (did.Begin c.args.w (started.Skip c.args.t)) c.requires.fits in
+    let few = few_completions old c.requires.stands c.args.t.0 (at.Taken c.args.w) given.1 refl in
     let same = ap (λ p. p.completions) c.set_slot.ensures.rest ∙ ap (λ p. p.completions) c.place_task.ensures.rest ∙ ap (λ p. p.completions) c.count_entry.ensures.rest in
     omega (arith, few, same)
 
@@ -55,11 +57,11 @@ returns-clause-leads g c =
     leads_from old c.count_completion.new.self (ask.Begin c.args.w) d 6 n (6 - n) c.requires.stands c.requires.fits
     (λ h rs legal given sh. (
       _,
-      rises_at_take old _ d _ sh.seen.rank n 6 c.owed_at_take.ensures.owed (begin_skip old.config h c.args.w c.args.t legal given),
+      rises_at_take old _ d _ sh.seen.rank n 6 c.owed_at_take.ensures.owed (begin_skip (terms old) h c.args.w c.args.t legal given),
       e.views _ (r.views _ (m.views _ (k.views _ sh.seen))),
     ))
     (omega (arith, small))
-    (ap (λ p. p.config) e.rest ∙ ap (λ p. p.config) r.rest ∙ ap (λ p. p.config) m.rest ∙ ap (λ p. p.config) k.rest)
+    (ap terms e.rest ∙ ap terms r.rest ∙ ap terms m.rest ∙ ap terms k.rest)
     (ap (λ p. p.steps) e.rest ∙ ap (λ p. p.steps) r.rest ∙ ap (λ p. p.steps) m.rest ∙ ap (λ p. p.steps) k.rest)
     (ap (λ p. p.due) e.rest ∙ ap (λ p. p.due) r.rest ∙ ap (λ p. p.due) m.rest ∙ ap (λ p. p.due) k.rest)
     (λ tied. e.tied _ _ (r.tied _ _ (m.tied _ _ (k.tied _ _ tied))))

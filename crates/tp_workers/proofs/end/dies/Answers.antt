@@ -7,6 +7,7 @@ use Rattle.tp_slots.specs.Table.{is_awake}
 use Rattle.tp_tasks.specs.Tasks.{row_of}
 use Rattle.tp_shapes.proofs.Workers.End.{end_dies}
 use Rattle.tp_parts.specs.Tied.{is_before}
+use Rattle.tp_parts.specs.Terms.{terms}
 use Rattle.tp_parts.proofs.Standing.{entry_here, given_here, seat_here, task_here, open_here}
 use Rattle.tp_parts.proofs.Few.{few_completions}
 use Rattle.tp_parts.proofs.Leading.{leads_from}
@@ -18,7 +19,7 @@ count_entry-requires g c =
     let stands = c.requires.stands in
     let o = c.args.outcome in
     let entry = entry_here old stands (ask.End c.args.w o) (did.End c.args.w c.args.t o) _ 5 4 1 c.requires.fits
-    (λ given. end_dies old.config stands.history c.args.w c.args.t o stands.legal given (c.requires.dies _ stands.shows)) refl in
+    (λ given. end_dies (terms old) stands.history c.args.w c.args.t o stands.legal given (c.requires.dies _ stands.shows)) refl (omega arith) in
     record { few = entry.0; fall = entry.1 }
 
 pub complete_task-requires-clause-known : goal.complete_task-requires-clause-known
@@ -27,7 +28,7 @@ complete_task-requires-clause-known g c =
     let stands = c.requires.stands in
     let given = given_here old stands (ask.End c.args.w c.args.outcome) (did.End c.args.w c.args.t c.args.outcome) c.requires.fits in
     let there = task_here old stands c.args.t.0 (at.Running c.args.w) given.1 refl in (
-      task_at (state old.config stands.history) c.args.t.0,
+      task_at (state (terms old) stands.history) c.args.t.0,
       ap (λ p. row_of p.tasks c.args.t.0) c.count_entry.ensures.rest ∙ there.0,
       open_here old stands c.args.t.0 (at.Running c.args.w) given.1 refl,
       ap is_before there.1,
@@ -36,7 +37,8 @@ complete_task-requires-clause-known g c =
 pub count_completion-requires : goal.count_completion-requires
 count_completion-requires g c =
     let old = c.args.parts.now in
-    let few = few_completions old c.requires.stands in
+    let given = given_here old c.requires.stands (ask.End c.args.w c.args.outcome) (did.End c.args.w c.args.t c.args.outcome) c.requires.fits in
+    let few = few_completions old c.requires.stands c.args.t.0 (at.Running c.args.w) given.1 refl in
     let same = ap (λ p. p.completions) c.set_slot.ensures.rest ∙ ap (λ p. p.completions) c.complete_task.ensures.rest ∙ ap (λ p. p.completions) c.count_entry.ensures.rest in
     omega (arith, few, same)
 
@@ -49,9 +51,9 @@ returns-clause-leads g c =
     let r = c.set_slot.ensures in
     let e = c.count_completion.ensures in
     leads_from old c.count_completion.new.self (ask.End c.args.w o) (did.End c.args.w c.args.t o) 5 4 1 c.requires.stands c.requires.fits
-    (λ h rs legal given sh. (_, end_dies old.config h c.args.w c.args.t o legal given (c.requires.dies _ sh), e.views _ (r.views _ (m.views _ (k.views _ sh.seen)))))
+    (λ h rs legal given sh. (_, end_dies (terms old) h c.args.w c.args.t o legal given (c.requires.dies _ sh), e.views _ (r.views _ (m.views _ (k.views _ sh.seen)))))
     refl
-    (ap (λ p. p.config) e.rest ∙ ap (λ p. p.config) r.rest ∙ ap (λ p. p.config) m.rest ∙ ap (λ p. p.config) k.rest)
+    (ap terms e.rest ∙ ap terms r.rest ∙ ap terms m.rest ∙ ap terms k.rest)
     (ap (λ p. p.steps) e.rest ∙ ap (λ p. p.steps) r.rest ∙ ap (λ p. p.steps) m.rest ∙ ap (λ p. p.steps) k.rest)
     (ap (λ p. p.due) e.rest ∙ ap (λ p. p.due) r.rest ∙ ap (λ p. p.due) m.rest ∙ ap (λ p. p.due) k.rest)
     (λ tied. e.tied _ _ (r.tied _ _ (m.tied _ _ (k.tied _ _ tied))))

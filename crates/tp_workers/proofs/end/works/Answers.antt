@@ -7,6 +7,7 @@ use Rattle.tp_slots.specs.Table.{is_awake}
 use Rattle.tp_tasks.specs.Tasks.{row_of}
 use Rattle.tp_shapes.proofs.Workers.End.{end_works}
 use Rattle.tp_parts.specs.Tied.{is_before}
+use Rattle.tp_parts.specs.Terms.{terms}
 use Rattle.tp_parts.proofs.Standing.{entry_here, given_here, seat_here, task_here, open_here}
 use Rattle.tp_parts.proofs.Few.{few_completions}
 use Rattle.tp_parts.proofs.Leading.{leads_from}
@@ -22,7 +23,7 @@ count_entry-requires g c =
     let n = c.owed_at_take.result in
     let small = c.owed_at_take.ensures.bound in
     let entry = entry_here old stands (ask.End c.args.w o) d _ 5 n (5 - n) c.requires.fits
-    (λ given. rises_at_take old _ d _ stands.shows.seen.rank n 5 c.owed_at_take.ensures.owed (end_works old.config stands.history c.args.w c.args.t o stands.legal given (c.requires.lives _ stands.shows))) (omega (arith, small)) in
+    (λ given. rises_at_take old _ d _ stands.shows.seen.rank n 5 c.owed_at_take.ensures.owed (end_works (terms old) stands.history c.args.w c.args.t o stands.legal given (c.requires.lives _ stands.shows))) (omega (arith, small)) (omega (arith, small)) in
     record { few = entry.0; fall = entry.1 }
 
 pub complete_task-requires-clause-known : goal.complete_task-requires-clause-known
@@ -31,7 +32,7 @@ complete_task-requires-clause-known g c =
     let stands = c.requires.stands in
     let given = given_here old stands (ask.End c.args.w c.args.outcome) (did.End c.args.w c.args.t c.args.outcome) c.requires.fits in
     let there = task_here old stands c.args.t.0 (at.Running c.args.w) given.1 refl in (
-      task_at (state old.config stands.history) c.args.t.0,
+      task_at (state (terms old) stands.history) c.args.t.0,
       ap (λ p. row_of p.tasks c.args.t.0) c.count_entry.ensures.rest ∙ there.0,
       open_here old stands c.args.t.0 (at.Running c.args.w) given.1 refl,
       ap is_before there.1,
@@ -40,7 +41,8 @@ complete_task-requires-clause-known g c =
 pub count_completion-requires : goal.count_completion-requires
 count_completion-requires g c =
     let old = c.args.parts.now in
-    let few = few_completions old c.requires.stands in
+    let given = given_here old c.requires.stands (ask.End c.args.w c.args.outcome) (did.End c.args.w c.args.t c.args.outcome) c.requires.fits in
+    let few = few_completions old c.requires.stands c.args.t.0 (at.Running c.args.w) given.1 refl in
     let same = ap (λ p. p.completions) c.set_slot.ensures.rest ∙ ap (λ p. p.completions) c.complete_task.ensures.rest ∙ ap (λ p. p.completions) c.count_entry.ensures.rest in
     omega (arith, few, same)
 
@@ -58,11 +60,11 @@ returns-clause-leads g c =
     leads_from old c.count_completion.new.self (ask.End c.args.w o) d 5 n (5 - n) c.requires.stands c.requires.fits
     (λ h rs legal given sh. (
       _,
-      rises_at_take old _ d _ sh.seen.rank n 5 c.owed_at_take.ensures.owed (end_works old.config h c.args.w c.args.t o legal given (c.requires.lives _ sh)),
+      rises_at_take old _ d _ sh.seen.rank n 5 c.owed_at_take.ensures.owed (end_works (terms old) h c.args.w c.args.t o legal given (c.requires.lives _ sh)),
       e.views _ (r.views _ (m.views _ (k.views _ sh.seen))),
     ))
     (omega (arith, small))
-    (ap (λ p. p.config) e.rest ∙ ap (λ p. p.config) r.rest ∙ ap (λ p. p.config) m.rest ∙ ap (λ p. p.config) k.rest)
+    (ap terms e.rest ∙ ap terms r.rest ∙ ap terms m.rest ∙ ap terms k.rest)
     (ap (λ p. p.steps) e.rest ∙ ap (λ p. p.steps) r.rest ∙ ap (λ p. p.steps) m.rest ∙ ap (λ p. p.steps) k.rest)
     (ap (λ p. p.due) e.rest ∙ ap (λ p. p.due) r.rest ∙ ap (λ p. p.due) m.rest ∙ ap (λ p. p.due) k.rest)
     (λ tied. e.tied _ _ (r.tied _ _ (m.tied _ _ (k.tied _ _ tied))))

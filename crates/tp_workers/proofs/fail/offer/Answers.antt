@@ -1,4 +1,4 @@
-use Rattle.std.proofs.Common.{suc, refl, ap, ◌∙◌}
+use Rattle.std.proofs.Common.{suc, refl, ap, ◌∙◌, arith}
 use Rattle.tp_record.specs.declared.entries.Ask.TheVariants as ask
 use Rattle.tp_record.specs.declared.entries.Did.TheVariants as did
 use Rattle.tp_types.specs.declared.tasks.Place.TheVariants as at
@@ -8,13 +8,14 @@ use Rattle.tp_parts.proofs.Standing.{given_here, known_here, entry_here, seat_he
 use Rattle.tp_parts.proofs.Leading.{leads_from}
 use Rattle.tp_record.specs.State.{slot_at}
 use Rattle.tp_slots.specs.Table.{is_reserved_row}
+use Rattle.tp_parts.specs.Terms.{terms}
 use Rattle.tp_workers.proofs.fail.offer.Goals as goal
 
 pub count_entry-requires : goal.count_entry-requires
 count_entry-requires g c =
     let old = c.args.parts.now in
     let stands = c.requires.stands in
-    let e = entry_here old stands (ask.Fail c.args.w) (did.Fail c.args.w (failed.Offer c.args.t)) _ 1 0 1 c.requires.fits (λ given. fail_offer old.config stands.history c.args.w c.args.t stands.legal given) refl in
+    let e = entry_here old stands (ask.Fail c.args.w) (did.Fail c.args.w (failed.Offer c.args.t)) _ 1 0 1 c.requires.fits (λ given. fail_offer (terms old) stands.history c.args.w c.args.t stands.legal given) refl (omega arith) in
     record { few = e.0; fall = e.1 }
 
 pub place_task-requires : goal.place_task-requires
@@ -30,9 +31,9 @@ returns-clause-leads g c =
     let m = c.place_task.ensures.rest in
     let r = c.give_up.ensures.rest in
     leads_from old c.give_up.new.self (ask.Fail c.args.w) (did.Fail c.args.w (failed.Offer c.args.t)) 1 0 1 c.requires.stands c.requires.fits
-    (λ h rs legal given sh. (_, fail_offer old.config h c.args.w c.args.t legal given, c.give_up.ensures.views _ (c.place_task.ensures.views _ (c.count_entry.ensures.views _ sh.seen))))
-    refl (ap (λ p. p.config) r ∙ ap (λ p. p.config) m ∙ ap (λ p. p.config) k) (ap (λ p. p.steps) r ∙ ap (λ p. p.steps) m ∙ ap (λ p. p.steps) k) (ap (λ p. p.due) r ∙ ap (λ p. p.due) m ∙ ap (λ p. p.due) k)
-    (λ tied. c.give_up.ensures.tied old.config (suc old.steps) (c.place_task.ensures.tied old.config (suc old.steps) (c.count_entry.ensures.tied old.config (suc old.steps) tied)))
+    (λ h rs legal given sh. (_, fail_offer (terms old) h c.args.w c.args.t legal given, c.give_up.ensures.views _ (c.place_task.ensures.views _ (c.count_entry.ensures.views _ sh.seen))))
+    refl (ap terms r ∙ ap terms m ∙ ap terms k) (ap (λ p. p.steps) r ∙ ap (λ p. p.steps) m ∙ ap (λ p. p.steps) k) (ap (λ p. p.due) r ∙ ap (λ p. p.due) m ∙ ap (λ p. p.due) k)
+    (λ tied. c.give_up.ensures.tied (terms old) (suc old.steps) (c.place_task.ensures.tied (terms old) (suc old.steps) (c.count_entry.ensures.tied (terms old) (suc old.steps) tied)))
 
 pub give_up-requires : goal.give_up-requires
 give_up-requires g c =

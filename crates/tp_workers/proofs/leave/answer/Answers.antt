@@ -11,6 +11,7 @@ use Rattle.tp_record.specs.Left.{mark}
 use Rattle.tp_record.specs.State.{State, state, slot_at}
 use Rattle.tp_record.specs.Step.{slot_count, wants_worker}
 use Rattle.tp_parts.specs.Steps.{IsFitting}
+use Rattle.tp_parts.specs.Terms.{terms}
 use Rattle.tp_workers.proofs.leave.answer.Goals.{else-wants_worker-via-then-wants_worker+else-others-parts, else-wants_worker-via-else-wants_worker}
 use Rattle.tp_workers.proofs.leave.answer.Goals as goal
 
@@ -26,7 +27,7 @@ both_false a b is not = rw is not
 
 pub returns-then-others-parts-clause-fits : goal.returns-then-others-parts-clause-fits
 returns-then-others-parts-clause-fits g c = λ h rs legal may sh.
-    let config = c.args.parts.now.config in
+    let config = (terms c.args.parts.now) in
     let s = mark rs (state config h) in
     let seat = sh.seen.seats c.args.w.0 ∙ sym c.get.ensures ∙ c.in-Some.is in
     let n = sh.taken ∙ sym c.len.ensures.count in
@@ -38,7 +39,7 @@ returns-then-others-parts-clause-fits g c = λ h rs legal may sh.
 
 pub returns-else-wants_worker-clause-fits : goal.returns-else-wants_worker-clause-fits
 returns-else-wants_worker-clause-fits g c = λ h rs legal may sh.
-    let config = c.args.parts.now.config in
+    let config = (terms c.args.parts.now) in
     let s = mark rs (state config h) in
     let seat = sh.seen.seats c.args.w.0 ∙ sym c.get.ensures ∙ c.in-Some.is in
     let n = sh.taken ∙ sym c.len.ensures.count in

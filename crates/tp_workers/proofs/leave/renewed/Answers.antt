@@ -10,13 +10,14 @@ use Rattle.tp_shapes.proofs.Workers.Leave.{leave_renewed}
 use Rattle.tp_parts.proofs.Standing.{entry_here, given_here, seat_here}
 use Rattle.tp_parts.proofs.Leading.{leads_from}
 use Rattle.tp_parts.proofs.Slots.{views_slots, put_again, busy_order}
+use Rattle.tp_parts.specs.Terms.{terms}
 use Rattle.tp_workers.proofs.leave.renewed.Goals as goal
 
 pub count_entry-requires : goal.count_entry-requires
 count_entry-requires g c =
     let old = c.args.parts.now in
     let stands = c.requires.stands in
-    let e = entry_here old stands (ask.Leave c.args.w) (did.Leave c.args.w (Some c.args.w)) _ 1 0 1 c.requires.fits (leave_renewed old.config stands.history c.args.w stands.legal) refl in
+    let e = entry_here old stands (ask.Leave c.args.w) (did.Leave c.args.w (Some c.args.w)) _ 1 0 1 c.requires.fits (leave_renewed (terms old) stands.history c.args.w stands.legal) refl (omega arith) in
     record { few = e.0; fall = e.1 }
 
 pub reserve-requires-clause-room : goal.reserve-requires-clause-room
@@ -42,13 +43,13 @@ returns-clause-leads g c =
     leads_from old c.reserve.new.self (ask.Leave c.args.w) (did.Leave c.args.w (Some c.args.w)) 1 0 1 c.requires.stands c.requires.fits
     (λ h rs legal given sh. (
       _,
-      leave_renewed old.config h c.args.w legal given,
+      leave_renewed (terms old) h c.args.w legal given,
       views_slots _ _ _ _ _ _
-          (λ x. put_again c.args.w.0 (Some bare) None (slot_at (state old.config h).slots) x ∙ ap (λ w. put w (Some bare) (put c.args.w.0 None (slot_at (state old.config h).slots)) x) (sym number))
+          (λ x. put_again c.args.w.0 (Some bare) None (slot_at (state (terms old) h).slots) x ∙ ap (λ w. put w (Some bare) (put c.args.w.0 None (slot_at (state (terms old) h).slots)) x) (sym number))
           (sym (busy_order h c.args.w.0 (ap is_idle_row given.0))) (c.reserve.ensures.views _ (c.free.ensures.views _ (c.count_entry.ensures.views _ sh.seen))),
     ))
-    refl (ap (λ p. p.config) r ∙ ap (λ p. p.config) m ∙ ap (λ p. p.config) k) (ap (λ p. p.steps) r ∙ ap (λ p. p.steps) m ∙ ap (λ p. p.steps) k) (ap (λ p. p.due) r ∙ ap (λ p. p.due) m ∙ ap (λ p. p.due) k)
-    (λ tied. c.reserve.ensures.tied old.config (suc old.steps) (c.free.ensures.tied old.config (suc old.steps) (c.count_entry.ensures.tied old.config (suc old.steps) tied)))
+    refl (ap terms r ∙ ap terms m ∙ ap terms k) (ap (λ p. p.steps) r ∙ ap (λ p. p.steps) m ∙ ap (λ p. p.steps) k) (ap (λ p. p.due) r ∙ ap (λ p. p.due) m ∙ ap (λ p. p.due) k)
+    (λ tied. c.reserve.ensures.tied (terms old) (suc old.steps) (c.free.ensures.tied (terms old) (suc old.steps) (c.count_entry.ensures.tied (terms old) (suc old.steps) tied)))
 
 pub free-requires : goal.free-requires
 free-requires g c =

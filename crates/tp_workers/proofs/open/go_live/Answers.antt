@@ -9,6 +9,7 @@ use Rattle.tp_model.proofs.Given.{Given}
 use Rattle.tp_shapes.proofs.Rows.{bare}
 use Rattle.tp_parts.specs.declared.parts.Parts.{Parts}
 use Rattle.tp_parts.specs.Steps.{Stands, Fits}
+use Rattle.tp_parts.specs.Terms.{terms}
 use Rattle.tp_parts.proofs.Standing.{given_here, seat_here}
 use Rattle.tp_workers.proofs.Reserved.{IsFor, reserved_here, is_core, is_maximum, is_bare}
 use Rattle.std.proofs.lemmas.Option.{none-some}
@@ -19,7 +20,7 @@ opened_here : {P : Type 0} (p : Parts P) (stands : Stands p) (w : SlotId) → Fi
     (slot_at p.slots.slots w.0 ≡ Some bare) ⊎ ((t : TaskId) × IsFor (slot_at p.slots.slots w.0) t)
 opened_here p stands w fits = by (given_here p stands (ask.Open w) (did.Open w opened.Live) fits)
   where
-    by : Given p.config stands.history (did.Open w opened.Live) → (slot_at p.slots.slots w.0 ≡ Some bare) ⊎ ((t : TaskId) × IsFor (slot_at p.slots.slots w.0) t)
+    by : Given (terms p) stands.history (did.Open w opened.Live) → (slot_at p.slots.slots w.0 ≡ Some bare) ⊎ ((t : TaskId) × IsFor (slot_at p.slots.slots w.0) t)
     by (inl given) = inl (seat_here p stands w.0 _ _ given.0)
     by (inr given) = inr (given.0, reserved_here p stands w.0 given.0 given.1)
 

@@ -12,6 +12,7 @@ use Rattle.tp_parts.proofs.Standing.{entry_here}
 use Rattle.tp_parts.proofs.Leading.{leads_from}
 use Rattle.tp_parts.proofs.Slots.{views_slots}
 use Rattle.tp_workers.proofs.Falls.{rises_at_take}
+use Rattle.tp_parts.specs.Terms.{terms}
 use Rattle.tp_workers.proofs.open.live_bare.Goals as goal
 
 pub count_entry-requires : goal.count_entry-requires
@@ -23,7 +24,7 @@ count_entry-requires g c =
     let small = c.owed_at_take-owed.ensures.bound in
     let seat = stands.shows.seen.seats c.args.w.0 ∙ c.requires.seat in
     let e = entry_here old stands (ask.Open c.args.w) d _ 3 n (3 - n) c.requires.fits
-    (λ given. rises_at_take old _ d _ stands.shows.seen.rank n 3 c.owed_at_take-owed.ensures.owed (open_bare old.config stands.history c.args.w stands.legal given seat)) (omega (arith, small)) in
+    (λ given. rises_at_take old _ d _ stands.shows.seen.rank n 3 c.owed_at_take-owed.ensures.owed (open_bare (terms old) stands.history c.args.w stands.legal given seat)) (omega (arith, small)) (omega (arith, small)) in
     record { few = e.0; fall = e.1 }
 
 pub returns-clause-leads : goal.returns-clause-leads
@@ -38,9 +39,9 @@ returns-clause-leads g c =
     leads_from old c.open.new.self (ask.Open c.args.w) d 3 n (3 - n) c.requires.stands c.requires.fits
     (λ h rs legal given sh. (
       _,
-      rises_at_take old _ d _ sh.seen.rank n 3 c.owed_at_take-owed.ensures.owed (open_bare old.config h c.args.w legal given (sh.seen.seats c.args.w.0 ∙ c.requires.seat)),
-      views_slots _ _ _ _ _ _ (λ x. ap (λ o. put c.args.w.0 o (slot_at (state old.config h).slots) x) (sym row)) refl
+      rises_at_take old _ d _ sh.seen.rank n 3 c.owed_at_take-owed.ensures.owed (open_bare (terms old) h c.args.w legal given (sh.seen.seats c.args.w.0 ∙ c.requires.seat)),
+      views_slots _ _ _ _ _ _ (λ x. ap (λ o. put c.args.w.0 o (slot_at (state (terms old) h).slots) x) (sym row)) refl
           (r.views _ (sh.live ∙ sym (ap (λ p. count_by is_live p.slots.slots) k.rest)) (k.views _ sh.seen)),
     ))
-    (omega (arith, small)) (ap (λ p. p.config) r.rest ∙ ap (λ p. p.config) k.rest) (ap (λ p. p.steps) r.rest ∙ ap (λ p. p.steps) k.rest) (ap (λ p. p.due) r.rest ∙ ap (λ p. p.due) k.rest)
+    (omega (arith, small)) (ap terms r.rest ∙ ap terms k.rest) (ap (λ p. p.steps) r.rest ∙ ap (λ p. p.steps) k.rest) (ap (λ p. p.due) r.rest ∙ ap (λ p. p.due) k.rest)
     (λ tied. r.tied _ _ (k.tied _ _ tied))

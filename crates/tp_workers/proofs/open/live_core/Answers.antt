@@ -1,4 +1,4 @@
-use Rattle.std.proofs.Common.{suc, refl, sym, ap, ◌∙◌}
+use Rattle.std.proofs.Common.{suc, refl, sym, ap, ◌∙◌, arith}
 use Rattle.std.specs.Prelude.{count_by}
 use Rattle.tp_record.specs.declared.entries.Ask.TheVariants as ask
 use Rattle.tp_record.specs.declared.entries.Did.TheVariants as did
@@ -11,6 +11,7 @@ use Rattle.tp_shapes.proofs.Workers.Open.{open_core}
 use Rattle.tp_parts.proofs.Standing.{entry_here}
 use Rattle.tp_parts.proofs.Leading.{leads_from}
 use Rattle.tp_parts.proofs.Slots.{views_slots}
+use Rattle.tp_parts.specs.Terms.{terms}
 use Rattle.tp_workers.proofs.open.live_core.Goals as goal
 
 pub count_entry-requires : goal.count_entry-requires
@@ -18,7 +19,7 @@ count_entry-requires g c =
     let stands = c.requires.stands in
     let seat = stands.shows.seen.seats c.args.w.0 ∙ c.requires.seat.1 in
     let e = entry_here c.args.parts.now stands (ask.Open c.args.w) (did.Open c.args.w opened.Live) _ 5 0 5 c.requires.fits
-    (λ given. open_core c.args.parts.now.config stands.history c.args.w c.requires.seat.0 stands.legal given seat) refl in
+    (λ given. open_core (terms c.args.parts.now) stands.history c.args.w c.requires.seat.0 stands.legal given seat) refl (omega arith) in
     record { few = e.0; fall = e.1 }
 
 pub returns-clause-leads : goal.returns-clause-leads
@@ -30,9 +31,9 @@ returns-clause-leads g c =
     leads_from old c.open.new.self (ask.Open c.args.w) (did.Open c.args.w opened.Live) 5 0 5 c.requires.stands c.requires.fits
     (λ h rs legal given sh. (
       _,
-      open_core old.config h c.args.w c.requires.seat.0 legal given (sh.seen.seats c.args.w.0 ∙ c.requires.seat.1),
-      views_slots _ _ _ _ _ _ (λ x. ap (λ o. put c.args.w.0 o (slot_at (state old.config h).slots) x) (sym row)) refl
+      open_core (terms old) h c.args.w c.requires.seat.0 legal given (sh.seen.seats c.args.w.0 ∙ c.requires.seat.1),
+      views_slots _ _ _ _ _ _ (λ x. ap (λ o. put c.args.w.0 o (slot_at (state (terms old) h).slots) x) (sym row)) refl
           (c.open.ensures.views _ (sh.live ∙ sym (ap (λ p. count_by is_live p.slots.slots) k)) (c.count_entry.ensures.views _ sh.seen)),
     ))
-    refl (ap (λ p. p.config) r ∙ ap (λ p. p.config) k) (ap (λ p. p.steps) r ∙ ap (λ p. p.steps) k) (ap (λ p. p.due) r ∙ ap (λ p. p.due) k)
-    (λ tied. c.open.ensures.tied old.config (suc old.steps) (c.count_entry.ensures.tied old.config (suc old.steps) tied))
+    refl (ap terms r ∙ ap terms k) (ap (λ p. p.steps) r ∙ ap (λ p. p.steps) k) (ap (λ p. p.due) r ∙ ap (λ p. p.due) k)
+    (λ tied. c.open.ensures.tied (terms old) (suc old.steps) (c.count_entry.ensures.tied (terms old) (suc old.steps) tied))

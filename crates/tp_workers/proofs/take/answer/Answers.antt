@@ -12,6 +12,7 @@ use Rattle.tp_record.specs.Step.{fitting, of_row, take_answer, within_room}
 use Rattle.tp_parts.specs.declared.parts.Parts.{Parts}
 use Rattle.tp_parts.specs.Shows.{Shows}
 use Rattle.tp_parts.specs.Steps.{Fits, Refuses}
+use Rattle.tp_parts.specs.Terms.{terms}
 use Rattle.tp_workers.specs.Taken.{AreGone}
 use Rattle.tp_workers.proofs.Gone.{all_gone}
 use Rattle.tp_workers.proofs.take.answer.Goals as goal
@@ -19,15 +20,15 @@ use Rattle.tp_workers.proofs.take.answer.Goals as goal
 module _ {P : Type 0} (p : Parts P) (w : SlotId) where
   -- the step answers so in each state that is shown, and of which a task that is not known is gone
   abbrev Answers : Result Took PoolError → Type 0
-  Answers r = (s : State) → Shows p s → AreGone s → fitting p.config s 0 (ask.Take w) ≡ result_map_both (λ k. did.Take w k) (λ e. e) r
+  Answers r = (s : State) → Shows p s → AreGone s → fitting (terms p) s 0 (ask.Take w) ≡ result_map_both (λ k. did.Take w k) (λ e. e) r
 
   fits : (r : Result Took PoolError) → Answers r → IfOk r (λ k. Fits p (ask.Take w) (did.Take w k))
-  fits (Ok k) is = λ h rs legal may sh. (is (mark rs (state p.config h)) sh (all_gone p.config h rs may), tt)
+  fits (Ok k) is = λ h rs legal may sh. (is (mark rs (state (terms p) h)) sh (all_gone (terms p) h rs may), tt)
   fits (Err e) is = tt
 
   refuses : (r : Result Took PoolError) → Answers r → IfErr r (λ e. Refuses p (ask.Take w) e)
   refuses (Ok k) is = tt
-  refuses (Err e) is = λ h rs legal may sh n free. ap (within_room p.config (mark rs (state p.config h))) (is (mark rs (state p.config h)) sh (all_gone p.config h rs may))
+  refuses (Err e) is = λ h rs legal may sh n free. ap (within_room (terms p) (mark rs (state (terms p) h))) (is (mark rs (state (terms p) h)) sh (all_gone (terms p) h rs may))
 
 pub returns-in-Working-Some-clause-fits : goal.returns-in-Working-Some-clause-fits
 returns-in-Working-Some-clause-fits g c =

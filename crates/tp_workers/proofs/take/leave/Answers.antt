@@ -11,6 +11,7 @@ use Rattle.tp_parts.proofs.Slots.{views_slots, busy_order}
 use Rattle.tp_workers.proofs.Falls.{falls_at_take}
 use Rattle.tp_workers.proofs.Waiting.{taking_row}
 use Rattle.tp_record.specs.State.{slot_at}
+use Rattle.tp_parts.specs.Terms.{terms}
 use Rattle.tp_workers.proofs.take.leave.Goals as goal
 
 pub count_entry-requires : goal.count_entry-requires
@@ -21,7 +22,7 @@ count_entry-requires g c =
     let n = c.owed_at_take.result in
     let row = taking_row old stands c.args.w.0 (given_here old stands (ask.Take c.args.w) d c.requires.fits).0 c.requires.busy in
     let entry = entry_here old stands (ask.Take c.args.w) d _ n 0 n c.requires.fits
-    (λ given. falls_at_take old _ d _ stands.shows.seen.rank n 0 c.owed_at_take.ensures.owed (take_leave old.config stands.history c.args.w stands.legal given (stands.shows.seen.seats c.args.w.0 ∙ row))) (omega arith) in
+    (λ given. falls_at_take old _ d _ stands.shows.seen.rank n 0 c.owed_at_take.ensures.owed (take_leave (terms old) stands.history c.args.w stands.legal given (stands.shows.seen.seats c.args.w.0 ∙ row))) (omega arith) c.owed_at_take.ensures.least in
     record { few = entry.0; fall = entry.1 }
 
 pub returns-clause-leads : goal.returns-clause-leads
@@ -37,10 +38,10 @@ returns-clause-leads g c =
     (λ h rs legal given sh.
     let seat = sh.seen.seats c.args.w.0 ∙ row in (
       _,
-      falls_at_take old _ d _ sh.seen.rank n 0 c.owed_at_take.ensures.owed (take_leave old.config h c.args.w legal given seat),
+      falls_at_take old _ d _ sh.seen.rank n 0 c.owed_at_take.ensures.owed (take_leave (terms old) h c.args.w legal given seat),
       views_slots _ _ _ _ _ _ (λ x. refl) (sym (busy_order h c.args.w.0 (ap is_idle_row (sym (slot_read h c.args.w.0) ∙ seat)))) (r.views _ (k.views _ sh.seen)),
     ))
-    (omega arith) (ap (λ p. p.config) r.rest ∙ ap (λ p. p.config) k.rest) (ap (λ p. p.steps) r.rest ∙ ap (λ p. p.steps) k.rest) (ap (λ p. p.due) r.rest ∙ ap (λ p. p.due) k.rest)
+    (omega arith) (ap terms r.rest ∙ ap terms k.rest) (ap (λ p. p.steps) r.rest ∙ ap (λ p. p.steps) k.rest) (ap (λ p. p.due) r.rest ∙ ap (λ p. p.due) k.rest)
     (λ tied. r.tied _ _ (k.tied _ _ tied))
 
 pub free-requires : goal.free-requires

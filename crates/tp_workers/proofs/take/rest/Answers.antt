@@ -5,15 +5,16 @@ use Rattle.tp_record.specs.declared.entries.Took.TheVariants as took
 use Rattle.tp_record.specs.declared.rows.Stage.TheVariants as stages
 use Rattle.tp_record.specs.State.{slot_at}
 use Rattle.tp_shapes.proofs.Workers.Take.{take_idle}
-use Rattle.tp_parts.proofs.Standing.{entry_here, few_steps, given_here, seat_here}
+use Rattle.tp_parts.proofs.Standing.{entry_here, given_here, seat_here}
 use Rattle.tp_parts.proofs.Leading.{leads_from}
+use Rattle.tp_parts.specs.Terms.{terms}
 use Rattle.tp_workers.proofs.take.rest.Goals as goal
 
 pub count_entry-requires : goal.count_entry-requires
 count_entry-requires g c =
     let old = c.args.parts.now in
     let stands = c.requires.stands in
-    let entry = entry_here old stands (ask.Take c.args.w) (did.Take c.args.w took.Idle) _ 1 0 1 c.requires.fits (λ given. take_idle old.config stands.history c.args.w stands.legal given) refl in
+    let entry = entry_here old stands (ask.Take c.args.w) (did.Take c.args.w took.Idle) _ 1 0 1 c.requires.fits (λ given. take_idle (terms old) stands.history c.args.w stands.legal given) refl (omega arith) in
     record { few = entry.0; fall = entry.1 }
 
 pub idle-requires : goal.idle-requires
@@ -21,7 +22,8 @@ idle-requires g c =
     let old = c.args.parts.now in
     let stands = c.requires.stands in
     let given = given_here old stands (ask.Take c.args.w) (did.Take c.args.w took.Idle) c.requires.fits in
-    let few = few_steps old stands in
+    let entry = entry_here old stands (ask.Take c.args.w) (did.Take c.args.w took.Idle) _ 1 0 1 c.requires.fits (λ given. take_idle (terms old) stands.history c.args.w stands.legal given) refl (omega arith) in
+    let few = entry.0 in
     let idlings = stands.tied.idlings in
     let same = ap (λ p. p.slots.idlings) c.count_entry.ensures.rest in
     record {
@@ -37,6 +39,6 @@ returns-clause-leads g c =
     let idlings = c.requires.stands.tied.idlings in
     let same = ap (λ p. p.slots.idlings) k.rest in
     leads_from old c.idle.new.self (ask.Take c.args.w) (did.Take c.args.w took.Idle) 1 0 1 c.requires.stands c.requires.fits
-    (λ h rs legal given sh. (_, take_idle old.config h c.args.w legal given, r.views _ (k.views _ sh.seen)))
-    refl (ap (λ p. p.config) r.rest ∙ ap (λ p. p.config) k.rest) (ap (λ p. p.steps) r.rest ∙ ap (λ p. p.steps) k.rest) (ap (λ p. p.due) r.rest ∙ ap (λ p. p.due) k.rest)
-    (λ tied. r.tied old.config (suc old.steps) (k.tied old.config (suc old.steps) tied) (omega (arith, same, idlings)))
+    (λ h rs legal given sh. (_, take_idle (terms old) h c.args.w legal given, r.views _ (k.views _ sh.seen)))
+    refl (ap terms r.rest ∙ ap terms k.rest) (ap (λ p. p.steps) r.rest ∙ ap (λ p. p.steps) k.rest) (ap (λ p. p.due) r.rest ∙ ap (λ p. p.due) k.rest)
+    (λ tied. r.tied (terms old) (suc old.steps) (k.tied (terms old) (suc old.steps) tied) (omega (arith, same, idlings)))

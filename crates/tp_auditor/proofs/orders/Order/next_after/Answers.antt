@@ -13,17 +13,17 @@ returns-in_err-place c =
 pub overflow_add-place : goal.overflow_add-place
 overflow_add-place c =
     let n = c.in_ok-place.field-0.now in
-    let below = place_below 0 c.self.inside.line.items c.self.inside.line.offers c.args.x n c.rises.ensures.rises (c.self.invariant.0.placed c.args.x n (sym c.in_ok-place.ensures.value)) in
+    let below = place_below 0 c.self.inside.line.items c.self.inside.line.offers c.args.x n c.law_rises.ensures.rises (c.self.invariant.0.placed c.args.x n (sym c.in_ok-place.ensures.value)) in
     omega (arith, below, c.self.invariant.1)
 
 pub returns-in_err-next : goal.returns-in_err-next
 returns-in_err-next c =
     let n = c.in_ok-place.field-0.now in
-    let found = next_found c.self.inside.line.items c.self.inside.places c.self.inside.line.offers c.args.x n (n + 1) c.self.invariant.0 c.rises.ensures.rises c.in_ok-place.ensures.value (omega arith) in
+    let found = next_found c.self.inside.line.items c.self.inside.places c.self.inside.line.offers c.args.x n (n + 1) c.self.invariant.0 c.law_rises.ensures.rises c.in_ok-place.ensures.value (omega arith) in
     c.from_residual-in_err-next.ensures ∙ ap (option_map (λ p. p.0)) c.in_err-next.ensures ∙ found ∙ ap (next_of c.args.x) c.self.view_is
 
 pub returns : goal.returns
 returns c =
     let n = c.in_ok-place.field-0.now in
-    let found = next_found c.self.inside.line.items c.self.inside.places c.self.inside.line.offers c.args.x n (n + 1) c.self.invariant.0 c.rises.ensures.rises c.in_ok-place.ensures.value (omega arith) in
+    let found = next_found c.self.inside.line.items c.self.inside.places c.self.inside.line.offers c.args.x n (n + 1) c.self.invariant.0 c.law_rises.ensures.rises c.in_ok-place.ensures.value (omega arith) in
     ap (option_map (λ p. p.0)) c.in_ok-next.ensures ∙ found ∙ ap (next_of c.args.x) c.self.view_is

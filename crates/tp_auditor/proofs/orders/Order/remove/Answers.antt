@@ -8,13 +8,13 @@ use Rattle.tp_auditor.proofs.orders.Order.remove.Goals as goal
 pub invariant_of-self : goal.invariant_of-self
 invariant_of-self c =
     let less = placed-less c.self.inside.line.items c.self.inside.places c.swap_remove.new.self c.args.x c.in-Some.place c.self.invariant.0
-    c.self.inside.line.offers c.rises.ensures.rises c.in-Some.ensures.value c.swap_remove.ensures.updates in
+    c.self.inside.line.offers c.law_rises.ensures.rises c.in-Some.ensures.value c.swap_remove.ensures.updates in
     (subst (λ (l : Line ℕ). ArePlaced l.items c.swap_remove.new.self) (sym c.remove.ensures) less, c.self.invariant.1 ∙ sym (ap (λ (l : Line ℕ). l.offers) c.remove.ensures))
 
 pub returns-in-Some : goal.returns-in-Some
 returns-in-Some c =
     ap (λ (l : Line ℕ). ids l.items) c.remove.ensures
-    ∙ ids-less c.self.inside.line.items c.self.inside.places c.swap_remove.new.self c.args.x c.in-Some.place c.self.invariant.0 c.self.inside.line.offers c.rises.ensures.rises c.in-Some.ensures.value c.swap_remove.ensures.updates
+    ∙ ids-less c.self.inside.line.items c.self.inside.places c.swap_remove.new.self c.args.x c.in-Some.place c.self.invariant.0 c.self.inside.line.offers c.law_rises.ensures.rises c.in-Some.ensures.value c.swap_remove.ensures.updates
     ∙ ap (without c.args.x) c.self.view_is
 
 pub returns-in_default : goal.returns-in_default

@@ -1,6 +1,7 @@
-use Rattle.std.proofs.Common.{◌≡◌}
-use Rattle.tp_book.proofs.Stepping.{read_of}
+use Rattle.std.proofs.Common.{refl}
+use Rattle.tp_book.proofs.Reading.{reads_else}
 use Rattle.tp_book.proofs.book.Book.core_size.Goals as goal
 
 pub returns : goal.returns
-returns g c = read_of c.self.view_is (λ s. c.core_size.result ≡ s.core) c.core_size.ensures c.self.invariant.0
+returns g c =
+    reads_else g.R.Recorder.tells g.R.Recorder.terms c.self.inside.machine c.self.inside.seat g.R.Recorder.RECEIPTS c.self.inside.accounts c.self.invariant.0 c.args.self.now c.self.view_is (λ s. s.core) _ c.core_size.ensures (λ _ _ _ _. refl)

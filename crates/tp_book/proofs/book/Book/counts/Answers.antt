@@ -1,7 +1,10 @@
-use Rattle.std.proofs.Common.{◌≡◌}
-use Rattle.tp_book.proofs.Stepping.{read_of}
 use Rattle.tp_record.specs.State.{counts}
+use Rattle.tp_left.proofs.LeftOut.{counts_legal}
+use Rattle.tp_machine.specs.Seen.{config_of}
+use Rattle.tp_book.proofs.Reading.{reads}
 use Rattle.tp_book.proofs.book.Book.counts.Goals as goal
 
 pub returns : goal.returns
-returns g c = read_of c.self.view_is (λ s. c.counts.result ≡ counts s) c.counts.ensures c.self.invariant.0
+returns g c =
+    let held = c.self.invariant.0 in
+    reads g.R.Recorder.tells g.R.Recorder.terms c.self.inside.machine c.self.inside.seat g.R.Recorder.RECEIPTS c.self.inside.accounts c.self.invariant.0 c.args.self.now c.self.view_is counts _ c.counts.ensures (counts_legal (config_of c.self.inside.machine) c.self.inside.seat held.stands.legal held.released held.stands.may)

@@ -1,27 +1,34 @@
-use Rattle.std.proofs.Common.{◌≡◌, Option, Some, None}
-use Rattle.std.specs.Prelude.{IfNone}
-use Rattle.std.proofs.lemmas.Option.{IfSome_then}
+use Rattle.std.proofs.Common.{◌≡◌, Some, refl, sym, ◌∙◌}
 use Rattle.tp_types.specs.declared.ids.SlotId.{SlotId}
 use Rattle.tp_record.specs.declared.entries.Ask.TheVariants as ask
 use Rattle.tp_record.specs.declared.entries.Did.TheVariants as did
 use Rattle.tp_record.specs.declared.entries.Took.TheVariants as took
+use Rattle.tp_record.specs.State.{state}
 use Rattle.tp_slots.specs.Table.{first_slot}
 use Rattle.tp_parts.specs.Steps.{IsFitting}
-use Rattle.tp_book.proofs.Stepping.{read_by, read_of}
+use Rattle.tp_machine.specs.Seen.{config_of}
+use Rattle.tp_book.proofs.Left.{else_left, take_left, take_whole}
+use Rattle.tp_book.proofs.Reading.{some_holds, none_holds}
 use Rattle.tp_book.proofs.book.Book.leaving.Goals as goal
-
-none_then : {A : Type 0} (o : Option A) {F G : Type 0} → IfNone o F → (F → G) → IfNone o G
-none_then (Some x) none then = tt
-none_then None none then = then none
 
 pub returns-clause-leaves : goal.returns-clause-leaves
 returns-clause-leaves g c =
-    IfSome_then c.leaving.result c.leaving.ensures.leaves (λ w each. read_by c.self.view_is (λ k s. IsFitting k s (ask.Take w) (did.Take w took.Leave)) each c.self.invariant.0)
+    let held = c.self.invariant.0 in
+    some_holds g.R.Recorder.tells g.R.Recorder.terms c.self.inside.machine c.self.inside.seat g.R.Recorder.RECEIPTS c.self.inside.accounts c.self.invariant.0 c.args.self.now c.self.view_is
+    (λ settings s w. IsFitting settings s (ask.Take w) (did.Take w took.Leave)) _ c.leaving.ensures.leaves
+    (λ w. take_left (config_of c.self.inside.machine) c.self.inside.seat held.released held.stands.legal held.stands.may w took.Leave)
 
 pub returns-clause-longest : goal.returns-clause-longest
-returns-clause-longest g c = IfSome_then c.leaving.result c.leaving.ensures.longest (λ w each. read_of c.self.view_is (λ s. first_slot s.idling ≡ Some w) each c.self.invariant.0)
+returns-clause-longest g c =
+    let held = c.self.invariant.0 in
+    some_holds g.R.Recorder.tells g.R.Recorder.terms c.self.inside.machine c.self.inside.seat g.R.Recorder.RECEIPTS c.self.inside.accounts c.self.invariant.0 c.args.self.now c.self.view_is
+    (λ _ s w. first_slot s.idling ≡ Some w) _ c.leaving.ensures.longest
+    (λ w is. sym (else_left (λ s. first_slot s.idling) (λ _ _ _ _. refl) held.released (state (config_of c.self.inside.machine) c.self.inside.seat)) ∙ is)
 
 pub returns-clause-stays : goal.returns-clause-stays
 returns-clause-stays g c =
-    none_then c.leaving.result c.leaving.ensures.stays
-    (λ each. read_by c.self.view_is (λ k s. (w : SlotId) → first_slot s.idling ≡ Some w → ¬ IsFitting k s (ask.Take w) (did.Take w took.Leave)) each c.self.invariant.0)
+    let held = c.self.invariant.0 in
+    none_holds g.R.Recorder.tells g.R.Recorder.terms c.self.inside.machine c.self.inside.seat g.R.Recorder.RECEIPTS c.self.inside.accounts c.self.invariant.0 c.args.self.now c.self.view_is
+    (λ settings s. (w : SlotId) → first_slot s.idling ≡ Some w → ¬ IsFitting settings s (ask.Take w) (did.Take w took.Leave)) _ c.leaving.ensures.stays
+    (λ stays w is fits. stays w (else_left (λ s. first_slot s.idling) (λ _ _ _ _. refl) held.released (state (config_of c.self.inside.machine) c.self.inside.seat) ∙ is)
+    (take_whole (config_of c.self.inside.machine) c.self.inside.seat held.released held.stands.legal held.stands.may w took.Leave fits))

@@ -1,7 +1,5 @@
-use Rattle.std.proofs.Common.{◌≡◌}
-use Rattle.tp_book.proofs.Stepping.{read_of}
-use Rattle.tp_machine.specs.Readings.{value_in}
+use Rattle.tp_book.proofs.Reading.{value}
 use Rattle.tp_book.proofs.book.Book.result.Goals as goal
 
 pub returns-clause-value : goal.returns-clause-value
-returns-clause-value g c = read_of c.self.view_is (λ s. c.result.result ≡ value_in s c.args.t.0) c.result.ensures.value c.self.invariant.0
+returns-clause-value g c = value g.R.Recorder.tells g.R.Recorder.terms c.self.inside.machine c.self.inside.seat g.R.Recorder.RECEIPTS c.self.inside.accounts c.self.invariant.0 c.args.self.now c.self.view_is (record { whole = c.law_forgets_at_will.ensures.whole; any = c.law_forgets_at_will.ensures.any }) c.args.t.0 _ c.result.ensures.value

@@ -1,7 +1,8 @@
-use Rattle.std.proofs.Common.{◌≡◌}
-use Rattle.tp_book.proofs.Stepping.{read_of}
+use Rattle.std.proofs.Common.{refl}
+use Rattle.tp_book.proofs.Reading.{reads_else}
 use Rattle.tp_record.specs.Step.{slot_count}
 use Rattle.tp_book.proofs.book.Book.slots.Goals as goal
 
 pub returns : goal.returns
-returns g c = read_of c.self.view_is (λ s. c.slots.result ≡ slot_count s) c.slots.ensures c.self.invariant.0
+returns g c =
+    reads_else g.R.Recorder.tells g.R.Recorder.terms c.self.inside.machine c.self.inside.seat g.R.Recorder.RECEIPTS c.self.inside.accounts c.self.invariant.0 c.args.self.now c.self.view_is (λ s. slot_count s) _ c.slots.ensures (λ _ _ _ _. refl)

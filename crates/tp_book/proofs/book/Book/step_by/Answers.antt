@@ -1,52 +1,35 @@
-use Rattle.std.proofs.Common.{◌∙◌, [], ap, arith, length, subst, sym}
+use Rattle.std.proofs.Common.{subst, sym}
 use Rattle.tp_glance.specs.Word.{IsFrontOf}
 use Rattle.tp_glance.proofs.Fronts.{IsFrontOf_noted}
-use Rattle.tp_machine.specs.Seen.{At}
-use Rattle.tp_book.specs.BookView.{BookView, config, tells}
 use Rattle.tp_book.proofs.Stepping.{grown, rank_at, advances, unmoved, denies}
 use Rattle.tp_book.proofs.book.Book.step_by.Goals as goal
 
-pub invariant_of-self : goal.invariant_of-self
-invariant_of-self g c =
-    let same = c.learn.ensures.same in (
-      subst (λ h. At tells c.make.new.machine h []) (sym same) (c.in-Err.ensures.unchanged.stands c.self.inside.seat [] c.self.invariant.0),
-      c.self.invariant.1 ∙ sym (ap (λ h. length h) same),
-    )
-
-pub invariant_of-self-2 : goal.invariant_of-self-2
-invariant_of-self-2 g c =
-    let noted = c.pay.ensures.noted in (
-      subst (λ h. At tells c.make.new.machine h []) (sym noted)
-          (grown c.self.inside.machine c.make.new.machine c.self.inside.seat c.payer-by.result _ c.ask.result _ c.did.result c.self.invariant.0 c.in-Ok.ensures.step c.ask.ensures c.did.ensures),
-      let before = c.self.invariant.1 in let paid = c.pay.ensures.total in let longer = ap (λ h. length h) noted in grind arith,
-    )
-
 pub returns-in-Err-clause-refused : goal.returns-in-Err-clause-refused
 returns-in-Err-clause-refused g c =
-    denies c.args.self.now c.self.inside.machine c.self.inside.accounts c.self.inside.seat c.self.view_is _ c.in-Err.refused.0 c.self.invariant.0 c.in-Err.ensures.refused
+    denies g.R.Recorder.tells g.R.Recorder.terms g.R.Recorder.RECEIPTS (record { whole = c.law_forgets_at_will.ensures.whole; any = c.law_forgets_at_will.ensures.any }) c.args.self.now c.self.inside.machine c.self.inside.accounts c.self.inside.seat c.self.invariant.0 c.self.view_is
+    _ c.in-Err.refused.0 c.in-Err.ensures.refused
 
 pub returns-in-Err-clause-unchanged : goal.returns-in-Err-clause-unchanged
 returns-in-Err-clause-unchanged g c =
-    unmoved c.args.self.now c.self.inside.machine c.self.inside.accounts c.self.inside.seat c.self.view_is c.make.new.machine _ c.learn.ensures.same c.in-Err.ensures.unchanged
+    unmoved g.R.Recorder.tells g.R.Recorder.terms g.R.Recorder.RECEIPTS (record { whole = c.law_forgets_at_will.ensures.whole; any = c.law_forgets_at_will.ensures.any }) c.args.self.now c.self.inside.machine c.self.inside.accounts c.self.inside.seat c.self.invariant.0 c.self.view_is
+    c.make.new.machine _ c.learn.ensures.same c.in-Err.ensures.unchanged
 
 pub pay-requires-clause-before : goal.pay-requires-clause-before
-pay-requires-clause-before g c = rank_at c.self.inside.machine c.self.inside.seat _ c.self.invariant.0 c.state-before.ensures
+pay-requires-clause-before g c = rank_at g.R.Recorder.tells g.R.Recorder.terms c.self.inside.machine c.self.inside.seat _ c.self.invariant.0 c.state-before.ensures
 
 pub pay-requires-clause-after : goal.pay-requires-clause-after
 pay-requires-clause-after g c =
-    rank_at c.make.new.machine _ _
-    (grown c.self.inside.machine c.make.new.machine c.self.inside.seat c.payer-by.result _ c.ask.result _ c.did.result c.self.invariant.0 c.in-Ok.ensures.step c.ask.ensures c.did.ensures)
+    rank_at g.R.Recorder.tells g.R.Recorder.terms c.make.new.machine _ _
+    (grown g.R.Recorder.tells g.R.Recorder.terms c.self.inside.machine c.make.new.machine c.self.inside.seat c.payer-by.result _ c.ask.result _ c.did.result c.self.invariant.0
+    c.in-Ok.ensures.step c.ask.ensures c.did.ensures)
     c.state.ensures
 
 pub returns-clause-step : goal.returns-clause-step
 returns-clause-step g c =
-    advances c.args.self.now c.self.inside.machine c.self.inside.accounts c.self.inside.seat c.self.view_is c.make.new.machine
+    advances g.R.Recorder.tells g.R.Recorder.terms g.R.Recorder.RECEIPTS (record { whole = c.law_forgets_at_will.ensures.whole; any = c.law_forgets_at_will.ensures.any }) c.args.self.now c.self.inside.machine c.self.inside.accounts c.self.inside.seat c.self.invariant.0 c.self.view_is
+    c.make.new.machine
     _ _ c.payer-by.result _ _ c.ask.result _ c.did.result _ c.payer-by.ensures c.ask.ensures c.did.ensures c.in-Ok.ensures.promised
     c.in-Ok.ensures.step c.in-Ok.ensures.moves c.pay.ensures.total c.pay.ensures.noted
 
 pub returns-clause-goes_on : goal.returns-clause-goes_on
 returns-clause-goes_on g c = subst (λ h. IsFrontOf (g.A.Payer.front c.args.pass.now) h) (sym c.pay.ensures.noted) (IsFrontOf_noted _ c.pay.ensures.knew)
-
-pub returns-clause-says : goal.returns-clause-says
-returns-clause-says g c =
-    subst (λ (b : BookView g.row.P.Denot). g.S.Step.says c.args.step c.in-Ok.answer (config b) b.history) c.self.view_is (c.in-Ok.ensures.says c.self.inside.seat [] c.self.invariant.0)

@@ -5,5 +5,5 @@ use Rattle.tp_locked.proofs.locked.Core.show_awaited.Goals as goal
 
 pub returns-clause-reads : goal.returns-clause-reads
 returns-clause-reads g c =
-    known_book c.args.self.now.book g.G.PoolNaming.config c.is_book.ensures c.show.new.pass.front (λ b. IsFound b c.args.t.0 c.args.deadline c.await_result.result) (ap (λ p. p.front) c.show.ensures.shown)
-    (subst (λ v. IsFound v.book c.args.t.0 c.args.deadline c.await_result.result) c.show.ensures.same c.await_result.ensures.here)
+    known_book c.args.self.now.book (g.R.Recorder.terms g.G.PoolNaming.config) c.law_is_book.ensures c.show.new.pass.front (λ b. IsFound b c.args.t.0 g.R.Recorder.RECEIPTS c.args.deadline c.await_result.result) (ap (λ p. p.front) c.show.ensures.shown)
+    (subst (λ v. IsFound v.book c.args.t.0 g.R.Recorder.RECEIPTS c.args.deadline c.await_result.result) c.show.ensures.same c.await_result.ensures.here)

@@ -1,15 +1,16 @@
 use Rattle.std.proofs.Common.{subst, ◌∙◌}
-use Rattle.tp_locked.proofs.Adding.{denies}
+use Rattle.tp_locked.specs.Roused.{IsRoused}
+use Rattle.tp_locked.proofs.Adding.{denies, holds}
 use Rattle.tp_locked.proofs.locked.Core.step_by.Goals as goal
 
 pub returns-in-Err-clause-denies : goal.returns-in-Err-clause-denies
 returns-in-Err-clause-denies g c =
-    denies c.args.self.now c.self.inside.book c.step_by.new.self c.self.inside.roster c.self.inside.waking c.self.view_is _ _ c.in-Err.ensures.refused c.in-Err.ensures.unchanged
+    denies g.R.Recorder.RECEIPTS c.args.self.now c.self.inside.book c.step_by.new.self c.self.inside.roster c.self.inside.waking c.self.view_is _ _ c.in-Err.ensures.refused c.in-Err.ensures.unchanged
 
 pub returns-in-Err-clause-refused : goal.returns-in-Err-clause-refused
 returns-in-Err-clause-refused g c = record {
   book = c.self.inside.book;
-  is = record { settings = c.self.invariant.0; stands = c.is_balanced.ensures.stands; accounted = c.is_balanced.ensures.accounted };
+  is = record { settings = c.self.invariant.0; stands = c.law_is_balanced.ensures.stands; accounted = c.law_is_balanced.ensures.accounted };
   goes_on = c.in-Err.ensures.knew;
   denied = c.in-Err.ensures.refused;
   shown = c.in-Err.ensures.front ∙ c.in-Err.ensures.unchanged.history;
@@ -18,4 +19,12 @@ returns-in-Err-clause-refused g c = record {
 pub returns-clause-says : goal.returns-clause-says
 returns-clause-says g c =
     let says = subst (λ k. g.S.Step.says c.args.step c.in-Ok.answer k c.self.inside.book.history) c.self.invariant.0 c.in-Ok.ensures.says in
-    subst (λ v. g.S.Step.says c.args.step c.in-Ok.answer g.G.PoolNaming.config v.book.history) c.self.view_is says
+    subst (λ v. g.S.Step.says c.args.step c.in-Ok.answer (g.R.Recorder.terms g.G.PoolNaming.config) v.book.history) c.self.view_is says
+
+pub returns-clause-holds : goal.returns-clause-holds
+returns-clause-holds g c =
+    let roused =
+    subst (λ a. IsRoused c.step_by.new.self c.self.inside.waking c.rouse.new.waking a (g.S.Step.did c.args.step c.in-Ok.answer)) c.ask.ensures
+    (subst (λ d. IsRoused c.step_by.new.self c.self.inside.waking c.rouse.new.waking c.ask.result d) c.did.ensures c.rouse.ensures.roused) in
+    holds g.R.Recorder.RECEIPTS c.args.self.now c.self.inside.book c.step_by.new.self c.settle.new._book c.self.inside.roster c.self.inside.waking c.rouse.new.waking c.self.view_is _ _ _ _
+    c.in-Ok.ensures.step c.settle.ensures roused

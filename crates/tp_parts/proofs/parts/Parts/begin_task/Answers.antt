@@ -8,5 +8,5 @@ returns-clause-tied g c = λ config n tied.
     let k = c.requires.known in
     let p = c.take_payload.ensures in
     let s = c.set_place.ensures.set k.0 (p.row ∙ k.1) in
-    tied_paid config n c.args.self.now tied c.set_place.new.self c.args.t.0 k.0 _ k.1 s.row (λ u e. s.others u e ∙ p.others u e) (s.submitted ∙ p.submitted) (s.number ∙ p.number) (s.promise ∙ p.promise) refl refl
+    tied_paid config n c.args.self.now tied c.set_place.new.self c.args.t.0 k.0 _ k.1 s.row (λ u e. s.others u e ∙ p.others u e) (s.number ∙ p.number) (s.promise ∙ p.promise) refl refl
     (ap (λ o. is_some o) (s.payload ∙ p.gone) ∙ sym (ap (λ b. b && not k.0.cancelled) c.requires.begun))

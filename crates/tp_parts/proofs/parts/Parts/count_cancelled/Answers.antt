@@ -9,9 +9,8 @@ overflow_cast-result g c =
     let p = c.args.self.now in
     let fewer = length-filter-le (λ x. flag p.tasks x.0.0) (waiting_of p.queue).items in
     let few = c.requires.few in
-    let offers = c.is_lawful.ensures.few in
     let is = c.count.ensures in
-    omega (arith, fewer, few, offers, is)
+    omega (arith, fewer, few, is)
 
 pub returns : goal.returns
 returns g c = λ v views holds. c.count.ensures ∙ cancelled_count c.args.self.now v views holds

@@ -67,7 +67,7 @@ returns-clause-tied g c = λ config n tied few.
     let s = c.set_place_number.ensures in
     let before = sym c.row.ensures ∙ c.in-Some.is in
     let there = s.row ∙ before in
-    let noted = tied_number config n old tied c.set_place_number.new.self c.args.t c.requires.absent s.others s.submitted s.row s.promise s.payload in
+    let noted = tied_number config n old tied c.set_place_number.new.self c.args.t c.requires.absent s.others s.row s.promise s.payload in
     let set = c.hand.ensures.set c.in-Some.row there in
     let turned = tied_row config n (record old { tasks = c.set_place_number.new.self }) noted c.hand.new.self c.args.t.0 c.in-Some.row _ there set (waits_on c.requires.known.0 c.in-Some.row (sym c.requires.known.1 ∙ before) c.requires.known.2) refl refl in
     tied_longer config n (record old { tasks = c.hand.new.self }) turned c.offer.new.self c.args.t _ set.row c.in-Ok.ensures.queued few (set.number ∙ s.number ∙ ap (λ x. Some x) c.in-Ok.ensures.place)

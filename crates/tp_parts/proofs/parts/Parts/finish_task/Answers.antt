@@ -12,7 +12,7 @@ returns-clause-tied g c = λ config n tied.
     let there = sym c.row.ensures ∙ c.in-Some.is in
     let p = c.take_payload-payload.ensures in
     let s = c.finish.ensures.set in
-    tied_paid config n c.args.self.now tied c.finish.new.self c.args.t.0 c.in-Some.row _ there s.row (λ u e. s.others u e ∙ p.others u e) (s.submitted ∙ p.submitted) (s.number ∙ p.number) (s.promise ∙ p.promise) refl refl
+    tied_paid config n c.args.self.now tied c.finish.new.self c.args.t.0 c.in-Some.row _ there s.row (λ u e. s.others u e ∙ p.others u e) (s.number ∙ p.number) (s.promise ∙ p.promise) refl refl
     (ap (λ o. is_some o) (s.payload ∙ p.gone))
 
 pub returns-clause-views : goal.returns-clause-views

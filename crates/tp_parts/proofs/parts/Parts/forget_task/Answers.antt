@@ -18,4 +18,4 @@ returns-clause-views g c = λ v views.
 pub returns-clause-tied : goal.returns-clause-tied
 returns-clause-tied g c = λ config n tied.
     let s = c.release.ensures in
-    tied_forgets config n c.args.self.now tied c.release.new.self c.args.t c.requires.unqueued s.gone s.others s.submitted
+    tied_forgets config n c.args.self.now tied c.release.new.self c.args.t c.requires.unqueued s.gone s.others

@@ -7,9 +7,8 @@ use Rattle.tp_parts.proofs.parts.Parts.put_task.Goals as goal
 pub returns-clause-tied : goal.returns-clause-tied
 returns-clause-tied g c = λ config n tied.
     let p = c.put.ensures in
-    let counted = p.submitted in
     let number = p.number in
-    tied_new config n c.args.self.now tied c.put.new.self c.put.result.0 _ p.row (ap (λ b. b && true) c.requires.before) refl (ap (λ o. is_some o) p.payload) (unqueued _ (c.args.self.now.tasks.below c.put.result.0 (omega (arith, number)))) p.others (omega (arith, counted))
+    tied_new config n c.args.self.now tied c.put.new.self c.put.result.0 _ p.row (ap (λ b. b && true) c.requires.before) refl (ap (λ o. is_some o) p.payload) (unqueued _ (c.args.self.now.tasks.below c.put.result.0 (omega (arith, number)))) p.others
     c.requires.memory.place
 
 pub returns-clause-views : goal.returns-clause-views

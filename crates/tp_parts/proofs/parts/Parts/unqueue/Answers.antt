@@ -33,7 +33,7 @@ returns-clause-views g c = λ v views.
     let made = ap (λ r. place_key w.kind r c.in-Some-place_number.number) (sym (ap priority_in row)) in
     views_queue old v views c.remove.new.self (without t.0 v.queue)
     (ap (without t.0) views.queued
-    ∙ sym (numbers-unqueued w.items _ t _ c.is_lawful.ensures.keys c.requires.queued (λ m has. key_once w (row_of old.tasks t.0) (number_of old.tasks t.0) _ m c.in-Some-place_number.number number made (c.requires.keyed t m has)))
+    ∙ sym (numbers-unqueued w.items _ t _ c.law_is_lawful.ensures.keys c.requires.queued (λ m has. key_once w (row_of old.tasks t.0) (number_of old.tasks t.0) _ m c.in-Some-place_number.number number made (c.requires.keyed t m has)))
     ∙ sym (ap (λ x. numbers x.items) c.remove.ensures))
 
 pub returns-clause-tied : goal.returns-clause-tied

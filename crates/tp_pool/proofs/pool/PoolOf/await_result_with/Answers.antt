@@ -10,14 +10,14 @@ use Rattle.tp_pool.proofs.pool.PoolOf.await_result_with.Goals as goal
 
 pub returns-in-Some-transpose : goal.returns-in-Some-transpose
 returns-in-Some-transpose g c =
-    let config = g.G.PoolNaming.config in
+    let config = (g.K.Recorder.terms g.G.PoolNaming.config) in
     let found = c.show_awaited-found.result in
     let answer = c.in-Some-transpose.answer in
     let is : result_transpose found ≡ Some answer = subst (λ k. k ≡ Some answer) c.transpose.ensures c.in-Some-transpose.is in record {
-      reads = subst (λ r. BookAt (Task g.row.J.Denot) config c.show_awaited-found.new.pass.front (λ b. IsFound b c.args.t.0 c.args.deadline r)) (got_is found answer is) c.show_awaited-found.ensures.reads;
+      reads = subst (λ r. BookAt (Task g.row.J.Denot) config c.show_awaited-found.new.pass.front (λ b. IsFound b c.args.t.0 g.K.Recorder.RECEIPTS c.args.deadline r)) (got_is found answer is) c.show_awaited-found.ensures.reads;
       looks = looks_behind config c.args.pass.now c.loop.pass c.show_awaited-found.new.pass c.loop.invariant.2 c.show_awaited-found.ensures.looks;
     }
 
 pub loop-preserved : goal.loop-preserved
 loop-preserved g c =
-    (tt, tt, later_looks g.G.PoolNaming.config c.args.pass.now c.loop.pass c.show_awaited-found.new.pass c.loop.invariant.2 c.show_awaited-found.ensures.looks)
+    (tt, tt, later_looks (g.K.Recorder.terms g.G.PoolNaming.config) c.args.pass.now c.loop.pass c.show_awaited-found.new.pass c.loop.invariant.2 c.show_awaited-found.ensures.looks)

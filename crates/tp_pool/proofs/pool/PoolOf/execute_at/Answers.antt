@@ -3,8 +3,8 @@ use Rattle.tp_pool.proofs.pool.PoolOf.execute_at.Goals as goal
 
 pub returns-in-Ok-clause-admitted : goal.returns-in-Ok-clause-admitted
 returns-in-Ok-clause-admitted g c =
-    admits_behind g.G.PoolNaming.config c.args.kind c.args.priority c.args.job (g.J.Job.promised c.args.job) c.args.pass.now c.reserve.new.pass c.submit.new.pass c.submit.result c.reserve.ensures.same c.submit.ensures.admitted
+    admits_behind (g.K.Recorder.terms g.G.PoolNaming.config) c.args.kind c.args.priority c.args.job (g.J.Job.promised c.args.job) c.args.pass.now c.reserve.new.pass c.submit.new.pass c.submit.result c.reserve.ensures.same c.submit.ensures.admitted
 
 pub returns-in-Ok-clause-refused : goal.returns-in-Ok-clause-refused
 returns-in-Ok-clause-refused g c =
-    refuses_behind g.G.PoolNaming.config c.args.kind c.args.priority c.args.job (g.J.Job.promised c.args.job) c.args.pass.now c.reserve.new.pass c.submit.new.pass c.submit.result c.reserve.ensures.same c.submit.ensures.refused
+    refuses_behind (g.K.Recorder.terms g.G.PoolNaming.config) c.args.kind c.args.priority c.args.job (g.J.Job.promised c.args.job) g.K.Recorder.RECEIPTS c.args.pass.now c.reserve.new.pass c.submit.new.pass c.submit.result c.reserve.ensures.same c.submit.ensures.refused

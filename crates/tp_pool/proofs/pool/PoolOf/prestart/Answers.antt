@@ -9,7 +9,7 @@ use Rattle.tp_pool.proofs.pool.PoolOf.prestart.Goals as goal
 
 pub returns-in-Ok-clause-steps : goal.returns-in-Ok-clause-steps
 returns-in-Ok-clause-steps g c =
-    let config = g.G.PoolNaming.config in
+    let config = (g.K.Recorder.terms g.G.PoolNaming.config) in
     let old = c.args.pass.now in
     let w = c.in-Ok-Some.w in
     let staffed = c.staffed-staffed.result in
@@ -22,7 +22,7 @@ returns-in-Ok-clause-steps g c =
 
 pub returns-in-Err-open-clause-steps : goal.returns-in-Err-open-clause-steps
 returns-in-Err-open-clause-steps g c =
-    let config = g.G.PoolNaming.config in
+    let config = (g.K.Recorder.terms g.G.PoolNaming.config) in
     let old = c.args.pass.now in
     let w = c.in-Ok-Some.w in
     let first : AddsStep config old ask.Prestart (did.Prestart (Some w)) c.ask.new.pass = search rules in (

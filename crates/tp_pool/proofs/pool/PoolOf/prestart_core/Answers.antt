@@ -7,7 +7,7 @@ use Rattle.tp_pool.proofs.pool.PoolOf.prestart_core.Goals as goal
 
 pub returns-clause-steps : goal.returns-clause-steps
 returns-clause-steps g c =
-    prestarts_behind g.G.PoolNaming.config c.args.pass.now c.reserve.new.self c.prestart.new.pass c.prestart.result
+    prestarts_behind (g.K.Recorder.terms g.G.PoolNaming.config) c.args.pass.now c.reserve.new.self c.prestart.new.pass c.prestart.result
     (reserved c.args.pass.now c.reserve.new.self c.reserve.ensures.same) c.prestart.ensures.steps
 
 pub returns-in-Err-clause-refused : goal.returns-in-Err-clause-refused

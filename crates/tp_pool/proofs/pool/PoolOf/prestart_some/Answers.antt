@@ -9,11 +9,11 @@ use Rattle.tp_pool.proofs.pool.PoolOf.prestart_some.Goals as goal
 pub loop-init : goal.loop-init
 loop-init g c =
     let pass = c.args.pass.now in
-    (none_started g.G.PoolNaming.config pass pass (none_added pass pass refl), omega arith, c.requires.legal)
+    (none_started (g.K.Recorder.terms g.G.PoolNaming.config) pass pass (none_added pass pass refl), omega arith, c.requires.legal)
 
 pub loop-preserved : goal.loop-preserved
 loop-preserved g c =
-    let config = g.G.PoolNaming.config in
+    let config = (g.K.Recorder.terms g.G.PoolNaming.config) in
     let more = subst (λ live. AddsPrestart config c.look.new.pass live c.prestart.new.pass) c.in-Ok-true.field-0-test c.in-Ok-true.ensures.steps in (
       one_more config c.args.pass.now c.look.new.pass c.prestart.new.pass c.loop.counter
           (looked config c.args.pass.now c.loop.pass c.look.new.pass c.loop.counter c.loop.invariant.0 c.look.ensures.looks) more,
@@ -23,7 +23,7 @@ loop-preserved g c =
 
 pub returns-then-look-eq0 : goal.returns-then-look-eq0
 returns-then-look-eq0 g c =
-    let config = g.G.PoolNaming.config in
+    let config = (g.K.Recorder.terms g.G.PoolNaming.config) in
     let reads = c.look.ensures.reads in (
       c.loop.counter,
       starts_stop config (IsServed config) c.args.pass.now c.loop.pass c.look.new.pass c.loop.counter c.args.most c.loop.invariant.0 (omega arith) c.look.ensures.looks
@@ -32,7 +32,7 @@ returns-then-look-eq0 g c =
 
 pub returns-in-Ok-false : goal.returns-in-Ok-false
 returns-in-Ok-false g c =
-    let config = g.G.PoolNaming.config in (
+    let config = (g.K.Recorder.terms g.G.PoolNaming.config) in (
       c.loop.counter,
       starts_fail config (IsServed config) c.args.pass.now c.look.new.pass c.prestart.new.pass c.loop.counter c.args.most
           (looked config c.args.pass.now c.loop.pass c.look.new.pass c.loop.counter c.loop.invariant.0 c.look.ensures.looks) (omega arith)
@@ -41,7 +41,7 @@ returns-in-Ok-false g c =
 
 pub returns-in-Err : goal.returns-in-Err
 returns-in-Err g c =
-    let config = g.G.PoolNaming.config in (
+    let config = (g.K.Recorder.terms g.G.PoolNaming.config) in (
       c.loop.counter,
       starts_stop config (IsServed config) c.args.pass.now c.look.new.pass c.prestart.new.pass c.loop.counter c.args.most
           (looked config c.args.pass.now c.loop.pass c.look.new.pass c.loop.counter c.loop.invariant.0 c.look.ensures.looks) (omega arith)
@@ -50,7 +50,7 @@ returns-in-Err g c =
 
 pub returns : goal.returns
 returns g c =
-    let config = g.G.PoolNaming.config in
+    let config = (g.K.Recorder.terms g.G.PoolNaming.config) in
     let all : c.loop.counter ≡ c.args.most = omega arith in (
       c.args.most,
       starts_all config (IsServed config) c.args.pass.now c.loop.pass c.args.most

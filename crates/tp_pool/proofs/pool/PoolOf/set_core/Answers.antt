@@ -7,7 +7,7 @@ use Rattle.tp_pool.proofs.pool.PoolOf.set_core.Goals as goal
 
 pub returns-clause-steps : goal.returns-clause-steps
 returns-clause-steps g c =
-    let config = g.G.PoolNaming.config in
+    let config = (g.K.Recorder.terms g.G.PoolNaming.config) in
     let added = c.in-Ok.added in
     let starts = c.prestart_some.ensures in
     let within : c.min-starts.result ≤ c.in-Ok.added = omega arith in (

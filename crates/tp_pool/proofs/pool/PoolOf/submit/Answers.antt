@@ -20,8 +20,8 @@ loop-init g c =
     let got = c.in-Ok.ensures.makes in
     let job = c.args.job in
     let promise = g.J.Job.promised job in (
-      subst (λ f. Walk g.G.PoolNaming.config c.args.kind c.args.priority job promise t.0 c.args.pass.now f 1 c.submit.new.pass) (sym c.follows-next.ensures)
-          (begun g.G.PoolNaming.config c.args.kind c.args.priority job promise c.fronts_are_paths.ensures.begins t c.in-Ok.submitted.1 c.args.pass.now c.submit.new.pass got.0 got.1
+      subst (λ f. Walk (g.K.Recorder.terms g.G.PoolNaming.config) c.args.kind c.args.priority job promise t.0 c.args.pass.now f 1 c.submit.new.pass) (sym c.follows-next.ensures)
+          (begun (g.K.Recorder.terms g.G.PoolNaming.config) c.args.kind c.args.priority job promise c.law_fronts_are_paths.ensures.begins t c.in-Ok.submitted.1 c.args.pass.now c.submit.new.pass got.0 got.1
           got.2 c.in-Ok.ensures.step c.requires.room c.in-Ok.ensures.left),
       λ rejected. absurd (unrejected t.0 (did.Submit t c.args.kind c.args.priority c.in-Ok.submitted.1) (λ u v. submitted_otherwise) (sym c.follows-next.ensures ∙ rejected)),
     )
@@ -32,12 +32,12 @@ loop-preserved g c =
     let job = c.args.job in
     let promise = g.J.Job.promised job in
     let step = c.in-Some.ensures.step in (
-      subst (λ f. Walk g.G.PoolNaming.config c.args.kind c.args.priority job promise t c.args.pass.now f (c.loop.counter + 1) c.advance.new.pass) (sym c.after-next.ensures)
-          (walked g.G.PoolNaming.config c.args.kind c.args.priority job promise c.fronts_are_paths.ensures.goes_on t c.args.pass.now c.loop.pass c.advance.new.pass c.loop.next c.loop.counter step.0 c.in-Some.did
+      subst (λ f. Walk (g.K.Recorder.terms g.G.PoolNaming.config) c.args.kind c.args.priority job promise t c.args.pass.now f (c.loop.counter + 1) c.advance.new.pass) (sym c.after-next.ensures)
+          (walked (g.K.Recorder.terms g.G.PoolNaming.config) c.args.kind c.args.priority job promise c.law_fronts_are_paths.ensures.goes_on t c.args.pass.now c.loop.pass c.advance.new.pass c.loop.next c.loop.counter step.0 c.in-Some.did
           c.loop.invariant.0 c.in-Some.ensures.on_path step.1 c.in-Some.ensures.left),
       λ rejected. let out = c.in-Some.ensures.returned (sym c.after-next.ensures ∙ rejected) in (
         out.0,
-        taken_on g.G.PoolNaming.config c.args.kind c.args.priority job promise t c.args.pass.now c.loop.pass
+        taken_on (g.K.Recorder.terms g.G.PoolNaming.config) c.args.kind c.args.priority job promise t c.args.pass.now c.loop.pass
             (follow_of t c.loop.next) c.loop.counter c.loop.invariant.0 c.advance.new.held c.advance.new.pass.front out.1,
       ),
     )
@@ -51,28 +51,28 @@ pub returns-in-End-clause-admitted : goal.returns-in-End-clause-admitted
 returns-in-End-clause-admitted g c =
     let t = c.in-Ok.submitted.0 in
     let job = c.args.job in
-    admits_at g.G.PoolNaming.config c.args.kind c.args.priority job (g.J.Job.promised job) c.fronts_are_paths.ensures.ends t c.args.pass.now c.loop.pass (follow_of t.0 c.loop.next) c.loop.counter (admission_of c.in-End.ending)
+    admits_at (g.K.Recorder.terms g.G.PoolNaming.config) c.args.kind c.args.priority job (g.J.Job.promised job) c.law_fronts_are_paths.ensures.ends t c.args.pass.now c.loop.pass (follow_of t.0 c.loop.next) c.loop.counter (admission_of c.in-End.ending)
     (ap (λ n. follow_of t.0 n) c.in-End.is) c.loop.invariant.0 c.answer.result c.answer.ensures.admitted
 
 pub returns-in-End-clause-refused : goal.returns-in-End-clause-refused
 returns-in-End-clause-refused g c =
     let t = c.in-Ok.submitted.0 in
     let job = c.args.job in
-    rejects_at g.G.PoolNaming.config c.args.kind c.args.priority job (g.J.Job.promised job) c.fronts_are_paths.ensures.ends t c.args.pass.now c.loop.pass (follow_of t.0 c.loop.next) c.loop.counter c.in-End.ending
+    rejects_at (g.K.Recorder.terms g.G.PoolNaming.config) c.args.kind c.args.priority job (g.J.Job.promised job) g.K.Recorder.RECEIPTS c.law_fronts_are_paths.ensures.ends t c.args.pass.now c.loop.pass (follow_of t.0 c.loop.next) c.loop.counter c.in-End.ending
     (ap (λ n. follow_of t.0 n) c.in-End.is) c.loop.invariant.0 c.loop.held c.loop.invariant.1 c.answer.result c.answer.ensures.rejected c.answer.ensures.job
 
 pub returns-in-End-next-clause-admitted : goal.returns-in-End-next-clause-admitted
 returns-in-End-next-clause-admitted g c =
     let t = c.in-Ok.submitted.0 in
     let job = c.args.job in
-    admits_at g.G.PoolNaming.config c.args.kind c.args.priority job (g.J.Job.promised job) c.fronts_are_paths.ensures.ends t c.args.pass.now c.loop.pass (follow_of t.0 c.loop.next) c.loop.counter (admission_of c.in-End-next.ending)
+    admits_at (g.K.Recorder.terms g.G.PoolNaming.config) c.args.kind c.args.priority job (g.J.Job.promised job) c.law_fronts_are_paths.ensures.ends t c.args.pass.now c.loop.pass (follow_of t.0 c.loop.next) c.loop.counter (admission_of c.in-End-next.ending)
     (ap (λ n. follow_of t.0 n) c.in-End-next.is) c.loop.invariant.0 c.answer-in-End-next.result c.answer-in-End-next.ensures.admitted
 
 pub returns-in-End-next-clause-refused : goal.returns-in-End-next-clause-refused
 returns-in-End-next-clause-refused g c =
     let t = c.in-Ok.submitted.0 in
     let job = c.args.job in
-    rejects_at g.G.PoolNaming.config c.args.kind c.args.priority job (g.J.Job.promised job) c.fronts_are_paths.ensures.ends t c.args.pass.now c.loop.pass (follow_of t.0 c.loop.next) c.loop.counter c.in-End-next.ending
+    rejects_at (g.K.Recorder.terms g.G.PoolNaming.config) c.args.kind c.args.priority job (g.J.Job.promised job) g.K.Recorder.RECEIPTS c.law_fronts_are_paths.ensures.ends t c.args.pass.now c.loop.pass (follow_of t.0 c.loop.next) c.loop.counter c.in-End-next.ending
     (ap (λ n. follow_of t.0 n) c.in-End-next.is) c.loop.invariant.0 c.loop.held c.loop.invariant.1 c.answer-in-End-next.result c.answer-in-End-next.ensures.rejected c.answer-in-End-next.ensures.job
 
 pub returns-in_default-advance : goal.returns-in_default-advance
@@ -80,7 +80,7 @@ returns-in_default-advance g c =
     let t = c.in-Ok.submitted.0 in
     let job = c.args.job in record {
       admitted = tt;
-      refused = torn_off g.G.PoolNaming.config c.args.kind c.args.priority job (g.J.Job.promised job) t c.args.pass.now c.loop.pass c.advance.new.pass c.loop.next c.loop.counter
+      refused = torn_off (g.K.Recorder.terms g.G.PoolNaming.config) c.args.kind c.args.priority job (g.J.Job.promised job) g.K.Recorder.RECEIPTS t c.args.pass.now c.loop.pass c.advance.new.pass c.loop.next c.loop.counter
           c.loop.invariant.0 c.in_default.not-End c.in_default-advance.ensures.unchanged (λ on. inl (c.in_default-advance.ensures.undone on)) c.torn.result c.torn.ensures;
     }
 
@@ -89,6 +89,6 @@ returns-in_default-next g c =
     let t = c.in-Ok.submitted.0 in
     let job = c.args.job in record {
       admitted = tt;
-      refused = torn_off g.G.PoolNaming.config c.args.kind c.args.priority job (g.J.Job.promised job) t c.args.pass.now c.loop.pass c.loop.pass c.loop.next c.loop.counter
+      refused = torn_off (g.K.Recorder.terms g.G.PoolNaming.config) c.args.kind c.args.priority job (g.J.Job.promised job) g.K.Recorder.RECEIPTS t c.args.pass.now c.loop.pass c.loop.pass c.loop.next c.loop.counter
           c.loop.invariant.0 c.in_default-next.not-End (inl refl) (λ on. inr (omega arith)) c.torn-in_default-next.result c.torn-in_default-next.ensures;
     }

@@ -9,25 +9,25 @@ use Rattle.tp_pool.proofs.shared.Shared.await_end_on.Goals as goal
 
 pub returns-in-Terminated-clause-steps : goal.returns-in-Terminated-clause-steps
 returns-in-Terminated-clause-steps g c =
-    let config = g.G.PoolNaming.config in
+    let config = (g.K.Recorder.terms g.G.PoolNaming.config) in
     let looks : LooksOnly config c.loop.pass c.look_on.new.pass = search rules in
     inl (looks_adds config c.args.pass.now c.look_on.new.pass (looks_behind config c.args.pass.now c.loop.pass c.look_on.new.pass c.loop.invariant.2 looks))
 
 pub returns-in-Tidied-clause-steps : goal.returns-in-Tidied-clause-steps
 returns-in-Tidied-clause-steps g c =
-    let config = g.G.PoolNaming.config in
+    let config = (g.K.Recorder.terms g.G.PoolNaming.config) in
     let step : Adds config c.loop.pass (tidied c.loop.pass.number ∷ []) c.look_on.new.pass = search rules in
     let first = step_behind config c.args.pass.now c.loop.pass c.look_on.new.pass ask.Tidy did.Tidy (later_none c.args.pass.now c.loop.pass c.loop.invariant.2) step in
     end_steps config c.args.pass.now c.look_on.new.pass c.terminate.new.pass first c.terminate.result c.terminate.ensures.step
 
 pub returns-in-Tidied-clause-refused : goal.returns-in-Tidied-clause-refused
 returns-in-Tidied-clause-refused g c =
-    let config = g.G.PoolNaming.config in
+    let config = (g.K.Recorder.terms g.G.PoolNaming.config) in
     let step : Adds config c.loop.pass (tidied c.loop.pass.number ∷ []) c.look_on.new.pass = search rules in
     let first = step_behind config c.args.pass.now c.loop.pass c.look_on.new.pass ask.Tidy did.Tidy (later_none c.args.pass.now c.loop.pass c.loop.invariant.2) step in
     torn config c.args.pass.now c.terminate.new.pass c.look_on.new.pass first c.terminate.result c.terminate.ensures.refused c.terminate.ensures.unchanged
 
 pub loop-preserved : goal.loop-preserved
 loop-preserved g c =
-    let looks : LooksOnly g.G.PoolNaming.config c.loop.pass c.look_on.new.pass = search rules in
-    (tt, tt, later_looks g.G.PoolNaming.config c.args.pass.now c.loop.pass c.look_on.new.pass c.loop.invariant.2 looks)
+    let looks : LooksOnly (g.K.Recorder.terms g.G.PoolNaming.config) c.loop.pass c.look_on.new.pass = search rules in
+    (tt, tt, later_looks (g.K.Recorder.terms g.G.PoolNaming.config) c.args.pass.now c.loop.pass c.look_on.new.pass c.loop.invariant.2 looks)

@@ -9,7 +9,7 @@ returns-clause-step g c =
     let old = c.args.pass.now in
     let mid = c.reserve.new.self in
     IfOk-weaker c.ask.result _ _
-    (λ x step. step_behind g.G.PoolNaming.config old mid c.ask.new.pass (g.S.Step.ask c.args.step) (g.S.Step.did c.args.step x) (reserved old mid c.reserve.ensures.same) step) c.ask.ensures.step
+    (λ x step. step_behind (g.K.Recorder.terms g.G.PoolNaming.config) old mid c.ask.new.pass (g.S.Step.ask c.args.step) (g.S.Step.did c.args.step x) (reserved old mid c.reserve.ensures.same) step) c.ask.ensures.step
 
 pub returns-clause-refused : goal.returns-clause-refused
 returns-clause-refused g c = IfErr-weaker c.ask.result _ _ (λ e is. inr (is c.requires.no_outcome)) c.ask.ensures.refused

@@ -3,6 +3,7 @@ use Rattle.tp_record.specs.declared.entries.Ask.TheVariants as ask
 use Rattle.tp_record.specs.declared.entries.Did.TheVariants as did
 use Rattle.tp_parts.specs.Payloads.{PutsIn}
 use Rattle.tp_locked.proofs.Adding.{adds_step, refusal}
+use Rattle.tp_locked.proofs.Refusals.{unnamed}
 use Rattle.tp_locked.specs.Steps.{Makes}
 use Rattle.tp_locked.specs.declared.tasks.Task.{Task}
 use Rattle.tp_pool.proofs.shared.Shared.submit.Goals as goal
@@ -10,22 +11,23 @@ use Rattle.tp_pool.proofs.shared.Shared.submit.Goals as goal
 pub returns-in-Ok-submitted-clause-makes : goal.returns-in-Ok-submitted-clause-makes
 returns-in-Ok-submitted-clause-makes g c =
     let x = c.in-Ok-submitted.submitted in
-    let task : Task g.row.J.Denot = record { job = c.args.job; flag = c.in-Ok.held.1.lent } in (
+    let task : Task g.row.J.Denot = record { job = c.args.job; flag = c.in-Ok.held.1 } in (
       task,
       refl,
-      subst (λ p. Makes g.row.J.Denot g.G.PoolNaming.config c.args.pass.now.number c.args.pass.now.front (ask.Submit c.args.kind c.args.priority) (did.Submit x.0 c.args.kind c.args.priority x.1)
+      subst (λ p. Makes g.row.J.Denot (g.K.Recorder.terms g.G.PoolNaming.config) c.args.pass.now.number c.args.pass.now.front (ask.Submit c.args.kind c.args.priority) (did.Submit x.0 c.args.kind c.args.priority x.1)
           (λ old new. PutsIn old new x.0.0 p task) c.submit-submitted.new.pass.front) c.promise-promise.ensures c.in-Ok-submitted.ensures.makes,
     )
 
 pub returns-in-Ok-submitted-clause-step : goal.returns-in-Ok-submitted-clause-step
 returns-in-Ok-submitted-clause-step g c =
     let x = c.in-Ok-submitted.submitted in
-    let task : Task g.row.J.Denot = record { job = c.args.job; flag = c.in-Ok.held.1.lent } in
-    adds_step g.G.PoolNaming.config c.args.pass.now c.submit-submitted.new.pass (ask.Submit c.args.kind c.args.priority) (did.Submit x.0 c.args.kind c.args.priority x.1)
+    let task : Task g.row.J.Denot = record { job = c.args.job; flag = c.in-Ok.held.1 } in
+    adds_step (g.K.Recorder.terms g.G.PoolNaming.config) c.args.pass.now c.submit-submitted.new.pass (ask.Submit c.args.kind c.args.priority) (did.Submit x.0 c.args.kind c.args.priority x.1)
     (λ old new. PutsIn old new x.0.0 c.promise-promise.result task) c.in-Ok-submitted.ensures.makes c.in-Ok-submitted.ensures.paid.0
 
 pub returns-in-Err-submitted-clause-refused : goal.returns-in-Err-submitted-clause-refused
 returns-in-Err-submitted-clause-refused g c = elim c.in-Err-submitted.ensures.refused [
   | inl want ↦ inl (want, tt)
-  | inr refused ↦ inr (refusal g.G.PoolNaming.config c.args.pass.now.front (ask.Submit c.args.kind c.args.priority) _ c.submit-submitted.new.pass.front refused tt)
+  | inr refused ↦ inr (unnamed g.K.Recorder.RECEIPTS (g.K.Recorder.terms g.G.PoolNaming.config) c.submit-submitted.new.pass.front (ask.Submit c.args.kind c.args.priority) _ refl
+      (refusal (g.K.Recorder.terms g.G.PoolNaming.config) g.K.Recorder.RECEIPTS c.args.pass.now.front (ask.Submit c.args.kind c.args.priority) _ c.submit-submitted.new.pass.front refused tt))
 ]

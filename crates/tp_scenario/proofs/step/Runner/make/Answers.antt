@@ -1,12 +1,12 @@
-use Rattle.std.proofs.Common.{None, sym, subst, append-nil}
+use Rattle.std.proofs.Common.{◌∙◌, None, ap, map, sym, subst, append-nil}
 use Rattle.tp_machine.specs.Stepped.{FitsOutcome}
 use Rattle.tp_scenario.specs.Answered.{IsAt, Running, notes}
 use Rattle.tp_scenario.proofs.StepLaws.{accepted, denied, none_back, not_torn}
 use Rattle.tp_scenario.proofs.step.Runner.make.Goals.{in-Ok, in-Err}
 use Rattle.tp_scenario.proofs.step.Runner.make.Goals as goal
 
-pub returns-clause-answers : goal.returns-clause-answers
-returns-clause-answers g c = λ p is.
+pub returns : goal.returns
+returns g c = λ p is.
     let m = c.self.inside.machine in
     let n = c.make.new.machine in
     let os = c.self.inside.outcomes.items in
@@ -14,18 +14,7 @@ returns-clause-answers g c = λ p is.
     let at : IsAt (record { machine = m; outcomes = os }) p = subst (λ (r : Running). IsAt r p) (sym c.self.view_is) is in
     let fits : FitsOutcome m a = subst (λ (r : Running). FitsOutcome r.machine a) (sym c.self.view_is) c.requires.outcome in
     elim c.match-make.branch [
-      | in-Ok w ↦ rw (w.result-is, w.ask.ensures, w.did.ensures) (accepted m n os p at os None a (g.S.Step.did c.args.step w.in-Ok.answer) w.in-Ok.ensures.step (sym (append-nil os)))
-      | in-Err w ↦ rw w.result-is (denied m n os p at None a w.in-Err.error w.in-Err.ensures.unchanged (not_torn notes m a w.in-Err.error fits w.in-Err.ensures.refused))
-    ]
-
-pub returns-clause-back : goal.returns-clause-back
-returns-clause-back g c =
-    let m = c.self.inside.machine in
-    let n = c.make.new.machine in
-    let os = c.self.inside.outcomes.items in
-    let a = g.S.Step.ask c.args.step in
-    elim c.match-make.branch [
-      | in-Ok w ↦ rw (w.result-is, w.did.ensures, w.new.ensures.items)
-          (λ p is. none_back m n os p (subst (λ (r : Running). IsAt r p) (sym c.self.view_is) is) a (g.S.Step.did c.args.step w.in-Ok.answer) w.in-Ok.ensures.step c.requires.quiet)
-      | in-Err w ↦ rw w.result-is tt
+      | in-Ok w ↦ let d = g.S.Step.did c.args.step w.in-Ok.answer in rw (w.result-is, w.ask.ensures, w.did.ensures)
+          (accepted m n os p at os None a d _ w.in-Ok.ensures.step (sym (append-nil os)) (ap (map (λ y. y.0.0)) c.new-handed.ensures.items ∙ none_back m n os p at a d w.in-Ok.ensures.step c.requires.quiet))
+      | in-Err w ↦ rw (w.result-is, w.ask-ask.ensures) (denied m n os p at None a w.in-Err.error _ w.in-Err.ensures.unchanged (not_torn notes m a w.in-Err.error fits w.in-Err.ensures.refused))
     ]

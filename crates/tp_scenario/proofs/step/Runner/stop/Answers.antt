@@ -7,22 +7,14 @@ use Rattle.tp_scenario.proofs.StepLaws.{accepted, denied, not_torn}
 use Rattle.tp_scenario.proofs.step.Runner.stop.Goals.{in-Ok, in-Err}
 use Rattle.tp_scenario.proofs.step.Runner.stop.Goals as goal
 
-pub returns-clause-answers : goal.returns-clause-answers
-returns-clause-answers c = λ p is.
+pub returns : goal.returns
+returns c = λ p is.
     let m = c.self.inside.machine in
     let n = c.make.new.machine in
     let os = c.self.inside.outcomes.items in
     let at : IsAt (record { machine = m; outcomes = os }) p = subst (λ (r : Running). IsAt r p) (sym c.self.view_is) is in
     elim c.match-make.branch [
-      | in-Ok w ↦ rw (w.result-is, w.did.ensures) (accepted m n os p at os None ask.Stop (did.Stop (length w.in-Ok.handed.items)) w.in-Ok.ensures.step (sym (append-nil os)))
-      | in-Err w ↦ rw w.result-is (denied m n os p at None ask.Stop w.in-Err.error w.in-Err.ensures.unchanged (not_torn notes m ask.Stop w.in-Err.error tt w.in-Err.ensures.refused))
-    ]
-
-pub returns-clause-back : goal.returns-clause-back
-returns-clause-back c =
-    elim c.match-make.branch [
-      | in-Ok w ↦ rw (w.result-is, w.did.ensures) (λ p is.
-          let at = subst (λ (r : Running). IsAt r p) (sym c.self.view_is) is in
-          subst (λ k. map (λ x. x.0.0) w.in-Ok.handed.items ≡ queue k p.history) at.config (w.in-Ok.ensures.says p.history [] at.at).0)
-      | in-Err w ↦ rw w.result-is tt
+      | in-Ok w ↦ let back = w.in-Ok.handed in rw (w.result-is, w.did-did.ensures) (accepted m n os p at os None ask.Stop (did.Stop (length back.items)) back w.in-Ok.ensures.step (sym (append-nil os))
+          (subst (λ k. map (λ x. x.0.0) back.items ≡ queue k p.history) at.config (w.in-Ok.ensures.says p.history [] at.at).0))
+      | in-Err w ↦ rw w.result-is (denied m n os p at None ask.Stop w.in-Err.error _ w.in-Err.ensures.unchanged (not_torn notes m ask.Stop w.in-Err.error tt w.in-Err.ensures.refused))
     ]

@@ -1,0 +1,17 @@
+use Rattle.std.proofs.Common.{sym, subst}
+use Rattle.std.proofs.lemmas.Result.{IfOk-weaker}
+use Rattle.tp_threads.specs.Runs.{IsTally, asked}
+use Rattle.tp_threads.proofs.tallies.life.Goals as goal
+
+pub returns-in-Ok-submitted-clause-run : goal.returns-in-Ok-submitted-clause-run
+returns-in-Ok-submitted-clause-run g c =
+    IfOk-weaker c.closed-report.result _ (IsTally c.args.settings (asked c.args.jobs.now))
+    (λ r closed. subst (λ s. IsTally s (asked c.args.jobs.now) r) (sym c.requires.settings) (record {
+      first = c.in-Ok.opened.1;
+      opened = c.in-Ok.ensures.pass;
+      submitted = c.submit_all-submitted.new.pass;
+      submits = c.in-Ok-submitted.ensures.whole;
+      last = closed.0;
+      ends = closed.1;
+      tallies = closed.2;
+    })) c.closed-report.ensures.report
