@@ -33,39 +33,78 @@ const FEW: u32 = 10;
 
 const MANY: u32 = 1_000_000;
 
+type Lone = Machine<u32, Tally>;
+
+const WORKER: SlotId = SlotId(0);
+
 // Submits a task, lets the worker run it, and forgets it.
-fn run(pool: &mut Machine<u32, Tally>, number: u32) -> Result<(), Unmeasured> {
-    let t = TaskId(number);
-    let w = SlotId(0);
-    if let Err((error, _)) = pool.submit(0, Kind::Plain, 0, WIDEST, number) {
-        return Err(Unmeasured::Refused(error));
-    }
+fn run(pool: &mut Lone, number: u32) -> Result<(), Unmeasured> {
+    submit(pool, number)?;
     if number == 0 {
-        pool.open(1, w)?;
+        open(pool)?;
     } else {
-        pool.offer(0, t)?;
-        pool.second(0, t)?;
+        queue(pool, TaskId(number))?;
     }
-    pool.take(1, w)?;
-    pool.begin(1, w)?;
-    if let Err((error, _)) = pool.step(1, Ask::End(w, Ok(1)), None) {
+    begin(pool)?;
+    end(pool, TaskId(number))
+}
+
+fn submit(pool: &mut Lone, number: u32) -> Result<(), Unmeasured> {
+    match pool.submit(0, Kind::Plain, 0, WIDEST, number) {
+        Ok(_) => Ok(()),
+        Err((error, _)) => Err(Unmeasured::Refused(error)),
+    }
+}
+
+// The first task's worker comes with it.
+fn open(pool: &mut Lone) -> Result<(), Unmeasured> {
+    match pool.open(1, WORKER) {
+        Ok(_) => Ok(()),
+        Err(error) => Err(Unmeasured::Refused(error)),
+    }
+}
+
+fn queue(pool: &mut Lone, t: TaskId) -> Result<(), Unmeasured> {
+    if let Err(error) = pool.offer(0, t) {
         return Err(Unmeasured::Refused(error));
     }
-    pool.release(t)?;
-    Ok(())
+    match pool.second(0, t) {
+        Ok(_) => Ok(()),
+        Err(error) => Err(Unmeasured::Refused(error)),
+    }
+}
+
+fn begin(pool: &mut Lone) -> Result<(), Unmeasured> {
+    if let Err(error) = pool.take(1, WORKER) {
+        return Err(Unmeasured::Refused(error));
+    }
+    match pool.begin(1, WORKER) {
+        Ok(_) => Ok(()),
+        Err(error) => Err(Unmeasured::Refused(error)),
+    }
+}
+
+fn end(pool: &mut Lone, t: TaskId) -> Result<(), Unmeasured> {
+    if let Err((error, _)) = pool.step(1, Ask::End(WORKER, Ok(1)), None) {
+        return Err(Unmeasured::Refused(error));
+    }
+    match pool.release(t) {
+        Ok(()) => Ok(()),
+        Err(error) => Err(Unmeasured::Refused(error)),
+    }
 }
 
 // A machine that has run so many tasks, and forgotten them.
 #[derive(Drop)]
 struct Worn {
-    pool: Machine<u32, Tally>,
+    pool: Lone,
     ran: u32,
 }
 
 impl Worn {
     fn new(alloc: Global, before: u32) -> Result<Worn, Unmeasured> {
         let mut worn = Worn {
-            pool: Machine::<u32, Tally>::tallied(alloc, LONE)?,
+            pool: Lone::tallied(alloc, LONE)?,
             ran: 0,
         };
         worn.go_on(before)?;
