@@ -6,8 +6,6 @@
 //!
 //! `poolbench endless FARE TASKS`: has one pool without a record run so many tasks, `plain`, `futures`, `cancels`, `faults` or
 //! `groups`, and tells how far it has come.
-//! `poolbench released [TASKS]`: what a machine's steps cost after few and after many tasks were released; with a number, has one
-//! run and release so many, to count its instructions.
 //!
 //! The status is 1 where a pool did not run its tasks, and 2 for any other command line.
 #![tactic(auto)]
@@ -18,7 +16,6 @@ mod endless;
 mod errands;
 mod measures;
 mod recorded;
-mod released;
 mod reports;
 mod textbook;
 mod textbooks;
@@ -26,7 +23,6 @@ mod unmeasured;
 
 use comparisons::{compared, rehearse_pools};
 use endless::{Fare, serves};
-use released::{forgets, forgetting};
 use reports::{rehearse, time};
 use std::process::ExitCode;
 use std::{env, io};
@@ -43,8 +39,6 @@ enum Choice {
     Time(u32),
     Cost(u32, Option<u32>),
     Endless(Fare, u32),
-    Released,
-    Forgets(u32),
     Usage,
 }
 
@@ -89,8 +83,6 @@ fn chosen(words: &[String]) -> Choice {
     let second = number(words.get(3));
     match (command.as_str(), words.len(), first, second) {
         ("endless", _, _, _) => service(words),
-        ("released", 2, None, None) => Choice::Released,
-        ("released", 3, Some(tasks), None) => Choice::Forgets(tasks),
         ("time", 2, None, None) => Choice::Time(USUAL_TURNS),
         ("time", 3, Some(turns), None) => Choice::Time(turns),
         ("cost", 2, None, None) => Choice::Cost(USUAL_RUNS, None),
@@ -114,11 +106,9 @@ fn main(rt: HostRuntime) -> io::Result<ExitCode> {
         }
         Choice::Cost(runs, only) => compared(rt, alloc, runs, only)?,
         Choice::Endless(fare, tasks) => serves(rt, alloc, fare, tasks)?,
-        Choice::Released => forgetting(&rt, alloc)?,
-        Choice::Forgets(tasks) => forgets(alloc, tasks),
         Choice::Usage => {
             eprintln!(&rt;
-                "usage: poolbench [time [TURNS] | cost [RUNS [COURSE]] | endless FARE TASKS | released [TASKS]]"
+                "usage: poolbench [time [TURNS] | cost [RUNS [COURSE]] | endless FARE TASKS]"
             )?;
             return Ok(ExitCode::from(2));
         }
