@@ -10,6 +10,7 @@ use Rattle.std.proofs.lemmas.Nat.{and_mask, pow_pos}
 use Rattle.std.proofs.Math.Nat.{mod-zero}
 use Rattle.std.proofs.lemmas.Option.{none-some, same_Some, get_or_from_slice_get, slice_get_within}
 use Rattle.std.specs.declared.hash.BuildHasherDefault.{BuildHasherDefault}
+use Rattle.std.specs.declared.hash.FoldHasher.{FoldHasher}
 use Rattle.std.specs.Map.{values_of}
 use Rattle.std.proofs.lemmas.Map.Entries.{sum_by-set_value}
 use Rattle.indexmap.specs.IndexMap.{IndexMap, get, WritesThrough, UpdatesBy, swap_remove_entry, insert_entry}
@@ -17,7 +18,6 @@ use Rattle.indexmap.proofs.CallerLemmas.{insert_entry-new}
 use Rattle.tp_record.specs.declared.rows.TaskRow.{TaskRow}
 use Rattle.tp_tasks.specs.declared.homes.Home.{Home}
 use Rattle.tp_tasks.specs.declared.homes.Rows.{Rows}
-use Rattle.tp_tasks.specs.declared.order.InOrder.{InOrder}
 use Rattle.tp_tasks.specs.declared.table.Task.{Task}
 use Rattle.tp_tasks.specs.Homes.{home_of, is_size, held, holder, home_passes, is_free, is_held, home_at, or_beside, found, home_count, beside_count, ArePlaced, AreApart, AreKept}
 use Rattle.tp_tasks.proofs.Counts.{count-put, count-removed}
@@ -252,7 +252,7 @@ module _ {P : Type 0} (m : Rows P) (t i : ℕ) (is : i ≡ home_of (length m.hom
     row_home r is = same_Some h.task.row r (sym (ap row_of_task found_home) ∙ is)
 
 -- a table beside in which task t is another, or is not, where it lies at no home
-module _ {P : Type 0} (m : Rows P) (t : ℕ) (away : is_held t (slice_get m.homes.items (home_of (length m.homes.items) t)) ≡ false) (beside : IndexMap ℕ (Task P) (BuildHasherDefault InOrder)) where
+module _ {P : Type 0} (m : Rows P) (t : ℕ) (away : is_held t (slice_get m.homes.items (home_of (length m.homes.items) t)) ≡ false) (beside : IndexMap ℕ (Task P) (BuildHasherDefault FoldHasher)) where
   elsewhere : held t (home_at m.homes.items (home_of (length m.homes.items) t)) ≡ None
   elsewhere = not_held m.homes.items _ t away
 

@@ -5,10 +5,8 @@ ghost use Rattle.std.proofs.Props.{props};
 ghost use Rattle.indexmap.specs.IndexMap.{IsUnique};
 ghost use Rattle.tp_tasks.specs.Homes.{is_size, ArePlaced, AreApart, AreKept};
 
-use crate::order::InOrder;
 use crate::table::Task;
 use indexmap::IndexMap;
-use std::hash::BuildHasherDefault;
 
 /// A task at its home.
 #[derive(Drop)]
@@ -26,7 +24,7 @@ pub struct Rows<P> {
     /// Of each home the task that lies there.
     pub homes: Vec<Option<Home<P>>>,
     /// The tasks that lie beside.
-    pub beside: IndexMap<u32, Task<P>, BuildHasherDefault<InOrder>>,
+    pub beside: IndexMap<u32, Task<P>>,
     /// How many tasks are kept.
     pub count: u32,
     /// There are 2 ^ bits homes, or none.

@@ -14,12 +14,12 @@ invariant_of-result g c =
     let few : bits < 64 = omega (arith, is) in
     let power : 2 ^ bits < 18446744073709551616 = pow-lt few in
     let whole : n ≡ 2 ^ bits = mod-eq_of_lt (omega (arith, power)) ∙ omega arith in
-    let beside = c.with_hasher.result in
-    let empty = c.with_hasher.ensures.empty in
+    let beside = c.new.result in
+    let empty = c.new.ensures.empty in
     record {
       sized = sized_free homes n free beside bits whole;
       placed = placed_free homes n free beside;
       apart = apart_free homes n free beside;
-      unique = c.with_hasher.ensures.unique;
+      unique = c.new.ensures.unique;
       counted = count_none homes n free beside empty _;
     }
