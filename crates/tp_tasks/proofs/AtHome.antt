@@ -1,13 +1,14 @@
 -- What a write at a task's home leaves of the tasks, and what a write beside leaves.
-use Rattle.std.proofs.Common.{◌≡◌, ℕ, zero, suc, ◌+◌, ◌-◌, ◌%◌, ◌^◌, ◌<◌, ◌≤◌, Bool, true, false, cond, List, [], ◌∷◌, length, set, get_or, replicate, ◌||◌, Option, Some, None, is_some, refl, sym, ap, subst, ◌∙◌, arith, inl, inr}
+use Rattle.std.proofs.Common.{◌≡◌, ℕ, zero, suc, ◌+◌, ◌-◌, ◌%◌, ◌^◌, ◌<◌, ◌≤◌, Bool, true, false, cond, List, [], ◌∷◌, ◌++◌, length, set, get_or, replicate, Option, Some, None, Result, Ok, Err, OnOk, OnErr, is_some, refl, sym, ap, subst, ◌∙◌, arith, inl, inr}
 use Rattle.std.specs.Prelude.{nat_eq, slice_get, bit_and}
 use Rattle.std.specs.List.{sum_by}
-use Rattle.std.proofs.lemmas.Bool.{cases_eq, or_cases, ne_eqb, eq-eqb, eqb-true, false≢true}
+use Rattle.std.proofs.lemmas.Bool.{cases_eq, ne_eqb, eq-eqb, eqb-true, false≢true}
 use Rattle.std.proofs.lemmas.List.{length-set, length-replicate, get_or-set_same, get_or-set_other}
 use Rattle.std.proofs.lemmas.List.Folds.{sum_by-replicate}
 use Rattle.std.proofs.lemmas.List.Sums.{sum_by-set}
 use Rattle.std.proofs.lemmas.Nat.{and_mask, pow_pos}
-use Rattle.std.proofs.Math.Nat.{mod-zero}
+use Rattle.std.proofs.Math.Logic.{∥∥₁_elim}
+use Rattle.std.proofs.Math.Nat.{mod-zero, ℕ_set}
 use Rattle.std.proofs.lemmas.Option.{none-some, same_Some, get_or_from_slice_get, slice_get_within}
 use Rattle.std.specs.declared.hash.BuildHasherDefault.{BuildHasherDefault}
 use Rattle.std.specs.declared.hash.FoldHasher.{FoldHasher}
@@ -19,7 +20,7 @@ use Rattle.tp_record.specs.declared.rows.TaskRow.{TaskRow}
 use Rattle.tp_tasks.specs.declared.homes.Home.{Home}
 use Rattle.tp_tasks.specs.declared.homes.Rows.{Rows}
 use Rattle.tp_tasks.specs.declared.table.Task.{Task}
-use Rattle.tp_tasks.specs.Homes.{home_of, is_size, held, holder, home_passes, is_free, is_held, home_at, or_beside, found, home_count, beside_count, ArePlaced, AreApart, AreKept}
+use Rattle.tp_tasks.specs.Homes.{home_of, IsSize, held, holder, home_passes, is_free, is_held, home_at, or_beside, found, home_count, beside_count, ArePlaced, AreApart, AreKept}
 use Rattle.tp_tasks.proofs.Counts.{count-put, count-removed}
 use Rattle.tp_tasks.specs.Table.{row_of_task, task_in, row_in, row_count}
 
@@ -27,28 +28,21 @@ abbrev pub one : Bool → ℕ
 one b = cond b 1 0
 
 -- the low bits of a number are what is left of it
-pub low_bits : (bits n t : ℕ) → is_size bits n ≡ true → n < 2 ^ 64 → t < 2 ^ 32 → bit_and t ((n + 18446744073709551615) % 18446744073709551616) ≡ home_of n t
-low_bits bits n t size small fits = elim (or_cases (nat_eq n 0) (nat_eq n (2 ^ bits)) size) [
-  | inl none ↦ ap (λ k. bit_and t ((k + 18446744073709551615) % 18446744073709551616)) (eqb-true n 0 none) ∙ and_mask t 64 ∙ whole ∙ sym (mod-zero t) ∙ ap (λ k. t % k) (sym (eqb-true n 0 none))
-  | inr power ↦ ap (bit_and t) (less (eqb-true n (2 ^ bits) power)) ∙ and_mask t bits ∙ ap (λ k. t % k) (sym (eqb-true n (2 ^ bits) power))
-]
+pub low_bits : (n t : ℕ) → IsSize n → n < 2 ^ 64 → t < 2 ^ 32 → bit_and t ((n + 18446744073709551615) % 18446744073709551616) ≡ home_of n t
+low_bits n t size small fits = ∥∥₁_elim size (ℕ_set (bit_and t ((n + 18446744073709551615) % 18446744073709551616)) (home_of n t)) (λ cases. elim cases [
+  | inl none ↦ ap (λ k. bit_and t ((k + 18446744073709551615) % 18446744073709551616)) none ∙ and_mask t 64 ∙ whole ∙ sym (mod-zero t) ∙ ap (λ k. t % k) (sym none)
+  | inr power ↦ ap (bit_and t) (less power.0 power.1) ∙ and_mask t power.0 ∙ ap (λ k. t % k) (sym power.1)
+])
   where
     whole : t % 2 ^ 64 ≡ t
     whole = omega (arith, fits)
 
-    less : n ≡ 2 ^ bits → (n + 18446744073709551615) % 18446744073709551616 ≡ 2 ^ bits - 1
-    less e = let some = pow_pos bits in omega (arith, e, small, some)
+    less : (bits : ℕ) → n ≡ 2 ^ bits → (n + 18446744073709551615) % 18446744073709551616 ≡ 2 ^ bits - 1
+    less bits e = let some = pow_pos bits in omega (arith, e, small, some)
 
 pub is_nil : {X : Type 0} (xs : List X) → length xs ≡ 0 → xs ≡ []
 is_nil [] e = refl
 is_nil (x ∷ xs) e = absurd (omega (arith, e))
-
-pub power_size : (bits n : ℕ) → n ≡ 2 ^ bits → is_size bits n ≡ true
-power_size bits n e = ap (λ b. nat_eq n 0 || b) (eq-eqb n (2 ^ bits) e) ∙ or_true (nat_eq n 0)
-  where
-    or_true : (b : Bool) → (b || true) ≡ true
-    or_true true = refl
-    or_true false = refl
 
 -- homes that are free
 module _ {P : Type 0} where
@@ -66,8 +60,8 @@ module _ {P : Type 0} where
     no_holder : (i t : ℕ) → holder (home_at homes i) ≡ Some t → ⊥
     no_holder i t e = none-some t (sym (ap (λ hs. holder (home_at hs i)) free ∙ ap holder (free_at n i)) ∙ e)
 
-    pub sized_free : (bits : ℕ) → n ≡ 2 ^ bits → is_size bits (length homes) ≡ true
-    sized_free bits e = power_size bits (length homes) (ap length free ∙ length-replicate n None ∙ e)
+    pub sized_free : IsSize n → IsSize (length homes)
+    sized_free size = subst IsSize (sym (ap length free ∙ length-replicate n None)) size
 
     pub placed_free : ArePlaced homes
     placed_free i t e = absurd (no_holder i t e)
@@ -80,6 +74,11 @@ module _ {P : Type 0} where
         let home = count_free p n homes free in
         let away = ap (λ es. sum_by (λ (k : Task P). one (p k.row)) (values_of es)) empty in
         omega (arith, home, away)
+
+  -- where there was no home, so many are made, or none
+  pub made_free : {T E : Type 0} (old new : List (Option (Home P))) (n : ℕ) (made : Result T E) → old ≡ [] → IsSize n → OnOk made (new ≡ old ++ replicate n None) → OnErr made (new ≡ old) → (k : ℕ) × IsSize k × (new ≡ replicate k None)
+  made_free old new n (Ok x) none size added same = (n, size, added ∙ ap (λ hs. hs ++ replicate n None) none)
+  made_free old new n (Err e) none size added same = (0, ∣ inl refl ∣₁, same ∙ none)
 
 module _ {P : Type 0} where
   pub a_task : (o : Option (Task P)) → is_some o ≡ true → (v : Task P) × (o ≡ Some v)
@@ -195,7 +194,7 @@ module _ {P : Type 0} where
 
 -- a table in which `o` lies at the home of task t, where `was` lay
 pub record IsWritten {P : Type 0} (m : Rows P) (t : ℕ) (homes : List (Option (Home P))) (was o : Option (Home P)) : Type 0 where
-  pub sized : is_size m.bits (length homes) ≡ true
+  pub sized : IsSize (length homes)
   pub placed : ArePlaced homes
   pub apart : AreApart homes m.beside
   pub task : found homes m.beside t ≡ or_beside (held t o) (get nat_eq m.beside t)
@@ -210,7 +209,7 @@ module _ {P : Type 0} (m : Rows P) (t i : ℕ) (is : i ≡ home_of (length m.hom
       let within = slice_get_within m.homes.items i was there in
       let lay = here m.homes.items i was there in
       record {
-        sized = ap (is_size m.bits) (length-set m.homes.items i o) ∙ m.sized;
+        sized = subst IsSize (sym (length-set m.homes.items i o)) m.sized;
         placed = placed_set m.homes.items i o within (λ u e. ap (home_of (length m.homes.items)) (sym (after u e)) ∙ sym is) m.placed;
         apart = apart_set m.homes.items i o within m.beside (λ u e. ap (λ x. is_some (get nat_eq m.beside x)) (sym (after u e)) ∙ alone) m.apart;
         task = ap (λ x. or_beside x (get nat_eq m.beside t)) (held_here m.homes.items i o within t (sym is));

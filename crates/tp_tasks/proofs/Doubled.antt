@@ -1,19 +1,20 @@
 -- Tasks lie at their homes among twice as many.
-use Rattle.std.proofs.Common.{◌≡◌, ℕ, suc, ◌+◌, ◌-◌, ◌%◌, ◌^◌, ◌<◌, ◌≤◌, Bool, true, false, not, cond, List, ◌++◌, length, set, replicate, Option, Some, None, refl, sym, ap, subst, ◌∙◌, arith, ◌⊎◌, inl, inr}
+use Rattle.std.proofs.Common.{◌≡◌, ℕ, suc, ◌+◌, ◌-◌, ◌%◌, ◌<◌, ◌≤◌, Bool, true, false, not, cond, List, ◌++◌, length, set, replicate, Option, Some, None, refl, sym, ap, subst, ◌∙◌, arith, ◌⊎◌, inl, inr}
 use Rattle.std.specs.Prelude.{nat_eq}
 use Rattle.std.specs.List.{SwappedAt}
-use Rattle.std.proofs.lemmas.Bool.{cases_eq, cases_lt, or_cases, ne_eqb, eq-eqb, eqb-true, false≢true}
+use Rattle.std.proofs.lemmas.Bool.{cases_eq, cases_lt, ne_eqb, eq-eqb, eqb-true, false≢true}
 use Rattle.std.proofs.lemmas.List.{length-append, length-replicate, get_or-set_other, get_or_past, get_or_append_left, length-set}
 use Rattle.std.proofs.lemmas.List.Sums.{sum_by-set, sum_by-append}
 use Rattle.std.proofs.lemmas.Option.{none-some, same_Some}
-use Rattle.std.proofs.Math.Nat.{mod-lt, mod-eq_of_lt, add-mod_right, mod-mod_of_dvd, dvd-add, pow-le-pow_right, two-pow-succ}
+use Rattle.std.proofs.Math.Logic.{∥∥₁_map}
+use Rattle.std.proofs.Math.Nat.{mod-lt, mod-eq_of_lt, add-mod_right, mod-mod_of_dvd, dvd-add, two-pow-succ}
 use Rattle.std.proofs.lemmas.Nat.Gcd.{dvd_refl}
 use Rattle.indexmap.specs.IndexMap.{IndexMap, get}
 use Rattle.tp_record.specs.declared.rows.TaskRow.{TaskRow}
 use Rattle.tp_tasks.specs.declared.homes.Home.{Home}
 use Rattle.tp_tasks.specs.declared.table.Task.{Task}
-use Rattle.tp_tasks.specs.Homes.{home_of, is_size, held, holder, home_passes, home_at, or_beside, found, home_count, moves, stays, goes, ArePlaced, AreApart, AreSpread}
-use Rattle.tp_tasks.proofs.AtHome.{one, power_size, count_free}
+use Rattle.tp_tasks.specs.Homes.{home_of, IsSize, held, holder, home_passes, home_at, or_beside, found, home_count, moves, stays, goes, ArePlaced, AreApart, AreSpread}
+use Rattle.tp_tasks.proofs.AtHome.{one, count_free}
 
 -- a number's home among twice as many is the one that it had, or so many further
 halves : (m t : ℕ) → 0 < m → (home_of (m + m) t ≡ home_of m t) ⊎ (home_of (m + m) t ≡ home_of m t + m)
@@ -143,23 +144,12 @@ module _ {P : Type 0} (n i t : ℕ) where
       by true is e = absurd (none-some t e)
       by false is e = (e, λ there. false≢true (sym is ∙ eq-eqb (home_of n h.number) i (ap (home_of n) (same_Some h.number t e) ∙ there)))
 
-pub power_of : (bits n : ℕ) → is_size bits n ≡ true → 0 < n → n ≡ 2 ^ bits
-power_of bits n size some = elim (or_cases (nat_eq n 0) (nat_eq n (2 ^ bits)) size) [
-  | inl none ↦ absurd (let e = eqb-true n 0 none in omega (arith, e, some))
-  | inr power ↦ eqb-true n (2 ^ bits) power
-]
-
-pub few_bits : (bits n : ℕ) → n ≡ 2 ^ bits → n < 2 ^ 64 → bits < 64
-few_bits bits n power small = elim (cases_lt bits 64) [
-  | inl less ↦ less
-  | inr past ↦ absurd (let most = pow-le-pow_right {n = 2} (omega arith) past in omega (arith, power, small, most))
-]
-
-twice_power : (bits n : ℕ) → n ≡ 2 ^ bits → n + n ≡ 2 ^ (bits + 1)
-twice_power bits n power =
-    let step : bits + 1 ≡ suc bits = omega arith in
-    let next : 2 ^ (bits + 1) ≡ 2 ^ bits + 2 ^ bits = ap (λ k. 2 ^ k) step ∙ two-pow-succ bits in
-    omega (arith, power, next)
+-- twice a power of two is one
+twice_size : (n : ℕ) → IsSize n → IsSize (n + n)
+twice_size n size = ∥∥₁_map size (λ cases. elim cases [
+  | inl none ↦ inl (omega (arith, none))
+  | inr power ↦ inr (suc power.0, let next = two-pow-succ power.0 in let is = power.1 in omega (arith, next, is))
+])
 
 -- all homes are settled
 pub all_spread : {P : Type 0} (old wide now : List (Option (Home P))) (r : ℕ) → r ≡ length old → wide ≡ old ++ replicate r None → AreSpread r r wide now → AreSpread (length old) (length old) (old ++ replicate (length old) None) now
@@ -178,8 +168,8 @@ module _ {P S : Type 0} (old now : List (Option (Home P))) (beside : IndexMap �
   pub doubled : length now ≡ m + m
   doubled = spread.len ∙ long
 
-  pub sized_doubled : (bits : ℕ) → is_size bits m ≡ true → is_size (bits + 1) (length now) ≡ true
-  sized_doubled bits size = power_size (bits + 1) (length now) (doubled ∙ twice_power bits m (power_of bits m size some))
+  pub sized_doubled : IsSize m → IsSize (length now)
+  sized_doubled size = subst IsSize (sym doubled) (twice_size m size)
 
   was : (i : ℕ) → i < m → home_at wide i ≡ home_at old i
   was i less = get_or_append_left old (replicate m None) None i less

@@ -1,5 +1,6 @@
 -- Where a task lies: at its home, or beside.
-use Rattle.std.specs.Prelude.{ℕ, ◌≡◌, ◌+◌, ◌%◌, ◌^◌, ◌<◌, ◌≤◌, ◌==◌, ◌||◌, Bool, true, false, not, List, length, slice_get, slice_index_or, sum_by, Option, Some, None, is_some, nat_eq, if◌then◌else◌}
+use Rattle.std.specs.Prelude.{ℕ, ◌≡◌, ◌+◌, ◌%◌, ◌<◌, ◌≤◌, ◌⊎◌, Bool, true, false, not, List, length, slice_get, slice_index_or, sum_by, Option, Some, None, is_some, nat_eq, if◌then◌else◌}
+use Rattle.std.specs.Int.{IsPowerOfTwo}
 use Rattle.indexmap.specs.IndexMap.{IndexMap, get, values}
 use Rattle.tp_record.specs.declared.rows.TaskRow.{TaskRow}
 use Rattle.tp_tasks.specs.declared.homes.Home.{Home}
@@ -9,9 +10,9 @@ use Rattle.tp_tasks.specs.declared.table.Task.{Task}
 abbrev pub home_of : ℕ → ℕ → ℕ
 home_of n t = t % n
 
--- there are 2 ^ bits homes, or none
-abbrev pub is_size : ℕ → ℕ → Bool
-is_size bits n = n == 0 || n == 2 ^ bits
+-- there is no home, or there are as many as some power of two
+abbrev pub IsSize : ℕ → Type 0
+IsSize n = ∥ (n ≡ 0) ⊎ IsPowerOfTwo n ∥₁
 
 module _ {P : Type 0} where
   -- task t, where it lies at this home

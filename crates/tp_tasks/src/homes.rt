@@ -1,9 +1,9 @@
 //! Where the tasks lie.
 
-ghost use Rattle.std.specs.Prelude.{◌≡◌, true, length, nat_eq};
+ghost use Rattle.std.specs.Prelude.{length, nat_eq};
 ghost use Rattle.std.proofs.Props.{props};
 ghost use Rattle.indexmap.specs.IndexMap.{IsUnique};
-ghost use Rattle.tp_tasks.specs.Homes.{is_size, ArePlaced, AreApart, AreKept};
+ghost use Rattle.tp_tasks.specs.Homes.{IsSize, ArePlaced, AreApart, AreKept};
 
 use crate::table::Task;
 use indexmap::IndexMap;
@@ -27,9 +27,7 @@ pub struct Rows<P> {
     pub beside: IndexMap<u32, Task<P>>,
     /// How many tasks are kept.
     pub count: u32,
-    /// There are 2 ^ bits homes, or none.
-    pub bits: u32,
-    ghost sized: { is_size bits (length homes.items) ≡ true },
+    ghost sized: { IsSize (length homes.items) },
     ghost placed: { ArePlaced homes.items },
     ghost apart: { AreApart homes.items beside },
     ghost unique: { IsUnique nat_eq beside } by { Prim.hlevel props },

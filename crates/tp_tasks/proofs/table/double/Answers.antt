@@ -1,15 +1,21 @@
-use Rattle.std.proofs.Common.{◌+◌, true, ap, ◌∙◌, arith}
-use Rattle.tp_tasks.specs.Homes.{beside_count}
+use Rattle.std.proofs.Common.{◌+◌, true, length, sym, ap, subst, ◌∙◌, arith}
+use Rattle.tp_tasks.specs.Homes.{IsSize, ArePlaced, AreApart, AreKept, beside_count}
 use Rattle.tp_tasks.specs.Table.{task_in}
-use Rattle.tp_tasks.proofs.Doubled.{power_of, few_bits, all_spread, sized_doubled, placed_doubled, apart_doubled, found_doubled, count_doubled}
+use Rattle.tp_tasks.proofs.Doubled.{all_spread, sized_doubled, placed_doubled, apart_doubled, found_doubled, count_doubled}
 use Rattle.tp_tasks.proofs.table.double.Goals as goal
 
-pub overflow_add-tasks : goal.overflow_add-tasks
-overflow_add-tasks g c =
+pub invariant_of-tasks : goal.invariant_of-tasks
+unfolding task_in
+invariant_of-tasks g c =
     let m = c.args.tasks.now in
-    let long = c.len-old.ensures ∙ m.homes.ok.0 in
-    let few = few_bits m.bits c.len-old.result (long ∙ power_of m.bits _ m.sized c.requires) c.len-old.type_inv in
-    omega (arith, few)
+    let same = sym c.in_err-add_free.ensures.same in
+    record {
+      sized = subst (λ hs. IsSize (length hs)) same m.sized;
+      placed = subst ArePlaced same m.placed;
+      apart = subst (λ hs. AreApart hs m.beside) same m.apart;
+      unique = m.unique;
+      counted = subst (λ hs. AreKept m.count hs m.beside) same m.counted;
+    }
 
 pub invariant_of-tasks-2 : goal.invariant_of-tasks-2
 unfolding task_in
@@ -21,7 +27,7 @@ invariant_of-tasks-2 g c =
     let same = count_doubled homes now m.beside c.requires spread (λ _. true) in
     let all = m.counted in
     record {
-      sized = sized_doubled homes now m.beside c.requires spread m.bits m.sized;
+      sized = sized_doubled homes now m.beside c.requires spread m.sized;
       placed = placed_doubled homes now m.beside c.requires spread m.placed;
       apart = apart_doubled homes now m.beside c.requires spread m.placed m.apart;
       unique = m.unique;

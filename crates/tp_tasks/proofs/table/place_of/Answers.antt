@@ -7,4 +7,4 @@ pub returns : goal.returns
 returns g c =
     let m = c.args.tasks.now in
     let n = c.len.ensures ∙ m.homes.ok.0 in
-    ap (λ k. bit_and c.args.t ((k + 18446744073709551615) % 18446744073709551616)) n ∙ low_bits m.bits _ c.args.t m.sized (rw (sym n) c.len.type_inv) c.ranges.t.fits
+    ap (λ k. bit_and c.args.t ((k + 18446744073709551615) % 18446744073709551616)) n ∙ low_bits _ c.args.t m.sized (rw (sym n) c.len.type_inv) c.ranges.t.fits

@@ -1,4 +1,4 @@
-use Rattle.std.proofs.Common.{◌≡◌, ◌<◌, ◌*◌, ◌%◌, ◌^◌, ◌++◌, replicate, None, ap, ◌∙◌, arith}
+use Rattle.std.proofs.Common.{◌≡◌, ◌<◌, ◌*◌, ◌%◌, ◌^◌, ◌++◌, replicate, None, inr, ap, ◌∙◌, arith}
 use Rattle.std.proofs.Math.Nat.{mod-eq_of_lt}
 use Rattle.std.proofs.Math.Pow.{pow-lt}
 use Rattle.tp_tasks.proofs.AtHome.{sized_free, placed_free, apart_free, count_none}
@@ -17,7 +17,7 @@ invariant_of-result g c =
     let beside = c.new.result in
     let empty = c.new.ensures.empty in
     record {
-      sized = sized_free homes n free beside bits whole;
+      sized = sized_free homes n free beside ∣ inr (bits, whole) ∣₁;
       placed = placed_free homes n free beside;
       apart = apart_free homes n free beside;
       unique = c.new.ensures.unique;
