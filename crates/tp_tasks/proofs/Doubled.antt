@@ -151,6 +151,12 @@ twice_size n size = ∥∥₁_map size (λ cases. elim cases [
   | inr power ↦ inr (suc power.0, let next = two-pow-succ power.0 in let is = power.1 in omega (arith, next, is))
 ])
 
+-- as many homes more are twice as many
+pub wide_size : {P : Type 0} (old wide : List (Option (Home P))) (r : ℕ) → r ≡ length old → wide ≡ old ++ replicate r None → IsSize (length old) → IsSize (length wide)
+wide_size old wide r is added size =
+    let long = ap length added ∙ length-append old (replicate r None) ∙ ap (λ k. length old + k) (length-replicate r None ∙ is) in
+    subst IsSize (sym long) (twice_size (length old) size)
+
 -- all homes are settled
 pub all_spread : {P : Type 0} (old wide now : List (Option (Home P))) (r : ℕ) → r ≡ length old → wide ≡ old ++ replicate r None → AreSpread r r wide now → AreSpread (length old) (length old) (old ++ replicate (length old) None) now
 all_spread old wide now r is added spread = subst (λ n. AreSpread n n (old ++ replicate n None) now) is (subst (λ w. AreSpread r r w now) added spread)

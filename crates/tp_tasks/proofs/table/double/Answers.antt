@@ -1,8 +1,13 @@
 use Rattle.std.proofs.Common.{◌+◌, true, length, sym, ap, subst, ◌∙◌, arith}
 use Rattle.tp_tasks.specs.Homes.{IsSize, ArePlaced, AreApart, AreKept, beside_count}
 use Rattle.tp_tasks.specs.Table.{task_in}
-use Rattle.tp_tasks.proofs.Doubled.{all_spread, sized_doubled, placed_doubled, apart_doubled, found_doubled, count_doubled}
+use Rattle.tp_tasks.proofs.Doubled.{wide_size, all_spread, sized_doubled, placed_doubled, apart_doubled, found_doubled, count_doubled}
 use Rattle.tp_tasks.proofs.table.double.Goals as goal
+
+pub spread-requires-clause-size : goal.spread-requires-clause-size
+spread-requires-clause-size g c =
+    let m = c.args.tasks.now in
+    wide_size m.homes.items _ c.len-old.result (c.len-old.ensures ∙ m.homes.ok.0) c.in_ok-add_free.ensures.added m.sized
 
 pub invariant_of-tasks : goal.invariant_of-tasks
 unfolding task_in

@@ -1,10 +1,9 @@
-use Rattle.std.proofs.Common.{ap, sym, ◌∙◌, ◌+◌, ◌%◌}
-use Rattle.std.specs.Prelude.{bit_and}
-use Rattle.tp_tasks.proofs.AtHome.{low_bits}
+use Rattle.std.proofs.Common.{sym, subst, ap, ◌∙◌}
+use Rattle.tp_tasks.specs.Homes.{home_of, IsSize}
 use Rattle.tp_tasks.proofs.table.place_of.Goals as goal
 
+pub home_among-requires : goal.home_among-requires
+home_among-requires g c = let m = c.args.tasks.now in subst IsSize (sym (c.len.ensures ∙ m.homes.ok.0)) m.sized
+
 pub returns : goal.returns
-returns g c =
-    let m = c.args.tasks.now in
-    let n = c.len.ensures ∙ m.homes.ok.0 in
-    ap (λ k. bit_and c.args.t ((k + 18446744073709551615) % 18446744073709551616)) n ∙ low_bits _ c.args.t m.sized (rw (sym n) c.len.type_inv) c.ranges.t.fits
+returns g c = let m = c.args.tasks.now in c.home_among.ensures ∙ ap (λ n. home_of n c.args.t) (c.len.ensures ∙ m.homes.ok.0)

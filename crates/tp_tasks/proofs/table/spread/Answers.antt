@@ -1,8 +1,11 @@
 use Rattle.std.proofs.Common.{◌+◌, sym, subst, ◌∙◌}
-use Rattle.tp_tasks.specs.Homes.{AreSpread}
+use Rattle.tp_tasks.specs.Homes.{IsSize, AreSpread}
 use Rattle.tp_tasks.proofs.Doubled.{spread_stays, spread_goes}
 use Rattle.tp_tasks.proofs.table.spread.Goals.{then-is_to_move, else-is_to_move}
 use Rattle.tp_tasks.proofs.table.spread.Goals as goal
+
+pub is_to_move-requires-clause-size : goal.is_to_move-requires-clause-size
+is_to_move-requires-clause-size g c = subst IsSize (sym c.loop-place.invariant.len) c.requires.size
 
 pub loop-place-preserved : goal.loop-place-preserved
 loop-place-preserved g c =
