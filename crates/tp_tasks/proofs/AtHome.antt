@@ -69,12 +69,6 @@ module _ {P : Type 0} where
     pub apart_free : AreApart homes beside
     apart_free i t e = absurd (no_holder i t e)
 
-    pub count_none : beside.entries ≡ [] → (p : TaskRow → Bool) → home_count p homes + beside_count p beside ≡ 0
-    count_none empty p =
-        let home = count_free p n homes free in
-        let away = ap (λ es. sum_by (λ (k : Task P). one (p k.row)) (values_of es)) empty in
-        omega (arith, home, away)
-
   -- where there was no home, so many are made, or none
   pub made_free : {T E : Type 0} (old new : List (Option (Home P))) (n : ℕ) (made : Result T E) → old ≡ [] → IsSize n → OnOk made (new ≡ old ++ replicate n None) → OnErr made (new ≡ old) → (k : ℕ) × IsSize k × (new ≡ replicate k None)
   made_free old new n (Ok x) none size added same = (n, size, added ∙ ap (λ hs. hs ++ replicate n None) none)

@@ -1,4 +1,4 @@
-use Rattle.std.proofs.Common.{true, inr, refl, arith}
+use Rattle.std.proofs.Common.{true, inr, arith}
 use Rattle.tp_tasks.proofs.AtHome.{is_nil, made_free, sized_free, placed_free, apart_free, count_free}
 use Rattle.tp_tasks.proofs.table.make_first_homes.Goals as goal
 
@@ -6,8 +6,8 @@ pub invariant_of-tasks : goal.invariant_of-tasks
 invariant_of-tasks g c =
     let m = c.args.tasks.now in
     let homes = c.add_free.new.homes.items in
-    let none = is_nil m.homes.items c.requires in
-    let made = made_free m.homes.items homes 64 c.add_free.result none ∣ inr (6, refl) ∣₁ c.add_free.ensures.added c.add_free.ensures.same in
+    let none = is_nil m.homes.items c.requires.none in
+    let made = made_free m.homes.items homes c.args.homes c.add_free.result none ∣ inr c.requires.power ∣₁ c.add_free.ensures.added c.add_free.ensures.same in
     let before = count_free (λ _. true) 0 m.homes.items none in
     let now = count_free (λ _. true) made.0 homes made.2 in
     let all = m.counted in
