@@ -1,9 +1,11 @@
 //! What became of each job, by what the pool answered, by the job's own count, and by the record.
 
 use crate::callers::{Answered, Told};
+use crate::causes::{Cause, cause_of};
 use crate::chores::{Count, outcome_of};
 use crate::mishaps::Mishap;
 use crate::plans::{Plan, work_of};
+use crate::totals::Account;
 use std::alloc::{AllocError, Global};
 use std::sync::Arc;
 use std::sync::atomic::Ordering;
@@ -11,9 +13,10 @@ use tp_audit::plain::audit_plain;
 use tp_audit::summary::Summary;
 use tp_book::passes::Pass;
 use tp_pool::answers::Admitted;
-use tp_pool::closing::{Report, TallyReport};
+use tp_pool::closing::{Report, Reporter, TallyReport};
 use tp_pool::names::PoolNaming;
 use tp_record::entries::{Did, Ruled, Started};
+use tp_record::recorders::{Full, Tally};
 use tp_types::ids::TaskId;
 use tp_types::refusals::PoolError;
 use tp_types::states::{Counts, RunState};
@@ -166,8 +169,8 @@ fn agree(rows: &[Row], ran: &[Count], summary: &Summary) -> Result<(), Mishap> {
     Ok(())
 }
 
-/// Judges the record of a closed pool, and accounts for each of its jobs.
-pub fn judge(alloc: Global, plan: &Plan, report: &Report, books: &Books) -> Result<Counts, Mishap> {
+// Judges the record of a closed pool, and accounts for each of its jobs.
+fn judge(alloc: Global, plan: &Plan, report: &Report, books: &Books) -> Result<Counts, Mishap> {
     plan.settings.check()?;
     let summary = audit_plain(alloc, &plan.settings, &report.entries)?;
     if summary.counts != report.counts || summary.state != RunState::Terminated {
@@ -204,9 +207,9 @@ fn ends_of(rows: &[Row], ran: &[Count]) -> Result<Ends, Mishap> {
     Ok(ends)
 }
 
-/// Accounts for each job of a closed pool that kept no record, by the jobs' own counts and by the pool's counters. A job that was
-/// cancelled may have run.
-pub fn judge_tally(
+// Accounts for each job of a closed pool that kept no record, by the jobs' own counts and by the pool's counters. A job that was
+// cancelled may have run.
+fn judge_tally(
     alloc: Global,
     plan: &Plan,
     report: &TallyReport,
@@ -230,4 +233,61 @@ pub fn judge_tally(
         return Err(Mishap::Differs("the counters of returns are not the jobs' own"));
     }
     Ok(counts)
+}
+
+/// What keeps a pool's record, where what is told of the closed pool accounts for each of its jobs.
+pub trait Judged: Reporter {
+    /// What the pool of this plan came to: whether it was stopped, since tasks were left to nobody, and the numbers of its
+    /// callers' passes are told beside the report.
+    fn account(
+        alloc: Global,
+        plan: &Plan,
+        report: &Self::Report,
+        books: &Books,
+        stranded: bool,
+        callers: &[u32],
+    ) -> Result<Account, Mishap>;
+}
+
+impl Judged for Full {
+    fn account(
+        alloc: Global,
+        plan: &Plan,
+        report: &Report,
+        books: &Books,
+        stranded: bool,
+        callers: &[u32],
+    ) -> Result<Account, Mishap> {
+        Ok(Account {
+            counts: judge(alloc, plan, report, books)?,
+            stranded: explained(stranded, cause_of(&plan.settings, report, callers))?,
+            steps: report.entries.len() as u64,
+        })
+    }
+}
+
+impl Judged for Tally {
+    fn account(
+        alloc: Global,
+        plan: &Plan,
+        report: &TallyReport,
+        books: &Books,
+        stranded: bool,
+        _callers: &[u32],
+    ) -> Result<Account, Mishap> {
+        Ok(Account {
+            counts: judge_tally(alloc, plan, report, books)?,
+            stranded: explained(stranded, Some(Cause::Untold))?,
+            steps: report.steps,
+        })
+    }
+}
+
+// Why the pool had to be stopped, where it had to be.
+fn explained(stranded: bool, cause: Option<Cause>) -> Result<Option<Cause>, Mishap> {
+    match (stranded, cause) {
+        (false, _) => Ok(None),
+        (true, Some(cause)) => Ok(Some(cause)),
+        (true, None) => Err(Mishap::Differs("tasks were left to nobody")),
+    }
 }

@@ -13,6 +13,8 @@ pub enum Cause {
     Refused,
     /// Its record has no room for another worker.
     Full,
+    /// It kept no record that says why.
+    Untold,
 }
 
 // What the record says so far of the pool's core size and of the worker that was asked for last.

@@ -5,40 +5,27 @@ use std::sync::{Arc, Wait};
 use std::thread;
 use tp_book::passes::Pass;
 use tp_callbacks::jobs::Job;
-use tp_pool::closing::{Report, TallyReport};
+use tp_pool::closing::Reporter;
 use tp_pool::edges::Edge;
 use tp_pool::names::PoolNaming;
 use tp_pool::pool::PoolOf;
-use tp_record::recorders::Tally;
 
-/// The report of a pool that has ended, once no caller has it any more.
-pub fn closed<G: PoolNaming, J: Job, E: Edge, R: Wait>(
+/// What is told of a pool that has ended, once no caller has it any more.
+pub fn closed<G: PoolNaming, J: Job, E: Edge, K: Reporter, R: Wait>(
     rt: &R,
-    pool: Arc<PoolOf<G, J, E>>,
+    pool: Arc<PoolOf<G, J, E, K>>,
     passes: Vec<Pass<G>>,
-) -> Result<Report, Mishap> {
+) -> Result<K::Report, Mishap> {
     report(rt, sole(rt, pool), passes)
 }
 
-/// The report of a pool that has ended.
-pub fn report<G: PoolNaming, J: Job, E: Edge, R: Wait>(
+/// What is told of a pool that has ended.
+pub fn report<G: PoolNaming, J: Job, E: Edge, K: Reporter, R: Wait>(
     rt: &R,
-    pool: PoolOf<G, J, E>,
+    pool: PoolOf<G, J, E, K>,
     passes: Vec<Pass<G>>,
-) -> Result<Report, Mishap> {
+) -> Result<K::Report, Mishap> {
     match pool.close(rt, passes) {
-        Ok(report) => Ok(report),
-        Err(fault) => Err(Mishap::Refused(fault.error)),
-    }
-}
-
-/// The report of a pool that has ended and kept no record, once no caller has it any more.
-pub fn tallied<G: PoolNaming, J: Job, E: Edge, R: Wait>(
-    rt: &R,
-    pool: Arc<PoolOf<G, J, E, Tally>>,
-    passes: Vec<Pass<G>>,
-) -> Result<TallyReport, Mishap> {
-    match sole(rt, pool).close(rt, passes) {
         Ok(report) => Ok(report),
         Err(fault) => Err(Mishap::Refused(fault.error)),
     }

@@ -1,9 +1,8 @@
-//! Pools that live by chance: each is closed, audited and accounted for.
+//! Pools that live by chance: each is closed, audited where it keeps a record, and accounted for.
 ghost use Rattle.std.specs.Prelude.{◌≡◌};
 
-use crate::accounts::{Books, judge};
+use crate::accounts::{Books, Judged};
 use crate::callers::{Caller, Crew, Role, Told, hire, stop};
-use crate::causes::{Cause, cause_of};
 use crate::chores::{Chore, Count, count};
 use crate::endings::closed;
 use crate::luck::Luck;
@@ -30,7 +29,7 @@ const LOOKS: u32 = 100;
 
 /// Lets so many pools live, the first by the plan of this seed, the next by that of the next one. What
 /// goes wrong is told with the seed of its pool.
-pub fn stress<R: Threads + Wait + Clock + Copy + Send + Sync + 'static>(
+pub fn stress<K: Judged + Send + 'static, R: Threads + Wait + Clock + Copy + Send + Sync + 'static>(
     rt: R,
     alloc: Global,
     seed: u64,
@@ -40,7 +39,7 @@ pub fn stress<R: Threads + Wait + Clock + Copy + Send + Sync + 'static>(
     for more in 0..pools {
         let seed = seed.wrapping_add(u64::from(more));
         let plan = Plan::new(seed);
-        match life(rt, alloc, &plan) {
+        match life::<K, R>(rt, alloc, &plan) {
             Ok(account) => totals.add(&plan, &account),
             Err(mishap) => return Err((seed, mishap)),
         }
@@ -49,18 +48,19 @@ pub fn stress<R: Threads + Wait + Clock + Copy + Send + Sync + 'static>(
 }
 
 // A pool's life by this plan.
-fn life<R: Threads + Wait + Clock + Copy + Send + Sync + 'static>(
+fn life<K: Judged + Send + 'static, R: Threads + Wait + Clock + Copy + Send + Sync + 'static>(
     rt: R,
     alloc: Global,
     plan: &Plan,
 ) -> Result<Account, Mishap> {
     let unopened = Unopened::new(alloc)?;
-    open::<Brand, R>(rt, alloc, unopened, plan.settings, plan)
+    open::<Brand, K, R>(rt, alloc, unopened, plan.settings, plan)
 }
 
 // Opens a pool under its name, and judges what its life came to.
 fn open<
     G: PoolNaming + Send + Sync + 'static,
+    K: Judged + Send + 'static,
     R: Threads + Wait + Clock + Copy + Send + Sync + 'static,
 >(
     rt: R,
@@ -74,7 +74,7 @@ fn open<
 {
     let ends = count(alloc)?;
     let whims = whims_of(plan, &ends)?;
-    let (pool, first) = Crew::<G>::over(alloc, unopened, settings, whims)?;
+    let (pool, first) = Crew::<G, K>::over(alloc, unopened, settings, whims)?;
     let account = whole_life(rt, alloc, pool, first, plan)?;
     if ends.load(Ordering::SeqCst) != 1 {
         return Err(Mishap::Differs("the terminated hook was not called once"));
@@ -82,69 +82,27 @@ fn open<
     Ok(account)
 }
 
-/// The users of the pool of this plan, who count its ends.
-pub fn whims_of(plan: &Plan, ends: &Count) -> Result<Whims, AllocError> {
+// The users of the pool of this plan, who count its ends.
+fn whims_of(plan: &Plan, ends: &Count) -> Result<Whims, AllocError> {
     let mut luck = Luck::new(plan.seed, 3);
     let ends = Arc::try_clone(ends)?;
     Ok(Whims::new(luck.seed(), plan.refusals, ends))
 }
 
-/// A pool that has ended, with all passes of its callers.
-#[derive(Drop)]
-pub struct Lived<G: PoolNaming, K: Keeper> {
-    /// The pool.
-    pub pool: Arc<Crew<G, K>>,
-    /// The passes.
-    pub passes: Vec<Pass<G>>,
-    /// What the callers tell of their jobs.
-    pub books: Books,
-    /// Whether it was stopped, since tasks were left to nobody.
-    pub stranded: bool,
-}
-
-/// Lets a new pool live until it is terminated.
-pub fn let_live<
+// What the life of a new pool comes to.
+fn whole_life<
     G: PoolNaming + Send + Sync + 'static,
-    K: Keeper + Send + 'static,
+    K: Judged + Send + 'static,
     R: Threads + Wait + Clock + Copy + Send + Sync + 'static,
->(
-    rt: R,
-    alloc: Global,
-    pool: Crew<G, K>,
-    first: Pass<G>,
-    plan: &Plan,
-) -> Result<Lived<G, K>, Mishap> {
+>(rt: R, alloc: Global, pool: Crew<G, K>, first: Pass<G>, plan: &Plan) -> Result<Account, Mishap> {
     let ran = counts_of(alloc, plan)?;
     let mut told = Told::new(alloc, first);
     let pool = Arc::new(alloc, pool)?;
     let (hands, stranded) = live(rt, alloc, &pool, &mut told, plan, &ran)?;
     let (passes, books) = gathered(alloc, hands, told, ran)?;
-    Ok(Lived {
-        pool,
-        passes,
-        books,
-        stranded,
-    })
-}
-
-// What the life of a new pool comes to.
-fn whole_life<
-    G: PoolNaming + Send + Sync + 'static,
-    R: Threads + Wait + Clock + Copy + Send + Sync + 'static,
->(rt: R, alloc: Global, pool: Crew<G>, first: Pass<G>, plan: &Plan) -> Result<Account, Mishap> {
-    let Lived {
-        pool,
-        passes,
-        books,
-        stranded,
-    } = let_live(rt, alloc, pool, first, plan)?;
     let callers = numbers_of(alloc, &passes)?;
     let report = closed(&rt, pool, passes)?;
-    Ok(Account {
-        counts: judge(alloc, plan, &report, &books)?,
-        stranded: explained(stranded, cause_of(&plan.settings, &report, &callers))?,
-        entries: report.entries.len(),
-    })
+    K::account(alloc, plan, &report, &books, stranded, &callers)
 }
 
 // The numbers of these passes.
@@ -154,15 +112,6 @@ fn numbers_of<G: PoolNaming>(alloc: Global, passes: &[Pass<G>]) -> Result<Vec<u3
         numbers.push(pass.number())?;
     }
     Ok(numbers)
-}
-
-// Why the pool had to be stopped, where it had to be.
-fn explained(stranded: bool, cause: Option<Cause>) -> Result<Option<Cause>, Mishap> {
-    match (stranded, cause) {
-        (false, _) => Ok(None),
-        (true, Some(cause)) => Ok(Some(cause)),
-        (true, None) => Err(Mishap::Differs("tasks were left to nobody")),
-    }
 }
 
 // A count for each job.

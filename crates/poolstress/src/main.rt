@@ -25,7 +25,6 @@ mod races;
 mod reports;
 mod reuse;
 mod tales;
-mod tallies;
 mod totals;
 mod waits;
 mod whims;

@@ -6,13 +6,13 @@ use crate::mishaps::Mishap;
 use crate::races::all_race;
 use crate::reuse::all_reuse;
 use crate::tales::all_end;
-use crate::tallies::stress_tally;
 use crate::totals::Totals;
 use std::alloc::Global;
 use std::io;
 use std::rt::Clock;
 use std::sync::Wait;
 use std::thread::Threads;
+use tp_record::recorders::{Full, Tally};
 
 /// The pools of a rehearsal that live by chance.
 const REHEARSED: u32 = 8;
@@ -33,7 +33,7 @@ pub fn rehearsed<R: Threads + Wait + Clock + Print + Copy + Send + Sync + 'stati
     alloc: Global,
     seed: u64,
 ) -> io::Result<bool> {
-    let totals = match stress(rt, alloc, seed, REHEARSED) {
+    let totals = match stress::<Full, R>(rt, alloc, seed, REHEARSED) {
         Ok(totals) => totals,
         Err((seed, mishap)) => return misses(&rt, seed, &mishap),
     };
@@ -67,7 +67,7 @@ pub fn stressed<R: Threads + Wait + Clock + Print + Copy + Send + Sync + 'static
     seed: u64,
     pools: u32,
 ) -> io::Result<bool> {
-    match stress(rt, alloc, seed, pools) {
+    match stress::<Full, R>(rt, alloc, seed, pools) {
         Ok(totals) => {
             tell(&rt, &totals)?;
             Ok(true)
@@ -83,15 +83,15 @@ pub fn tallied<R: Threads + Wait + Clock + Print + Copy + Send + Sync + 'static>
     seed: u64,
     pools: u32,
 ) -> io::Result<bool> {
-    match stress_tally(rt, alloc, seed, pools) {
-        Ok(tallies) => {
+    match stress::<Tally, R>(rt, alloc, seed, pools) {
+        Ok(totals) => {
             println!(&rt;
                 "{} pools closed that kept no record, {} steps",
-                tallies.pools, tallies.steps
+                totals.pools, totals.steps
             )?;
             println!(&rt;
                 "{} jobs accounted for; {} pools left tasks to nobody",
-                tallies.jobs, tallies.stranded
+                totals.jobs, totals.untold
             )?;
             Ok(true)
         }
@@ -103,7 +103,7 @@ pub fn tallied<R: Threads + Wait + Clock + Print + Copy + Send + Sync + 'static>
 fn tell<R: Print>(rt: &R, totals: &Totals) -> io::Result<()> {
     println!(rt;
         "{} pools closed, {} entries legal",
-        totals.pools, totals.entries
+        totals.pools, totals.steps
     )?;
     println!(rt;
         "{} jobs accounted for: {} run, {} run by their submitters, {} back, {} discarded, {} cancelled",

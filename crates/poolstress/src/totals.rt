@@ -7,7 +7,7 @@ use tp_types::states::Counts;
 /// What the pools of a run came to.
 #[derive(Clone, Copy, Default)]
 pub struct Totals {
-    /// Pools that were closed, each with a legal record and all its jobs accounted for.
+    /// Pools that were closed, each with all its jobs accounted for, and with a legal record where it keeps one.
     pub pools: u32,
     /// Jobs that were submitted, or refused for want of room in the record.
     pub jobs: u64,
@@ -25,21 +25,23 @@ pub struct Totals {
     pub at_zero: u32,
     /// since the worker that they asked for was not made,
     pub refused: u32,
-    /// and since their record had no room for another worker.
+    /// since their record had no room for another worker,
     pub full: u32,
-    /// Entries of all records.
-    pub entries: u64,
+    /// and where no record says why.
+    pub untold: u32,
+    /// The steps of all pools: the entries of their records, where they keep one.
+    pub steps: u64,
 }
 
 /// What a pool came to.
 #[derive(Clone, Copy)]
 pub struct Account {
-    /// The counters of its record.
+    /// Its counters.
     pub counts: Counts,
     /// Why it was stopped since tasks were left to nobody, where it was.
     pub stranded: Option<Cause>,
-    /// The entries of its record.
-    pub entries: usize,
+    /// Its steps.
+    pub steps: u64,
 }
 
 impl Totals {
@@ -51,9 +53,10 @@ impl Totals {
             Some(Cause::CoreZero) => self.at_zero = self.at_zero.saturating_add(1),
             Some(Cause::Refused) => self.refused = self.refused.saturating_add(1),
             Some(Cause::Full) => self.full = self.full.saturating_add(1),
+            Some(Cause::Untold) => self.untold = self.untold.saturating_add(1),
             None => {}
         }
-        self.entries = self.entries.saturating_add(account.entries as u64);
+        self.steps = self.steps.saturating_add(account.steps);
         self.add_fates(&account.counts);
     }
 

@@ -1,24 +1,14 @@
 -- What a closed book tells of its history.
-use Rattle.std.proofs.Common.{◌≡◌, ℕ, Bool, ◌+◌, cond, List, [], ◌∷◌, length, reverse, Option, Some, None, is_none, sym, ap, refl, arith, ◌∙◌}
+use Rattle.std.proofs.Common.{◌≡◌, ℕ, Bool, ◌+◌, cond, List, [], ◌∷◌, length, Option, Some, None, is_none, refl, arith}
 use Rattle.std.specs.Prelude.{count_by}
-use Rattle.std.proofs.lemmas.List.{length-reverse, reverse-reverse}
 use Rattle.std.proofs.lemmas.List.Sums.{sum_by-cons}
 use Rattle.tp_types.specs.declared.configs.Config.{Config}
 use Rattle.tp_types.specs.declared.tasks.Fate.{Fate}
 use Rattle.tp_types.specs.declared.tasks.Fate.TheVariants as fate
 use Rattle.tp_record.specs.declared.entries.Entry.{Entry}
 use Rattle.tp_record.specs.declared.rows.TaskRow.{TaskRow}
-use Rattle.tp_record.specs.Kept.{Kept}
 use Rattle.tp_record.specs.State.{state, counts, fate_of, is_fate}
-use Rattle.tp_book.specs.BookView.{fates_of, unended_of}
-
--- a record that is kept whole is the history, the oldest entry first
-pub kept_is : (kept : Kept) (h : List Entry) → reverse kept.entries ≡ h → kept.entries ≡ reverse h
-kept_is kept h told = sym (reverse-reverse kept.entries) ∙ ap reverse told
-
--- and it is as long
-pub counted : (kept : Kept) (h es : List Entry) → reverse kept.entries ≡ h → es ≡ kept.entries → length h ≡ length es
-counted kept h es told is = sym (ap (λ es. length es) (is ∙ kept_is kept h told) ∙ length-reverse h)
+use Rattle.tp_book.specs.Reports.{fates_of, unended_of}
 
 abbrev one : Bool → ℕ
 one b = cond b 1 0

@@ -207,4 +207,4 @@ mod readings;
 mod releases;
 mod steps;
 
-pub use closing::{Report, TallyReport, Unclosed};
+pub use closing::Unclosed;

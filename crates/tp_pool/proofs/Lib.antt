@@ -10,6 +10,5 @@ pub mod Returned
 pub mod Starts
 pub mod Submissions
 pub mod Turned
-pub mod Unclosed
 pub mod Walks
 pub mod Watched

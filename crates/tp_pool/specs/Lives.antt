@@ -10,7 +10,7 @@ use Rattle.tp_record.specs.declared.entries.Ask.TheVariants as ask
 use Rattle.tp_record.specs.declared.entries.Entry.{Entry}
 use Rattle.tp_record.specs.Fields.{rank}
 use Rattle.tp_book.specs.PassView.{PassView}
-use Rattle.tp_book.specs.declared.book.closing.Report.{Report}
+use Rattle.tp_book.specs.declared.reports.Report.{Report}
 use Rattle.tp_locked.specs.Moments.{AtSome, BookAt}
 use Rattle.tp_locked.specs.Passes.{LooksOnly}
 use Rattle.tp_locked.specs.Readings.{got, IsFound}

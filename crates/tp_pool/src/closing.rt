@@ -1,9 +1,9 @@
 //! The close of a pool: its record, with every pass accounted for.
 ghost use Rattle.std.specs.Prelude.{◌≡◌, IfOk, IfErr};
-ghost use Rattle.tp_pool.specs.Closing.{Reports, Tallies};
 ghost use Rattle.tp_locked.specs.Closing.{KeepsOpen};
 ghost use Rattle.tp_types.specs.Config.{IsConfig};
 ghost use Rattle.tp_book.specs.BookView.{config};
+ghost use Rattle.tp_pool.specs.Closing.{Closes};
 ghost use Rattle.tp_locked.specs.declared.tasks.Task.{Task as TaskOf};
 
 use crate::edges::Edge;
@@ -14,9 +14,9 @@ use std::alloc::Global;
 use std::sync::{Arc, Wait};
 use std::thread::{self, Parker};
 use tp_book::book::{Book, Unclosed};
-pub use tp_book::book::{Report, TallyReport};
 use tp_book::gathered::Gathered;
 use tp_book::passes::Pass;
+pub use tp_book::reports::{Report, Reporter, TallyReport};
 use tp_callbacks::jobs::Job;
 use tp_glance::glance::Glance;
 use tp_laws::lawful::law_legal_is_lawful;
@@ -25,7 +25,7 @@ use tp_locked::locks::PoolLock;
 use tp_locked::names::PoolNaming;
 use tp_locked::tasks::Task;
 use tp_machine::machine::releases::Keeper;
-use tp_record::recorders::{Full, Recorder, Tally};
+use tp_record::recorders::Full;
 use tp_types::refusals::PoolError;
 
 /// The answer of a close that was refused: the pool comes back, with the passes that were handed in.
@@ -39,46 +39,29 @@ pub struct CloseFault<G: PoolNaming, J, E, K: Keeper = Full> {
     pub passes: Vec<Pass<G>>,
 }
 
-impl<G: PoolNaming, J: Job, E: Edge> PoolOf<G, J, E> {
-    /// Closes a terminated pool with all passes that its callers got, and answers its record and counters;
-    /// Java has no such call. The record is legal and goes on from what each pass knew, and each pass's
-    /// receipts are that pass's entries in it.
+impl<G: PoolNaming, J: Job, E: Edge, K: Reporter> PoolOf<G, J, E, K> {
+    /// Closes a terminated pool with all passes that its callers got, and answers what is told of it; Java has no such call.
+    /// A pool over `Full` answers its record and counters. The record is legal and goes on from what each pass knew, and each
+    /// pass's receipts are that pass's entries in it. A pool over `Tally` answers how many steps it made, its counters, and how
+    /// many of its tasks have no fate; there is a legal record of so many steps with these counters, which goes on from what
+    /// each pass knew.
     ///
     /// NotTerminated (20) comes first, and never with a pass that has seen the pool terminated.
     /// MissingPass (21) comes next, where fewer or more passes come back than callers got. Then the call
     /// waits until no thread has the pool any more, since a worker's thread lets go of it after the last
     /// step. TornRecord (22) comes last, where a pass's receipts are not its own entries. After a refusal the
     /// pool and the passes come back.
-    pub fn close<R: Wait>(self, rt: &R, passes: Vec<Pass<G>>) -> Result<Report, CloseFault<G, J, E>>
-        ensures report { IfOk result (Reports G.config passes.items) }
-        ensures refused { IfErr result (λ f. KeepsOpen (TaskOf J) G.config passes.items f.error) }
-        ensures returned { IfErr result (λ f. f.passes.items ≡ passes.items) }
-    {
-        match self.alone(rt, passes) {
-            Ok((shared, passes)) => shared.close(passes),
-            Err(fault) => Err(fault),
-        }
-    }
-}
-
-impl<G: PoolNaming, J: Job, E: Edge> PoolOf<G, J, E, Tally> {
-    /// Closes a terminated pool that kept no record, with all passes that its callers got, and answers how many
-    /// steps it made, its counters, and how many of its tasks have no fate. There is a legal record of so many
-    /// steps with these counters, which goes on from what each pass knew.
-    ///
-    /// NotTerminated (20) and MissingPass (21) as where the record is kept. TornRecord (22) where the passes'
-    /// shares would not add up to the steps. After a refusal the pool and the passes come back.
     pub fn close<R: Wait>(
         self,
         rt: &R,
         passes: Vec<Pass<G>>,
-    ) -> Result<TallyReport, CloseFault<G, J, E, Tally>>
-        ensures report { IfOk result (Tallies G.config passes.items) }
-        ensures refused { IfErr result (λ f. KeepsOpen (TaskOf J) (⟦<Tally as Recorder>⟧.terms G.config) passes.items f.error) }
+    ) -> Result<K::Report, CloseFault<G, J, E, K>>
+        ensures report { IfOk result (Closes K.told K.RECEIPTS G.config (K.terms G.config) passes.items) }
+        ensures refused { IfErr result (λ f. KeepsOpen (TaskOf J) (K.terms G.config) passes.items f.error) }
         ensures returned { IfErr result (λ f. f.passes.items ≡ passes.items) }
     {
         match self.alone(rt, passes) {
-            Ok((alone, passes)) => alone.close(passes),
+            Ok((shared, passes)) => shared.close(passes),
             Err(fault) => Err(fault),
         }
     }
@@ -215,38 +198,16 @@ impl<G: PoolNaming, J: Job, E: Edge, K: Keeper> Shared<G, J, E, K> {
     }
 }
 
-impl<G: PoolNaming, J: Job, E: Edge> Shared<G, J, E> {
-    fn close(self, passes: Vec<Pass<G>>) -> Result<Report, CloseFault<G, J, E>>
-        ensures report { IfOk result (Reports G.config passes.items) }
-        ensures refused { IfErr result (λ f. KeepsOpen (TaskOf J) G.config passes.items f.error) }
+impl<G: PoolNaming, J: Job, E: Edge, K: Reporter> Shared<G, J, E, K> {
+    fn close(self, passes: Vec<Pass<G>>) -> Result<K::Report, CloseFault<G, J, E, K>>
+        ensures report { IfOk result (Closes K.told K.RECEIPTS G.config (K.terms G.config) passes.items) }
+        ensures refused { IfErr result (λ f. KeepsOpen (TaskOf J) (K.terms G.config) passes.items f.error) }
         ensures returned { IfErr result (λ f. f.passes.items ≡ passes.items) }
     {
-        let mut passes = passes;
-        let (mut book, workers, rest) = self.apart();
-        book.law_all_are_fronts(&rest.glance, &mut passes);
-        book.law_is_balanced();
+        let (book, workers, rest) = self.apart();
         match book.close(&rest.glance, passes, workers) {
             Ok(report) => {
-                law_legal_is_lawful();
-                Ok(report)
-            }
-            Err(unclosed) => Err(rest.reopened(unclosed)),
-        }
-    }
-}
-
-impl<G: PoolNaming, J: Job, E: Edge> Shared<G, J, E, Tally> {
-    fn close(self, passes: Vec<Pass<G>>) -> Result<TallyReport, CloseFault<G, J, E, Tally>>
-        ensures report { IfOk result (Tallies G.config passes.items) }
-        ensures refused { IfErr result (λ f. KeepsOpen (TaskOf J) (⟦<Tally as Recorder>⟧.terms G.config) passes.items f.error) }
-        ensures returned { IfErr result (λ f. f.passes.items ≡ passes.items) }
-    {
-        let mut passes = passes;
-        let (mut book, workers, rest) = self.apart();
-        book.law_all_are_fronts(&rest.glance, &mut passes);
-        book.law_is_balanced();
-        match book.close(&rest.glance, passes, workers) {
-            Ok(report) => {
+                K::law_limit();
                 law_legal_is_lawful();
                 Ok(report)
             }

@@ -2,9 +2,9 @@
 ghost use Rattle.std.specs.Prelude.{◌≡◌, ◌⊎◌, [], ◌∷◌, length, IfOk, IfErr};
 ghost use Rattle.tp_locked.specs.Closing.{KeepsOpen};
 ghost use Rattle.tp_locked.specs.declared.tasks.Task.{Task};
-ghost use Rattle.tp_pool.specs.Closing.{Reports, Tallies};
+ghost use Rattle.tp_pool.specs.Closing.{Closes};
 
-use crate::closing::{CloseFault, Report, TallyReport};
+use crate::closing::{CloseFault, Reporter};
 use crate::edges::Edge;
 use crate::pool::{Hold, PoolOf};
 use std::sync::{Arc, Wait};
@@ -12,7 +12,7 @@ use tp_book::passes::Pass;
 use tp_callbacks::jobs::Job;
 use tp_locked::names::PoolNaming;
 use tp_machine::machine::releases::Keeper;
-use tp_record::recorders::{Full, Recorder, Tally};
+use tp_record::recorders::Full;
 use tp_types::refusals::PoolError;
 
 /// The answer of a close with one pass that was refused: the pool comes back, with the pass.
@@ -84,35 +84,16 @@ impl<G: PoolNaming, J: Job, E: Edge, K: Keeper> PoolOf<G, J, E, K> {
     }
 }
 
-impl<G: PoolNaming, J: Job, E: Edge> PoolOf<G, J, E> {
-    /// As `close`, with the one pass of a pool that has one caller. NoMemory (4) for the list of passes, else
-    /// refused as `close`; after a refusal the pool and the pass come back.
-    pub fn close_one<R: Wait>(self, rt: &R, pass: Pass<G>) -> Result<Report, CloseOneFault<G, J, E>>
-        ensures report { IfOk result (Reports G.config (pass ∷ [])) }
-        ensures refused { IfErr result (λ f. (f.error ≡ PoolError.NoMemory) ⊎ KeepsOpen (Task J) G.config (pass ∷ []) f.error) }
-        ensures returned { IfErr result (λ f. f.pass ≡ pass) }
-    {
-        let (pool, passes) = match self.with_one(pass) {
-            Ok(one) => one,
-            Err(fault) => return Err(fault),
-        };
-        match pool.close(rt, passes) {
-            Ok(report) => Ok(report),
-            Err(fault) => Err(of_one(fault)),
-        }
-    }
-}
-
-impl<G: PoolNaming, J: Job, E: Edge> PoolOf<G, J, E, Tally> {
+impl<G: PoolNaming, J: Job, E: Edge, K: Reporter> PoolOf<G, J, E, K> {
     /// As `close`, with the one pass of a pool that has one caller. NoMemory (4) for the list of passes, else
     /// refused as `close`; after a refusal the pool and the pass come back.
     pub fn close_one<R: Wait>(
         self,
         rt: &R,
         pass: Pass<G>,
-    ) -> Result<TallyReport, CloseOneFault<G, J, E, Tally>>
-        ensures report { IfOk result (Tallies G.config (pass ∷ [])) }
-        ensures refused { IfErr result (λ f. (f.error ≡ PoolError.NoMemory) ⊎ KeepsOpen (Task J) (⟦<Tally as Recorder>⟧.terms G.config) (pass ∷ []) f.error) }
+    ) -> Result<K::Report, CloseOneFault<G, J, E, K>>
+        ensures report { IfOk result (Closes K.told K.RECEIPTS G.config (K.terms G.config) (pass ∷ [])) }
+        ensures refused { IfErr result (λ f. (f.error ≡ PoolError.NoMemory) ⊎ KeepsOpen (Task J) (K.terms G.config) (pass ∷ []) f.error) }
         ensures returned { IfErr result (λ f. f.pass ≡ pass) }
     {
         let (pool, passes) = match self.with_one(pass) {

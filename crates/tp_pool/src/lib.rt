@@ -36,7 +36,7 @@ mod working;
 
 pub use bodies::{Any, Body};
 pub use callers::{PoolName, Runtime, in_two};
-pub use closing::{CloseFault, Report, TallyReport};
+pub use closing::{CloseFault, Report, Reporter, TallyReport};
 pub use defaults::Defaults;
 pub use edges::Edge;
 pub use futures::task_of;
@@ -69,7 +69,7 @@ pub mod jobs {
 pub mod prelude {
     pub use crate::bodies::{Any, Body};
     pub use crate::callers::{PoolName, Runtime, in_two};
-    pub use crate::closing::{Report, TallyReport};
+    pub use crate::closing::{Report, Reporter, TallyReport};
     pub use crate::defaults::Defaults;
     pub use crate::edges::Edge;
     pub use crate::lives::{Answer, run_all};

@@ -1,21 +1,25 @@
 -- The end of a pool, and what its record says of the caller that made it run.
-use Rattle.std.proofs.Common.{◌≡◌, ◌⊎◌, ℕ, true, List, [], ◌∷◌, ◌++◌, refl, sym, ap, subst, ◌∙◌, inl, inr, ⊎_elim}
+use Rattle.std.proofs.Common.{◌≡◌, ◌⊎◌, ℕ, true, List, [], ◌∷◌, ◌++◌, reverse, refl, sym, ap, subst, ◌∙◌, inl, inr, ⊎_elim}
 use Rattle.std.specs.Prelude.{All, Some, if◌then◌else◌}
-use Rattle.std.proofs.lemmas.List.{append-nil}
+use Rattle.std.proofs.lemmas.List.{append-nil, reverse-reverse}
 use Rattle.std.proofs.lemmas.List.Elements.{All-nil, All-cons, All-append, All-pop}
+use Rattle.tp_types.specs.Config.{IsConfig}
 use Rattle.tp_types.specs.declared.configs.Config.{Config}
 use Rattle.tp_record.specs.declared.entries.Ask.TheVariants as ask
 use Rattle.tp_record.specs.declared.entries.Did.TheVariants as did
 use Rattle.tp_record.specs.declared.entries.Entry.{Entry}
 use Rattle.tp_record.specs.Fields.{rank}
 use Rattle.tp_record.specs.Paths.{own}
+use Rattle.tp_record.specs.State.{state, counts}
+use Rattle.tp_record.specs.Step.{Legal}
 use Rattle.tp_book.specs.PassView.{PassView, receipts_with}
-use Rattle.tp_book.specs.declared.book.closing.Report.{Report}
+use Rattle.tp_book.specs.Reports.{IsOwn, TellsRecord}
+use Rattle.tp_book.specs.declared.reports.Report.{Report}
 use Rattle.tp_locked.specs.Passes.{Adds, entry_of, tidied, ended}
 use Rattle.tp_pool.specs.Closing.{Reports}
 use Rattle.tp_pool.specs.Endings.{AddsAndEnds, IsBarred, IsEnding}
 use Rattle.tp_locked.proofs.Receipts.{adds_both}
-use Rattle.tp_threads.specs.Runs.{AddsEnd, AddsSubmissions, Asked, IsClosed, IsEnd, IsRun}
+use Rattle.tp_threads.specs.Runs.{AddsEnd, AddsSubmissions, Asked, IsEnd, IsLife, IsRun}
 
 two_ended : (by : ℕ) → All (λ e. (e ≡ tidied by) ⊎ (e ≡ ended by)) (tidied by ∷ ended by ∷ [])
 two_ended by =
@@ -52,19 +56,28 @@ adds_end c old mid new first waited seen =
 pub one_pass : (passes pushed : List PassView) (now : PassView) → passes ≡ [] → pushed ≡ passes ++ now ∷ [] → pushed ≡ now ∷ []
 one_pass passes pushed now alone is = is ∙ ap (λ ps. ps ++ now ∷ []) alone
 
+-- the report of a pool with these settings, which the caller with this pass shut down and closed
+record IsClosed (c : Config) (pass : PassView) (r : Report) : Type 0 where
+  pub good : IsConfig c
+  pub legal : Legal c (reverse r.entries.items)
+  pub ended : (state c (reverse r.entries.items)).rank ≡ 4
+  pub counts : r.counts ≡ counts (state c (reverse r.entries.items))
+  pub receipts : (last : List Entry) × IsEnd pass.number last × (own pass.number r.entries.items ≡ receipts_with pass last)
+
 -- the close of a pool by its one caller
-pub closed_by : (c : Config) (pass now : PassView) (r : Report) → AddsEnd c pass now → Reports c (now ∷ []) r → IsClosed c pass r
+closed_by : (c : Config) (pass now : PassView) (r : Report) → AddsEnd c pass now → Reports c (now ∷ []) r → IsClosed c pass r
 closed_by c pass now r end reports =
-    let own_now = (All-pop (λ (p : PassView). own p.number r.entries.items ≡ p.receipts) (now ∷ []) [] (Some now) refl reports.receipts).1 in record {
+    let turned : reports.history ≡ reverse r.entries.items = sym (ap reverse reports.told.entries ∙ reverse-reverse reports.history) in
+    let owned = (All-pop (λ (p : PassView). IsOwn true reports.history p.number p.receipts) (now ∷ []) [] (Some now) refl reports.receipts).1 refl in
+    let own_now = subst (λ es. own now.number es ≡ now.receipts) (sym reports.told.entries) owned in record {
       good = reports.good;
-      legal = reports.legal;
-      ended = reports.ended;
-      counts = reports.counts;
+      legal = subst (λ h. Legal c h) turned reports.legal;
+      ended = subst (λ h. (state c h).rank ≡ 4) turned reports.ended;
+      counts = subst (λ h. r.counts ≡ counts (state c h)) turned reports.told.counts;
       receipts = (end.0, end.1, subst (λ n. own n r.entries.items ≡ receipts_with pass end.0) end.2.number (own_now ∙ end.2.receipts));
     }
 
--- the whole life
-pub run_of : (c : Config) (first mid : PassView) (ks : List Asked) (r : Report) → first.number ≡ 0 → first.keeps ≡ true → first.receipts ≡ [] → AddsSubmissions c ks first mid → IsClosed c mid r → IsRun c ks r
+run_of : (c : Config) (first mid : PassView) (ks : List Asked) (r : Report) → first.number ≡ 0 → first.keeps ≡ true → first.receipts ≡ [] → AddsSubmissions c ks first mid → IsClosed c mid r → IsRun c ks r
 run_of c first mid ks r zeroth whole none before closed =
     let number : mid.number ≡ 0 = before.2.number ∙ zeroth in
     let receipts : mid.receipts ≡ before.0 = before.2.receipts ∙ ap (λ k. if k then first.receipts ++ before.0 else first.receipts) whole ∙ ap (λ rs. rs ++ before.0) none in
@@ -82,3 +95,9 @@ run_of c first mid ks r zeroth whole none before closed =
             ∙ ap (λ k. if k then mid.receipts ++ closed.receipts.0 else mid.receipts) keeps ∙ ap (λ rs. rs ++ closed.receipts.0) receipts,
       );
     }
+
+-- the whole life
+pub is_run : (c : Config) (ks : List Asked) (r : Report) → IsLife TellsRecord true c c ks r → IsRun c ks r
+is_run c ks r life =
+    run_of c life.first life.submitted ks r (ap (λ p. p.number) life.opened) (ap (λ p. p.keeps) life.opened) (ap (λ p. p.receipts) life.opened) life.submits
+    (closed_by c life.submitted life.last r life.ends life.closes)

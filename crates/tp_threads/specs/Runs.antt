@@ -24,12 +24,13 @@ use Rattle.tp_scenario.specs.Jobs.{IsRead}
 use Rattle.tp_scenario.specs.declared.jobs.JobLine.{JobLine}
 use Rattle.tp_scenario.specs.declared.jobs.Jobs.{Jobs}
 use Rattle.tp_book.specs.PassView.{PassView, receipts_with}
-use Rattle.tp_book.specs.declared.book.closing.Report.{Report}
-use Rattle.tp_book.specs.declared.book.closing.TallyReport.{TallyReport}
+use Rattle.tp_book.specs.Reports.{TellsCount}
+use Rattle.tp_book.specs.declared.reports.Report.{Report}
+use Rattle.tp_book.specs.declared.reports.TallyReport.{TallyReport}
 use Rattle.tp_locked.specs.Passes.{Adds, AddsNone, entry_of, tidied, ended}
 use Rattle.tp_pool.specs.Admissions.{AddsFront, AsksFor}
 use Rattle.tp_record.specs.Terms.{without_end}
-use Rattle.tp_pool.specs.Closing.{Tallies}
+use Rattle.tp_pool.specs.Closing.{Closes}
 
 -- as what a task is submitted: its kind and its priority
 abbrev pub Asked : Type 0
@@ -71,14 +72,6 @@ IsEnd by steps = (rest : List Entry) × (steps ≡ entry_of by ask.Shutdown did.
 abbrev pub AddsEnd : Config → PassView → PassView → Type 0
 AddsEnd c old new = (steps : List Entry) × IsEnd old.number steps × Adds c old steps new × (rank new.front ≡ 4)
 
--- the report of a pool with these settings, which the caller with this pass shut down and closed
-pub record IsClosed (c : Config) (pass : PassView) (r : Report) : Type 0 where
-  pub good : IsConfig c
-  pub legal : Legal c (reverse r.entries.items)
-  pub ended : (state c (reverse r.entries.items)).rank ≡ 4
-  pub counts : r.counts ≡ counts (state c (reverse r.entries.items))
-  pub receipts : (last : List Entry) × IsEnd pass.number last × (own pass.number r.entries.items ≡ receipts_with pass last)
-
 -- the report of a pool with these settings that ran jobs of these kinds and priorities: its record is legal and ends it, and pass 0 submitted
 -- such tasks in their order, each to the end of its submission, and then shut the pool down
 pub record IsRun (c : Config) (ks : List Asked) (r : Report) : Type 0 where
@@ -88,16 +81,20 @@ pub record IsRun (c : Config) (ks : List Asked) (r : Report) : Type 0 where
   pub counts : r.counts ≡ counts (state c (reverse r.entries.items))
   pub submissions : (steps last : List Entry) × AreSubmissions ks steps × IsEnd 0 last × (own 0 r.entries.items ≡ steps ++ last)
 
--- the report of a pool with these settings that kept no record and ran jobs of these kinds and priorities: its first pass submitted such tasks in
--- their order, each to the end of its submission, and then shut the pool down; with it the pool was closed
-pub record IsTally (c : Config) (ks : List Asked) (r : TallyReport) : Type 0 where
+-- the report, as its keeper tells it, of a pool with these settings and terms that ran jobs of these kinds and priorities: its first pass, which keeps
+-- receipts or none, submitted such tasks in their order, each to the end of its submission, and then shut the pool down; with it the pool was closed
+pub record IsLife {Report : Type 0} (told : Config → List Entry → Report → Type 0) (keeps : Bool) (settings c : Config) (ks : List Asked) (r : Report) : Type 0 where
   pub first : PassView
-  pub opened : first ≡ record { number = 0; amount = 0; front = []; keeps = false; receipts = []; room = first.room }
+  pub opened : first ≡ record { number = 0; amount = 0; front = []; keeps = keeps; receipts = []; room = first.room }
   pub submitted : PassView
-  pub submits : AddsSubmissions (without_end c) ks first submitted
+  pub submits : AddsSubmissions c ks first submitted
   pub last : PassView
-  pub ends : AddsEnd (without_end c) submitted last
-  pub tallies : Tallies c (last ∷ []) r
+  pub ends : AddsEnd c submitted last
+  pub closes : Closes told keeps settings c (last ∷ []) r
+
+-- the report of a pool with these settings that kept no record and ran such jobs
+abbrev pub IsTally : Config → List Asked → TallyReport → Type 0
+IsTally c ks r = IsLife TellsCount false c (without_end c) ks r
 
 -- there is no memory, or no room in the record, or it is torn
 abbrev pub IsShort : PoolError → Type 0

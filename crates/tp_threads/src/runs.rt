@@ -1,6 +1,8 @@
-//! A pool's whole life: it runs the jobs of a file.
-ghost use Rattle.std.specs.Prelude.{◌≡◌, [], IfOk, IfErr, OnOk};
-ghost use Rattle.tp_threads.specs.Runs.{AddsEnd, IsClosed, IsRun, IsShort, RefusesRun, asked};
+//! A pool's whole life: it runs the jobs of a file, with its record or without one.
+ghost use Rattle.std.specs.Prelude.{◌≡◌, [], ◌∷◌, IfOk, IfErr, OnOk};
+ghost use Rattle.tp_book.specs.PassView.{PassView};
+ghost use Rattle.tp_pool.specs.Closing.{Closes};
+ghost use Rattle.tp_threads.specs.Runs.{AddsEnd, IsLife, IsRun, IsShort, IsTally, RefusesRun, asked};
 
 use crate::submissions::{Company, submit_all};
 use std::alloc::Global;
@@ -10,15 +12,16 @@ use std::thread::Threads;
 use tp_book::opening::Unopened;
 use tp_book::passes::Pass;
 use tp_machine::machine::releases::Keeper;
-use tp_pool::closing::Report;
+use tp_pool::closing::{Report, Reporter, TallyReport};
 use tp_pool::defaults::Defaults;
 use tp_pool::names::PoolNaming;
+use tp_record::recorders::{Full, Tally};
 use tp_scenario::jobs::{JobLine, Jobs};
 use tp_types::configs::Config;
 use tp_types::refusals::PoolError;
 
 // What is told of a refusal at a pool's end: those that do not come there say that its record is torn.
-pub(crate) fn at_the_end(error: PoolError) -> PoolError
+fn at_the_end(error: PoolError) -> PoolError
     ensures { IsShort result }
 {
     match error {
@@ -28,7 +31,7 @@ pub(crate) fn at_the_end(error: PoolError) -> PoolError
 }
 
 // Shuts the pool down and waits for its end.
-pub(crate) fn end<
+fn end<
     G: PoolNaming + Send + Sync + 'static,
     K: Keeper + Send + 'static,
     R: Threads + Wait + Copy + Send + 'static,
@@ -46,14 +49,13 @@ pub(crate) fn end<
 }
 
 // Ends the pool and closes it with this pass, for which the list has room.
-fn closed<G: PoolNaming + Send + Sync + 'static, R: Threads + Wait + Copy + Send + 'static>(
-    rt: &R,
-    pool: Company<G>,
-    pass: Pass<G>,
-    passes: Vec<Pass<G>>,
-) -> Result<Report, PoolError>
+fn closed<
+    G: PoolNaming + Send + Sync + 'static,
+    K: Reporter + Send + 'static,
+    R: Threads + Wait + Copy + Send + 'static,
+>(rt: &R, pool: Company<G, K>, pass: Pass<G>, passes: Vec<Pass<G>>) -> Result<K::Report, PoolError>
     requires alone { passes.items ≡ [] }
-    ensures report { IfOk result (IsClosed G.config pass) }
+    ensures report { IfOk result (λ r. (new : PassView) × AddsEnd (K.terms G.config) pass new × Closes K.told K.RECEIPTS G.config (K.terms G.config) (new ∷ []) r) }
     ensures refused { IfErr result IsShort }
 {
     let mut pass = pass;
@@ -71,25 +73,29 @@ fn closed<G: PoolNaming + Send + Sync + 'static, R: Threads + Wait + Copy + Send
 }
 
 // A pool's life under a name of its own: it runs the jobs, ends and is closed. Where a submission is refused,
-// it is ended and closed all the same, and its report is kept.
-fn life<G: PoolNaming + Send + Sync + 'static, R: Threads + Wait + Copy + Send + 'static>(
+// it is ended and closed all the same, and what is told of it is kept.
+fn life<
+    G: PoolNaming + Send + Sync + 'static,
+    K: Reporter + Send + 'static,
+    R: Threads + Wait + Copy + Send + 'static,
+>(
     rt: R,
     alloc: Global,
     unopened: Unopened,
     settings: Config,
     jobs: &[JobLine],
-    kept: &mut Option<Report>,
-) -> Result<Report, PoolError>
+    kept: &mut Option<K::Report>,
+) -> Result<K::Report, PoolError>
     requires named { unopened ≡ record { ledger = G.name; parts = G.parts; table = G.table } }
     requires settings { settings ≡ G.config }
-    ensures run { IfOk result (IsRun settings (asked jobs.now)) }
+    ensures run { IfOk result (IsLife K.told K.RECEIPTS settings (K.terms settings) (asked jobs.now)) }
     ensures refused { IfErr result (RefusesRun settings) }
 {
     let mut passes = Vec::new(alloc);
     if passes.reserve(1).is_err() {
         return Err(PoolError::NoMemory);
     }
-    let (pool, mut pass) = match Company::<G>::over(alloc, unopened, settings, Defaults) {
+    let (pool, mut pass) = match Company::<G, K>::over(alloc, unopened, settings, Defaults) {
         Ok(opened) => opened,
         Err(error) => return Err(error),
     };
@@ -102,6 +108,23 @@ fn life<G: PoolNaming + Send + Sync + 'static, R: Threads + Wait + Copy + Send +
             Err(error)
         }
     }
+}
+
+// As `run_jobs`, by a pool over any keeper.
+fn lived<K: Reporter + Send + 'static, R: Threads + Wait + Copy + Send + 'static>(
+    rt: R,
+    alloc: Global,
+    jobs: &Jobs,
+    kept: &mut Option<K::Report>,
+) -> Result<K::Report, PoolError>
+    ensures run { IfOk result (IsLife K.told K.RECEIPTS jobs.now.config (K.terms jobs.now.config) (asked jobs.now.jobs.items)) }
+    ensures refused { IfErr result (RefusesRun jobs.now.config) }
+{
+    let unopened = match Unopened::new(alloc) {
+        Ok(unopened) => unopened,
+        Err(error) => return Err(error),
+    };
+    life::<Brand, K, R>(rt, alloc, unopened, jobs.config, jobs.jobs.as_slice(), kept)
 }
 
 /// Runs the jobs by threads: one thread submits them in their order to a pool with these settings, whose
@@ -121,9 +144,21 @@ pub fn run_jobs<R: Threads + Wait + Copy + Send + 'static>(
     ensures run { IfOk result (IsRun jobs.now.config (asked jobs.now.jobs.items)) }
     ensures refused { IfErr result (RefusesRun jobs.now.config) }
 {
-    let unopened = match Unopened::new(alloc) {
-        Ok(unopened) => unopened,
-        Err(error) => return Err(error),
-    };
-    life::<Brand, R>(rt, alloc, unopened, jobs.config, jobs.jobs.as_slice(), kept)
+    lived::<Full, R>(rt, alloc, jobs, kept)
+}
+
+/// Runs the jobs by threads, as `run_jobs`, on a pool that keeps no record, and answers its report.
+///
+/// NoMemory (4), BookFull (5) and TornRecord (22) at a submission end the run: no further job is submitted, the
+/// pool is shut down and closed, and the refusal is the answer. BadSizes (1), BadCapacity (2), BadLimit (3) and
+/// KeepZero (11) where no pool has these settings.
+pub fn tally_jobs<R: Threads + Wait + Copy + Send + 'static>(
+    rt: R,
+    alloc: Global,
+    jobs: &Jobs,
+) -> Result<TallyReport, PoolError>
+    ensures run { IfOk result (IsTally jobs.now.config (asked jobs.now.jobs.items)) }
+    ensures refused { IfErr result (RefusesRun jobs.now.config) }
+{
+    lived::<Tally, R>(rt, alloc, jobs, &mut None)
 }
