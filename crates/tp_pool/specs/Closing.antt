@@ -21,7 +21,7 @@ pub record Closes {R : Type 0} (told : Config → List Entry → R → Type 0) (
   pub legal : Legal c history
   pub lawful : IsLawful c history
   pub ended : (state c history).rank ≡ 4
-  pub told : told c history r
+  pub tells : told c history r
   -- the passes that workers handed in: with theirs the units of all passes are the record's entries
   pub workers : GatheredView
   pub shares : sum_by (λ p. p.amount) passes + workers.amount ≡ length history

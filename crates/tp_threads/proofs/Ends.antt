@@ -67,13 +67,13 @@ record IsClosed (c : Config) (pass : PassView) (r : Report) : Type 0 where
 -- the close of a pool by its one caller
 closed_by : (c : Config) (pass now : PassView) (r : Report) → AddsEnd c pass now → Reports c (now ∷ []) r → IsClosed c pass r
 closed_by c pass now r end reports =
-    let turned : reports.history ≡ reverse r.entries.items = sym (ap reverse reports.told.entries ∙ reverse-reverse reports.history) in
+    let turned : reports.history ≡ reverse r.entries.items = sym (ap reverse reports.tells.entries ∙ reverse-reverse reports.history) in
     let owned = (All-pop (λ (p : PassView). IsOwn true reports.history p.number p.receipts) (now ∷ []) [] (Some now) refl reports.receipts).1 refl in
-    let own_now = subst (λ es. own now.number es ≡ now.receipts) (sym reports.told.entries) owned in record {
+    let own_now = subst (λ es. own now.number es ≡ now.receipts) (sym reports.tells.entries) owned in record {
       good = reports.good;
       legal = subst (λ h. Legal c h) turned reports.legal;
       ended = subst (λ h. (state c h).rank ≡ 4) turned reports.ended;
-      counts = subst (λ h. r.counts ≡ counts (state c h)) turned reports.told.counts;
+      counts = subst (λ h. r.counts ≡ counts (state c h)) turned reports.tells.counts;
       receipts = (end.0, end.1, subst (λ n. own n r.entries.items ≡ receipts_with pass end.0) end.2.number (own_now ∙ end.2.receipts));
     }
 

@@ -1,9 +1,8 @@
-use Rattle.std.proofs.Common.{◌≤◌, sym, subst}
-use Rattle.tp_types.specs.declared.configs.Config.{Config}
-use Rattle.tp_record.specs.State.{state}
+use Rattle.std.proofs.Common.{All, sym, subst}
 use Rattle.tp_record.specs.Step.{Legal}
 use Rattle.tp_laws.specs.Laws.{HasGoodSizes}
 use Rattle.tp_laws.proofs.Sizes.{sizes_at}
+use Rattle.tp_book.specs.Reports.{IsOwn}
 use Rattle.tp_locked.specs.Closing.{KeepsOpen}
 use Rattle.tp_locked.specs.declared.tasks.Task.{Task}
 use Rattle.tp_locked.proofs.Moments.{keeps_open}
@@ -25,10 +24,10 @@ returns-in-Ok-clause-report g c =
       legal = legal;
       lawful = c.law_legal_is_lawful.ensures _ _ sizes legal;
       ended = told.ended;
-      told = subst (λ k. g.K.Reporter.told k book.history c.in-Ok.report) settings told.told;
+      tells = subst (λ k. g.K.Reporter.told k book.history c.in-Ok.report) settings told.told;
       workers = c.apart-book.result.1;
       shares = told.shares;
-      receipts = told.receipts;
+      receipts = subst (λ k. All (λ p. IsOwn k book.history p.number p.receipts) c.args.passes.items) told.keeps told.receipts;
       fronts = told.fronts;
     }
 
