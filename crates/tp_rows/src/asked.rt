@@ -3,10 +3,10 @@
 use crate::compare::same;
 use crate::judged::{LONE, plain_counts};
 use std::alloc::Global;
-use std::test::Fail;
 use tp_audit::summary::Flaw;
-use tp_record::entries::{Ask, Did, Looked, Opened, Started, Took};
+use tp_record::entries::{Ask, Did, Entry, Looked, Opened, Started, Took};
 use tp_runs::runs::{Run, run_asks};
+use tp_types::configs::Config;
 use tp_types::ids::{SlotId, TaskId};
 use tp_types::refusals::PoolError;
 use tp_types::tasks::Kind;
@@ -33,35 +33,57 @@ const SHORTEST_ANSWERS: [Result<Did, PoolError>; 6] = [
     Ok(Did::End(SLOT, TASK, Ok(5))),
 ];
 
+/// What comes of a list of asks. It says nothing of the run, so that a test of it is proved without the run's own contract.
+pub fn run_of(alloc: Global, config: Config, asks: &[(u32, Ask)]) -> Result<Run, PoolError> {
+    run_asks(alloc, config, asks)
+}
+
+/// Whether the shortest life is answered so, and the plain auditor counts its task as run.
+fn is_lived(alloc: Global) -> Result<bool, PoolError> {
+    let run = run_of(alloc, LONE, &SHORTEST)?;
+    let is_answered = run.answers.as_slice() == SHORTEST_ANSWERS.as_slice();
+    Ok(is_answered && run_tasks(alloc, &run.entries) == Ok(1))
+}
+
+/// How many tasks were run, as the plain auditor counts them.
+fn run_tasks(alloc: Global, entries: &[Entry]) -> Result<u32, Flaw> {
+    Ok(plain_counts(alloc, entries)?.run)
+}
+
 /// Row 1, the shortest life of a task, with an ask before it that is refused: the refusal is an answer,
 /// and adds no entry.
 #[test]
-fn runs_the_shortest_life(rt: HostRuntime) -> Result<(), Fail> {
-    let run = run_asks(rt.alloc(), LONE, &SHORTEST)?;
-    let is_answered = run.answers.as_slice() == SHORTEST_ANSWERS.as_slice();
-    let counts = plain_counts(rt.alloc(), &run.entries)?;
-    same(&rt, 0, &(is_answered, counts.run), &(true, 1));
-    Ok(())
+fn runs_the_shortest_life(rt: HostRuntime) {
+    same(&rt, 0, &is_lived(rt.alloc()), &Ok(true));
+}
+
+/// How many of these answers are want of memory.
+fn wants_of_memory(answers: &[Result<Did, PoolError>]) -> usize {
+    let mut wants = 0usize;
+    for answer in answers {
+        if *answer == Err(PoolError::NoMemory) {
+            wants = wants.saturating_add(1);
+        }
+    }
+    wants
+}
+
+/// Whether no task was run, or memory was wanting to tell it.
+fn runs_none(alloc: Global, entries: &[Entry]) -> bool {
+    match run_tasks(alloc, entries) {
+        Ok(tasks) => tasks == 0,
+        Err(flaw) => flaw == Flaw::NoMemory,
+    }
 }
 
 /// Where any one allocation fails, 4 is the answer of one ask, which adds no entry, and the run goes on; with ample memory each
 /// ask is accepted. The last ask takes no memory.
-fn goes_on(alloc: Global, asks: usize, run: &Run) -> bool {
-    let mut wanted = 0usize;
-    for answer in &run.answers {
-        if *answer == Err(PoolError::NoMemory) {
-            wanted = wanted.saturating_add(1);
-        }
-    }
-    let is_judged = match plain_counts(alloc, &run.entries) {
-        Ok(counts) => counts.run == 0,
-        Err(flaw) => flaw == Flaw::NoMemory,
-    };
-    wanted <= 1
+fn goes_on(asks: usize, run: &Run) -> bool {
+    let wants = wants_of_memory(&run.answers);
+    wants <= 1
         && run.answers.len() == asks
-        && run.entries.len().saturating_add(wanted) == asks
+        && run.entries.len().saturating_add(wants) == asks
         && run.answers.last() == Some(&Ok(Did::Tick(5)))
-        && is_judged
 }
 
 const GROWING: [(u32, Ask); 5] = [
@@ -72,12 +94,16 @@ const GROWING: [(u32, Ask); 5] = [
     (2, Ask::Tick(5)),
 ];
 
+/// Whether the run is refused with 4, or it goes on and is judged.
+fn goes_on_or_is_refused(alloc: Global) -> bool {
+    match run_of(alloc, LONE, &GROWING) {
+        Ok(run) => goes_on(GROWING.len(), &run) && runs_none(alloc, &run.entries),
+        Err(error) => error == PoolError::NoMemory,
+    }
+}
+
 /// Where any one allocation fails, the run is refused with 4, or it goes on.
 #[test]
 fn run_goes_on_where_memory_is_wanted(rt: HostRuntime) {
-    let is_right = match run_asks(rt.alloc(), LONE, &GROWING) {
-        Ok(run) => goes_on(rt.alloc(), GROWING.len(), &run),
-        Err(error) => error == PoolError::NoMemory,
-    };
-    same(&rt, 0, &is_right, &true);
+    same(&rt, 0, &goes_on_or_is_refused(rt.alloc()), &true);
 }

@@ -1,15 +1,12 @@
 //! Audits of record texts: worked rows from bytes to bytes, hostile texts, and readers and writers that fail.
 
 use crate::compare::same;
+use crate::forms::{changed, refusal_of, refuses_a_text};
 use crate::streams::{FailsOnce, Full, Long, last_line};
-use std::alloc::{AllocError, Global};
+use std::alloc::Global;
 use std::io::{self, Read};
 use std::process::Abort;
-use std::test::Fail;
 use tp_audit_text::audits::audit_text;
-use tp_record_text::records::read_record;
-use tp_record_text::versions::Version;
-use tp_record_text::writing::record_text;
 use tp_text::watched::{WatchedReader, WatchedWriter};
 use tp_types::limits::MAX_TEXT_BYTES;
 use tp_types::refusals::PoolError;
@@ -29,6 +26,16 @@ pool 1 1 unbounded keep 0 abort\n\
 3 take w0 held t0\n\
 4 begin w0 t0\n\
 5 end w0 t0 value 5\n\
+end 5\n";
+
+/// The same with another value of the first task.
+const ANOTHER_VALUE: &[u8] = b"tprecord 1\n\
+pool 1 1 unbounded keep 0 abort\n\
+1 submit t0 plain reserve w0\n\
+2 open w0 live\n\
+3 take w0 held t0\n\
+4 begin w0 t0\n\
+5 end w0 t0 value 6\n\
 end 5\n";
 
 const LEGAL_OUTPUT: &[u8] = b"legal 5\n\
@@ -157,9 +164,10 @@ fn refuses<R: Read>(
 }
 
 /// A text, what is written of it, and whether it is legal.
-static JUDGED: [(&[u8], &[u8], bool); 8] = [
+static JUDGED: [(&[u8], &[u8], bool); 9] = [
     (ROW_21, b"flaw 2\n", false),
     (LEGAL, LEGAL_OUTPUT, true),
+    (ANOTHER_VALUE, LEGAL_OUTPUT, true),
     (ROW_35, ROW_35_OUTPUT, true),
     (TWO_PASSES, TWO_PASSES_OUTPUT, true),
     (SETTINGS, SETTINGS_OUTPUT, true),
@@ -178,73 +186,79 @@ fn judges_worked_rows(rt: HostRuntime) {
     }
 }
 
-/// Row 32, and what else is no record's text, with the number of its first wrong line.
-static WRONG_LINES: [(&[u8], u32); 19] = [
+/// Row 32, and what else is no record's text, with the number of its first wrong line; and pools that are refused. A refused
+/// configuration comes before the lines behind it, and behind a wrong header.
+static REFUSED: [(&[u8], PoolError); 25] = [
     (
         b"tprecord 1\npool 1 1 unbounded keep 0 abort\n1 submit t0 plain reserve w0\n2 take w0 held t0\n",
-        5,
+        PoolError::BadEntry(5),
     ),
     (
         b"tprecord 1\npool 1 1 unbounded keep 0 abort\n1 submit t0 plain reserve w0\n3 take w0 held t0\n",
-        4,
+        PoolError::BadEntry(4),
     ),
     (
         b"tprecord 1\npool 1 1 unbounded keep 0 abort\n1 submit t0 plain reserve w0\n3 take w0 held t0\nend 2\n",
-        4,
+        PoolError::BadEntry(4),
     ),
     (
         b"tprecord 1\npool 1 1 unbounded keep 0 abort\n1 p0 submit t0 plain reserve w0\n2 take w0 held t0\n",
-        3,
+        PoolError::BadEntry(3),
     ),
     (
         b"tprecord 1\npool 1 1 unbounded keep 0 abort\n1 p0 submit t0 plain reserve w0\n2 take w0 held t0\nend 2\n",
-        3,
+        PoolError::BadEntry(3),
     ),
-    (b"", 1),
-    (b"tprecord 3\npool 1 1 unbounded keep 0 abort\nend 0\n", 1),
-    (b"tprecord 1\r\npool 1 1 unbounded keep 0 abort\nend 0\n", 1),
+    (b"", PoolError::BadEntry(1)),
+    (
+        b"tprecord 3\npool 1 1 unbounded keep 0 abort\nend 0\n",
+        PoolError::BadEntry(1),
+    ),
+    (
+        b"tprecord 1\r\npool 1 1 unbounded keep 0 abort\nend 0\n",
+        PoolError::BadEntry(1),
+    ),
     (
         b"# a record\ntprecord 1\npool 1 1 unbounded keep 0 abort\nend 0\n",
-        1,
+        PoolError::BadEntry(1),
     ),
     (
         b"\xEF\xBB\xBFtprecord 1\npool 1 1 unbounded keep 0 abort\nend 0\n",
-        1,
+        PoolError::BadEntry(1),
     ),
-    (b"tprecord 1\n", 2),
+    (b"tprecord 1\n", PoolError::BadEntry(2)),
     (
         b"tprecord 1\npool 1 1 unbounded keep 0 abort limit 4096\nend 0\n",
-        2,
+        PoolError::BadEntry(2),
     ),
-    (b"tprecord 1\npool 1 1 unbounded keep 00 abort\nend 0\n", 2),
-    (b"tprecord 1\npool 1 1 unbounded keep 0 abort\n\nend 0\n", 3),
+    (
+        b"tprecord 1\npool 1 1 unbounded keep 00 abort\nend 0\n",
+        PoolError::BadEntry(2),
+    ),
+    (
+        b"tprecord 1\npool 1 1 unbounded keep 0 abort\n\nend 0\n",
+        PoolError::BadEntry(3),
+    ),
     (
         b"tprecord 1\npool 1 1 unbounded keep 0 abort\n# nothing\nend 0\n",
-        3,
+        PoolError::BadEntry(3),
     ),
-    (b"tprecord 1\npool 1 1 unbounded keep 0 abort\nend 1\n", 3),
+    (
+        b"tprecord 1\npool 1 1 unbounded keep 0 abort\nend 1\n",
+        PoolError::BadEntry(3),
+    ),
     (
         b"tprecord 1\npool 1 1 unbounded keep 0 abort\n1  tick 5\nend 1\n",
-        3,
+        PoolError::BadEntry(3),
     ),
     (
         b"tprecord 1\npool 1 1 unbounded keep 0 abort\nend 0\nend 0\n",
-        4,
+        PoolError::BadEntry(4),
     ),
-    (b"tprecord 1\npool 1 1 unbounded keep 0 abort\nend 0\n ", 4),
-];
-
-#[test]
-fn tells_the_first_wrong_line(rt: HostRuntime) {
-    for (at, (text, line)) in WRONG_LINES.iter().enumerate() {
-        let mut reader = *text;
-        let refusal = PoolError::BadEntry(*line);
-        refuses(&rt, at, rt.alloc(), &mut reader, refusal);
-    }
-}
-
-/// A refused configuration comes before the lines behind it, and behind a wrong header.
-static REFUSED_POOLS: [(&[u8], PoolError); 6] = [
+    (
+        b"tprecord 1\npool 1 1 unbounded keep 0 abort\nend 0\n ",
+        PoolError::BadEntry(4),
+    ),
     (
         b"tprecord 1\npool 3 2 unbounded keep 0 abort\nnonsense\n",
         PoolError::BadSizes,
@@ -272,8 +286,8 @@ static REFUSED_POOLS: [(&[u8], PoolError); 6] = [
 ];
 
 #[test]
-fn refuses_a_pool_in_its_place(rt: HostRuntime) {
-    for (at, (text, refusal)) in REFUSED_POOLS.iter().enumerate() {
+fn tells_the_first_wrong_line_or_refuses_the_pool(rt: HostRuntime) {
+    for (at, (text, refusal)) in REFUSED.iter().enumerate() {
         let mut reader = *text;
         refuses(&rt, at, rt.alloc(), &mut reader, *refusal);
     }
@@ -288,87 +302,33 @@ fn refuses_each_cut_text(rt: HostRuntime) {
     }
 }
 
-/// What a text says, written again in the form that it says; None where it is refused.
-fn written_again(alloc: Global, text: &[u8]) -> Result<Option<Vec<u8>>, PoolError> {
-    if text.len() > MAX_TEXT_BYTES {
-        return Ok(None);
-    }
-    match read_record(alloc, text) {
-        Ok(record) => {
-            let entries = record.entries.as_slice();
-            let mut again = record_text(alloc, &record.config, entries)?;
-            if let (Version::One, Some(digit)) = (record.version, again.get_mut(9)) {
-                *digit = b'1';
-            }
-            Ok(Some(again))
-        }
-        Err(PoolError::NoMemory) => Err(PoolError::NoMemory),
-        Err(_) => Ok(None),
-    }
-}
-
-/// Whether this is how a text may be refused that was read whole.
-fn refuses_a_text(refusal: PoolError) -> bool {
-    match refusal {
-        PoolError::BadEntry(_)
-        | PoolError::BadSizes
-        | PoolError::BadCapacity
-        | PoolError::BadLimit
-        | PoolError::KeepZero => true,
-        _ => false,
-    }
-}
-
-/// The legal text with one byte changed.
-fn changed(alloc: Global, place: usize, byte: u8) -> Result<Vec<u8>, AllocError> {
-    let mut text = Vec::new(alloc);
-    text.extend_from_slice(LEGAL)?;
-    if let Some(changed) = text.get_mut(place) {
-        *changed = byte;
-    }
-    Ok(text)
-}
-
 /// Whether a text is refused as a text may be, or judged as the text of what it says.
-fn is_read_as_itself(alloc: Global, text: &[u8]) -> Result<bool, PoolError> {
+fn is_read_as_itself(alloc: Global, text: &[u8]) -> bool {
     let mut reader = text;
     let (written, given) = outcome_from(alloc, &mut reader);
     match given {
         Ok(legal) => {
-            let again = written_again(alloc, text)?;
-            let is_same = match &again {
-                Some(again) => again.as_slice() == text,
-                None => false,
-            };
-            Ok(is_same && written.starts_with(b"legal 5\n") == legal)
+            refusal_of(alloc, text).is_none() && written.starts_with(b"legal 5\n") == legal
         }
-        Err(refusal) => Ok(refuses_a_text(refusal) && written.is_empty()),
+        Err(refusal) => refuses_a_text(refusal) && written.is_empty(),
     }
+}
+
+/// Whether the legal text is read as itself with one byte changed.
+fn is_read_changed(alloc: Global, place: usize, byte: u8) -> Result<bool, PoolError> {
+    let text = changed(alloc, LEGAL, place, byte)?;
+    Ok(is_read_as_itself(alloc, text.as_slice()))
 }
 
 /// A text with any one byte changed is refused, or it is the text of what it says.
 #[test]
-fn reads_each_changed_text_as_itself(rt: HostRuntime) -> Result<(), Fail> {
+fn reads_each_changed_text_as_itself(rt: HostRuntime) {
     for place in 0..LEGAL.len() {
         for byte in 0..=255u8 {
-            let text = changed(rt.alloc(), place, byte)?;
-            let is_so = is_read_as_itself(rt.alloc(), text.as_slice())?;
-            same(&rt, place, &(byte, is_so), &(byte, true));
+            let is_so = is_read_changed(rt.alloc(), place, byte);
+            same(&rt, place, &(byte, is_so), &(byte, Ok(true)));
         }
     }
-    Ok(())
-}
-
-/// Some of them are read: the first task's value is another.
-#[test]
-fn reads_another_value(rt: HostRuntime) -> Result<(), Fail> {
-    let place = LEGAL.len().saturating_sub(b"5\nend 5\n".len());
-    let text = changed(rt.alloc(), place, b'6')?;
-    let mut reader = text.as_slice();
-    let (written, given) = outcome_from(rt.alloc(), &mut reader);
-    let is_output = written.as_slice() == LEGAL_OUTPUT;
-    same(&rt, 0, &(is_output, given), &(true, Ok(true)));
-    Ok(())
 }
 
 static TEXTS: [&[u8]; 3] = [
@@ -407,7 +367,7 @@ fn feeds(end: usize) -> Long {
     }
 }
 
-const LONG: [(usize, PoolError); 3] = [
+static LONG: [(usize, PoolError); 3] = [
     (MAX_TEXT_BYTES, PoolError::BadEntry(1)),
     (MAX_TEXT_BYTES + 1, PoolError::ReadFailed),
     (usize::MAX, PoolError::ReadFailed),
@@ -415,8 +375,8 @@ const LONG: [(usize, PoolError); 3] = [
 
 #[test]
 fn reads_a_long_text_and_no_longer_one(rt: HostRuntime) {
-    for (end, refusal) in LONG {
-        refuses(&rt, end, rt.alloc(), &mut feeds(end), refusal);
+    for (end, refusal) in &LONG {
+        refuses(&rt, *end, rt.alloc(), &mut feeds(*end), *refusal);
     }
 }
 
@@ -434,10 +394,12 @@ fn outcome_into(
     (answer, full.room)
 }
 
+const FLUSHES: [bool; 2] = [true, false];
+
 #[test]
 fn refuses_a_writer_that_fails(rt: HostRuntime) {
     for room in 0..LEGAL_OUTPUT.len() + 1 {
-        for flushes in [true, false] {
+        for flushes in FLUSHES {
             let answer = if flushes && room == LEGAL_OUTPUT.len() {
                 Ok(true)
             } else {

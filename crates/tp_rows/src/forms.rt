@@ -4,7 +4,6 @@
 use crate::compare::same;
 use crate::streams::last_line;
 use std::alloc::{AllocError, Global};
-use std::test::Fail;
 use tp_record::entries::{Ask, Did};
 use tp_record_text::records::{Record, read_record};
 use tp_record_text::versions::Version;
@@ -81,28 +80,39 @@ fn read(alloc: Global, text: &[u8]) -> Result<Record, PoolError> {
     read_record(alloc, text)
 }
 
+/// The text of a record in the second form. It says nothing of the text, so that a test is proved without the writer's own contract.
+fn second_form(alloc: Global, record: &Record) -> Result<Vec<u8>, PoolError> {
+    record_text(alloc, &record.config, record.entries.as_slice())
+}
+
 /// The text of a record in the form in which it was read.
 fn written_again(alloc: Global, record: &Record) -> Result<Vec<u8>, PoolError> {
-    let mut text = record_text(alloc, &record.config, record.entries.as_slice())?;
+    let mut text = second_form(alloc, record)?;
     if let (Version::One, Some(digit)) = (record.version, text.get_mut(b"tprecord ".len())) {
         *digit = b'1';
     }
     Ok(text)
 }
 
-/// How a text is refused; None where it is read, and is the text of what it says.
-fn refusal_of(alloc: Global, text: &[u8]) -> Result<Option<PoolError>, Fail> {
-    match read(alloc, text) {
-        Ok(record) => {
-            let again = written_again(alloc, &record)?;
-            if again.as_slice() == text {
-                Ok(None)
-            } else {
-                Ok(Some(PoolError::TornRecord))
-            }
-        }
-        Err(refusal) => Ok(Some(refusal)),
+/// Whether a text is that of this record, in the form in which it was read.
+fn is_text_of(alloc: Global, text: &[u8], record: &Record) -> Result<bool, PoolError> {
+    let again = written_again(alloc, record)?;
+    Ok(again.as_slice() == text)
+}
+
+/// The form of a text, where it is read and is the text of what it says.
+fn form_of(alloc: Global, text: &[u8]) -> Result<Version, PoolError> {
+    let record = read(alloc, text)?;
+    if is_text_of(alloc, text, &record)? {
+        Ok(record.version)
+    } else {
+        Err(PoolError::TornRecord)
     }
+}
+
+/// How a text is refused; None where it is read, and is the text of what it says.
+pub fn refusal_of(alloc: Global, text: &[u8]) -> Option<PoolError> {
+    form_of(alloc, text).err()
 }
 
 static GOOD: [(&[u8], Version); 5] = [
@@ -114,43 +124,54 @@ static GOOD: [(&[u8], Version); 5] = [
 ];
 
 #[test]
-fn reads_both_forms_and_writes_them_again(rt: HostRuntime) -> Result<(), Fail> {
+fn reads_both_forms_and_writes_them_again(rt: HostRuntime) {
     for (at, (text, version)) in GOOD.iter().enumerate() {
-        same(&rt, at, &refusal_of(rt.alloc(), text)?, &None);
-        same(&rt, at, &read(rt.alloc(), text)?.version, version);
+        same(&rt, at, &form_of(rt.alloc(), text), &Ok(*version));
     }
-    Ok(())
 }
 
-/// The two forms of one record say the same, and it is written in the second.
+/// Whether two records say the same, and the first is written in the second form as this text.
+fn are_same(
+    alloc: Global,
+    first: &Record,
+    second: &Record,
+    text: &[u8],
+) -> Result<bool, PoolError> {
+    let written = second_form(alloc, first)?;
+    Ok(
+        first.config == second.config
+            && first.entries == second.entries
+            && written.as_slice() == text,
+    )
+}
+
+/// Whether the two forms of one record say the same, and it is written in the second.
+fn says_the_same(alloc: Global) -> Result<bool, PoolError> {
+    let first = read(alloc, FIRST)?;
+    let second = read(alloc, SECOND)?;
+    are_same(alloc, &first, &second, SECOND)
+}
+
 #[test]
-fn says_the_same_in_both_forms(rt: HostRuntime) -> Result<(), Fail> {
-    let first = read(rt.alloc(), FIRST)?;
-    let second = read(rt.alloc(), SECOND)?;
-    same(&rt, 0, &(first.config == second.config), &true);
-    same(&rt, 0, &(first.entries == second.entries), &true);
-    let written = record_text(rt.alloc(), &first.config, first.entries.as_slice())?;
-    same(&rt, 0, &written.as_slice(), &SECOND);
-    Ok(())
+fn says_the_same_in_both_forms(rt: HostRuntime) {
+    same(&rt, 0, &says_the_same(rt.alloc()), &Ok(true));
 }
 
 /// Each cut of a good text is wrong at the line that is cut, or that is missing.
 #[test]
-fn refuses_each_cut_text(rt: HostRuntime) -> Result<(), Fail> {
+fn refuses_each_cut_text(rt: HostRuntime) {
     for (text, _) in &GOOD {
         for end in 0..text.len() {
             let cut = &text[..end];
             let wanted = Some(PoolError::BadEntry(last_line(cut)));
-            same(&rt, end, &refusal_of(rt.alloc(), cut)?, &wanted);
+            same(&rt, end, &refusal_of(rt.alloc(), cut), &wanted);
         }
     }
-    Ok(())
 }
 
-/// The text of one task with one byte changed.
-fn changed(alloc: Global, place: usize, byte: u8) -> Result<Vec<u8>, AllocError> {
-    let mut text = Vec::new(alloc);
-    text.extend_from_slice(LONE)?;
+/// A text with one byte changed.
+pub fn changed(alloc: Global, text: &[u8], place: usize, byte: u8) -> Result<Vec<u8>, AllocError> {
+    let mut text = Vec::from_slice(alloc, text)?;
     if let Some(changed) = text.get_mut(place) {
         *changed = byte;
     }
@@ -158,7 +179,7 @@ fn changed(alloc: Global, place: usize, byte: u8) -> Result<Vec<u8>, AllocError>
 }
 
 /// Whether this is how a text may be refused that was read whole.
-fn refuses_a_text(refusal: PoolError) -> bool {
+pub fn refuses_a_text(refusal: PoolError) -> bool {
     match refusal {
         PoolError::BadEntry(_)
         | PoolError::BadSizes
@@ -169,19 +190,30 @@ fn refuses_a_text(refusal: PoolError) -> bool {
     }
 }
 
+/// Whether a text is refused as a text may be, or is the text of what it says.
+fn is_read_as_itself(alloc: Global, text: &[u8]) -> bool {
+    match refusal_of(alloc, text) {
+        Some(refusal) => refuses_a_text(refusal),
+        None => true,
+    }
+}
+
+/// Whether the text of one task is read as itself with one byte changed.
+fn is_read_changed(alloc: Global, place: usize, byte: u8) -> Result<bool, PoolError> {
+    let text = changed(alloc, LONE, place, byte)?;
+    Ok(is_read_as_itself(alloc, text.as_slice()))
+}
+
 /// A text with any one byte changed is refused, or it is the text of what it says in the form that it says. A text of the first form
 /// is changed so in the tests of audits.
 #[test]
-fn reads_each_changed_text_as_itself(rt: HostRuntime) -> Result<(), Fail> {
+fn reads_each_changed_text_as_itself(rt: HostRuntime) {
     for place in 0..LONE.len() {
         for byte in 0..=255u8 {
-            let text = changed(rt.alloc(), place, byte)?;
-            let refusal = refusal_of(rt.alloc(), text.as_slice())?;
-            let is_so = refusal.is_none_or(refuses_a_text);
-            same(&rt, place, &(byte, is_so), &(byte, true));
+            let is_so = is_read_changed(rt.alloc(), place, byte);
+            same(&rt, place, &(byte, is_so), &(byte, Ok(true)));
         }
     }
-    Ok(())
 }
 
 /// The form alone decides: what the first has no line for, and how that is refused.
@@ -234,11 +266,10 @@ static FORMS: [(&[u8], Option<PoolError>); 12] = [
 ];
 
 #[test]
-fn tells_the_forms_apart(rt: HostRuntime) -> Result<(), Fail> {
+fn tells_the_forms_apart(rt: HostRuntime) {
     for (at, (text, wanted)) in FORMS.iter().enumerate() {
-        same(&rt, at, &refusal_of(rt.alloc(), text)?, wanted);
+        same(&rt, at, &refusal_of(rt.alloc(), text), wanted);
     }
-    Ok(())
 }
 
 /// The text of a record of one entry, the first behind this header.
@@ -274,16 +305,22 @@ static BAD_ENTRIES: [&str; 24] = [
     "offer t0 prio 5 queued",
 ];
 
+static HEADERS: [&str; 2] = ["tprecord 1", "tprecord 2"];
+
+/// The form of the text of one entry behind this header.
+fn form_with(alloc: Global, header: &str, entry: &str) -> Result<Version, PoolError> {
+    let text = text_with(alloc, header, entry)?;
+    form_of(alloc, text.as_bytes())
+}
+
 #[test]
-fn refuses_bad_priorities(rt: HostRuntime) -> Result<(), Fail> {
+fn refuses_bad_priorities(rt: HostRuntime) {
     for (at, entry) in BAD_ENTRIES.iter().enumerate() {
-        for header in ["tprecord 1", "tprecord 2"] {
-            let text = text_with(rt.alloc(), header, entry)?;
-            let given = refusal_of(rt.alloc(), text.as_bytes())?;
-            same(&rt, at, &given, &Some(PoolError::BadEntry(3)));
+        for header in &HEADERS {
+            let given = form_with(rt.alloc(), header, entry);
+            same(&rt, at, &given, &Err(PoolError::BadEntry(3)));
         }
     }
-    Ok(())
 }
 
 /// The priority of a submission, as its answer says it and as its ask does.
@@ -309,13 +346,21 @@ static PRIORITIES: [(&str, u32); 5] = [
     ),
 ];
 
-#[test]
-fn reads_priorities_to_the_ends_of_their_type(rt: HostRuntime) -> Result<(), Fail> {
-    for (at, (entry, priority)) in PRIORITIES.iter().enumerate() {
-        let text = text_with(rt.alloc(), "tprecord 2", entry)?;
-        same(&rt, at, &refusal_of(rt.alloc(), text.as_bytes())?, &None);
-        let record = read(rt.alloc(), text.as_bytes())?;
-        same(&rt, at, &priorities(&record), &Some((*priority, *priority)));
+/// The priority of the submission of this line, where its text is the text of what it says.
+fn priorities_of(alloc: Global, entry: &str) -> Result<Option<(u32, u32)>, PoolError> {
+    let text = text_with(alloc, "tprecord 2", entry)?;
+    let record = read(alloc, text.as_bytes())?;
+    if is_text_of(alloc, text.as_bytes(), &record)? {
+        Ok(priorities(&record))
+    } else {
+        Err(PoolError::TornRecord)
     }
-    Ok(())
+}
+
+#[test]
+fn reads_priorities_to_the_ends_of_their_type(rt: HostRuntime) {
+    for (at, (entry, priority)) in PRIORITIES.iter().enumerate() {
+        let given = priorities_of(rt.alloc(), entry);
+        same(&rt, at, &given, &Ok(Some((*priority, *priority))));
+    }
 }

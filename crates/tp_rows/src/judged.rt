@@ -1,9 +1,9 @@
 //! Records judged by both auditors, with answers from the worked rows or told by hand.
+ghost use Rattle.std.specs.Prelude.{IsTrue};
 ghost use Rattle.tp_types.specs.Config.{IsConfig};
 
 use crate::compare::same;
 use std::alloc::Global;
-use std::process::Abort;
 use tp_audit::plain::audit_plain;
 use tp_audit::summary::{Flaw, Summary};
 use tp_auditor::audits::audit;
@@ -101,13 +101,33 @@ fn life_in(slot: usize) -> [Entry; 5] {
     life
 }
 
+/// Whether a pool can have these settings.
+fn is_config(config: &Config) -> bool
+    ensures { IsTrue result → IsConfig config.now }
+{
+    config.check().is_ok()
+}
+
 /// The judgment of both auditors; none where they differ.
-pub fn judged(alloc: Global, config: &Config, entries: &[Entry]) -> Option<Result<Summary, Flaw>>
+fn judgment_of_both(
+    alloc: Global,
+    config: &Config,
+    entries: &[Entry],
+) -> Option<Result<Summary, Flaw>>
     requires { IsConfig config.now }
 {
     let judgment = audit(alloc, config, entries);
     if judgment == audit_plain(alloc, config, entries) {
         Some(judgment)
+    } else {
+        None
+    }
+}
+
+/// The judgment of both auditors; none where they differ, or where a pool can't have these settings.
+pub fn judged(alloc: Global, config: &Config, entries: &[Entry]) -> Option<Result<Summary, Flaw>> {
+    if is_config(config) {
+        judgment_of_both(alloc, config, entries)
     } else {
         None
     }
@@ -120,9 +140,6 @@ fn is_judged_so(
     entries: &[Entry],
     told: Result<(Counts, &[Option<Fate>]), Flaw>,
 ) -> bool {
-    if config.check().is_err() {
-        return false;
-    }
     match (judged(alloc, config, entries), told) {
         (Some(Ok(summary)), Ok((counts, fates))) => {
             summary.counts == counts
@@ -163,13 +180,20 @@ const LIVED: Counts = Counts {
     ..NONE
 };
 
+const RUN: [Option<Fate>; 1] = [Some(Fate::Run)];
+
+/// Whether the life in the slot of this number is judged as the life is.
+fn is_lived_in(alloc: Global, slot: usize) -> bool {
+    is_judged_so(alloc, &LONE, &life_in(slot), Ok((LIVED, &RUN)))
+}
+
+const SLOTS: [usize; 4] = [0, 1, 7, 1_000];
+
 /// The slot of a reserved worker may have any number that is free.
 #[test]
 fn judges_the_shortest_life(rt: HostRuntime) {
-    for slot in [0, 1, 7, 1_000] {
-        let told = Ok((LIVED, [Some(Fate::Run)].as_slice()));
-        let so = is_judged_so(rt.alloc(), &LONE, &life_in(slot), told);
-        same(&rt, slot, &so, &true);
+    for slot in SLOTS {
+        same(&rt, slot, &is_lived_in(rt.alloc(), slot), &true);
     }
 }
 
@@ -212,16 +236,8 @@ type Judged = (
     Result<(Counts, &'static [Option<Fate>]), Flaw>,
 );
 
-/// Each of these records is judged so by both auditors.
-fn each_is_judged(rt: &impl Abort, alloc: Global, records: &[Judged]) {
-    for (at, (config, entries, told)) in records.iter().enumerate() {
-        let so = is_judged_so(alloc, config, entries, *told);
-        same(rt, at, &so, &true);
-    }
-}
-
-/// Nothing at all, and submissions that reserve slots of two numbers, and of one.
-static UNBEGUN: [Judged; 3] = [
+/// Nothing at all, submissions that reserve slots of two numbers, and of one; and records with a flaw.
+static RECORDS: [Judged; 7] = [
     (LONE, &[], Ok((NONE, &[]))),
     (
         TWO,
@@ -229,14 +245,6 @@ static UNBEGUN: [Judged; 3] = [
         Ok((SUBMITTED, &[None, None])),
     ),
     (TWO, &[FIRST_IN_4, SECOND_IN_4], Err(Flaw::At(2))),
-];
-
-#[test]
-fn judges_records_with_nothing_begun(rt: HostRuntime) {
-    each_is_judged(&rt, rt.alloc(), &UNBEGUN);
-}
-
-static FLAWED: [Judged; 4] = [
     // Row 21: the worker takes before it is opened.
     (LONE, &[SUBMIT, TAKE], Err(Flaw::At(2))),
     (LONE, &[OPEN, TAKE, BEGIN, END], Err(Flaw::At(1))),
@@ -245,8 +253,11 @@ static FLAWED: [Judged; 4] = [
 ];
 
 #[test]
-fn tells_the_first_flaw(rt: HostRuntime) {
-    each_is_judged(&rt, rt.alloc(), &FLAWED);
+fn judges_records_and_tells_the_first_flaw(rt: HostRuntime) {
+    for (at, (config, entries, told)) in RECORDS.iter().enumerate() {
+        let so = is_judged_so(rt.alloc(), config, entries, *told);
+        same(&rt, at, &so, &true);
+    }
 }
 
 /// The counters of a record of one worker, as the plain auditor tells them.

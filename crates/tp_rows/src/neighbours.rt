@@ -1,20 +1,18 @@
 //! Records with one entry wrong: both auditors answer the same of each.
 
-ghost use Rattle.tp_types.specs.Config.{IsConfig};
-
+use crate::asked::run_of;
 use crate::compare::same;
 use crate::judged::{LONE, judged};
 use std::alloc::{AllocError, Global};
-use std::test::Fail;
 use tp_audit::summary::{Flaw, Summary};
 use tp_auditor::auditor::Auditor;
 use tp_auditor::audits::audit;
 use tp_record::entries::{
     Ask, Did, Entry, Failed, Grown, Looked, Offered, Opened, Seconded, Started, Took,
 };
-use tp_runs::runs::run_asks;
 use tp_types::configs::{Config, Policy, QueueKind, Verdict};
 use tp_types::ids::{SlotId, TaskId};
+use tp_types::refusals::PoolError;
 use tp_types::tasks::Kind;
 
 /// What is wrong with an entry.
@@ -132,6 +130,33 @@ fn wrong_entry(entry: Entry, wrong: Wrong) -> Entry {
     Entry { did, ..entry }
 }
 
+/// The place of an entry in the record that stands at this place in the record that is wrong at a place in this way.
+fn source(at: usize, wrong: Wrong, place: usize) -> usize {
+    if wrong == Wrong::LeftOut && place >= at {
+        return place.saturating_add(1);
+    }
+    if wrong == Wrong::Doubled && place > at {
+        return place.saturating_sub(1);
+    }
+    if wrong == Wrong::Exchanged {
+        exchanged(at, place)
+    } else {
+        place
+    }
+}
+
+/// The place that this one is exchanged with, if it is the first place or the one behind it; else itself.
+fn exchanged(first: usize, place: usize) -> usize {
+    let second = first.saturating_add(1);
+    if place == first {
+        second
+    } else if place == second {
+        first
+    } else {
+        place
+    }
+}
+
 /// The record with one entry wrong in this way.
 fn wrong_record(
     alloc: Global,
@@ -140,19 +165,9 @@ fn wrong_record(
     wrong: Wrong,
 ) -> Result<Vec<Entry>, AllocError> {
     let mut record = Vec::new(alloc);
-    for (i, entry) in entries.iter().enumerate() {
-        let here = i == at;
-        if here && wrong == Wrong::Exchanged {
-            if let Some(next) = entries.get(i + 1) {
-                record.push(*next)?;
-            }
-        }
-        if here && wrong == Wrong::Doubled {
-            record.push(*entry)?;
-        }
-        let after = wrong == Wrong::Exchanged && i > 0 && i - 1 == at;
-        if !after && !(here && wrong == Wrong::LeftOut) {
-            record.push(if here {
+    for place in 0..=entries.len() {
+        if let Some(entry) = entries.get(source(at, wrong, place)) {
+            record.push(if place == at {
                 wrong_entry(*entry, wrong)
             } else {
                 *entry
@@ -162,18 +177,30 @@ fn wrong_record(
     Ok(record)
 }
 
-/// Whether both auditors call the record of these asks legal, and answer the same of each record that has one entry wrong.
-pub fn neighbours_agree(alloc: Global, config: &Config, asks: &[(u32, Ask)]) -> Result<bool, Fail>
-    requires { IsConfig config.now }
-{
-    let run = run_asks(alloc, *config, asks)?;
-    if !matches!(&judged(alloc, config, &run.entries), Some(Ok(_))) {
+/// Whether both auditors answer the same of the record that has one entry wrong in this way.
+fn agree(
+    alloc: Global,
+    config: &Config,
+    entries: &[Entry],
+    at: usize,
+    wrong: Wrong,
+) -> Result<bool, PoolError> {
+    let record = wrong_record(alloc, entries, at, wrong)?;
+    Ok(judged(alloc, config, &record).is_some())
+}
+
+/// Whether both auditors call this record legal, and answer the same of each record that has one of its entries wrong.
+pub fn neighbours_agree(
+    alloc: Global,
+    config: &Config,
+    entries: &[Entry],
+) -> Result<bool, PoolError> {
+    if !matches!(&judged(alloc, config, entries), Some(Ok(_))) {
         return Ok(false);
     }
-    for at in 0..run.entries.len() {
+    for at in 0..entries.len() {
         for wrong in WRONGS {
-            let record = wrong_record(alloc, &run.entries, at, wrong)?;
-            if judged(alloc, config, &record).is_none() {
+            if !agree(alloc, config, entries, at, wrong)? {
                 return Ok(false);
             }
         }
@@ -181,6 +208,13 @@ pub fn neighbours_agree(alloc: Global, config: &Config, asks: &[(u32, Ask)]) -> 
     Ok(true)
 }
 
+/// Whether they agree on the record of these asks and on its neighbours.
+fn agree_on_run(alloc: Global, config: &Config, asks: &[(u32, Ask)]) -> Result<bool, PoolError> {
+    let run = run_of(alloc, *config, asks)?;
+    neighbours_agree(alloc, config, &run.entries)
+}
+
+/// One worker; a cancelled task is purged, another runs, and the pool ends.
 const PURGED: [(u32, Ask); 20] = [
     (0, Ask::Submit(Kind::Plain, 0)),
     (1, Ask::Open(SlotId(0))),
@@ -204,15 +238,7 @@ const PURGED: [(u32, Ask); 20] = [
     (2, Ask::Ended),
 ];
 
-/// One worker; a cancelled task is purged, another runs, and the pool ends.
-#[test]
-fn a_purge_and_a_shutdown(rt: HostRuntime) -> Result<(), Fail> {
-    let config = Config { keep: 9, ..LONE };
-    let agree = neighbours_agree(rt.alloc(), &config, &PURGED)?;
-    same(&rt, 0, &agree, &true);
-    Ok(())
-}
-
+/// Two workers and a queue of one place; the oldest is dropped, groups complete, a worker faults, and the pool is stopped.
 const DROPPED: [(u32, Ask); 30] = [
     (0, Ask::Submit(Kind::Group(3), 0)),
     (1, Ask::Open(SlotId(0))),
@@ -246,19 +272,25 @@ const DROPPED: [(u32, Ask); 30] = [
     (3, Ask::Ended),
 ];
 
-/// Two workers and a queue of one place; the oldest is dropped, groups complete, a worker faults, and the pool is stopped.
+static RUNS: [(Config, &[(u32, Ask)]); 2] = [
+    (Config { keep: 9, ..LONE }, &PURGED),
+    (
+        Config {
+            core: 1,
+            maximum: 2,
+            queue: QueueKind::Bounded(1),
+            policy: Policy::DiscardOldest,
+            ..LONE
+        },
+        &DROPPED,
+    ),
+];
+
 #[test]
-fn a_drop_and_a_stop(rt: HostRuntime) -> Result<(), Fail> {
-    let config = Config {
-        core: 1,
-        maximum: 2,
-        queue: QueueKind::Bounded(1),
-        policy: Policy::DiscardOldest,
-        ..LONE
-    };
-    let agree = neighbours_agree(rt.alloc(), &config, &DROPPED)?;
-    same(&rt, 0, &agree, &true);
-    Ok(())
+fn both_auditors_agree_on_runs(rt: HostRuntime) {
+    for (at, (config, asks)) in RUNS.iter().enumerate() {
+        same(&rt, at, &agree_on_run(rt.alloc(), config, asks), &Ok(true));
+    }
 }
 
 /// Two tasks of one worker, of a slot with a high number: what is told takes memory for tasks, a slot, the queue, the order
@@ -342,11 +374,26 @@ fn tell_all(auditor: &mut Auditor) -> bool {
     true
 }
 
+/// An auditor of nothing yet. It says nothing of it, so that a test is proved without the auditor's own contract.
+fn new_auditor(alloc: Global) -> Result<Auditor, Flaw> {
+    Auditor::new(alloc, &LONE)
+}
+
+/// Whether all is told well, and then the judgment is right or memory was wanting.
+fn goes_on(mut auditor: Auditor) -> bool {
+    tell_all(&mut auditor) && is_told(auditor.finish())
+}
+
+/// Whether an auditor goes on, if there is memory to make one.
+fn goes_on_where_made(alloc: Global) -> bool {
+    match new_auditor(alloc) {
+        Ok(auditor) => goes_on(auditor),
+        Err(_) => true,
+    }
+}
+
 /// Where any one allocation fails, that entry is not told, and the auditor is as it was: told again, all goes on.
 #[test]
 fn want_of_memory_changes_nothing(rt: HostRuntime) {
-    if let Ok(mut auditor) = Auditor::new(rt.alloc(), &LONE) {
-        let is_told = tell_all(&mut auditor) && is_told(auditor.finish());
-        same(&rt, 0, &is_told, &true);
-    }
+    same(&rt, 0, &goes_on_where_made(rt.alloc()), &true);
 }

@@ -82,18 +82,6 @@ fn ending_of(alloc: Global, text: &[u8]) -> Result<(), PoolError> {
     ending
 }
 
-/// What a reader gives is refused so, and nothing is written.
-fn refuses<R: Read>(
-    rt: &impl Abort,
-    line: usize,
-    alloc: Global,
-    reader: &mut R,
-    refusal: PoolError,
-) {
-    let (written, ending) = outcome_from(alloc, reader);
-    same(rt, line, &(written.len(), ending), &(0, Err(refusal)));
-}
-
 /// This is written of what a reader gives, and the run ends so.
 fn runs<R: Read>(
     rt: &impl Abort,
@@ -108,21 +96,26 @@ fn runs<R: Read>(
     same(rt, line, &(is_output, given), &(true, ending));
 }
 
-/// This is written of a text, and the run goes to its end.
-fn plays(rt: &impl Abort, line: usize, alloc: Global, text: &[u8], output: &[u8]) {
-    let mut reader = text;
-    runs(rt, line, alloc, &mut reader, output, Ok(()));
-}
-
-/// Each of these texts is played, and this is written of it.
+/// Each of these texts is played to its end, and this is written of it.
 fn plays_each(rt: &impl Abort, alloc: Global, rows: &[(&[u8], &[u8])]) {
     for (at, (text, output)) in rows.iter().enumerate() {
-        plays(rt, at, alloc, text, output);
+        let mut reader = *text;
+        runs(rt, at, alloc, &mut reader, output, Ok(()));
     }
 }
 
-/// The last is refused for its pool, before the bad line behind it.
-static ROWS: [(&[u8], &[u8], Result<(), PoolError>); 8] = [
+#[test]
+fn plays_worked_rows(rt: HostRuntime) {
+    let alloc = rt.alloc();
+    plays_each(&rt, alloc, &growing::ROWS);
+    plays_each(&rt, alloc, &refusing::ROWS);
+    plays_each(&rt, alloc, &working::ROWS);
+    plays_each(&rt, alloc, &ending::ROWS);
+    plays_each(&rt, alloc, &cancelling::ROWS);
+}
+
+/// The first row, and rows that end otherwise. The last is refused for its pool, before the bad line behind it.
+static ENDED: [(&[u8], &[u8], Result<(), PoolError>); 8] = [
     (ROW_01, ROW_01_OUTPUT, Ok(())),
     (ROW_18, ROW_18_OUTPUT, Err(PoolError::BadLine(10))),
     (ROW_22A, b"", Err(PoolError::BadSizes)),
@@ -138,8 +131,8 @@ static ROWS: [(&[u8], &[u8], Result<(), PoolError>); 8] = [
 ];
 
 #[test]
-fn plays_worked_rows(rt: HostRuntime) {
-    for (at, (text, output, ending)) in ROWS.iter().enumerate() {
+fn ends_as_worked_out(rt: HostRuntime) {
+    for (at, (text, output, ending)) in ENDED.iter().enumerate() {
         let mut reader = *text;
         runs(&rt, at, rt.alloc(), &mut reader, output, *ending);
     }
@@ -189,18 +182,17 @@ fn comments(end: usize) -> Long {
     }
 }
 
-const LONG: [(usize, PoolError); 3] = [
-    (MAX_TEXT_BYTES - 1, PoolError::BadLine(524_273)),
-    (MAX_TEXT_BYTES + 1, PoolError::ReadFailed),
-    (usize::MAX, PoolError::ReadFailed),
+static LONG: [(usize, &[u8], Result<(), PoolError>); 4] = [
+    (MAX_TEXT_BYTES, EMPTY_OUTPUT, Ok(())),
+    (MAX_TEXT_BYTES - 1, b"", Err(PoolError::BadLine(524_273))),
+    (MAX_TEXT_BYTES + 1, b"", Err(PoolError::ReadFailed)),
+    (usize::MAX, b"", Err(PoolError::ReadFailed)),
 ];
 
 #[test]
 fn reads_a_long_text_and_no_longer_one(rt: HostRuntime) {
-    let mut longest = comments(MAX_TEXT_BYTES);
-    runs(&rt, 0, rt.alloc(), &mut longest, EMPTY_OUTPUT, Ok(()));
-    for (end, refusal) in LONG {
-        refuses(&rt, end, rt.alloc(), &mut comments(end), refusal);
+    for (end, output, ending) in &LONG {
+        runs(&rt, *end, rt.alloc(), &mut comments(*end), output, *ending);
     }
 }
 
@@ -216,10 +208,12 @@ fn ending_into(
     (ending, kind_of(writer.failure()))
 }
 
+const FLUSHES: [bool; 2] = [true, false];
+
 #[test]
 fn refuses_a_writer_that_fails(rt: HostRuntime) {
     for room in 0..ROW_01_OUTPUT.len() + 1 {
-        for flushes in [true, false] {
+        for flushes in FLUSHES {
             let answer = if flushes && room == ROW_01_OUTPUT.len() {
                 (Ok(()), None)
             } else {

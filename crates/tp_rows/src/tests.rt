@@ -4,7 +4,6 @@ ghost use Rattle.std.specs.Prelude.{◌≤◌, length};
 
 use crate::compare::same;
 use std::alloc::{AllocError, Global};
-use std::test::Fail;
 use tp_plain::answer::answer;
 use tp_plain::build::snapshot;
 use tp_plain::counts::{counts, counts_of, owed};
@@ -321,7 +320,7 @@ fn is_told(entries: &[Entry], t: TaskId, task: &Task) -> bool
 }
 
 /// Whether the tables of tasks are these.
-fn has_tasks(alloc: Global, entries: &[Entry], expected: &[Task]) -> Result<bool, Fail>
+fn has_tasks(alloc: Global, entries: &[Entry], expected: &[Task]) -> Result<bool, PoolError>
     requires { length entries.now ≤ 1048576 }
 {
     let rows = tasks(alloc, entries)?;
@@ -336,37 +335,52 @@ fn has_tasks(alloc: Global, entries: &[Entry], expected: &[Task]) -> Result<bool
     Ok(rows.len() == expected.len())
 }
 
-/// Whether the tables of slots are these, none of them live, idle or done.
-fn has_slots(alloc: Global, entries: &[Entry], expected: &[Option<SlotRow>]) -> Result<bool, Fail> {
+/// Whether the rows of slots are these, each read by itself.
+fn has_slot_rows(entries: &[Entry], expected: &[Option<SlotRow>]) -> bool {
     for (number, row) in expected.iter().enumerate() {
         if slot_row(entries, SlotId(number)) != *row {
-            return Ok(false);
+            return false;
         }
     }
+    true
+}
+
+/// Whether no slot is live, idle or done.
+fn has_nothing_live(alloc: Global, entries: &[Entry]) -> Result<bool, PoolError> {
     Ok(
-        slots(alloc, entries)?.as_slice() == expected
-            && idling(alloc, entries)?.is_empty()
+        idling(alloc, entries)?.is_empty()
             && done(alloc, entries)?.is_empty()
             && live(alloc, entries)? == 0
             && largest(alloc, entries)? == 0,
     )
 }
 
-/// What is told otherwise at the end of a record.
-fn told_otherwise(alloc: Global, end: &End) -> Result<Option<&'static str>, Fail> {
-    let entries = &entries_of(alloc, end.record)?;
-    if entries.len() > 1_048_576 {
-        return Ok(Some("length"));
-    }
-    if rank(entries) != 0 || moment(entries) != 0 || core(entries, 1) != 1 {
-        return Ok(Some("pool"));
-    }
-    if !has_tasks(alloc, entries, end.tasks)? {
-        return Ok(Some("tasks"));
-    }
-    if !has_slots(alloc, entries, end.slots)? {
-        return Ok(Some("slots"));
-    }
+/// Whether the tables of slots are these, none of them live, idle or done.
+fn has_slots(
+    alloc: Global,
+    entries: &[Entry],
+    expected: &[Option<SlotRow>],
+) -> Result<bool, PoolError> {
+    Ok(
+        has_slot_rows(entries, expected)
+            && slots(alloc, entries)?.as_slice() == expected
+            && has_nothing_live(alloc, entries)?,
+    )
+}
+
+/// Whether the pool runs at moment 0 with a core of 1.
+fn is_at_start(entries: &[Entry]) -> bool {
+    rank(entries) == 0 && moment(entries) == 0 && core(entries, 1) == 1
+}
+
+/// What is told otherwise of the queue and of sums at the end of a record.
+fn counted_otherwise(
+    alloc: Global,
+    end: &End,
+    entries: &[Entry],
+) -> Result<Option<&'static str>, PoolError>
+    requires { length entries.now ≤ 1048576 }
+{
     if queue(alloc, &end.config, entries)?.as_slice() != end.queue {
         return Ok(Some("queue"));
     }
@@ -379,12 +393,38 @@ fn told_otherwise(alloc: Global, end: &End) -> Result<Option<&'static str>, Fail
     Ok(None)
 }
 
-#[test]
-fn ends_of_worked_records(rt: HostRuntime) -> Result<(), Fail> {
-    for (at, end) in ENDS.iter().enumerate() {
-        same(&rt, at, &told_otherwise(rt.alloc(), end)?, &None);
+/// What is told otherwise of these entries.
+fn told_otherwise(
+    alloc: Global,
+    end: &End,
+    entries: &[Entry],
+) -> Result<Option<&'static str>, PoolError> {
+    if entries.len() > 1_048_576 {
+        return Ok(Some("length"));
     }
-    Ok(())
+    if !is_at_start(entries) {
+        return Ok(Some("pool"));
+    }
+    if !has_tasks(alloc, entries, end.tasks)? {
+        return Ok(Some("tasks"));
+    }
+    if !has_slots(alloc, entries, end.slots)? {
+        return Ok(Some("slots"));
+    }
+    counted_otherwise(alloc, end, entries)
+}
+
+/// What is told otherwise at the end of a record.
+fn ends_otherwise(alloc: Global, end: &End) -> Result<Option<&'static str>, PoolError> {
+    let entries = entries_of(alloc, end.record)?;
+    told_otherwise(alloc, end, &entries)
+}
+
+#[test]
+fn ends_of_worked_records(rt: HostRuntime) {
+    for (at, end) in ENDS.iter().enumerate() {
+        same(&rt, at, &ends_otherwise(rt.alloc(), end), &Ok(None));
+    }
 }
 
 /// The answer to an ask behind a record, unless the record is too long.
@@ -401,36 +441,13 @@ fn answer_behind(
 }
 
 /// The first entry whose ask is answered otherwise at the front before it.
-fn first_answered_otherwise(
-    alloc: Global,
-    config: &Config,
-    record: &[(Ask, Did)],
-) -> Result<Option<usize>, Fail> {
-    let entries = entries_of(alloc, record)?;
+fn first_answered_otherwise(alloc: Global, config: &Config, entries: &[Entry]) -> Option<usize> {
     for (i, entry) in entries.iter().enumerate() {
         if answer_behind(alloc, config, &entries[..i], entry.ask) != Some(Ok(entry.did)) {
-            return Ok(Some(i));
+            return Some(i);
         }
     }
-    Ok(None)
-}
-
-static RECORDS: [(Config, &[(Ask, Did)]); 3] = [
-    (GROWING, &REJECTED),
-    (GROWING, &FUTURES),
-    (OLDEST, &DROPPED),
-];
-
-#[test]
-fn answers_each_entry(rt: HostRuntime) -> Result<(), Fail> {
-    for (at, (config, record)) in RECORDS.iter().enumerate() {
-        let wrong = first_answered_otherwise(rt.alloc(), config, record)?;
-        same(&rt, at, &wrong, &None);
-    }
-    let dropped = entries_of(rt.alloc(), &DROPPED)?;
-    let unknown = answer_behind(rt.alloc(), &OLDEST, &dropped, Ask::Offer(TaskId(9)));
-    same(&rt, 9, &unknown, &Some(Err(PoolError::UnknownTask)));
-    Ok(())
+    None
 }
 
 /// Whether the state with the last entry is counted as the record is.
@@ -450,16 +467,58 @@ fn next_counts_the_same(
     Ok(counts_of(&after) == counts(alloc, config, entries)?)
 }
 
-#[test]
-fn each_next_state_counts_the_same(rt: HostRuntime) -> Result<(), Fail> {
-    for (config, record) in &RECORDS {
-        let entries = entries_of(rt.alloc(), record)?;
-        for end in 0..entries.len() + 1 {
-            let is_same = next_counts_the_same(rt.alloc(), config, &entries[..end])?;
-            same(&rt, end, &is_same, &true);
+/// The end of the first front whose last state is counted otherwise.
+fn first_counted_otherwise(
+    alloc: Global,
+    config: &Config,
+    entries: &[Entry],
+) -> Result<Option<usize>, PoolError> {
+    for end in 0..entries.len() + 1 {
+        if !next_counts_the_same(alloc, config, &entries[..end])? {
+            return Ok(Some(end));
         }
     }
-    Ok(())
+    Ok(None)
+}
+
+/// The first entry of a record that is answered otherwise, and the end of the first front that is counted otherwise.
+fn first_otherwise(
+    alloc: Global,
+    config: &Config,
+    record: &[(Ask, Did)],
+) -> Result<(Option<usize>, Option<usize>), PoolError> {
+    let entries = entries_of(alloc, record)?;
+    Ok((
+        first_answered_otherwise(alloc, config, &entries),
+        first_counted_otherwise(alloc, config, &entries)?,
+    ))
+}
+
+static RECORDS: [(Config, &[(Ask, Did)]); 3] = [
+    (GROWING, &REJECTED),
+    (GROWING, &FUTURES),
+    (OLDEST, &DROPPED),
+];
+
+/// Each entry is answered at the front before it, and the state with it is counted as the record is.
+#[test]
+fn answers_and_counts_each_entry(rt: HostRuntime) {
+    for (at, (config, record)) in RECORDS.iter().enumerate() {
+        let wrong = first_otherwise(rt.alloc(), config, record);
+        same(&rt, at, &wrong, &Ok((None, None)));
+    }
+}
+
+/// The answer to an offer of this task behind the record of a dropped task.
+fn offered_behind(alloc: Global, t: TaskId) -> Option<Result<Did, PoolError>> {
+    let dropped = entries_of(alloc, &DROPPED).ok()?;
+    answer_behind(alloc, &OLDEST, &dropped, Ask::Offer(t))
+}
+
+#[test]
+fn refuses_an_unknown_task(rt: HostRuntime) {
+    let unknown = offered_behind(rt.alloc(), TaskId(9));
+    same(&rt, 9, &unknown, &Some(Err(PoolError::UnknownTask)));
 }
 
 /// A front of the record of futures, and the result of a task there.
@@ -475,11 +534,24 @@ fn is_result(entries: &[Entry], t: TaskId, expected: Option<Result<i64, PoolErro
     entries.len() <= 1_048_576 && result(entries, t) == expected
 }
 
+/// Whether this is the result of a task at a front of the record of futures.
+fn has_result(
+    alloc: Global,
+    end: usize,
+    t: TaskId,
+    expected: Option<Result<i64, PoolError>>,
+) -> Result<bool, PoolError> {
+    let entries = entries_of(alloc, &FUTURES)?;
+    let Some(front) = entries.get(..end) else {
+        return Ok(false);
+    };
+    Ok(is_result(front, t, expected))
+}
+
 #[test]
-fn results(rt: HostRuntime) -> Result<(), Fail> {
+fn results(rt: HostRuntime) {
     for (at, (end, t, expected)) in RESULTS.iter().enumerate() {
-        let entries = entries_of(rt.alloc(), FUTURES.get(..*end).unwrap_or(&[]))?;
-        same(&rt, at, &is_result(&entries, *t, *expected), &true);
+        let is_so = has_result(rt.alloc(), *end, *t, *expected);
+        same(&rt, at, &is_so, &Ok(true));
     }
-    Ok(())
 }

@@ -1,7 +1,5 @@
 //! Worked rows in which tasks are cancelled, removed or handed back.
 
-use super::plays_each;
-
 const ROW_13: &[u8] = b"pool 1 1 unbounded keep 0 abort\n\
 submit future 1\n\
 submit future 2\n\
@@ -221,8 +219,3 @@ pub(super) static ROWS: [(&[u8], &[u8]); 6] = [
     (ROW_31, ROW_31_OUTPUT),
     (ROW_33, ROW_33_OUTPUT),
 ];
-
-#[test]
-fn cancels_as_worked_out(rt: HostRuntime) {
-    plays_each(&rt, rt.alloc(), &ROWS);
-}

@@ -1,7 +1,5 @@
 //! Worked rows in which a pool is shut down or stopped.
 
-use super::plays_each;
-
 const ROW_06: &[u8] = b"pool 1 1 unbounded keep 0 abort\n\
 submit plain 1\n\
 submit plain 2\n\
@@ -152,8 +150,3 @@ pub(super) static ROWS: [(&[u8], &[u8]); 6] = [
     (ROW_28, ROW_28_OUTPUT),
     (ROW_29, ROW_29_OUTPUT),
 ];
-
-#[test]
-fn ends_as_worked_out(rt: HostRuntime) {
-    plays_each(&rt, rt.alloc(), &ROWS);
-}

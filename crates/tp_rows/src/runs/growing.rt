@@ -1,7 +1,5 @@
 //! Worked rows in which a pool grows, or its queue takes tasks, or it runs short of room.
 
-use super::plays_each;
-
 const ROW_02: &[u8] = b"pool 2 4 handoff keep 5 discard\n";
 
 const ROW_02_OUTPUT: &[u8] = b"state running\n\
@@ -256,8 +254,3 @@ pub(super) static ROWS: [(&[u8], &[u8]); 8] = [
     (ROW_04_SHORT, ROW_04_SHORT_OUTPUT),
     (ROW_16_SHORT, ROW_16_SHORT_OUTPUT),
 ];
-
-#[test]
-fn grows_as_worked_out(rt: HostRuntime) {
-    plays_each(&rt, rt.alloc(), &ROWS);
-}

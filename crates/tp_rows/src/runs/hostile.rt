@@ -4,7 +4,7 @@ use super::{ROW_01, ending_of};
 use crate::compare::same;
 use crate::streams::last_line;
 use std::alloc::Global;
-use std::test::Fail;
+use std::process::Abort;
 use tp_types::refusals::PoolError;
 
 /// Each cut of a good text is good where it ends with a line, and else its last line is bad. Cut to nothing it has no pool line.
@@ -22,12 +22,23 @@ fn cut_texts_end_at_the_cut_line(rt: HostRuntime) {
 }
 
 /// The ending of a scenario whose second line is this one.
-fn ending_with(alloc: Global, line: &[u8]) -> Result<Result<(), PoolError>, Fail> {
+fn ending_with(alloc: Global, line: &[u8]) -> Result<(), PoolError> {
     let mut text = Vec::new(alloc);
     text.extend_from_slice(b"pool 1 1 unbounded keep 0 abort\n")?;
     text.extend_from_slice(line)?;
     text.push(b'\n')?;
-    Ok(ending_of(alloc, text.as_slice()))
+    ending_of(alloc, text.as_slice())
+}
+
+/// A scenario whose second line is this one ends so.
+fn ends_with(
+    rt: &impl Abort,
+    at: usize,
+    alloc: Global,
+    line: &[u8],
+    ending: Result<(), PoolError>,
+) {
+    same(rt, at, &ending_with(alloc, line), &ending);
 }
 
 static BAD_LINES: [&[u8]; 44] = [
@@ -78,15 +89,29 @@ static BAD_LINES: [&[u8]; 44] = [
 ];
 
 #[test]
-fn refuses_bad_lines(rt: HostRuntime) -> Result<(), Fail> {
+fn refuses_bad_lines(rt: HostRuntime) {
     for (at, line) in BAD_LINES.iter().enumerate() {
-        let given = ending_with(rt.alloc(), line)?;
-        same(&rt, at, &given, &Err(PoolError::BadLine(2)));
+        ends_with(&rt, at, rt.alloc(), line, Err(PoolError::BadLine(2)));
     }
-    Ok(())
 }
 
-static LAST_AND_PAST: [(&[u8], &[u8]); 12] = [
+/// A line of 200 bytes: no line may have more before its line feed.
+const LONGEST: &[u8] = b"\
+##################################################\
+##################################################\
+##################################################\
+##################################################";
+
+/// A line of 201 bytes.
+const TOO_LONG: &[u8] = b"\
+##################################################\
+##################################################\
+##################################################\
+##################################################\
+#";
+
+static LAST_AND_PAST: [(&[u8], &[u8]); 13] = [
+    (LONGEST, TOO_LONG),
     (
         b"submit plain 9223372036854775807",
         b"submit plain 9223372036854775808",
@@ -113,16 +138,14 @@ static LAST_AND_PAST: [(&[u8], &[u8]); 12] = [
     (b"cancel 4294967295 flag", b"cancel 4294967296 flag"),
 ];
 
-/// The last number of each type is good, and the one past it is not; what is asked of it may be refused, which does not end the run.
+/// The longest line and the last number of each type are good, and what is one past them is not. What is asked of such a number may
+/// be refused, which does not end the run.
 #[test]
-fn reads_numbers_to_the_ends_of_their_types(rt: HostRuntime) -> Result<(), Fail> {
+fn reads_lines_and_numbers_to_their_ends(rt: HostRuntime) {
     for (at, (last, past)) in LAST_AND_PAST.iter().enumerate() {
-        let good = ending_with(rt.alloc(), last)?;
-        let bad = ending_with(rt.alloc(), past)?;
-        let wanted = (Ok(()), Err(PoolError::BadLine(2)));
-        same(&rt, at, &(good, bad), &wanted);
+        ends_with(&rt, at, rt.alloc(), last, Ok(()));
+        ends_with(&rt, at, rt.alloc(), past, Err(PoolError::BadLine(2)));
     }
-    Ok(())
 }
 
 static POOL_LINES: [(&[u8], Result<(), PoolError>); 18] = [
@@ -187,15 +210,4 @@ fn reads_pool_lines_to_the_ends_of_their_numbers(rt: HostRuntime) {
     for (at, (text, answer)) in POOL_LINES.iter().enumerate() {
         same(&rt, at, &ending_of(rt.alloc(), text), answer);
     }
-}
-
-/// A line may have 200 bytes, and no more, before its line feed.
-#[test]
-fn measures_long_lines(rt: HostRuntime) -> Result<(), Fail> {
-    for (length, answer) in [(200, Ok(())), (201, Err(PoolError::BadLine(2)))] {
-        let line = vec![in rt.alloc(); b'#'; length]?;
-        let given = ending_with(rt.alloc(), line.as_slice())?;
-        same(&rt, length, &given, &answer);
-    }
-    Ok(())
 }

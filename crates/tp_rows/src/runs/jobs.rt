@@ -5,7 +5,6 @@ use crate::compare::same;
 use crate::streams::{FailsOnce, last_line};
 use std::alloc::{AllocError, Global};
 use std::io::{self, Read};
-use std::test::Fail;
 use tp_scenario::jobs::{JobLine, Jobs};
 use tp_scenario::read_jobs;
 use tp_text::watched::WatchedReader;
@@ -88,30 +87,48 @@ fn is_worked(jobs: &Jobs) -> bool {
     jobs.config == WORKED_CONFIG && jobs.jobs.as_slice() == WORKED_JOBS.as_slice()
 }
 
-#[test]
-fn reads_a_worked_file(rt: HostRuntime) -> Result<(), Fail> {
-    let jobs = read(rt.alloc(), WORKED)?;
-    same(&rt, 0, &is_worked(&jobs), &true);
-    Ok(())
+/// Whether a file is read as the worked one.
+fn reads_worked<R: Read>(alloc: Global, reader: &mut R) -> Result<bool, PoolError> {
+    let jobs = read_from(alloc, reader)?;
+    Ok(is_worked(&jobs))
 }
 
-/// A pool with no jobs, and one whose last line is a comment.
-static WITHOUT_JOBS: [&[u8]; 2] = [POOL, b"pool 1 1 unbounded keep 0 abort\n\n# none\n"];
+/// A worked file is read as it stands, and from a reader that gives one byte a call.
+#[test]
+fn reads_a_worked_file(rt: HostRuntime) {
+    let mut whole = WORKED;
+    same(&rt, 0, &reads_worked(rt.alloc(), &mut whole), &Ok(true));
+    let mut bytes = FailsOnce {
+        rest: WORKED,
+        before: usize::MAX,
+        error: io::ErrorKind::Other,
+    };
+    same(&rt, 1, &reads_worked(rt.alloc(), &mut bytes), &Ok(true));
+}
+
+/// A pool with no jobs, one whose last line is a comment, and one with a comment of 200 bytes, of which no line may have more.
+static WITHOUT_JOBS: [&[u8]; 3] = [
+    POOL,
+    b"pool 1 1 unbounded keep 0 abort\n\n# none\n",
+    b"pool 1 1 unbounded keep 0 abort\n\
+##################################################\
+##################################################\
+##################################################\
+##################################################\n",
+];
+
+/// How many jobs are read of a text, and what its pool's limit is.
+fn jobs_and_limit(alloc: Global, text: &[u8]) -> Result<(usize, u32), PoolError> {
+    let jobs = read(alloc, text)?;
+    Ok((jobs.jobs.len(), jobs.config.record_limit))
+}
 
 #[test]
-fn reads_files_without_jobs(rt: HostRuntime) -> Result<(), Fail> {
+fn reads_files_without_jobs(rt: HostRuntime) {
     for text in &WITHOUT_JOBS {
-        let jobs = read(rt.alloc(), text)?;
-        let seen = (jobs.jobs.len(), jobs.config.record_limit);
-        same(&rt, text.len(), &seen, &(0, 4_096));
+        let seen = jobs_and_limit(rt.alloc(), text);
+        same(&rt, text.len(), &seen, &Ok((0, 4_096)));
     }
-    Ok(())
-}
-
-/// The refusal of a text whose second line is this one.
-fn refusal_behind(alloc: Global, line: &[u8]) -> Result<Option<PoolError>, AllocError> {
-    let text = text_with(alloc, line)?;
-    Ok(refusal_of(alloc, text.as_slice()))
 }
 
 /// The pool line and then this line.
@@ -123,14 +140,24 @@ fn text_with(alloc: Global, line: &[u8]) -> Result<Vec<u8>, AllocError> {
     Ok(text)
 }
 
-/// Whether a text of this one line behind the pool line is read as this job.
-fn is_read_as(alloc: Global, line: &[u8], job: JobLine) -> Result<bool, Fail> {
+/// What a text is read as that has this one line behind the pool line.
+fn read_behind(alloc: Global, line: &[u8]) -> Result<Jobs, PoolError> {
     let text = text_with(alloc, line)?;
-    let jobs = read(alloc, text.as_slice())?;
-    Ok(jobs.jobs.as_slice() == [job].as_slice())
+    read(alloc, text.as_slice())
 }
 
-static BAD_LINES: [&[u8]; 41] = [
+/// The one job that such a text is read as; none where it has another number of jobs.
+fn job_behind(alloc: Global, line: &[u8]) -> Result<Option<JobLine>, PoolError> {
+    let jobs = read_behind(alloc, line)?;
+    if jobs.jobs.len() == 1 {
+        Ok(jobs.jobs.first().copied())
+    } else {
+        Ok(None)
+    }
+}
+
+/// Each is wrong behind the pool line. The last ones are one past the end of a type, and of a line.
+static BAD_LINES: [&[u8]; 45] = [
     b"execute",
     b"submit",
     b"execute ",
@@ -172,80 +199,87 @@ static BAD_LINES: [&[u8]; 41] = [
     b"# ",
     b"\xEF\xBB\xBFexecute 5",
     b"ex\xC3\xA9cute 5",
+    b"execute 9223372036854775808",
+    b"execute -9223372036854775809",
+    b"execute !4294967296",
+    b"\
+##################################################\
+##################################################\
+##################################################\
+##################################################\
+#",
 ];
 
 #[test]
-fn refuses_bad_lines(rt: HostRuntime) -> Result<(), Fail> {
+fn refuses_bad_lines(rt: HostRuntime) {
     for (at, line) in BAD_LINES.iter().enumerate() {
-        let given = refusal_behind(rt.alloc(), line)?;
+        let given = read_behind(rt.alloc(), line).err();
         same(&rt, at, &given, &Some(PoolError::BadLine(2)));
     }
-    Ok(())
 }
 
-static LAST_AND_PAST: [(&[u8], Outcome, &[u8]); 3] = [
+/// Lines with the last outcome of each type, and with a priority, and the job that each says. Priority 0 may be written here, and it
+/// is none other.
+static GOOD_LINES: [(&[u8], JobLine); 7] = [
     (
         b"execute 9223372036854775807",
-        Ok(i64::MAX),
-        b"execute 9223372036854775808",
+        JobLine {
+            outcome: Ok(i64::MAX),
+            ..EXECUTED
+        },
     ),
     (
         b"execute -9223372036854775808",
-        Ok(i64::MIN),
-        b"execute -9223372036854775809",
+        JobLine {
+            outcome: Ok(i64::MIN),
+            ..EXECUTED
+        },
     ),
     (
         b"execute !4294967295",
-        Err(u32::MAX),
-        b"execute !4294967296",
+        JobLine {
+            outcome: Err(u32::MAX),
+            ..EXECUTED
+        },
+    ),
+    (
+        b"execute 5 prio 0",
+        JobLine {
+            priority: Some(0),
+            ..EXECUTED
+        },
+    ),
+    (
+        b"execute -5 prio 7",
+        JobLine {
+            outcome: Ok(-5),
+            priority: Some(7),
+            ..EXECUTED
+        },
+    ),
+    (
+        b"submit !7 prio 4294967295",
+        JobLine {
+            outcome: Err(7),
+            priority: Some(u32::MAX),
+            ..SUBMITTED
+        },
+    ),
+    (
+        b"submit 0 prio 10",
+        JobLine {
+            outcome: Ok(0),
+            priority: Some(10),
+            ..SUBMITTED
+        },
     ),
 ];
 
 #[test]
-fn reads_outcomes_to_the_ends_of_their_types(rt: HostRuntime) -> Result<(), Fail> {
-    for (at, (last, outcome, past)) in LAST_AND_PAST.iter().enumerate() {
-        let job = JobLine {
-            outcome: *outcome,
-            ..EXECUTED
-        };
-        let is_read = is_read_as(rt.alloc(), last, job)?;
-        let bad = refusal_behind(rt.alloc(), past)?;
-        let wanted = (true, Some(PoolError::BadLine(2)));
-        same(&rt, at, &(is_read, bad), &wanted);
+fn reads_good_lines(rt: HostRuntime) {
+    for (at, (line, job)) in GOOD_LINES.iter().enumerate() {
+        same(&rt, at, &job_behind(rt.alloc(), line), &Ok(Some(*job)));
     }
-    Ok(())
-}
-
-/// Lines with a priority, and what they say. Priority 0 may be written here, and it is none other.
-static RANKED: [(&[u8], bool, Outcome, u32); 4] = [
-    (b"execute 5 prio 0", false, Ok(5), 0),
-    (b"execute -5 prio 7", false, Ok(-5), 7),
-    (b"submit !7 prio 4294967295", true, Err(7), u32::MAX),
-    (b"submit 0 prio 10", true, Ok(0), 10),
-];
-
-#[test]
-fn reads_priorities(rt: HostRuntime) -> Result<(), Fail> {
-    for (at, (line, future, outcome, priority)) in RANKED.iter().enumerate() {
-        let job = JobLine {
-            future: *future,
-            outcome: *outcome,
-            priority: Some(*priority),
-        };
-        same(&rt, at, &is_read_as(rt.alloc(), line, job)?, &true);
-    }
-    Ok(())
-}
-
-/// A line of 200 bytes is good, and one of 201 is not; comments too.
-#[test]
-fn reads_lines_of_200_bytes(rt: HostRuntime) -> Result<(), Fail> {
-    for (length, answer) in [(200usize, None), (201, Some(PoolError::BadLine(2)))] {
-        let comment = vec![in rt.alloc(); b'#'; length]?;
-        let given = refusal_behind(rt.alloc(), comment.as_slice())?;
-        same(&rt, length, &given, &answer);
-    }
-    Ok(())
 }
 
 /// Which refusal comes first: a bad line up to the pool line, then a pool that can't be, then a bad line
@@ -329,20 +363,7 @@ fn refuses_a_reader_that_fails(rt: HostRuntime) {
     }
 }
 
-/// A reader that gives one byte a call.
-#[test]
-fn reads_byte_by_byte(rt: HostRuntime) -> Result<(), Fail> {
-    let mut reader = FailsOnce {
-        rest: WORKED,
-        before: usize::MAX,
-        error: io::ErrorKind::Other,
-    };
-    let jobs = read_from(rt.alloc(), &mut reader)?;
-    same(&rt, 0, &is_worked(&jobs), &true);
-    Ok(())
-}
-
-const LONG: [(usize, Option<PoolError>); 4] = [
+static LONG: [(usize, Option<PoolError>); 4] = [
     (MAX_TEXT_BYTES, None),
     (MAX_TEXT_BYTES - 1, Some(PoolError::BadLine(524_273))),
     (MAX_TEXT_BYTES + 1, Some(PoolError::ReadFailed)),
@@ -351,9 +372,9 @@ const LONG: [(usize, Option<PoolError>); 4] = [
 
 #[test]
 fn reads_a_long_file_and_no_longer_one(rt: HostRuntime) {
-    for (end, answer) in LONG {
-        let given = read_from(rt.alloc(), &mut comments(end)).err();
-        same(&rt, end, &given, &answer);
+    for (end, answer) in &LONG {
+        let given = read_from(rt.alloc(), &mut comments(*end)).err();
+        same(&rt, *end, &given, answer);
     }
 }
 
@@ -393,22 +414,29 @@ fn first_wrong(jobs: &Jobs) -> u32 {
     number
 }
 
+/// The first wrong one of so many jobs, and how many are read.
+fn wrong_of_many(alloc: Global, count: u32) -> Result<(u32, usize), PoolError> {
+    let text = many_jobs(alloc, count)?;
+    let jobs = read(alloc, text.as_bytes())?;
+    Ok((first_wrong(&jobs), jobs.jobs.len()))
+}
+
+const MANY: [u32; 2] = [2_000, 60_000];
+
 #[test]
-fn reads_many_jobs(rt: HostRuntime) -> Result<(), Fail> {
-    for count in [2_000u32, 60_000] {
-        let text = many_jobs(rt.alloc(), count)?;
-        let jobs = read(rt.alloc(), text.as_bytes())?;
-        same(&rt, 0, &first_wrong(&jobs), &count);
-        same(&rt, 0, &jobs.jobs.len(), &(count as usize));
+fn reads_many_jobs(rt: HostRuntime) {
+    for count in MANY {
+        let seen = wrong_of_many(rt.alloc(), count);
+        same(&rt, 0, &seen, &Ok((count, count as usize)));
     }
-    Ok(())
 }
 
 /// Where any one allocation fails, the answer is 4; with ample memory it is all the jobs.
 #[test]
 fn want_of_memory_is_refused(rt: HostRuntime) {
-    let is_told = match read(rt.alloc(), WORKED) {
-        Ok(jobs) => is_worked(&jobs),
+    let mut reader = WORKED;
+    let is_told = match reads_worked(rt.alloc(), &mut reader) {
+        Ok(is_worked) => is_worked,
         Err(error) => error == PoolError::NoMemory,
     };
     same(&rt, 0, &is_told, &true);

@@ -1,8 +1,17 @@
 //! Long runs, which end well where nothing fails.
 
-use super::plays;
+use super::outcome_from;
+use crate::compare::same;
 use std::alloc::{AllocError, Global};
-use std::test::Fail;
+use tp_types::refusals::PoolError;
+
+/// Whether this is written of a text, where its run goes to its end.
+fn is_played(alloc: Global, text: &[u8], output: &[u8]) -> Result<bool, PoolError> {
+    let mut reader = text;
+    let (written, ending) = outcome_from(alloc, &mut reader);
+    ending?;
+    Ok(written.as_slice() == output)
+}
 
 /// A pool of one worker, to which so many tasks are submitted, offered and looked at again, and then it is stopped.
 fn many_tasks(alloc: Global, tasks: u32) -> Result<String, AllocError> {
@@ -14,29 +23,42 @@ fn many_tasks(alloc: Global, tasks: u32) -> Result<String, AllocError> {
     Ok(text)
 }
 
+/// Writes an entry of this number that is of a task.
+fn write_of_task(
+    text: &mut String,
+    number: u64,
+    word: &str,
+    task: u32,
+    answer: &str,
+) -> Result<(), AllocError> {
+    write!(text, "{number} {word} t{task} {answer}\n")
+}
+
 /// Writes the entries of one of them; the first reserves the worker.
 fn write_task(text: &mut String, task: u32) -> Result<(), AllocError> {
     let before = u64::from(task) * 3;
-    let (submit, offer, second) = (before + 1, before + 2, before + 3);
-    let reserve = if task == 0 { " reserve w0" } else { "" };
-    write!(
-        text,
-        "{submit} submit t{task} plain queue\n{offer} offer t{task} queued\n{second} second t{task} stay{reserve}\n"
-    )
+    let stay = if task == 0 { "stay reserve w0" } else { "stay" };
+    write_of_task(text, before + 1, "submit", task, "plain queue")?;
+    write_of_task(text, before + 2, "offer", task, "queued")?;
+    write_of_task(text, before + 3, "second", task, stay)
+}
+
+/// Writes the numbers of the tasks that are handed back.
+fn write_back(text: &mut String, tasks: u32) -> Result<(), AllocError> {
+    text.push_str("back")?;
+    for task in 0..tasks {
+        write!(text, " t{task}")?;
+    }
+    text.push('\n')
 }
 
 /// Writes the entries from the stop on.
 fn write_stop(text: &mut String, tasks: u32) -> Result<(), AllocError> {
     let before = u64::from(tasks) * 3;
     let (stop, open, tidy, ended) = (before + 1, before + 2, before + 3, before + 4);
-    write!(text, "{stop} stop drained {tasks}\nback")?;
-    for task in 0..tasks {
-        write!(text, " t{task}")?;
-    }
-    write!(
-        text,
-        "\n{open} open w0 givenup\n{tidy} tidy\n{ended} ended\n"
-    )
+    write!(text, "{stop} stop drained {tasks}\n")?;
+    write_back(text, tasks)?;
+    write!(text, "{open} open w0 givenup\n{tidy} tidy\n{ended} ended\n")
 }
 
 /// What is written of it.
@@ -56,20 +78,21 @@ fn many_lines(alloc: Global, tasks: u32) -> Result<String, AllocError> {
     Ok(text)
 }
 
+/// Whether so many tasks are played, and this is written of them.
+fn plays_so_many(alloc: Global, tasks: u32) -> Result<bool, PoolError> {
+    let text = many_tasks(alloc, tasks)?;
+    let output = many_lines(alloc, tasks)?;
+    is_played(alloc, text.as_bytes(), output.as_bytes())
+}
+
+const MANY: [u32; 2] = [1, 12_000];
+
 #[test]
-fn plays_many_tasks(rt: HostRuntime) -> Result<(), Fail> {
-    for tasks in [1, 12_000] {
-        let text = many_tasks(rt.alloc(), tasks)?;
-        let output = many_lines(rt.alloc(), tasks)?;
-        plays(
-            &rt,
-            tasks as usize,
-            rt.alloc(),
-            text.as_bytes(),
-            output.as_bytes(),
-        );
+fn plays_many_tasks(rt: HostRuntime) {
+    for tasks in MANY {
+        let is_played = plays_so_many(rt.alloc(), tasks);
+        same(&rt, tasks as usize, &is_played, &Ok(true));
     }
-    Ok(())
 }
 
 /// A task that is retried 64 times, and then discarded.
@@ -86,13 +109,11 @@ pub(super) fn retried(alloc: Global) -> Result<String, AllocError> {
 }
 
 /// Writes the entries of a round, up to the verdict.
-fn write_round(text: &mut String, round: u32, did: &str) -> Result<(), AllocError> {
+fn write_round(text: &mut String, round: u32, verdict: &str) -> Result<(), AllocError> {
     let before = u64::from(round) * 4 + 4;
-    let (offer, grow, verdict) = (before + 1, before + 2, before + 3);
-    write!(
-        text,
-        "{offer} offer t1 full\n{grow} grow t1 refuse\n{verdict} verdict t1 discardoldest {did}\n"
-    )
+    write_of_task(text, before + 1, "offer", 1, "full")?;
+    write_of_task(text, before + 2, "grow", 1, "refuse")?;
+    write_of_task(text, before + 3, "verdict", 1, verdict)
 }
 
 /// What is written of it.
@@ -102,21 +123,24 @@ pub(super) fn retried_lines(alloc: Global) -> Result<String, AllocError> {
         "1 submit t0 plain queue\n2 offer t0 full\n3 grow t0 reserve w0\n4 submit t1 plain queue\n",
     )?;
     for round in 0..64u32 {
-        write_round(&mut text, round, "retry")?;
-        let look = u64::from(round) * 4 + 8;
-        write!(text, "{look} look t1 queue\n")?;
+        write_round(&mut text, round, "discardoldest retry")?;
+        write_of_task(&mut text, u64::from(round) * 4 + 8, "look", 1, "queue")?;
     }
-    write_round(&mut text, 64, "discarded")?;
+    write_round(&mut text, 64, "discardoldest discarded")?;
     text.push_str(
         "t0 open\nt1 discarded\nstate running\ncounts submitted=2 run=0 caller=0 rejected=0 discarded=1 handedback=0 removed=0 cancelled=0 completed=0 queued=0 live=0 largest=0\n",
     )?;
     Ok(text)
 }
 
+/// Whether the retries are played, and this is written of them.
+fn plays_retries(alloc: Global) -> Result<bool, PoolError> {
+    let text = retried(alloc)?;
+    let output = retried_lines(alloc)?;
+    is_played(alloc, text.as_bytes(), output.as_bytes())
+}
+
 #[test]
-fn retries_64_times(rt: HostRuntime) -> Result<(), Fail> {
-    let text = retried(rt.alloc())?;
-    let output = retried_lines(rt.alloc())?;
-    plays(&rt, 64, rt.alloc(), text.as_bytes(), output.as_bytes());
-    Ok(())
+fn retries_64_times(rt: HostRuntime) {
+    same(&rt, 64, &plays_retries(rt.alloc()), &Ok(true));
 }

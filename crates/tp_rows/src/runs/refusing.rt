@@ -1,7 +1,5 @@
 //! Worked rows in which tasks are refused, by each policy.
 
-use super::plays_each;
-
 const ROW_11: &[u8] = b"pool 0 1 handoff keep 0 callerruns\n\
 submit plain 1\n\
 offer 0\n\
@@ -252,8 +250,3 @@ pub(super) static ROWS: [(&[u8], &[u8]); 6] = [
     (ROW_34, ROW_34_OUTPUT),
     (ROW_11_SHORT, ROW_11_SHORT_OUTPUT),
 ];
-
-#[test]
-fn refuses_as_worked_out(rt: HostRuntime) {
-    plays_each(&rt, rt.alloc(), &ROWS);
-}

@@ -1,7 +1,5 @@
 //! Worked rows in which workers wait, time out or fault, and in which sizes change.
 
-use super::plays_each;
-
 const ROW_15: &[u8] = b"pool 0 1 unbounded keep 10 abort\n\
 submit plain 1\n\
 offer 0\n\
@@ -168,8 +166,3 @@ pub(super) static ROWS: [(&[u8], &[u8]); 4] = [
     (ROW_19, ROW_19_OUTPUT),
     (ROW_27, ROW_27_OUTPUT),
 ];
-
-#[test]
-fn works_as_worked_out(rt: HostRuntime) {
-    plays_each(&rt, rt.alloc(), &ROWS);
-}
