@@ -33,7 +33,7 @@ const SHORTEST_ANSWERS: [Result<Did, PoolError>; 6] = [
     Ok(Did::End(SLOT, TASK, Ok(5))),
 ];
 
-/// What comes of a list of asks. It says nothing of the run, so that a test of it is proved without the run's own contract.
+/// What comes of a list of asks. No clause speaks of the run here, so a test is proved without its long contract.
 pub fn run_of(alloc: Global, config: Config, asks: &[(u32, Ask)]) -> Result<Run, PoolError> {
     run_asks(alloc, config, asks)
 }

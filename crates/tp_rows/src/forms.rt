@@ -80,7 +80,7 @@ fn read(alloc: Global, text: &[u8]) -> Result<Record, PoolError> {
     read_record(alloc, text)
 }
 
-/// The text of a record in the second form. It says nothing of the text, so that a test is proved without the writer's own contract.
+/// The text of a record in the second form. No clause speaks of the text here, so a test is proved without its long contract.
 fn second_form(alloc: Global, record: &Record) -> Result<Vec<u8>, PoolError> {
     record_text(alloc, &record.config, record.entries.as_slice())
 }

@@ -130,7 +130,7 @@ fn wrong_entry(entry: Entry, wrong: Wrong) -> Entry {
     Entry { did, ..entry }
 }
 
-/// The place of an entry in the record that stands at this place in the record that is wrong at a place in this way.
+/// Which entry of the record stands at a place of the wrong one, by its place in the record.
 fn source(at: usize, wrong: Wrong, place: usize) -> usize {
     if wrong == Wrong::LeftOut && place >= at {
         return place.saturating_add(1);
@@ -374,7 +374,7 @@ fn tell_all(auditor: &mut Auditor) -> bool {
     true
 }
 
-/// An auditor of nothing yet. It says nothing of it, so that a test is proved without the auditor's own contract.
+/// An auditor of nothing yet. No clause speaks of the auditor here, so a test is proved without its long contract.
 fn new_auditor(alloc: Global) -> Result<Auditor, Flaw> {
     Auditor::new(alloc, &LONE)
 }

@@ -58,7 +58,7 @@ const LIFE_ANSWERS: [Result<Option<Did>, PoolError>; 11] = [
     Err(PoolError::UnknownTask),
 ];
 
-/// What comes of these asks on one worker. It says nothing of the run, so that a test is proved without the run's own contract.
+/// What comes of these asks on one worker. No clause speaks of the run here, so a test is proved without its long contract.
 fn run_of(alloc: Global, asks: &[TallyAsk]) -> Result<TallyRun, PoolError> {
     run_tally(alloc, LONE, asks)
 }

@@ -39,8 +39,7 @@ fn entries_of(alloc: Global, output: &str) -> Result<Vec<Entry>, AllocError> {
     Ok(entries)
 }
 
-/// A pool with these settings, on which lines are played. It says nothing of it, so that a test is proved without the runner's own
-/// contract.
+/// A pool with these settings, for lines. No clause speaks of the runner here, so a test is proved without its long contract.
 fn runner_of(alloc: Global, config: Config) -> Result<Runner, PoolError> {
     Runner::new(alloc, config)
 }
@@ -163,14 +162,33 @@ fn judges_each(rt: &impl Abort, alloc: Global, rows: &[(&[u8], &[u8])]) {
 static FIRST_ROWS: [(&[u8], &[u8]); 2] = [(ROW_01, ROW_01_OUTPUT), (ROW_18, ROW_18_OUTPUT)];
 
 #[test]
-fn judges_worked_rows(rt: HostRuntime) {
-    let alloc = rt.alloc();
-    judges_each(&rt, alloc, &FIRST_ROWS);
-    judges_each(&rt, alloc, &growing::ROWS);
-    judges_each(&rt, alloc, &refusing::ROWS);
-    judges_each(&rt, alloc, &working::ROWS);
-    judges_each(&rt, alloc, &ending::ROWS);
-    judges_each(&rt, alloc, &cancelling::ROWS);
+fn judges_the_first_rows(rt: HostRuntime) {
+    judges_each(&rt, rt.alloc(), &FIRST_ROWS);
+}
+
+#[test]
+fn judges_rows_of_growing_pools(rt: HostRuntime) {
+    judges_each(&rt, rt.alloc(), &growing::ROWS);
+}
+
+#[test]
+fn judges_rows_of_refused_tasks(rt: HostRuntime) {
+    judges_each(&rt, rt.alloc(), &refusing::ROWS);
+}
+
+#[test]
+fn judges_rows_of_working_pools(rt: HostRuntime) {
+    judges_each(&rt, rt.alloc(), &working::ROWS);
+}
+
+#[test]
+fn judges_rows_of_ending_pools(rt: HostRuntime) {
+    judges_each(&rt, rt.alloc(), &ending::ROWS);
+}
+
+#[test]
+fn judges_rows_of_cancelled_tasks(rt: HostRuntime) {
+    judges_each(&rt, rt.alloc(), &cancelling::ROWS);
 }
 
 /// How many of these answers are refusals.
