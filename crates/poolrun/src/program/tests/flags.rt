@@ -1,6 +1,8 @@
 //! Each flag once, over real files.
 
-use super::*;
+use super::calls::{Gives, Row, Wanted, plays};
+use super::{ALL, NONE};
+use std::test::Fail;
 
 const REFUSED_STEP: &str = "pool 1 1 unbounded keep 0 abort
 submit plain 5
@@ -20,15 +22,32 @@ state running
 counts submitted=1 run=0 caller=0 rejected=0 discarded=0 handedback=0 removed=0 cancelled=0 completed=0 queued=0 live=1 largest=1
 ";
 
+static FLAGGED: [Row; 3] = [
+    Row {
+        line: "poolrun steps --record --explain --strict flagged.txt",
+        file: Some(("flagged.txt", REFUSED_STEP)),
+        room: ALL,
+        gives: Gives(
+            1,
+            Wanted::Text(REFUSED_RECORD),
+            Wanted::Text("line 3: take 3: refused 7 UnknownSlot (slots: w0)\n"),
+        ),
+    },
+    Row {
+        line: "poolrun audit judged.txt",
+        file: Some(("judged.txt", REFUSED_RECORD)),
+        room: ALL,
+        gives: Gives(0, Wanted::Text(JUDGED), NONE),
+    },
+    Row {
+        line: "poolrun audit --any-length judged.txt",
+        file: Some(("judged.txt", REFUSED_RECORD)),
+        room: ALL,
+        gives: Gives(0, Wanted::Text(JUDGED), NONE),
+    },
+];
+
 #[test]
 fn takes_each_flag(rt: HostRuntime) -> Result<(), Fail> {
-    let command = "steps --record --explain --strict";
-    let played = call_on(&rt, rt.alloc(), command, "flagged.txt", REFUSED_STEP)?;
-    let why = "line 3: take 3: refused 7 UnknownSlot (slots: w0)\n";
-    assert!(rt; played.gave(1, REFUSED_RECORD, why), "{played:?}");
-    for command in ["audit", "audit --any-length"] {
-        let judged = call_on(&rt, rt.alloc(), command, "judged.txt", REFUSED_RECORD)?;
-        assert!(rt; judged.gave(0, JUDGED, ""), "{command}: {judged:?}");
-    }
-    Ok(())
+    plays(&rt, rt.alloc(), &FLAGGED)
 }

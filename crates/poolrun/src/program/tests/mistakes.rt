@@ -1,26 +1,39 @@
 //! Mistakes of a new user in a file of jobs. Each message is written by hand: it has to say how the mistake is mended.
 
-use super::*;
+use super::ALL;
+use super::calls::{Gives, Row, Wanted, plays};
+use std::test::Fail;
 
-/// A text, what is printed, and what is told. The status is 1.
-type Row = (&'static str, &'static str, &'static str);
-
-/// Files of jobs.
-const JOBS: [Row; 4] = [
-    (
-        "\u{FEFF}pool 1 1 unbounded keep 0 abort\nexecute 5\n",
-        "refused 23 BadLine 1\n",
-        "error: a byte order mark stands before the text
+static JOBS: [Row; 4] = [
+    Row {
+        line: "poolrun threads a.txt",
+        file: Some((
+            "a.txt",
+            "\u{FEFF}pool 1 1 unbounded keep 0 abort\nexecute 5\n",
+        )),
+        room: ALL,
+        gives: Gives(
+            1,
+            Wanted::Text("refused 23 BadLine 1\n"),
+            Wanted::Text(
+                "error: a byte order mark stands before the text
  --> a.txt:1:1
   |
 1 | ???pool 1 1 unbounded keep 0 abort
   | ^^^ save the file without it
 ",
-    ),
-    (
-        "pool 1 1 unbounded keep 0 CallerRunsPolicy\n",
-        "refused 23 BadLine 1\n",
-        "error: 'CallerRunsPolicy' may not stand here
+            ),
+        ),
+    },
+    Row {
+        line: "poolrun threads a.txt",
+        file: Some(("a.txt", "pool 1 1 unbounded keep 0 CallerRunsPolicy\n")),
+        room: ALL,
+        gives: Gives(
+            1,
+            Wanted::Text("refused 23 BadLine 1\n"),
+            Wanted::Text(
+                "error: 'CallerRunsPolicy' may not stand here
  --> a.txt:1:27
   |
 1 | pool 1 1 unbounded keep 0 CallerRunsPolicy
@@ -31,21 +44,35 @@ const JOBS: [Row; 4] = [
   = QUEUE is handoff, unbounded, bounded PLACES or priority
   = as: pool 1 4 bounded 16 keep 0 abort
 ",
-    ),
-    (
-        "pool 1 1 unbounded keep 0 abort\nsubmit plain 5\n",
-        "refused 23 BadLine 2\n",
-        "error: this is a line of a scenario
+            ),
+        ),
+    },
+    Row {
+        line: "poolrun threads a.txt",
+        file: Some(("a.txt", "pool 1 1 unbounded keep 0 abort\nsubmit plain 5\n")),
+        room: ALL,
+        gives: Gives(
+            1,
+            Wanted::Text("refused 23 BadLine 2\n"),
+            Wanted::Text(
+                "error: this is a line of a scenario
  --> a.txt:2:1
   |
 2 | submit plain 5
   | ^^^^^^^^^^^^^^ it is for `poolrun steps`
 ",
-    ),
-    (
-        "pool 1 1 unbounded keep 0 abort\nexecute 1.5\n",
-        "refused 23 BadLine 2\n",
-        "error: '1.5' is no whole number
+            ),
+        ),
+    },
+    Row {
+        line: "poolrun threads a.txt",
+        file: Some(("a.txt", "pool 1 1 unbounded keep 0 abort\nexecute 1.5\n")),
+        room: ALL,
+        gives: Gives(
+            1,
+            Wanted::Text("refused 23 BadLine 2\n"),
+            Wanted::Text(
+                "error: '1.5' is no whole number
  --> a.txt:2:9
   |
 2 | execute 1.5
@@ -56,14 +83,12 @@ const JOBS: [Row; 4] = [
   = form: execute V
   = form: execute !N
 ",
-    ),
+            ),
+        ),
+    },
 ];
 
 #[test]
 fn tells_how_a_mistake_in_jobs_is_mended(rt: HostRuntime) -> Result<(), Fail> {
-    for (text, out, errors) in JOBS {
-        let called = call_on(&rt, rt.alloc(), "threads", "a.txt", text)?;
-        assert!(rt; called.gave(1, out, errors), "{called:?}");
-    }
-    Ok(())
+    plays(&rt, rt.alloc(), &JOBS)
 }

@@ -1,6 +1,7 @@
 //! The scenarios of the folder `data/`, which docs/SCENARIOS.md tells.
 
-use super::call_on;
+use super::calls::{Gives, Row, Wanted, plays};
+use super::{ALL, NONE};
 use std::test::Fail;
 
 const FULL_POOL: &str = "# A full pool: one core worker, at most one more, and a queue of one place.
@@ -263,15 +264,28 @@ state running
 counts submitted=5 run=5 caller=0 rejected=0 discarded=0 handedback=0 removed=0 cancelled=0 completed=5 queued=0 live=0 largest=3
 ";
 
+static PLAYED: [Row; 3] = [
+    Row {
+        line: "poolrun steps a-scenario.txt",
+        file: Some(("a-scenario.txt", FULL_POOL)),
+        room: ALL,
+        gives: Gives(0, Wanted::Text(FULL_POOL_OUTPUT), NONE),
+    },
+    Row {
+        line: "poolrun steps a-scenario.txt",
+        file: Some(("a-scenario.txt", SHUTDOWN_WINDOW)),
+        room: ALL,
+        gives: Gives(0, Wanted::Text(SHUTDOWN_WINDOW_OUTPUT), NONE),
+    },
+    Row {
+        line: "poolrun steps a-scenario.txt",
+        file: Some(("a-scenario.txt", SHRINKING_POOL)),
+        room: ALL,
+        gives: Gives(0, Wanted::Text(SHRINKING_POOL_OUTPUT), NONE),
+    },
+];
+
 #[test]
 fn plays_the_scenarios_of_the_folder(rt: HostRuntime) -> Result<(), Fail> {
-    for (text, output) in [
-        (FULL_POOL, FULL_POOL_OUTPUT),
-        (SHUTDOWN_WINDOW, SHUTDOWN_WINDOW_OUTPUT),
-        (SHRINKING_POOL, SHRINKING_POOL_OUTPUT),
-    ] {
-        let played = call_on(&rt, rt.alloc(), "steps", "a-scenario.txt", text)?;
-        assert!(rt; played.gave(0, output, ""), "{played:?}");
-    }
-    Ok(())
+    plays(&rt, rt.alloc(), &PLAYED)
 }
