@@ -5,6 +5,7 @@ use super::lives::{ONE, lives_all};
 use super::scripts::{FIRST, Many, SHUTS_DOWN, Script, Step, Tale};
 use std::test::Fail;
 use tp_stage::findings::Finding;
+use tp_types::ids::TaskId;
 use tp_types::refusals::PoolError;
 use tp_types::tasks::Kind;
 
@@ -91,12 +92,12 @@ const GROUP: [Step; 16] = [
     Step::Submit(Kind::Group(3), Deed::End(Err(2)), 1),
     Step::Submit(Kind::Group(4), Deed::End(Ok(4)), 2),
     Step::Submit(Kind::Group(3), Deed::End(Ok(3)), 3),
-    Step::Take(3, Ok(0)),
-    Step::Take(3, Ok(1)),
-    Step::Take(3, Ok(3)),
+    Step::Take(3, Ok(TaskId(0))),
+    Step::Take(3, Ok(TaskId(1))),
+    Step::Take(3, Ok(TaskId(3))),
     Step::Poll(3, Ok(None)),
     Step::Take(3, Err(PoolError::NothingOpen)),
-    Step::Poll(4, Ok(Some(2))),
+    Step::Poll(4, Ok(Some(TaskId(2)))),
     Step::Poll(4, Ok(None)),
     Step::TryGet(1, Err(PoolError::Faulted(2))),
     Step::Get(3, Ok(3)),

@@ -31,7 +31,7 @@ const OPEN: [Step; 18] = [
     Step::Submit(Kind::Group(3), Deed::Look, 3),
     Step::Poll(3, Ok(None)),
     Step::Control(Control::Cancel(3, true, true)),
-    Step::Take(3, Ok(3)),
+    Step::Take(3, Ok(TaskId(3))),
     OPENS,
     Step::Get(0, Ok(6)),
     SHUTS_DOWN,

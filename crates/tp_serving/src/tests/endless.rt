@@ -1,6 +1,7 @@
 // Pools that keep no record.
 ghost use Rattle.std.specs.Prelude.{◌≡◌};
 
+use super::compare::same;
 use std::alloc::Global;
 use std::marker::Brand;
 use std::process::Abort;
@@ -17,7 +18,7 @@ use tp_pool::names::PoolNaming;
 use tp_pool::pool::PoolOf;
 use tp_record::recorders::Tally;
 use tp_service::futures::{get, release, submit};
-use tp_stage::boards::{Board, Signal};
+use tp_stage::boards::{Board, Signal, shared};
 use tp_types::configs::{Config, Policy, QueueKind};
 use tp_types::ids::TaskId;
 use tp_types::refusals::PoolError;
@@ -60,117 +61,188 @@ impl Job for Stroke {
 
 type Endless<G> = PoolOf<G, Stroke, Defaults, Tally>;
 
-// Submits this many plain jobs.
-fn strike<G: PoolNaming + Send + Sync + 'static, R: Threads + Wait + Copy + Send + 'static>(
+// What a caller does with the pool, and how that is answered.
+#[derive(Clone, Copy)]
+enum Act {
+    // Submits so many plain jobs.
+    Strikes(u32),
+    // Submits a future, which gets this number.
+    Submits(u32),
+    Gets(u32, Result<i64, PoolError>),
+    Releases(u32, Result<(), PoolError>),
+    Shutdown,
+    // Waits for the pool's end.
+    Ends,
+    // The pool keeps so many tasks.
+    Keeps(u32),
+    // It knows no task of this number.
+    Forgot(u32),
+}
+
+// What the caller does, and how many jobs run.
+struct Life {
+    acts: &'static [Act],
+    jobs: u32,
+}
+
+fn submits<G: PoolNaming + Send + Sync + 'static, R: Threads + Wait + Copy + Send + 'static>(
+    rt: &R,
+    pool: &Endless<G>,
+    board: &Arc<Board>,
+    number: u32,
+    pass: &mut Pass<G>,
+) -> bool {
+    let Ok(board) = shared(board) else {
+        return false;
+    };
+    match submit(pool, rt, Stroke { board }, pass) {
+        Ok(t) => t.0 == number,
+        Err(_) => false,
+    }
+}
+
+fn strikes_once<G: PoolNaming + Send + Sync + 'static, R: Threads + Wait + Copy + Send + 'static>(
     rt: &R,
     pool: &Endless<G>,
     board: &Arc<Board>,
     pass: &mut Pass<G>,
-) -> Result<(), PoolError> {
-    for _ in 0..JOBS {
-        let board = board_of(board)?;
-        pool.execute_as(rt, Kind::Plain, Stroke { board }, pass)?;
-    }
-    Ok(())
+) -> bool {
+    let Ok(board) = shared(board) else {
+        return false;
+    };
+    pool.execute_as(rt, Kind::Plain, Stroke { board }, pass)
+        .is_ok()
 }
 
-fn board_of(board: &Arc<Board>) -> Result<Arc<Board>, PoolError> {
-    match Arc::try_clone(board) {
-        Ok(board) => Ok(board),
-        Err(_) => Err(PoolError::NoMemory),
-    }
-}
-
-// Shuts the pool down, waits for its end and closes it.
-fn closed<G: PoolNaming + Send + Sync + 'static, R: Threads + Wait + Copy + Send + 'static>(
+fn strikes<G: PoolNaming + Send + Sync + 'static, R: Threads + Wait + Copy + Send + 'static>(
     rt: &R,
-    pool: Endless<G>,
-    pass: Pass<G>,
-) -> Result<TallyReport, PoolError> {
-    let mut pass = pass;
-    pool.shutdown(rt, &mut pass)?;
-    pool.await_termination(rt, u64::MAX, &mut pass)?;
-    Ok(pool.close_one(rt, pass)?)
+    pool: &Endless<G>,
+    board: &Arc<Board>,
+    jobs: u32,
+    pass: &mut Pass<G>,
+) -> bool {
+    for _ in 0..jobs {
+        if !strikes_once(rt, pool, board, pass) {
+            return false;
+        }
+    }
+    true
 }
 
-// All jobs run, and the pool forgets each.
-fn runs_all<
+// Does this: whether it is answered as it says.
+fn does<G: PoolNaming + Send + Sync + 'static, R: Threads + Wait + Copy + Send + 'static>(
+    rt: &R,
+    pool: &Endless<G>,
+    board: &Arc<Board>,
+    act: Act,
+    pass: &mut Pass<G>,
+) -> bool {
+    match act {
+        Act::Strikes(jobs) => strikes(rt, pool, board, jobs, pass),
+        Act::Submits(number) => submits(rt, pool, board, number, pass),
+        Act::Gets(t, answer) => get(pool, rt, TaskId(t)) == answer,
+        Act::Releases(t, answer) => release(pool, rt, TaskId(t), pass) == answer,
+        Act::Shutdown => pool.shutdown(rt, pass).is_ok(),
+        Act::Ends => pool.await_termination(rt, u64::MAX, pass).is_ok(),
+        Act::Keeps(tasks) => pool.kept(rt) == tasks,
+        Act::Forgot(t) => pool.fate(rt, TaskId(t)) == Err(PoolError::UnknownTask),
+    }
+}
+
+fn does_all<
     G: PoolNaming + Send + Sync + 'static,
     R: Abort + Threads + Wait + Copy + Send + 'static,
->(rt: &R, alloc: Global, unopened: Unopened, settings: Config) -> Result<(), PoolError>
-    requires named { unopened ≡ record { ledger = G.name; parts = G.parts; table = G.table } }
-    requires settings { settings ≡ G.config }
-{
-    let board = Board::new(alloc)?;
-    let (pool, mut pass) = Endless::<G>::over(alloc, unopened, settings, Defaults)?;
-    strike(rt, &pool, &board, &mut pass)?;
-    pool.shutdown(rt, &mut pass)?;
-    pool.await_termination(rt, u64::MAX, &mut pass)?;
-    let kept = pool.kept(rt);
-    let fate = pool.fate(rt, TaskId(0));
-    let report = pool.close_one(rt, pass)?;
-    let counts = Counts {
-        submitted: JOBS,
-        run: JOBS,
+>(rt: &R, pool: &Endless<G>, board: &Arc<Board>, acts: &[Act], pass: &mut Pass<G>) {
+    for (line, act) in acts.iter().enumerate() {
+        same(rt, line, &does(rt, pool, board, *act, pass), &true);
+    }
+}
+
+// The counters of a pool that ran so many jobs.
+fn counts_of(jobs: u32) -> Counts {
+    Counts {
+        submitted: jobs,
+        run: jobs,
         caller: 0,
         rejected: 0,
         discarded: 0,
         handedback: 0,
         removed: 0,
         cancelled: 0,
-        completed: JOBS,
+        completed: jobs,
         queued: 0,
         live: 0,
         largest: 1,
-    };
-    let done = (board.read(Signal::Met), kept, fate, report.unended);
-    let wanted = (u64::from(JOBS), 0, Err(PoolError::UnknownTask), 0);
-    assert!(rt; (done, report.counts) == (wanted, counts), "{report:?}");
-    Ok(())
+    }
 }
 
-// A future is asked, released, and not known any more.
-fn releases<
-    G: PoolNaming + Send + Sync + 'static,
-    R: Abort + Threads + Wait + Copy + Send + 'static,
->(rt: &R, alloc: Global, unopened: Unopened, settings: Config) -> Result<(), PoolError>
+// Opens a pool under its name, has it live, and closes it.
+fn lived<G: PoolNaming + Send + Sync + 'static, R: Abort + Threads + Wait + Copy + Send + 'static>(
+    rt: &R,
+    alloc: Global,
+    unopened: Unopened,
+    settings: Config,
+    board: &Arc<Board>,
+    acts: &[Act],
+) -> Result<TallyReport, PoolError>
     requires named { unopened ≡ record { ledger = G.name; parts = G.parts; table = G.table } }
     requires settings { settings ≡ G.config }
 {
-    let board = Board::new(alloc)?;
     let (pool, mut pass) = Endless::<G>::over(alloc, unopened, settings, Defaults)?;
-    let job = Stroke {
-        board: board_of(&board)?,
-    };
-    let early = release(&pool, rt, TaskId(0), &mut pass);
-    let t = submit(&pool, rt, job, &mut pass)?;
-    let value = get(&pool, rt, t);
-    let released = release(&pool, rt, t, &mut pass);
-    let gone = get(&pool, rt, t);
-    let again = release(&pool, rt, t, &mut pass);
-    let unknown = PoolError::UnknownTask;
-    assert!(rt;
-        (early, value, released) == (Err(unknown), Ok(7), Ok(())),
-        "{early:?} {value:?} {released:?}"
-    );
-    assert!(rt;
-        (gone, again) == (Err(unknown), Err(unknown)),
-        "{gone:?} {again:?}"
-    );
-    closed(rt, pool, pass)?;
+    does_all(rt, &pool, board, acts, &mut pass);
+    Ok(pool.close_one(rt, pass)?)
+}
+
+// Lives under a name of its own. Each job runs, and none is left open.
+fn lives<R: Abort + Threads + Wait + Copy + Send + 'static>(
+    rt: &R,
+    alloc: Global,
+    life: &Life,
+) -> Result<(), PoolError> {
+    let board = Board::new(alloc)?;
+    let unopened = Unopened::new(alloc)?;
+    let report = lived::<Brand, R>(rt, alloc, unopened, LONE, &board, life.acts)?;
+    let left = (board.read(Signal::Met), report.unended, report.counts);
+    let wanted = (u64::from(life.jobs), 0, counts_of(life.jobs));
+    same(rt, life.acts.len(), &left, &wanted);
     Ok(())
 }
 
+static STRIKES: Life = Life {
+    acts: &[
+        Act::Strikes(JOBS),
+        Act::Shutdown,
+        Act::Ends,
+        Act::Keeps(0),
+        Act::Forgot(0),
+    ],
+    jobs: JOBS,
+};
+
+// All jobs run, and the pool forgets each.
 #[test]
 fn serves_beyond_its_record_limit(rt: HostRuntime) -> Result<(), Fail> {
-    let unopened = Unopened::new(rt.alloc())?;
-    runs_all::<Brand, HostRuntime>(&rt, rt.alloc(), unopened, LONE)?;
-    Ok(())
+    Ok(lives(&rt, rt.alloc(), &STRIKES)?)
 }
 
+const UNKNOWN: PoolError = PoolError::UnknownTask;
+
+static RELEASES: Life = Life {
+    acts: &[
+        Act::Releases(0, Err(UNKNOWN)),
+        Act::Submits(0),
+        Act::Gets(0, Ok(7)),
+        Act::Releases(0, Ok(())),
+        Act::Gets(0, Err(UNKNOWN)),
+        Act::Releases(0, Err(UNKNOWN)),
+        Act::Shutdown,
+        Act::Ends,
+    ],
+    jobs: 1,
+};
+
+// A future is asked, released, and not known any more.
 #[test]
 fn forgets_a_released_future(rt: HostRuntime) -> Result<(), Fail> {
-    let unopened = Unopened::new(rt.alloc())?;
-    releases::<Brand, HostRuntime>(&rt, rt.alloc(), unopened, LONE)?;
-    Ok(())
+    Ok(lives(&rt, rt.alloc(), &RELEASES)?)
 }

@@ -41,13 +41,13 @@ fn ended<G: PoolNaming, R: Wait>(
     rt: &R,
     alloc: Global,
     pool: Tested<G>,
-    first: Pass<G>,
-    second: Option<Pass<G>>,
+    (first, second): (Pass<G>, Option<Pass<G>>),
 ) -> Result<(Report, u64), PoolError> {
     let mut first = first;
-    pool.await_termination(rt, u64::MAX, &mut first)?;
+    let awaited = pool.await_termination(rt, u64::MAX, &mut first);
     let steps = pool.steps(rt);
     let report = closed(rt, alloc, pool, first, second)?;
+    awaited?;
     Ok((report, steps))
 }
 
@@ -84,33 +84,49 @@ fn plays_both<
     pool: &Tested<G>,
     board: &Arc<Board>,
     script: Script,
-    first: Pass<G>,
-) -> Result<(Pass<G>, Pass<G>), PoolError> {
-    let mut first = first;
-    let second = pool.split_pass(&rt, &mut first)?;
+    (first, second): (Pass<G>, Pass<G>),
+) -> (Pass<G>, Pass<G>) {
     let act = move |pool: &Tested<G>, (is_first, pass): (bool, Pass<G>)| {
         plays(rt, alloc, pool, board, script, is_first, pass)
     };
-    Ok(in_two(&rt, pool, (true, first), (false, second), &act, &act))
+    in_two(&rt, pool, (true, first), (false, second), &act, &act)
 }
 
+// A pass for the second caller, where there is one.
+fn pass_beside<G: PoolNaming + Send + Sync + 'static, R: Abort + Wait>(
+    rt: &R,
+    pool: &Tested<G>,
+    script: Script,
+    first: &mut Pass<G>,
+) -> Option<Pass<G>> {
+    if script.beside.is_empty() {
+        return None;
+    }
+    let second = pool.split_pass(rt, first).ok();
+    same(rt, 0, &second.is_some(), &true);
+    second
+}
+
+// One caller plays, or two. Nothing returns early here or above, since the proof of a place that drops a pool is dear.
 fn live<
     G: PoolNaming + Send + Sync + 'static,
     R: Abort + Threads + Wait + Clock + Copy + Send + Sync + 'static,
 >(
     rt: R,
     alloc: Global,
-    pool: Tested<G>,
+    pool: &Tested<G>,
     board: &Arc<Board>,
     script: Script,
     first: Pass<G>,
-) -> Result<(Report, u64), PoolError> {
-    if script.beside.is_empty() {
-        let first = plays(rt, alloc, &pool, board, script, true, first);
-        return ended(&rt, alloc, pool, first, None);
+) -> (Pass<G>, Option<Pass<G>>) {
+    let mut first = first;
+    match pass_beside(&rt, pool, script, &mut first) {
+        Some(second) => {
+            let (first, second) = plays_both(rt, alloc, pool, board, script, (first, second));
+            (first, Some(second))
+        }
+        None => (plays(rt, alloc, pool, board, script, true, first), None),
     }
-    let (first, second) = plays_both(rt, alloc, &pool, board, script, first)?;
-    ended(&rt, alloc, pool, first, Some(second))
 }
 
 // Opens a pool under its name, and has it live.
@@ -130,7 +146,8 @@ fn open<
     requires settings { settings ≡ G.config }
 {
     let (pool, first) = PoolOf::<G, Chore, Users>::over(alloc, unopened, settings, users)?;
-    live(rt, alloc, pool, board, script, first)
+    let passes = live(rt, alloc, &pool, board, script, first);
+    ended(&rt, alloc, pool, passes)
 }
 
 // Has a pool live under a name of its own, and finds what it left.

@@ -146,29 +146,6 @@ fn invokes<G: PoolNaming + Send + Sync + 'static, R: Threads + Wait + Copy + Sen
     }
 }
 
-// Takes the next done task of the group.
-fn takes<G: PoolNaming, R: Wait>(
-    rt: &R,
-    pool: &Tested<G>,
-    group: u32,
-    answer: Result<u32, PoolError>,
-    pass: &mut Pass<G>,
-) -> bool {
-    let found = CompletionService::new(group).take(pool, rt, pass);
-    found.map(|t| t.0) == answer
-}
-
-fn polls<G: PoolNaming, R: Wait>(
-    rt: &R,
-    pool: &Tested<G>,
-    group: u32,
-    answer: Result<Option<u32>, PoolError>,
-    pass: &mut Pass<G>,
-) -> bool {
-    let found = CompletionService::new(group).poll(pool, rt, pass);
-    found.map(|t| t.map(|t| t.0)) == answer
-}
-
 fn controls<G: PoolNaming + Send + Sync + 'static, R: Threads + Wait + Copy + Send + 'static>(
     rt: &R,
     pool: &Tested<G>,
@@ -236,8 +213,8 @@ fn makes<G: PoolNaming + Send + Sync + 'static, R: Threads + Wait + Clock + Copy
         Step::GetUntil(t, deadline, answer) => get_until(pool, &rt, TaskId(t), deadline) == answer,
         Step::TryGet(t, answer) => try_get(pool, &rt, TaskId(t)) == answer,
         Step::Many(many) => invokes(rt, alloc, pool, board, many, pass),
-        Step::Take(group, answer) => takes(&rt, pool, group, answer, pass),
-        Step::Poll(group, answer) => polls(&rt, pool, group, answer, pass),
+        Step::Take(group, answer) => CompletionService::new(group).take(pool, &rt, pass) == answer,
+        Step::Poll(group, answer) => CompletionService::new(group).poll(pool, &rt, pass) == answer,
         Step::Control(control) => controls(&rt, pool, control, pass),
         Step::Cue(cue) => hears(&rt, pool, board, cue),
         Step::Steps(entries) => pool.steps(&rt) == entries,

@@ -4,6 +4,7 @@ use super::chores::Deed;
 use tp_stage::boards::Signal;
 use tp_stage::findings::Finding;
 use tp_types::configs::Config;
+use tp_types::ids::TaskId;
 use tp_types::refusals::PoolError;
 use tp_types::tasks::Kind;
 
@@ -54,8 +55,8 @@ pub enum Step {
     TryGet(u32, Result<Option<i64>, PoolError>),
     Many(Many),
     // A done task of this group.
-    Take(u32, Result<u32, PoolError>),
-    Poll(u32, Result<Option<u32>, PoolError>),
+    Take(u32, Result<TaskId, PoolError>),
+    Poll(u32, Result<Option<TaskId>, PoolError>),
     Control(Control),
     Cue(Cue),
     // The record has so many entries.

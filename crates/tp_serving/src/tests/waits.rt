@@ -9,6 +9,7 @@ use std::test::Fail;
 use tp_stage::boards::Signal;
 use tp_stage::findings::Finding;
 use tp_types::configs::{Config, Policy, QueueKind};
+use tp_types::ids::TaskId;
 use tp_types::refusals::PoolError;
 use tp_types::tasks::{Fate, Kind};
 
@@ -262,7 +263,7 @@ static ENDED: [Tale; 7] = [
         holds: true,
         script: Script {
             first: &[&ENDS],
-            beside: &[&WAITS, &[Step::Take(3, Ok(0))], &OVER],
+            beside: &[&WAITS, &[Step::Take(3, Ok(TaskId(0)))], &OVER],
         },
         findings: &NOT_CANCELLED,
     },
