@@ -36,8 +36,7 @@ fn run_reader<
     match choice {
         Choice::Steps(_, playing) => run_steps(alloc, *playing, name, reader, out, errors, style),
         Choice::Threads(_, record) => {
-            let record = record.as_ref().map(|record| record.as_str());
-            run_threads(rt, alloc, record, name, reader, out, errors, style)
+            run_threads(rt, alloc, record.as_deref(), name, reader, out, errors, style)
         }
         Choice::Tally(_) => run_tally(rt, alloc, name, reader, out, errors, style),
         Choice::Audit(_, has_any_length) => {
