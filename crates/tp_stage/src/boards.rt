@@ -50,6 +50,8 @@ pub enum Signal {
     /// Rounds of a script that were played, and those that could tell.
     Rounds,
     Telling,
+    /// Lives of a test's pools before this one.
+    Lives,
 }
 
 // How often the hooks of a task were called.
@@ -105,6 +107,7 @@ pub struct Board {
     moment: AtomicU64,
     rounds: AtomicU64,
     telling: AtomicU64,
+    lives: AtomicU64,
 }
 
 fn zero() -> AtomicU64 {
@@ -137,6 +140,7 @@ fn blank() -> Board {
         moment: zero(),
         rounds: zero(),
         telling: zero(),
+        lives: zero(),
     }
 }
 
@@ -175,6 +179,7 @@ impl Board {
             Signal::Moment => &self.moment,
             Signal::Rounds => &self.rounds,
             Signal::Telling => &self.telling,
+            Signal::Lives => &self.lives,
         }
     }
 

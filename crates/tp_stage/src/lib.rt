@@ -3,6 +3,7 @@
 #![tactic(auto)]
 
 pub mod boards;
+pub mod calls;
 pub mod endings;
 pub mod findings;
 pub mod users;
