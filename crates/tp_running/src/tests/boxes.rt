@@ -2,7 +2,7 @@
 ghost use Rattle.std.specs.Prelude.{◌≡◌};
 
 use super::compare::same;
-use super::lives::SETTINGS;
+use super::scripts::SETTINGS;
 use std::alloc::Global;
 use std::marker::Brand;
 use std::process::Abort;

@@ -1,9 +1,8 @@
 // What takes more than one call.
 
 use super::chores::{Chore, Deed};
-use super::lives::SETTINGS;
-use super::playing::{Tested, chore, comes, comes_within, handed, passes, rest, started};
-use super::scripts::{Deal, Start, View};
+use super::playing::{Tested, chore, comes, comes_within, handed, passes, rest};
+use super::scripts::{Deal, SETTINGS, View};
 use std::sync::{Arc, Wait};
 use std::thread;
 use std::thread::Threads;
@@ -13,6 +12,7 @@ use tp_pool::answers::{Admitted, Refused};
 use tp_pool::names::PoolNaming;
 use tp_record::entries::{Did, Failed};
 use tp_stage::boards::{Board, Signal};
+use tp_stage::calls::{Call, make};
 use tp_stage::findings::is_unstaffed;
 use tp_types::refusals::PoolError;
 use tp_types::states::{Counts, RunState};
@@ -199,10 +199,10 @@ fn has_failed<G: PoolNaming>(pass: &Pass<G>) -> bool {
 }
 
 // What is left to be started, where so many more workers live by now.
-fn left_of(start: Start, more: u32) -> Start {
-    match start {
-        Start::All(live) => Start::All(live.saturating_sub(more)),
-        _ => start,
+fn left_of(call: Call, more: u32) -> Call {
+    match call {
+        Call::StartAll(live) => Call::StartAll(live.saturating_sub(more)),
+        _ => call,
     }
 }
 
@@ -211,11 +211,11 @@ fn left_of(start: Start, more: u32) -> Start {
 fn insists<G: PoolNaming + Send + Sync + 'static, R: Threads + Wait + Copy + Send + 'static>(
     rt: R,
     pool: &Tested<G>,
-    start: Start,
+    call: Call,
     pass: &mut Pass<G>,
 ) -> bool {
     let before = seen(&rt, pool, pass);
-    match started(rt, pool, start, pass) {
+    match make(&rt, pool, call, pass) {
         Ok(true) => return true,
         Ok(false) if has_failed(pass) => {}
         Ok(false) => return false,
@@ -223,8 +223,8 @@ fn insists<G: PoolNaming + Send + Sync + 'static, R: Threads + Wait + Copy + Sen
         Err(_) => return false,
     }
     let live = pool.counts(&rt).live;
-    let left = left_of(start, live.saturating_sub(before.1.live));
-    started(rt, pool, left, pass) == Ok(true)
+    let left = left_of(call, live.saturating_sub(before.1.live));
+    make(&rt, pool, left, pass) == Ok(true)
 }
 
 // Makes the deal: whether it comes to what it says.
@@ -239,6 +239,7 @@ pub fn deals<
         Deal::TimesOut(stay) => times_out(&rt, pool, board, stay, pass),
         Deal::OneLeaves => one_leaves(&rt, pool, board, pass),
         Deal::InsistsTask(number) => insists_task(rt, pool, board, number, pass),
-        Deal::Insists(start) => insists(rt, pool, start, pass),
+        Deal::Insists(call) => insists(rt, pool, call, pass),
+        Deal::Pass(ticks) => passes(&rt, pool, board, ticks, pass),
     }
 }

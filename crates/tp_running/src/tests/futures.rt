@@ -1,80 +1,126 @@
 // Futures that are cancelled.
 
 use super::chores::Deed;
-use super::lives::{SETTINGS, lives_twice};
-use super::scripts::{Answer, Control, Cue, LETS_GO, LOOKS, SHUTS_DOWN, Step, TELLS, alone};
+use super::lives::lives;
+use super::scripts::{Answer, Cue, LETS_GO, LIFE, LOOKS, Life, SETTINGS, SHUTS_DOWN, Step, TELLS};
 use std::test::Fail;
 use tp_record::entries::{Did, Started};
 use tp_stage::boards::{Hook, Signal};
+use tp_stage::calls::Call;
 use tp_stage::findings::Finding;
 use tp_stage::users::{MANNER, Manner, Stance};
 use tp_types::configs::Config;
 use tp_types::ids::{SlotId, TaskId};
 use tp_types::tasks::Kind;
 
-const ONE: Config = Config {
-    core: 1,
-    maximum: 1,
-    ..SETTINGS
+const ONE: Life = Life {
+    settings: Config {
+        core: 1,
+        maximum: 1,
+        ..SETTINGS
+    },
+    ..LIFE
 };
 
 const FUTURE: Step = Step::Hand(Kind::Future, Deed::Wait, Answer::Accepted);
 
-// A future is cancelled while it is queued behind a task that is held: it is skipped, with both hooks and no
-// body.
-#[test]
-fn cancelled_future_is_skipped(rt: HostRuntime) -> Result<(), Fail> {
-    let manner = Manner {
+const FIRST: TaskId = TaskId(0);
+
+const SECOND: TaskId = TaskId(1);
+
+const SKIPPED: Life = Life {
+    manner: Manner {
         stance: Stance::Held,
         ..MANNER
-    };
-    for flag in [true, false] {
-        let steps = [
+    },
+    first: &[
+        LOOKS,
+        FUTURE,
+        Step::Call(Call::Cancel(SECOND, true, true)),
+        Step::Call(Call::Cancel(SECOND, true, false)),
+        LETS_GO,
+        SHUTS_DOWN,
+    ],
+    findings: &[
+        Finding::Told(1, Did::Begin(SlotId(0), Started::Skip(SECOND))),
+        Finding::Noted(Signal::Begun, 0),
+        Finding::Run(1),
+        Finding::Cancelled(1),
+        Finding::Completed(2),
+        Finding::Noted(Signal::Hooked(Hook::Before, FIRST), 1),
+        Finding::Noted(Signal::Hooked(Hook::Before, SECOND), 1),
+        Finding::Noted(Signal::Hooked(Hook::Ran, FIRST), 1),
+        Finding::Noted(Signal::Hooked(Hook::Ran, SECOND), 0),
+        Finding::Noted(Signal::Hooked(Hook::Skipped, FIRST), 0),
+        Finding::Noted(Signal::Hooked(Hook::Skipped, SECOND), 1),
+        Finding::Noted(Signal::Ends, 1),
+    ],
+    ..ONE
+};
+
+// A future is cancelled, with its flag or without it, while it is queued behind a task that is held: it is skipped,
+// with both hooks and no body.
+static ALL_SKIPPED: [Life; 2] = [
+    SKIPPED,
+    Life {
+        first: &[
             LOOKS,
             FUTURE,
-            Step::Control(Control::Cancel(1, flag, true)),
-            Step::Control(Control::Cancel(1, flag, false)),
+            Step::Call(Call::Cancel(SECOND, false, true)),
+            Step::Call(Call::Cancel(SECOND, false, false)),
             LETS_GO,
             SHUTS_DOWN,
-        ];
-        let findings = [
-            Finding::Told(1, Did::Begin(SlotId(0), Started::Skip(TaskId(1)))),
-            Finding::Noted(Signal::Begun, 0),
-            Finding::Run(1),
-            Finding::Cancelled(1),
-            Finding::Completed(2),
-            Finding::Noted(Signal::Hooked(Hook::Before, TaskId(0)), 1),
-            Finding::Noted(Signal::Hooked(Hook::Before, TaskId(1)), 1),
-            Finding::Noted(Signal::Hooked(Hook::Ran, TaskId(0)), 1),
-            Finding::Noted(Signal::Hooked(Hook::Ran, TaskId(1)), 0),
-            Finding::Noted(Signal::Hooked(Hook::Skipped, TaskId(0)), 0),
-            Finding::Noted(Signal::Hooked(Hook::Skipped, TaskId(1)), 1),
-            Finding::Noted(Signal::Ends, 1),
-        ];
-        lives_twice(rt, rt.alloc(), ONE, manner, alone(&steps), &findings)?;
-    }
-    Ok(())
+        ],
+        ..SKIPPED
+    },
+];
+
+#[test]
+fn cancelled_future_is_skipped(rt: HostRuntime) -> Result<(), Fail> {
+    lives(rt, rt.alloc(), &ALL_SKIPPED)
 }
 
+const RUNS: Step = Step::Cue(Cue::Reaches(Signal::Begun, 1));
+
 // A future that runs finds its flag set where it is cancelled with the flag, and not where it is without.
-#[test]
-fn future_that_runs_sees_the_flag_of_a_cancel(rt: HostRuntime) -> Result<(), Fail> {
-    for flag in [true, false] {
-        let steps = [
+static FLAGGED: [Life; 2] = [
+    Life {
+        first: &[
             FUTURE,
-            Step::Cue(Cue::Reaches(Signal::Begun, 1)),
-            Step::Control(Control::Cancel(0, flag, true)),
+            RUNS,
+            Step::Call(Call::Cancel(FIRST, true, true)),
             TELLS,
             SHUTS_DOWN,
-        ];
-        let findings = [
-            Finding::Ended(0, Ok(i64::from(flag))),
+        ],
+        findings: &[
+            Finding::Ended(0, Ok(1)),
             Finding::Run(0),
             Finding::Cancelled(1),
             Finding::Completed(1),
-            Finding::Noted(Signal::Hooked(Hook::Ran, TaskId(0)), 1),
-        ];
-        lives_twice(rt, rt.alloc(), ONE, MANNER, alone(&steps), &findings)?;
-    }
-    Ok(())
+            Finding::Noted(Signal::Hooked(Hook::Ran, FIRST), 1),
+        ],
+        ..ONE
+    },
+    Life {
+        first: &[
+            FUTURE,
+            RUNS,
+            Step::Call(Call::Cancel(FIRST, false, true)),
+            TELLS,
+            SHUTS_DOWN,
+        ],
+        findings: &[
+            Finding::Ended(0, Ok(0)),
+            Finding::Run(0),
+            Finding::Cancelled(1),
+            Finding::Completed(1),
+            Finding::Noted(Signal::Hooked(Hook::Ran, FIRST), 1),
+        ],
+        ..ONE
+    },
+];
+
+#[test]
+fn future_that_runs_sees_the_flag_of_a_cancel(rt: HostRuntime) -> Result<(), Fail> {
+    lives(rt, rt.alloc(), &FLAGGED)
 }

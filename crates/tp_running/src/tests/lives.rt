@@ -4,7 +4,7 @@ ghost use Rattle.std.specs.Prelude.{◌≡◌};
 use super::chores::Chore;
 use super::compare::same;
 use super::playing::{Tested, play, play_all};
-use super::scripts::Script;
+use super::scripts::{Life, Yields};
 use std::alloc::Global;
 use std::marker::Brand;
 use std::process::Abort;
@@ -18,22 +18,12 @@ use tp_pool::closing::Report;
 use tp_pool::in_two;
 use tp_pool::names::PoolNaming;
 use tp_pool::pool::PoolOf;
-use tp_stage::boards::Board;
+use tp_stage::boards::{Board, Signal};
 use tp_stage::endings::closed;
-use tp_stage::findings::{Finding, missing};
+use tp_stage::findings::missing;
 use tp_stage::users::{Manner, Users};
-use tp_types::configs::{Config, Policy, QueueKind};
+use tp_types::configs::Config;
 use tp_types::refusals::PoolError;
-
-pub const SETTINGS: Config = Config {
-    core: 2,
-    maximum: 2,
-    queue: QueueKind::Unbounded,
-    keep: 7,
-    core_timeout: false,
-    policy: Policy::Abort,
-    record_limit: 4096,
-};
 
 // A caller's lines, the first one's or the second one's, in a thread that gives back its pass.
 fn plays<
@@ -43,15 +33,15 @@ fn plays<
     rt: R,
     pool: &Tested<G>,
     board: &Arc<Board>,
-    script: Script<'_>,
+    life: &Life,
     is_first: bool,
     pass: Pass<G>,
 ) -> Pass<G> {
     let mut pass = pass;
     if is_first {
-        play_all(rt, pool, board, script, &mut pass);
+        play_all(rt, pool, board, life, &mut pass);
     } else {
-        play(rt, pool, board, script.beside, &mut pass);
+        play(rt, pool, board, life.beside, &mut pass);
     }
     pass
 }
@@ -64,13 +54,13 @@ fn plays_both<
     rt: R,
     pool: &Tested<G>,
     board: &Arc<Board>,
-    script: Script<'_>,
+    life: &Life,
     first: Pass<G>,
 ) -> Result<(Pass<G>, Pass<G>), PoolError> {
     let mut first = first;
     let second = pool.split_pass(&rt, &mut first)?;
     let act = move |pool: &Tested<G>, (is_first, pass): (bool, Pass<G>)| {
-        plays(rt, pool, board, script, is_first, pass)
+        plays(rt, pool, board, life, is_first, pass)
     };
     Ok(in_two(&rt, pool, (true, first), (false, second), &act, &act))
 }
@@ -83,14 +73,14 @@ fn live<
     alloc: Global,
     pool: Tested<G>,
     board: &Arc<Board>,
-    script: Script<'_>,
+    life: &Life,
     first: Pass<G>,
 ) -> Result<Report, PoolError> {
-    if script.beside.is_empty() {
-        let first = plays(rt, &pool, board, script, true, first);
+    if life.beside.is_empty() {
+        let first = plays(rt, &pool, board, life, true, first);
         return closed(&rt, alloc, pool, first, None);
     }
-    let (first, second) = plays_both(rt, &pool, board, script, first)?;
+    let (first, second) = plays_both(rt, &pool, board, life, first)?;
     closed(&rt, alloc, pool, first, Some(second))
 }
 
@@ -105,56 +95,60 @@ fn open<
     settings: Config,
     users: Users,
     board: &Arc<Board>,
-    script: Script<'_>,
+    life: &Life,
 ) -> Result<Report, PoolError>
     requires named { unopened ≡ record { ledger = G.name; parts = G.parts; table = G.table } }
     requires settings { settings ≡ G.config }
 {
     let (pool, first) = PoolOf::<G, Chore, Users>::over(alloc, unopened, settings, users)?;
-    live(rt, alloc, pool, board, script, first)
+    live(rt, alloc, pool, board, life, first)
 }
 
-// Has a pool live under a name of its own, and finds what it left.
+// What the pool's users do in the life of this number.
+fn manner_of(life: &Life, number: u32) -> Manner {
+    let yields = match life.yields {
+        Yields::Never => false,
+        Yields::Always => true,
+        Yields::InTurns => number % 2 == 0,
+    };
+    Manner {
+        yields,
+        ..life.manner
+    }
+}
+
+// The board of the life of this number.
+fn board_of(alloc: Global, number: u32) -> Result<Arc<Board>, PoolError> {
+    let board = Board::new(alloc)?;
+    board.put(Signal::Lives, u64::from(number));
+    Ok(board)
+}
+
+// Has a pool live under a name of its own, after so many others, and finds what it left.
 pub fn lived<R: Abort + Threads + Wait + Clock + Copy + Send + Sync + 'static>(
     rt: R,
     alloc: Global,
-    settings: Config,
-    manner: Manner,
-    script: Script<'_>,
-    findings: &[Finding],
+    life: &Life,
+    number: u32,
 ) -> Result<(), PoolError> {
-    let board = Board::new(alloc)?;
-    let users = Users::new(manner, &board)?;
+    let board = board_of(alloc, number)?;
+    let users = Users::new(manner_of(life, number), &board)?;
     let unopened = Unopened::new(alloc)?;
-    let report = open::<Brand, R>(rt, alloc, unopened, settings, users, &board, script)?;
-    same(&rt, 0, &missing(&report, &board, findings), &None);
+    let report = open::<Brand, R>(rt, alloc, unopened, life.settings, users, &board, life)?;
+    same(&rt, 0, &missing(&report, &board, life.findings), &None);
     Ok(())
 }
 
+// Has pools live so, one after the other, so many times each.
 pub fn lives<R: Abort + Threads + Wait + Clock + Copy + Send + Sync + 'static>(
     rt: R,
     alloc: Global,
-    settings: Config,
-    manner: Manner,
-    script: Script<'_>,
-    findings: &[Finding],
+    lives: &[Life],
 ) -> Result<(), Fail> {
-    lived(rt, alloc, settings, manner, script, findings)?;
-    Ok(())
-}
-
-// Lives with a gate that yields at all points, and with one that never does.
-pub fn lives_twice<R: Abort + Threads + Wait + Clock + Copy + Send + Sync + 'static>(
-    rt: R,
-    alloc: Global,
-    settings: Config,
-    manner: Manner,
-    script: Script<'_>,
-    findings: &[Finding],
-) -> Result<(), Fail> {
-    for yields in [true, false] {
-        let manner = Manner { yields, ..manner };
-        lived(rt, alloc, settings, manner, script, findings)?;
+    for life in lives {
+        for number in 0..life.times {
+            lived(rt, alloc, life, number)?;
+        }
     }
     Ok(())
 }

@@ -3,19 +3,19 @@
 use super::chores::{Chore, Deed};
 use super::compare::same;
 use super::dealing::deals;
-use super::scripts::{Answer, Control, Cue, Script, Start, Step, View};
+use super::scripts::{Answer, Cue, Life, Step, View};
 use std::process::Abort;
 use std::sync::{Arc, Wait};
 use std::thread;
 use std::thread::Threads;
 use std::time::{Clock, Duration};
 use tp_book::passes::Pass;
-use tp_pool::answers::{Admitted, Drained, Refused, Removal};
+use tp_pool::answers::{Admitted, Refused};
 use tp_pool::names::PoolNaming;
 use tp_pool::pool::PoolOf;
 use tp_stage::boards::{Board, Signal, shared};
+use tp_stage::calls::make;
 use tp_stage::users::Users;
-use tp_types::ids::TaskId;
 use tp_types::refusals::PoolError;
 use tp_types::tasks::{Kind, Outcome};
 
@@ -96,55 +96,6 @@ fn hands<G: PoolNaming + Send + Sync + 'static, R: Threads + Wait + Copy + Send 
     is_answer(&found, board.raise(Signal::Handed), answer)
 }
 
-// Starts workers.
-fn starts<G: PoolNaming + Send + Sync + 'static, R: Threads + Wait + Copy + Send + 'static>(
-    rt: R,
-    pool: &Tested<G>,
-    start: Start,
-    pass: &mut Pass<G>,
-) -> bool {
-    started(rt, pool, start, pass) == Ok(true)
-}
-
-// Starts workers: whether as many as it says.
-pub fn started<G: PoolNaming + Send + Sync + 'static, R: Threads + Wait + Copy + Send + 'static>(
-    rt: R,
-    pool: &Tested<G>,
-    start: Start,
-    pass: &mut Pass<G>,
-) -> Result<bool, PoolError> {
-    match start {
-        Start::All(live) => pool.prestart_all(&rt, pass).map(|started| started == live),
-        Start::One(live) => pool.prestart_core(&rt, pass).map(|started| started == live),
-        Start::Core(core) => pool.set_core(&rt, core, pass).map(|()| true),
-    }
-}
-
-// Whether these are the tasks from one number to below another, with their jobs.
-fn are_handed_back(drained: &[Drained<Chore>], from: u32, to: u32) -> bool {
-    let mut next = from;
-    for back in drained {
-        if back.task.0 != next || back.job.is_none() {
-            return false;
-        }
-        next = next.saturating_add(1);
-    }
-    next == to
-}
-
-fn stops<G: PoolNaming, R: Wait>(
-    rt: &R,
-    pool: &Tested<G>,
-    from: u32,
-    to: u32,
-    pass: &mut Pass<G>,
-) -> bool {
-    match pool.shutdown_now(rt, pass) {
-        Ok(drained) => are_handed_back(drained.as_slice(), from, to),
-        Err(_) => false,
-    }
-}
-
 // The moment is later by so many ticks.
 pub fn passes<G: PoolNaming, R: Wait>(
     rt: &R,
@@ -156,26 +107,6 @@ pub fn passes<G: PoolNaming, R: Wait>(
     let now = board.read(Signal::Moment).saturating_add(ticks);
     board.put(Signal::Moment, now);
     pool.tick(rt, now, pass).is_ok()
-}
-
-fn controls<G: PoolNaming + Send + Sync + 'static, R: Threads + Wait + Copy + Send + 'static>(
-    rt: &R,
-    pool: &Tested<G>,
-    board: &Board,
-    control: Control,
-    pass: &mut Pass<G>,
-) -> bool {
-    match control {
-        Control::Maximum(maximum) => pool.set_maximum(rt, maximum, pass).is_ok(),
-        Control::CoreTimeout(on) => pool.allow_core_timeout(rt, on, pass).is_ok(),
-        Control::Pass(ticks) => passes(rt, pool, board, ticks, pass),
-        Control::Cancel(t, flag, could) => pool.cancel(rt, TaskId(t), flag, pass) == Ok(could),
-        Control::Remove(t) => matches!(pool.remove(rt, TaskId(t), pass), Ok(Removal::Yes(Some(_)))),
-        Control::Purge(cancelled) => pool.purge(rt, pass) == Ok(cancelled),
-        Control::Shutdown => pool.shutdown(rt, pass).is_ok(),
-        Control::Stop(from, to) => stops(rt, pool, from, to, pass),
-        Control::Await => pool.await_termination(rt, u64::MAX, pass).is_ok(),
-    }
 }
 
 fn shows<G: PoolNaming, R: Wait>(rt: &R, pool: &Tested<G>, view: View) -> bool {
@@ -227,12 +158,22 @@ fn vary<R: Clock>(rt: &R, board: &Board) {
     thread::sleep(rt, Duration::from_micros(round % 10 * 20));
 }
 
+// Sleeps for so many microseconds, as often as there were lives before this one.
+fn rest_longer<R: Clock>(rt: &R, board: &Board, micros: u32) {
+    let lives = board.read(Signal::Lives);
+    thread::sleep(
+        rt,
+        Duration::from_micros(lives.saturating_mul(u64::from(micros))),
+    );
+}
+
 fn hears<R: Clock>(rt: &R, board: &Board, cue: Cue) -> bool {
     match cue {
         Cue::Put(signal, to) => board.put(signal, to),
         Cue::Reaches(signal, to) => return board.reaches(signal, to),
         Cue::Is(signal, to) => return board.read(signal) == to,
         Cue::Rest(micros) => rest(rt, micros),
+        Cue::RestLonger(micros) => rest_longer(rt, board, micros),
         Cue::Vary => vary(rt, board),
     }
     true
@@ -248,8 +189,7 @@ fn makes<G: PoolNaming + Send + Sync + 'static, R: Threads + Wait + Clock + Copy
 ) -> bool {
     match step {
         Step::Hand(kind, deed, answer) => hands(rt, pool, board, (kind, deed, answer), pass),
-        Step::Start(start) => starts(rt, pool, start, pass),
-        Step::Control(control) => controls(&rt, pool, board, control, pass),
+        Step::Call(call) => make(&rt, pool, call, pass) == Ok(true),
         Step::View(view) => sees(&rt, pool, view),
         Step::Cue(cue) => hears(&rt, board, cue),
         Step::Deal(deal) => deals(rt, pool, board, deal, pass),
@@ -270,10 +210,10 @@ pub fn play<
 pub fn play_all<
     G: PoolNaming + Send + Sync + 'static,
     R: Abort + Threads + Wait + Clock + Copy + Send + 'static,
->(rt: R, pool: &Tested<G>, board: &Arc<Board>, script: Script<'_>, pass: &mut Pass<G>) {
-    play(rt, pool, board, script.first, pass);
-    for _ in 0..script.rounds {
-        play(rt, pool, board, script.round, pass);
+>(rt: R, pool: &Tested<G>, board: &Arc<Board>, life: &Life, pass: &mut Pass<G>) {
+    play(rt, pool, board, life.first, pass);
+    for _ in 0..life.rounds {
+        play(rt, pool, board, life.round, pass);
     }
-    play(rt, pool, board, script.last, pass);
+    play(rt, pool, board, life.last, pass);
 }

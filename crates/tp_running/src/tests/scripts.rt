@@ -2,6 +2,10 @@
 
 use super::chores::Deed;
 use tp_stage::boards::Signal;
+use tp_stage::calls::Call;
+use tp_stage::findings::Finding;
+use tp_stage::users::{MANNER, Manner};
+use tp_types::configs::{Config, Policy, QueueKind};
 use tp_types::states::RunState;
 use tp_types::tasks::{Kind, Outcome};
 
@@ -13,37 +17,6 @@ pub enum Answer {
     Discarded,
     // Refused with 12, and with the job.
     Rejected,
-}
-
-// What may start a worker.
-#[derive(Clone, Copy)]
-pub enum Start {
-    // How many workers are started.
-    All(u32),
-    // Whether one is.
-    One(bool),
-    // A new core size.
-    Core(u32),
-}
-
-// Settings, the moment, and what ends a task or the pool. All but the two that say more are answered with
-// Ok.
-#[derive(Clone, Copy)]
-pub enum Control {
-    Maximum(u32),
-    CoreTimeout(bool),
-    // The moment is later by so many ticks.
-    Pass(u64),
-    // Cancels this task, with or without its flag, and whether it could.
-    Cancel(u32, bool, bool),
-    // Takes this task out of the queue, which comes back with its job.
-    Remove(u32),
-    // Takes so many cancelled tasks out of the queue.
-    Purge(u32),
-    Shutdown,
-    // Stops the pool, which hands back the tasks from one number to below another, with their jobs.
-    Stop(u32, u32),
-    Await,
 }
 
 // What the pool shows.
@@ -67,6 +40,8 @@ pub enum Cue {
     Is(Signal, u64),
     // Sleeps for so many microseconds.
     Rest(u32),
+    // Sleeps for so many more from life to life: none in the first one.
+    RestLonger(u32),
     // Sleeps for 0 to 180 microseconds, which differs from round to round, so that a worker is anywhere from
     // its task's end to its sleep.
     Vary,
@@ -88,52 +63,71 @@ pub enum Deal {
     // Makes the call once more where memory is wanted, which has changed nothing: of a submission the job with this number
     // has come back.
     InsistsTask(u32),
-    Insists(Start),
+    Insists(Call),
+    // The moment is later by so many ticks.
+    Pass(u64),
 }
 
 #[derive(Clone, Copy)]
 pub enum Step {
     // Hands in a task of this kind, with this answer.
     Hand(Kind, Deed, Answer),
-    Start(Start),
-    Control(Control),
+    // A call that is not refused.
+    Call(Call),
     View(View),
     Cue(Cue),
     Deal(Deal),
 }
 
-// A caller's lines, in three parts, of which the second is played so many times, and those of a second caller,
-// in a thread of its own beside the first, where there is one.
+// When a pool's gate yields at all points: never, always, or in the first life and in every other one after it.
 #[derive(Clone, Copy)]
-pub struct Script<'s> {
-    pub first: &'s [Step],
+pub enum Yields {
+    Never,
+    Always,
+    InTurns,
+}
+
+// How a pool lives, so many times.
+#[derive(Clone, Copy)]
+pub struct Life {
+    pub settings: Config,
+    pub manner: Manner,
+    pub yields: Yields,
+    pub times: u32,
+    // A caller's lines, in three parts, of which the second is played so many times.
+    pub first: &'static [Step],
     pub rounds: u32,
-    pub round: &'s [Step],
-    pub last: &'s [Step],
-    pub beside: &'s [Step],
+    pub round: &'static [Step],
+    pub last: &'static [Step],
+    // Those of a second caller, in a thread of its own beside the first, where there is one.
+    pub beside: &'static [Step],
+    // What the pool has left.
+    pub findings: &'static [Finding],
 }
 
-// The lines of one caller.
-pub fn alone<'s>(first: &'s [Step]) -> Script<'s> {
-    Script {
-        first,
-        rounds: 0,
-        round: &[],
-        last: &[],
-        beside: &[],
-    }
-}
+pub const SETTINGS: Config = Config {
+    core: 2,
+    maximum: 2,
+    queue: QueueKind::Unbounded,
+    keep: 7,
+    core_timeout: false,
+    policy: Policy::Abort,
+    record_limit: 4096,
+};
 
-// Those of two.
-pub fn both<'s>(first: &'s [Step], beside: &'s [Step]) -> Script<'s> {
-    Script {
-        first,
-        rounds: 0,
-        round: &[],
-        last: &[],
-        beside,
-    }
-}
+// Nothing is done, once with a gate that yields and once with one that never does.
+pub const LIFE: Life = Life {
+    settings: SETTINGS,
+    manner: MANNER,
+    yields: Yields::InTurns,
+    times: 2,
+    first: &[],
+    rounds: 0,
+    round: &[],
+    last: &[],
+    beside: &[],
+    findings: &[],
+};
 
 // A plain task that looks at its flag, and is accepted.
 pub const LOOKS: Step = Step::Hand(Kind::Plain, Deed::Look, Answer::Accepted);
@@ -141,7 +135,7 @@ pub const LOOKS: Step = Step::Hand(Kind::Plain, Deed::Look, Answer::Accepted);
 // One that waits in its body.
 pub const WAITS: Step = Step::Hand(Kind::Plain, Deed::Wait, Answer::Accepted);
 
-pub const SHUTS_DOWN: Step = Step::Control(Control::Shutdown);
+pub const SHUTS_DOWN: Step = Step::Call(Call::Shutdown);
 
 // Lets workers that are held before bodies go on.
 pub const LETS_GO: Step = Step::Cue(Cue::Put(Signal::Open, 1));
