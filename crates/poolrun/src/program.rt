@@ -36,7 +36,16 @@ fn run_reader<
     match choice {
         Choice::Steps(_, playing) => run_steps(alloc, *playing, name, reader, out, errors, style),
         Choice::Threads(_, record) => {
-            run_threads(rt, alloc, record.as_deref(), name, reader, out, errors, style)
+            run_threads(
+                rt,
+                alloc,
+                record.as_deref(),
+                name,
+                reader,
+                out,
+                errors,
+                style,
+            )
         }
         Choice::Tally(_) => run_tally(rt, alloc, name, reader, out, errors, style),
         Choice::Audit(_, has_any_length) => {
