@@ -102,6 +102,7 @@ mod workers;
 pub use closing::Beside;
 pub use controllers::Look;
 pub use marks::Marks;
+use marks::{mark_flags, settle};
 pub use watching::Busy;
 pub use workers::Taking;
 
@@ -178,8 +179,8 @@ impl<G: PoolNaming, J: Drop, R: Keeper> Core<G, J, R> {
             Err(refused) => return Err(refused),
         };
         rouse(book, waking, &step.ask(), &step.did(&answer));
-        step.mark(&answer, book, flags);
-        step.settle(&answer, book);
+        mark_flags(book, flags, step.mark(&answer));
+        settle(book, step.gone(&answer));
         Ok(answer)
     }
 

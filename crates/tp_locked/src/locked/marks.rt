@@ -1,5 +1,5 @@
 //! What an accepted step is to the cancel flags of tasks, and which tasks may be gone with it for good. Most steps are nothing
-//! to either.
+//! to either. A step tells both by its answer alone: what follows from that is done here, once for all steps.
 
 ghost use Rattle.tp_book.specs.BookView.{Releases};
 
@@ -7,6 +7,7 @@ use crate::flags::Flags;
 use crate::names::PoolNaming;
 use crate::tasks::Task;
 use tp_book::book::Book;
+use tp_callbacks::flags::CancelFlag;
 use tp_machine::answers::{Begun, Judged};
 use tp_machine::machine::releases::Keeper;
 use tp_machine::typed::Step;
@@ -21,28 +22,119 @@ use tp_types::ids::{SlotId, TaskId};
 use tp_types::limits::MAX_WORKERS;
 use tp_types::tasks::Place;
 
+/// What an accepted step is to the cancel flags of tasks.
+#[derive(Clone, Copy)]
+pub enum Mark<'a> {
+    /// Nothing.
+    Nothing,
+    /// The task with this flag begins in this slot.
+    Begins(SlotId, &'a CancelFlag),
+    /// This task, with this flag, begins at its caller.
+    BeginsAtCaller(TaskId, &'a CancelFlag),
+    /// The task in this slot is gone.
+    Ends(SlotId),
+    /// This task, which its caller ran, is gone.
+    EndsAtCaller(TaskId),
+    /// This task is cancelled: its job hears of that where it has begun.
+    Cancels(TaskId),
+    /// The pool is stopped: the tasks in slots hear of that, those that run and those that are about to.
+    Stops,
+}
+
+/// The tasks that may be gone for good with an accepted step: those that it finishes, drops or drains, and the one whose
+/// second look it pays.
+#[derive(Clone, Copy)]
+pub enum Gone<'a, J> {
+    /// None.
+    Nobody,
+    /// This one.
+    One(TaskId),
+    /// Those that a stop drained.
+    Drained(&'a [(TaskId, Option<Task<J>>)]),
+}
+
 /// A step that can be made under a pool's lock.
 pub trait Marks<J>: Step<Task<J>> {
-    /// Sets the flags that the accepted step sets, keeps those of tasks that begin with it, and lets go of those of tasks that
-    /// are gone with it.
+    /// What it is to the flags, so answered.
     #[inline(always)]
-    fn mark<G: PoolNaming, R: Keeper>(
-        self,
-        _answer: &Self::Answer,
-        _book: &Book<G, Task<J>, R>,
-        _flags: &mut Flags,
-    ) {}
+    fn mark<'a>(self, _answer: &'a Self::Answer) -> Mark<'a> {
+        Mark::Nothing
+    }
 
-    /// Settles the tasks that the accepted step finishes, drops or drains, and the one whose second look it pays: the book
-    /// forgets them where it may.
+    /// Which tasks may be gone with it, so answered.
     #[inline(always)]
-    fn settle<G: PoolNaming, R: Keeper>(
-        self,
-        _answer: &Self::Answer,
-        _book: &mut Book<G, Task<J>, R>,
-    )
-        ensures { Releases R.RECEIPTS _book.old _book.new }
-    {}
+    fn gone<'a>(self, _answer: &'a Self::Answer) -> Gone<'a, J> {
+        Gone::Nobody
+    }
+}
+
+// Sets the flags that the step sets, keeps those of tasks that begin with it, and lets go of those of tasks that are gone.
+#[inline(always)]
+pub(super) fn mark_flags<G: PoolNaming, J, R: Keeper>(
+    book: &Book<G, Task<J>, R>,
+    flags: &mut Flags,
+    mark: Mark<'_>,
+) {
+    match mark {
+        Mark::Nothing => {}
+        Mark::Begins(w, flag) => flags.begin(w, flag),
+        Mark::BeginsAtCaller(t, flag) => flags.begin_at_caller(t, flag),
+        Mark::Ends(w) => flags.end(w),
+        Mark::EndsAtCaller(t) => flags.end_at_caller(t),
+        Mark::Cancels(t) => cancel(book, flags, t),
+        Mark::Stops => stop(book, flags),
+    }
+}
+
+// The job of this task hears of its cancel where it has begun.
+fn cancel<G: PoolNaming, J, R: Keeper>(book: &Book<G, Task<J>, R>, flags: &Flags, t: TaskId) {
+    match book.place(t) {
+        Ok(Place::Running(w)) => {
+            flags.set_running(w);
+        }
+        Ok(Place::Caller) => flags.set_at_caller(t),
+        _ => {}
+    }
+}
+
+// The tasks in slots hear of the stop.
+fn stop<G: PoolNaming, J, R: Keeper>(book: &Book<G, Task<J>, R>, flags: &Flags) {
+    for w in 0..MAX_WORKERS as usize {
+        if flags.set_running(SlotId(w)) {
+            continue;
+        }
+        if let Some(t) = book.task_in(SlotId(w)) {
+            if let Some(task) = book.payload(t) {
+                task.flag.set();
+            }
+        }
+    }
+}
+
+// The book forgets of these tasks those that it may.
+#[inline(always)]
+pub(super) fn settle<G: PoolNaming, J: Drop, R: Keeper>(
+    book: &mut Book<G, Task<J>, R>,
+    gone: Gone<'_, J>,
+)
+    ensures { Releases R.RECEIPTS book.old book.new }
+{
+    match gone {
+        Gone::Nobody => {}
+        Gone::One(t) => book.settle(t),
+        Gone::Drained(tasks) => settle_all(book, tasks),
+    }
+}
+
+fn settle_all<G: PoolNaming, J: Drop, R: Keeper>(
+    book: &mut Book<G, Task<J>, R>,
+    tasks: &[(TaskId, Option<Task<J>>)],
+)
+    ensures { Releases R.RECEIPTS book.old book.new }
+{
+    for (t, _) in tasks {
+        book.settle(*t);
+    }
 }
 
 impl<J: Drop> Marks<J> for Submit {}
@@ -54,8 +146,8 @@ impl<J> Marks<J> for Offer {}
 impl<J: Drop> Marks<J> for Second {
     // A worker may have run the task before its submitter looked a second time.
     #[inline(always)]
-    fn settle<G: PoolNaming, R: Keeper>(self, _answer: &Seconded, book: &mut Book<G, Task<J>, R>) {
-        book.settle(self.0);
+    fn gone<'a>(self, _answer: &'a Seconded) -> Gone<'a, J> {
+        Gone::One(self.0)
     }
 }
 
@@ -63,43 +155,30 @@ impl<J> Marks<J> for Grow {}
 
 impl<J: Drop> Marks<J> for Judge {
     // A task that its caller is to run begins.
-    fn mark<G: PoolNaming, R: Keeper>(
-        self,
-        answer: &Judged<Task<J>>,
-        _book: &Book<G, Task<J>, R>,
-        flags: &mut Flags,
-    ) {
-        if let (Did::Verdict(t, _, Ruled::Caller), Some(task)) = (answer.did, &answer.payload) {
-            flags.begin_at_caller(t, &task.flag);
+    fn mark<'a>(self, answer: &'a Judged<Task<J>>) -> Mark<'a> {
+        match (answer.did, &answer.payload) {
+            (Did::Verdict(t, _, Ruled::Caller), Some(task)) => Mark::BeginsAtCaller(t, &task.flag),
+            _ => Mark::Nothing,
         }
     }
 
     // What was rejected, discarded or dropped is gone.
-    fn settle<G: PoolNaming, R: Keeper>(
-        self,
-        answer: &Judged<Task<J>>,
-        book: &mut Book<G, Task<J>, R>,
-    ) {
+    fn gone<'a>(self, answer: &'a Judged<Task<J>>) -> Gone<'a, J> {
         match answer.did {
-            Did::Verdict(t, _, Ruled::Rejected | Ruled::Discarded) => book.settle(t),
-            Did::Verdict(_, _, Ruled::RetryDrop(head)) => book.settle(head),
-            _ => {}
+            Did::Verdict(t, _, Ruled::Rejected | Ruled::Discarded) => Gone::One(t),
+            Did::Verdict(_, _, Ruled::RetryDrop(head)) => Gone::One(head),
+            _ => Gone::Nobody,
         }
     }
 }
 
 impl<J: Drop> Marks<J> for CallerEnd {
-    fn mark<G: PoolNaming, R: Keeper>(
-        self,
-        _answer: &(),
-        _book: &Book<G, Task<J>, R>,
-        flags: &mut Flags,
-    ) {
-        flags.end_at_caller(self.0);
+    fn mark<'a>(self, _answer: &'a ()) -> Mark<'a> {
+        Mark::EndsAtCaller(self.0)
     }
 
-    fn settle<G: PoolNaming, R: Keeper>(self, _answer: &(), book: &mut Book<G, Task<J>, R>) {
-        book.settle(self.0);
+    fn gone<'a>(self, _answer: &'a ()) -> Gone<'a, J> {
+        Gone::One(self.0)
     }
 }
 
@@ -111,14 +190,10 @@ impl<J> Marks<J> for Take {}
 
 impl<J> Marks<J> for Begin {
     #[inline(always)]
-    fn mark<G: PoolNaming, R: Keeper>(
-        self,
-        answer: &Begun<Task<J>>,
-        _book: &Book<G, Task<J>, R>,
-        flags: &mut Flags,
-    ) {
-        if let Begun::Run(_, task) = answer {
-            flags.begin(self.0, &task.flag);
+    fn mark<'a>(self, answer: &'a Begun<Task<J>>) -> Mark<'a> {
+        match answer {
+            Begun::Run(_, task) => Mark::Begins(self.0, &task.flag),
+            Begun::Skip(_) => Mark::Nothing,
         }
     }
 }
@@ -127,52 +202,26 @@ impl<J> Marks<J> for Leave {}
 
 impl<J: Drop> Marks<J> for End {
     #[inline(always)]
-    fn mark<G: PoolNaming, R: Keeper>(
-        self,
-        _answer: &TaskId,
-        _book: &Book<G, Task<J>, R>,
-        flags: &mut Flags,
-    ) {
-        flags.end(self.0);
+    fn mark<'a>(self, _answer: &'a TaskId) -> Mark<'a> {
+        Mark::Ends(self.0)
     }
 
     #[inline(always)]
-    fn settle<G: PoolNaming, R: Keeper>(self, answer: &TaskId, book: &mut Book<G, Task<J>, R>) {
-        book.settle(*answer);
+    fn gone<'a>(self, answer: &'a TaskId) -> Gone<'a, J> {
+        Gone::One(*answer)
     }
 }
 
 impl<J> Marks<J> for Shutdown {}
 
 impl<J: Drop> Marks<J> for Stop {
-    // The tasks in slots hear of the stop, those that run and those that are about to.
-    fn mark<G: PoolNaming, R: Keeper>(
-        self,
-        _answer: &Vec<(TaskId, Option<Task<J>>)>,
-        book: &Book<G, Task<J>, R>,
-        flags: &mut Flags,
-    ) {
-        for w in 0..MAX_WORKERS as usize {
-            if flags.set_running(SlotId(w)) {
-                continue;
-            }
-            if let Some(t) = book.task_in(SlotId(w)) {
-                if let Some(task) = book.payload(t) {
-                    task.flag.set();
-                }
-            }
-        }
+    fn mark<'a>(self, _answer: &'a Vec<(TaskId, Option<Task<J>>)>) -> Mark<'a> {
+        Mark::Stops
     }
 
     // The tasks that were queued are gone.
-    fn settle<G: PoolNaming, R: Keeper>(
-        self,
-        answer: &Vec<(TaskId, Option<Task<J>>)>,
-        book: &mut Book<G, Task<J>, R>,
-    ) {
-        for (t, _) in answer.as_slice() {
-            book.settle(*t);
-        }
+    fn gone<'a>(self, answer: &'a Vec<(TaskId, Option<Task<J>>)>) -> Gone<'a, J> {
+        Gone::Drained(answer.as_slice())
     }
 }
 
@@ -185,31 +234,21 @@ impl<J> Marks<J> for Purge {}
 impl<J> Marks<J> for TakeDone {}
 
 impl<J: Drop> Marks<J> for Remove {
-    fn settle<G: PoolNaming, R: Keeper>(
-        self,
-        answer: &Option<(TaskId, Option<Task<J>>)>,
-        book: &mut Book<G, Task<J>, R>,
-    ) {
+    fn gone<'a>(self, answer: &'a Option<(TaskId, Option<Task<J>>)>) -> Gone<'a, J> {
         if answer.is_some() {
-            book.settle(self.0);
+            Gone::One(self.0)
+        } else {
+            Gone::Nobody
         }
     }
 }
 
 impl<J> Marks<J> for Cancel {
     // A job that has begun hears of the cancel where that asks for it.
-    fn mark<G: PoolNaming, R: Keeper>(
-        self,
-        answer: &(bool, Option<Task<J>>),
-        book: &Book<G, Task<J>, R>,
-        flags: &mut Flags,
-    ) {
-        match (answer, book.place(self.0)) {
-            ((true, None), Ok(Place::Running(w))) if self.1 => {
-                flags.set_running(w);
-            }
-            ((true, None), Ok(Place::Caller)) if self.1 => flags.set_at_caller(self.0),
-            _ => {}
+    fn mark<'a>(self, answer: &'a (bool, Option<Task<J>>)) -> Mark<'a> {
+        match answer {
+            (true, None) if self.1 => Mark::Cancels(self.0),
+            _ => Mark::Nothing,
         }
     }
 }

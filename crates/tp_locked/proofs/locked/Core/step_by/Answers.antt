@@ -26,5 +26,5 @@ returns-clause-holds g c =
     let roused =
     subst (λ a. IsRoused c.step_by.new.self c.self.inside.waking c.rouse.new.waking a (g.S.Step.did c.args.step c.in-Ok.answer)) c.ask.ensures
     (subst (λ d. IsRoused c.step_by.new.self c.self.inside.waking c.rouse.new.waking c.ask.result d) c.did.ensures c.rouse.ensures.roused) in
-    holds g.R.Recorder.RECEIPTS c.args.self.now c.self.inside.book c.step_by.new.self c.settle.new._book c.self.inside.roster c.self.inside.waking c.rouse.new.waking c.self.view_is _ _ _ _
+    holds g.R.Recorder.RECEIPTS c.args.self.now c.self.inside.book c.step_by.new.self c.settle.new.book c.self.inside.roster c.self.inside.waking c.rouse.new.waking c.self.view_is _ _ _ _
     c.in-Ok.ensures.step c.settle.ensures roused
