@@ -39,6 +39,9 @@ pub enum Call {
     AwaitResult(TaskId, u64),
     /// Waits until the pool has made more steps than so many.
     WaitStep(u64),
+    /// The run state, and the moment, are these.
+    IsState(RunState),
+    IsNow(u64),
     /// No counter is above 0.
     CountsNothing,
     /// The run state that is published is this one or a later one.
@@ -122,6 +125,8 @@ fn reads<G: PoolNaming, J: Job, E: Edge, R: Wait>(
 ) -> bool {
     match call {
         Call::WaitStep(seen) => pool.wait_step(rt, seen) > seen,
+        Call::IsState(state) => pool.state(rt) == state,
+        Call::IsNow(moment) => pool.now(rt) == moment,
         Call::CountsNothing => pool.counts(rt) == Counts::default(),
         Call::Sees(state) => pool.glance(pass).rank() >= state.rank(),
         _ => false,

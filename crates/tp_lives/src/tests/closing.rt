@@ -1,6 +1,6 @@
 // Who closes a pool, and with which passes.
 
-use super::calls::{Call, Line};
+use super::calls::Line;
 use super::compare::same;
 use super::helpers::{Beginning, Ending, Life, Refusal, Row, lives};
 use std::sync::Arc;
@@ -8,6 +8,7 @@ use std::sync::atomic::{AtomicU64, Ordering};
 use std::test::Fail;
 use tp_pool::hooks::{Hooks, NoHooks};
 use tp_record::entries::{Ask, Did};
+use tp_stage::calls::Call;
 use tp_types::ids::{SlotId, TaskId};
 use tp_types::refusals::PoolError;
 use tp_types::states::RunState;
@@ -30,20 +31,20 @@ impl Hooks for Ends {
 }
 
 const BEGINNING: [Line; 3] = [
-    (0, Call::Tick(5), Ok(())),
-    (1, Call::Keep(7), Ok(())),
+    (0, Call::Tick(5), Ok(true)),
+    (1, Call::Keep(7), Ok(true)),
     (0, Call::Await(5), Err(PoolError::TimedOut)),
 ];
 
 const SHUT_DOWN: [Line; 3] = [
-    (0, Call::Shutdown, Ok(())),
-    (0, Call::Sees(RunState::Shutdown), Ok(())),
-    (1, Call::Sees(RunState::Shutdown), Ok(())),
+    (0, Call::Shutdown, Ok(true)),
+    (0, Call::Sees(RunState::Shutdown), Ok(true)),
+    (1, Call::Sees(RunState::Shutdown), Ok(true)),
 ];
 
 const AWAITED: [Line; 2] = [
-    (0, Call::Await(0), Ok(())),
-    (0, Call::Is(RunState::Terminated), Ok(())),
+    (0, Call::Await(0), Ok(true)),
+    (0, Call::IsState(RunState::Terminated), Ok(true)),
 ];
 
 const RECORD_OF_TWO: [Row; 5] = [
@@ -87,7 +88,7 @@ fn closes_with_both_passes(rt: HostRuntime) -> Result<(), Fail> {
     Ok(())
 }
 
-const SHUTDOWN: [Line; 1] = [(1, Call::Shutdown, Ok(()))];
+const SHUTDOWN: [Line; 1] = [(1, Call::Shutdown, Ok(true))];
 
 const RECORD_OF_THREE: [Row; 3] = [
     (1, Ask::Shutdown, Did::Shutdown),

@@ -1,7 +1,7 @@
 // What the lives have in common.
 ghost use Rattle.std.specs.Prelude.{◌≡◌};
 
-use super::calls::{Call, Line, play};
+use super::calls::{Line, play};
 use super::compare::same;
 use super::memory::make_all;
 use super::waits::wait_for;
@@ -16,15 +16,16 @@ use std::thread::Threads;
 use tp_book::opening::Unopened;
 use tp_book::passes::Pass;
 use tp_pool::closing::{CloseFault, Report};
-use tp_pool::edges::Boxes;
+use tp_pool::edges::Edge;
 use tp_pool::factories::Consenting;
 use tp_pool::gates::OpenGate;
 use tp_pool::handlers::OneVerdict;
 use tp_pool::hooks::Hooks;
-use tp_pool::jobs::Boxed;
+use tp_pool::jobs::Job;
 use tp_pool::names::PoolNaming;
-use tp_pool::pool::Pool;
+use tp_pool::pool::{Pool, PoolOf};
 use tp_record::entries::{Ask, Did};
+use tp_stage::calls::Call;
 use tp_types::configs::{Config, Policy, QueueKind, Verdict};
 use tp_types::refusals::PoolError;
 use tp_types::states::Counts;
@@ -62,7 +63,7 @@ pub enum Beginning {
     // The first caller makes each call, also where memory is wanting.
     MakesEach,
     // The first caller makes the call that waits, the second one that which wakes it; what the wait answers.
-    Waits(Call, Call, Result<(), PoolError>),
+    Waits(Call, Call, Result<bool, PoolError>),
 }
 
 // A close that is refused so, with all passes or without the last one; and the calls that are made then. The pass that was withheld
@@ -84,9 +85,9 @@ pub enum Ending {
 }
 
 // One more pass, split from the last one.
-fn split_last<G: PoolNaming, R: Wait>(
+fn split_last<G: PoolNaming, J: Job, E: Edge, R: Wait>(
     rt: &R,
-    pool: &Pool<G>,
+    pool: &PoolOf<G, J, E>,
     passes: &mut Vec<Pass<G>>,
 ) -> Result<Pass<G>, PoolError> {
     match passes.last_mut() {
@@ -96,10 +97,10 @@ fn split_last<G: PoolNaming, R: Wait>(
 }
 
 // The passes of so many callers, in the order of their numbers.
-fn passes_of<G: PoolNaming, R: Abort + Wait>(
+fn passes_of<G: PoolNaming, J: Job, E: Edge, R: Abort + Wait>(
     rt: &R,
     alloc: Global,
-    pool: &Pool<G>,
+    pool: &PoolOf<G, J, E>,
     first: Pass<G>,
     callers: usize,
 ) -> Result<Vec<Pass<G>>, PoolError> {
@@ -114,8 +115,10 @@ fn passes_of<G: PoolNaming, R: Abort + Wait>(
 
 fn begin<
     G: PoolNaming + Send + Sync + 'static,
+    J: Job + 'static,
+    E: Edge + Send + Sync + 'static,
     R: Abort + Threads + Wait + Copy + Send + Sync + 'static,
->(rt: R, pool: &Pool<G>, passes: &mut Vec<Pass<G>>, begins: &Beginning) {
+>(rt: R, pool: &PoolOf<G, J, E>, passes: &mut Vec<Pass<G>>, begins: &Beginning) {
     match begins {
         Beginning::Plays(lines) => play(&rt, pool, lines, passes),
         Beginning::MakesEach => make_all(&rt, pool, passes),
@@ -136,12 +139,17 @@ fn put_back<G: PoolNaming>(passes: &mut Vec<Pass<G>>, withheld: Option<Pass<G>>,
 }
 
 // Closes the pool, which is refused: it comes back, with its passes.
-fn refuse<G: PoolNaming + Send + Sync + 'static, R: Abort + Threads + Wait + Copy + Send + 'static>(
+fn refuse<
+    G: PoolNaming + Send + Sync + 'static,
+    J: Job + 'static,
+    E: Edge + Send + Sync + 'static,
+    R: Abort + Threads + Wait + Copy + Send + 'static,
+>(
     rt: &R,
-    pool: Pool<G>,
+    pool: PoolOf<G, J, E>,
     passes: Vec<Pass<G>>,
     refusal: &Refusal,
-) -> (Pool<G>, Vec<Pass<G>>) {
+) -> (PoolOf<G, J, E>, Vec<Pass<G>>) {
     let mut passes = passes;
     let withheld = if refusal.withholds {
         passes.pop()
@@ -154,7 +162,12 @@ fn refuse<G: PoolNaming + Send + Sync + 'static, R: Abort + Threads + Wait + Cop
     (pool, passes)
 }
 
-fn end<G: PoolNaming, R: Abort + Wait>(rt: &R, pool: Pool<G>, passes: Vec<Pass<G>>, ends: &Ending) {
+fn end<G: PoolNaming, J: Job, E: Edge, R: Abort + Wait>(
+    rt: &R,
+    pool: PoolOf<G, J, E>,
+    passes: Vec<Pass<G>>,
+    ends: &Ending,
+) {
     match ends {
         Ending::Open => {}
         Ending::Closed => same(rt, 0, &pool.close(rt, passes).is_ok(), &true),
@@ -167,8 +180,10 @@ fn end<G: PoolNaming, R: Abort + Wait>(rt: &R, pool: Pool<G>, passes: Vec<Pass<G
 
 fn live<
     G: PoolNaming + Send + Sync + 'static,
+    J: Job + 'static,
+    E: Edge + Send + Sync + 'static,
     R: Abort + Threads + Wait + Copy + Send + Sync + 'static,
->(rt: R, pool: Pool<G>, passes: Vec<Pass<G>>, life: &Life) {
+>(rt: R, pool: PoolOf<G, J, E>, passes: Vec<Pass<G>>, life: &Life) {
     let (mut pool, mut passes) = (pool, passes);
     begin(rt, &pool, &mut passes, &life.begins);
     for refusal in life.refusals {
@@ -196,6 +211,16 @@ fn open<
     let handler = Box::new(alloc, ABORT)?;
     let gate = Box::new(alloc, OpenGate)?;
     let (pool, first) = Pool::<G>::new(alloc, unopened, settings, factory, handler, hooks, gate)?;
+    enter(rt, alloc, pool, first, life)?;
+    Ok(())
+}
+
+// A new pool's life. It is a function of its own, where little else is known: the check shows there that the boxes may cross
+// to a thread.
+fn enter<
+    G: PoolNaming + Send + Sync + 'static,
+    R: Abort + Threads + Wait + Copy + Send + Sync + 'static,
+>(rt: R, alloc: Global, pool: Pool<G>, first: Pass<G>, life: &Life) -> Result<(), PoolError> {
     let passes = passes_of(&rt, alloc, &pool, first, life.callers)?;
     live(rt, pool, passes, life);
     Ok(())
@@ -213,11 +238,11 @@ pub fn lives<R: Abort + Threads + Wait + Copy + Send + Sync + 'static>(
 }
 
 // The pool and the passes of a close that is refused so.
-fn refused<G: PoolNaming, R: Abort>(
+fn refused<G: PoolNaming, J: Job, E: Edge, R: Abort>(
     rt: &R,
-    closed: Result<Report, CloseFault<G, Boxed, Boxes>>,
+    closed: Result<Report, CloseFault<G, J, E>>,
     error: PoolError,
-) -> (Pool<G>, Vec<Pass<G>>) {
+) -> (PoolOf<G, J, E>, Vec<Pass<G>>) {
     match closed {
         Ok(_) => rt.panic("closed in place of a refusal"),
         Err(

@@ -1,26 +1,31 @@
 // The settings of a pool, and its stop.
 
-use super::calls::{Call, Line};
+use super::calls::Line;
 use super::helpers::{Beginning, Ending, Life, Row, lives};
 use std::test::Fail;
 use tp_pool::hooks::NoHooks;
 use tp_record::entries::{Ask, Did};
+use tp_stage::calls::Call;
 use tp_types::ids::TaskId;
 use tp_types::refusals::PoolError;
 
 // Each setting once, what no pool can do, and what no pool without tasks can.
 const LINES: [Line; 11] = [
-    (0, Call::Core(2), Ok(())),
-    (0, Call::Maximum(3), Ok(())),
-    (0, Call::CoreTimeout(true), Ok(())),
-    (0, Call::Purge, Ok(())),
+    (0, Call::Core(2), Ok(true)),
+    (0, Call::Maximum(3), Ok(true)),
+    (0, Call::CoreTimeout(true), Ok(true)),
+    (0, Call::Purge(0), Ok(true)),
     (0, Call::Core(4), Err(PoolError::BadSizes)),
     (0, Call::Maximum(1), Err(PoolError::BadSizes)),
     (0, Call::Keep(0), Err(PoolError::KeepZero)),
-    (0, Call::Cancel(TaskId(0)), Err(PoolError::UnknownTask)),
+    (
+        0,
+        Call::Cancel(TaskId(0), true, true),
+        Err(PoolError::UnknownTask),
+    ),
     (0, Call::Remove(TaskId(0)), Err(PoolError::UnknownTask)),
-    (0, Call::CountsNothing, Ok(())),
-    (0, Call::Stop, Ok(())),
+    (0, Call::CountsNothing, Ok(true)),
+    (0, Call::Stop(0, 0), Ok(true)),
 ];
 
 const RECORD: [Row; 7] = [

@@ -1,6 +1,6 @@
 // One caller waits in a thread of its own, and the step of another ends the wait.
 
-use super::calls::{Call, Line, make, play};
+use super::calls::{Line, play};
 use super::compare::same;
 use super::helpers::{Beginning, Ending, Life, await_stage, last, linger, lives};
 use std::process::Abort;
@@ -14,7 +14,8 @@ use tp_pool::hooks::Hooks;
 use tp_pool::in_two;
 use tp_pool::jobs::Job;
 use tp_pool::names::PoolNaming;
-use tp_pool::pool::{Pool, PoolOf};
+use tp_pool::pool::PoolOf;
+use tp_stage::calls::{Call, make};
 use tp_types::ids::{SlotId, TaskId};
 use tp_types::refusals::PoolError;
 use tp_types::tasks::Outcome;
@@ -46,7 +47,7 @@ fn awaits<
     waiting: Call,
     stage: &AtomicU64,
     mut pass: Pass<G>,
-) -> (Result<(), PoolError>, Pass<G>) {
+) -> (Result<bool, PoolError>, Pass<G>) {
     stage.store(1, Ordering::SeqCst);
     let awaited = make(rt, pool, waiting, &mut pass);
     (awaited, pass)
@@ -64,7 +65,7 @@ fn wakes<
     waker: Call,
     stage: &AtomicU64,
     mut pass: Pass<G>,
-) -> (Result<(), PoolError>, Pass<G>) {
+) -> (Result<bool, PoolError>, Pass<G>) {
     await_stage(stage, 1);
     linger();
     let stepped = make(rt, pool, waker, &mut pass);
@@ -90,7 +91,7 @@ fn takes_part<
     part: Part,
     stage: &AtomicU64,
     pass: Pass<G>,
-) -> (Result<(), PoolError>, Pass<G>) {
+) -> (Result<bool, PoolError>, Pass<G>) {
     match part {
         Part::Waits(call) => awaits(rt, pool, call, stage, pass),
         Part::Wakes(call) => wakes(rt, pool, call, stage, pass),
@@ -112,8 +113,8 @@ fn beside<
     first: Pass<G>,
     second: Pass<G>,
 ) -> (
-    (Result<(), PoolError>, Pass<G>),
-    (Result<(), PoolError>, Pass<G>),
+    (Result<bool, PoolError>, Pass<G>),
+    (Result<bool, PoolError>, Pass<G>),
 ) {
     let word = AtomicU64::new(0);
     let stage = &word;
@@ -124,31 +125,33 @@ fn beside<
     in_two(&rt, pool, one, two, &act, &act)
 }
 
-const END: [Line; 2] = [(1, Call::Shutdown, Ok(())), (0, Call::Await(0), Ok(()))];
+const END: [Line; 2] = [(1, Call::Shutdown, Ok(true)), (0, Call::Await(0), Ok(true))];
 
 // The first caller waits in a thread of its own, and the second one wakes it; then the pool is shut down.
 pub fn wait_for<
     G: PoolNaming + Send + Sync + 'static,
+    J: Job + 'static,
+    E: Edge + Send + Sync + 'static,
     R: Abort + Threads + Wait + Copy + Send + Sync + 'static,
 >(
     rt: R,
-    pool: &Pool<G>,
+    pool: &PoolOf<G, J, E>,
     passes: &mut Vec<Pass<G>>,
     waiting: Call,
     waker: Call,
-    answer: Result<(), PoolError>,
+    answer: Result<bool, PoolError>,
 ) {
     let second = last(&rt, passes);
     let first = last(&rt, passes);
     let ((awaited, first), (stepped, second)) = beside(rt, pool, waiting, waker, first, second);
-    same(&rt, 0, &(awaited, stepped), &(answer, Ok(())));
+    same(&rt, 0, &(awaited, stepped), &(answer, Ok(true)));
     let _ = passes.push(first);
     let _ = passes.push(second);
     play(&rt, pool, &END, passes);
 }
 
 // The first caller waits so, and the second one wakes it so; what the wait answers then.
-fn waits(waiting: Call, waker: Call, answer: Result<(), PoolError>) -> Life {
+fn waits(waiting: Call, waker: Call, answer: Result<bool, PoolError>) -> Life {
     Life {
         callers: 2,
         begins: Beginning::Waits(waiting, waker, answer),
@@ -157,12 +160,12 @@ fn waits(waiting: Call, waker: Call, answer: Result<(), PoolError>) -> Life {
     }
 }
 
-const WAITS: [(Call, Call, Result<(), PoolError>); 5] = [
+const WAITS: [(Call, Call, Result<bool, PoolError>); 5] = [
     (Call::Await(9), Call::Tick(9), Err(PoolError::TimedOut)),
-    (Call::Await(9), Call::Shutdown, Ok(())),
-    (Call::Await(9), Call::Stop, Ok(())),
-    (Call::WaitStep(0), Call::Purge, Ok(())),
-    (Call::WaitStep(0), Call::Tick(1), Ok(())),
+    (Call::Await(9), Call::Shutdown, Ok(true)),
+    (Call::Await(9), Call::Stop(0, 0), Ok(true)),
+    (Call::WaitStep(0), Call::Purge(0), Ok(true)),
+    (Call::WaitStep(0), Call::Tick(1), Ok(true)),
 ];
 
 #[test]

@@ -2,11 +2,10 @@
 
 use super::chores::Deed;
 use super::lives::{ONE, lives_all};
-use super::scripts::{
-    CAME, Control, Cue, FIRST, Many, OPENS, SHUTS_DOWN, Script, Step, TELLS, Tale,
-};
+use super::scripts::{CAME, Cue, FIRST, Many, OPENS, SHUTS_DOWN, Script, Step, TELLS, Tale};
 use std::test::Fail;
 use tp_stage::boards::{Hook, Signal};
+use tp_stage::calls::Call;
 use tp_stage::findings::Finding;
 use tp_types::ids::TaskId;
 use tp_types::refusals::PoolError;
@@ -21,8 +20,8 @@ const OPEN: [Step; 18] = [
     Step::TryGet(0, Ok(None)),
     Step::GetUntil(0, 0, Err(PoolError::TimedOut)),
     Step::Submit(Kind::Future, Deed::Look, 1),
-    Step::Control(Control::Cancel(1, false, true)),
-    Step::Control(Control::Cancel(1, true, false)),
+    Step::Call(Call::Cancel(TaskId(1), false, true)),
+    Step::Call(Call::Cancel(TaskId(1), true, false)),
     Step::Get(1, Err(CANCELLED)),
     Step::GetUntil(1, 0, Err(CANCELLED)),
     Step::TryGet(1, Err(CANCELLED)),
@@ -30,7 +29,7 @@ const OPEN: [Step; 18] = [
     Step::Get(2, Err(CANCELLED)),
     Step::Submit(Kind::Group(3), Deed::Look, 3),
     Step::Poll(3, Ok(None)),
-    Step::Control(Control::Cancel(3, true, true)),
+    Step::Call(Call::Cancel(TaskId(3), true, true)),
     Step::Take(3, Ok(TaskId(3))),
     OPENS,
     Step::Get(0, Ok(6)),
@@ -73,12 +72,12 @@ const LEFT: [Step; 13] = [
     FIRST,
     Step::Submit(Kind::Future, Deed::Look, 1),
     Step::Submit(Kind::Future, Deed::Look, 2),
-    Step::Control(Control::Remove(1)),
+    Step::Call(Call::Remove(TaskId(1))),
     Step::Get(1, Err(PoolError::Lost(Fate::Removed))),
     Step::TryGet(1, Err(PoolError::Lost(Fate::Removed))),
-    Step::Control(Control::Cancel(1, true, false)),
+    Step::Call(Call::Cancel(TaskId(1), true, false)),
     CAME,
-    Step::Control(Control::Stop(1)),
+    Step::Call(Call::Stop(2, 3)),
     Step::Get(2, Err(PoolError::Lost(Fate::HandedBack))),
     Step::GetUntil(2, 0, Err(PoolError::Lost(Fate::HandedBack))),
     OPENS,
@@ -103,9 +102,9 @@ fn tasks_that_leave_are_lost(rt: HostRuntime) -> Result<(), Fail> {
 
 const HELD: [Step; 2] = [Step::Submit(Kind::Future, Deed::Look, 0), CAME];
 
-const FLAGGED: [Step; 1] = [Step::Control(Control::Cancel(0, true, true))];
+const FLAGGED: [Step; 1] = [Step::Call(Call::Cancel(TaskId(0), true, true))];
 
-const UNFLAGGED: [Step; 1] = [Step::Control(Control::Cancel(0, false, true))];
+const UNFLAGGED: [Step; 1] = [Step::Call(Call::Cancel(TaskId(0), false, true))];
 
 const GOES_ON: [Step; 3] = [Step::Get(0, Err(CANCELLED)), OPENS, SHUTS_DOWN];
 
@@ -139,7 +138,7 @@ fn held_job_finds_its_flag(rt: HostRuntime) -> Result<(), Fail> {
 const UNLOOKING: [Step; 6] = [
     Step::Submit(Kind::Future, Deed::Wait, 0),
     Step::Cue(Cue::Reaches(Signal::Begun, 1)),
-    Step::Control(Control::Cancel(0, true, true)),
+    Step::Call(Call::Cancel(TaskId(0), true, true)),
     Step::Get(0, Err(CANCELLED)),
     TELLS,
     SHUTS_DOWN,

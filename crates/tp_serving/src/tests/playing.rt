@@ -2,7 +2,7 @@
 
 use super::chores::{Chore, Deed};
 use super::compare::same;
-use super::scripts::{Control, Cue, Many, Step};
+use super::scripts::{Cue, Many, Step};
 use std::alloc::Global;
 use std::process::Abort;
 use std::sync::{Arc, Wait};
@@ -10,13 +10,14 @@ use std::thread;
 use std::thread::Threads;
 use std::time::{Clock, Duration};
 use tp_book::passes::Pass;
-use tp_pool::answers::{Admitted, Refused, Removal};
+use tp_pool::answers::{Admitted, Refused};
 use tp_pool::names::PoolNaming;
 use tp_pool::pool::PoolOf;
 use tp_service::completions::CompletionService;
 use tp_service::futures::{get, get_until, submit, try_get};
 use tp_service::invoking::{invoke_all, invoke_all_until, invoke_any};
 use tp_stage::boards::{Board, shared};
+use tp_stage::calls::make;
 use tp_stage::users::Users;
 use tp_types::ids::TaskId;
 use tp_types::refusals::PoolError;
@@ -146,24 +147,6 @@ fn invokes<G: PoolNaming + Send + Sync + 'static, R: Threads + Wait + Copy + Sen
     }
 }
 
-fn controls<G: PoolNaming + Send + Sync + 'static, R: Threads + Wait + Copy + Send + 'static>(
-    rt: &R,
-    pool: &Tested<G>,
-    control: Control,
-    pass: &mut Pass<G>,
-) -> bool {
-    match control {
-        Control::Cancel(t, flag, could) => pool.cancel(rt, TaskId(t), flag, pass) == Ok(could),
-        Control::Remove(t) => matches!(pool.remove(rt, TaskId(t), pass), Ok(Removal::Yes(Some(_)))),
-        Control::Stop(back) => match pool.shutdown_now(rt, pass) {
-            Ok(drained) => drained.len() == back,
-            Err(_) => false,
-        },
-        Control::Shutdown => pool.shutdown(rt, pass).is_ok(),
-        Control::Tick(now) => pool.tick(rt, now, pass).is_ok(),
-    }
-}
-
 // Waits until so many tasks are queued, or for some seconds.
 fn queues<G: PoolNaming, R: Wait + Clock>(rt: &R, pool: &Tested<G>, tasks: u32) -> bool {
     for _ in 0..20_000u32 {
@@ -215,7 +198,7 @@ fn makes<G: PoolNaming + Send + Sync + 'static, R: Threads + Wait + Clock + Copy
         Step::Many(many) => invokes(rt, alloc, pool, board, many, pass),
         Step::Take(group, answer) => CompletionService::new(group).take(pool, &rt, pass) == answer,
         Step::Poll(group, answer) => CompletionService::new(group).poll(pool, &rt, pass) == answer,
-        Step::Control(control) => controls(&rt, pool, control, pass),
+        Step::Call(call) => make(&rt, pool, call, pass) == Ok(true),
         Step::Cue(cue) => hears(&rt, pool, board, cue),
         Step::Steps(entries) => pool.steps(&rt) == entries,
         Step::WaitStep(seen, least) => goes_on(&rt, pool, seen, least),

@@ -2,6 +2,7 @@
 
 use super::chores::Deed;
 use tp_stage::boards::Signal;
+use tp_stage::calls::Call;
 use tp_stage::findings::Finding;
 use tp_types::configs::Config;
 use tp_types::ids::TaskId;
@@ -17,20 +18,6 @@ pub enum Many {
     AllUntil(&'static [Deed], u64, u32),
     AllRefused(&'static [Deed], PoolError),
     Any(&'static [Deed], Result<i64, PoolError>),
-}
-
-// What becomes of tasks, and of the pool.
-#[derive(Clone, Copy)]
-pub enum Control {
-    // Cancels this task, with or without its flag, and whether it could.
-    Cancel(u32, bool, bool),
-    // Takes it out of the queue, where it is.
-    Remove(u32),
-    // Stops the pool, which hands so many tasks back.
-    Stop(usize),
-    Shutdown,
-    // The moment is this one.
-    Tick(u64),
 }
 
 // What one thread tells another, or hears from it.
@@ -57,7 +44,8 @@ pub enum Step {
     // A done task of this group.
     Take(u32, Result<TaskId, PoolError>),
     Poll(u32, Result<Option<TaskId>, PoolError>),
-    Control(Control),
+    // Of the pool itself.
+    Call(Call),
     Cue(Cue),
     // The record has so many entries.
     Steps(u64),
@@ -81,7 +69,7 @@ pub struct Tale {
     pub findings: &'static [Finding],
 }
 
-pub const SHUTS_DOWN: Step = Step::Control(Control::Shutdown);
+pub const SHUTS_DOWN: Step = Step::Call(Call::Shutdown);
 
 // Lets workers go on that are held before bodies.
 pub const OPENS: Step = Step::Cue(Cue::Raise(Signal::Open));

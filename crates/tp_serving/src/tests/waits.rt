@@ -2,11 +2,10 @@
 
 use super::chores::Deed;
 use super::lives::{ONE, lives_all};
-use super::scripts::{
-    CAME, Control, Cue, FIRST, Many, OPENS, SHUTS_DOWN, Script, Step, TELLS, Tale,
-};
+use super::scripts::{CAME, Cue, FIRST, Many, OPENS, SHUTS_DOWN, Script, Step, TELLS, Tale};
 use std::test::Fail;
 use tp_stage::boards::Signal;
+use tp_stage::calls::Call;
 use tp_stage::findings::Finding;
 use tp_types::configs::{Config, Policy, QueueKind};
 use tp_types::ids::TaskId;
@@ -53,14 +52,14 @@ const REMOVED: [Step; 4] = [
     IT_WAITS,
     Step::Cue(Cue::Queued(1)),
     A_WHILE,
-    Step::Control(Control::Remove(1)),
+    Step::Call(Call::Remove(TaskId(1))),
 ];
 
 const DRAINED: [Step; 4] = [
     IT_WAITS,
     Step::Cue(Cue::Queued(1)),
     A_WHILE,
-    Step::Control(Control::Stop(1)),
+    Step::Call(Call::Stop(1, 2)),
 ];
 
 const DISCARDED: [Step; 4] = [
@@ -319,7 +318,7 @@ const STEPS: [Step; 12] = [
     READY,
     IT_WAITS,
     A_WHILE,
-    Step::Control(Control::Tick(1)),
+    Step::Call(Call::Tick(1)),
     IT_IS_OVER,
     OPENS,
     SHUTS_DOWN,
@@ -350,9 +349,9 @@ const TICKS: [Step; 11] = [
     READY,
     IT_WAITS,
     A_WHILE,
-    Step::Control(Control::Tick(4)),
+    Step::Call(Call::Tick(4)),
     A_WHILE,
-    Step::Control(Control::Tick(5)),
+    Step::Call(Call::Tick(5)),
     IT_IS_OVER,
     OPENS,
     SHUTS_DOWN,
