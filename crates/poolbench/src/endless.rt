@@ -172,6 +172,17 @@ fn serve<
     Ok(())
 }
 
+// What the task of this number is, and its job.
+fn fared(fare: Fare, number: u32) -> (Kind, Crumb) {
+    let faults = matches!(fare, Fare::Faults) && number % 100 == 0;
+    let kind = match fare {
+        Fare::Plain | Fare::Faults => Kind::Plain,
+        Fare::Futures | Fare::Cancels => Kind::Future,
+        Fare::Groups => Kind::Group(number / 1_000),
+    };
+    (kind, Crumb { faults })
+}
+
 // Submits one task, and cancels it where that is its turn.
 fn submit<G: PoolNaming + Send + Sync + 'static, R: Threads + Wait + Copy + Send + 'static>(
     rt: R,
@@ -180,13 +191,8 @@ fn submit<G: PoolNaming + Send + Sync + 'static, R: Threads + Wait + Copy + Send
     fare: Fare,
     number: u32,
 ) -> Result<TaskId, Unmeasured> {
-    let kind = match fare {
-        Fare::Plain | Fare::Faults => Kind::Plain,
-        Fare::Futures | Fare::Cancels => Kind::Future,
-        Fare::Groups => Kind::Group(number / 1_000),
-    };
-    let faults = matches!(fare, Fare::Faults) && number % 100 == 0;
-    let t = match pool.execute_as(&rt, kind, Crumb { faults }, pass) {
+    let (kind, job) = fared(fare, number);
+    let t = match pool.execute_as(&rt, kind, job, pass) {
         Ok(admitted) => task_of(admitted),
         Err(refused) => return Err(Unmeasured::Refused(refused.error)),
     };
