@@ -1,29 +1,33 @@
 -- The wait for a pool's end, with no deadline.
 use Rattle.std.proofs.Common.{◌≡◌, ◌⊎◌, ◌≤◌, true, [], ◌∷◌, ⊎_elim, inl, inr, arith}
-use Rattle.std.specs.Prelude.{Result, Ok, Err, IfOk, IfErr, OnOk, OnErr}
+use Rattle.std.proofs.lemmas.Bool.{false≢true}
+use Rattle.std.specs.Prelude.{None, Result, Ok, Err, IfOk, IfErr, OnOk}
 use Rattle.tp_types.specs.declared.configs.Config.{Config}
 use Rattle.tp_types.specs.declared.refusals.PoolError.{PoolError}
-use Rattle.tp_types.specs.declared.refusals.PoolError.TheVariants.{TornRecord}
+use Rattle.tp_types.specs.declared.refusals.PoolError.TheVariants.{TimedOut, TornRecord}
 use Rattle.tp_record.specs.declared.entries.Ask.TheVariants as ask
 use Rattle.tp_record.specs.declared.entries.Did.TheVariants as did
 use Rattle.tp_record.specs.Fields.{rank}
 use Rattle.tp_record.specs.Step.{Legal}
 use Rattle.tp_book.specs.PassView.{PassView}
-use Rattle.tp_locked.specs.Passes.{Adds, AddsStep, LooksOnly, IsRefusal, tidied, ended}
-use Rattle.tp_locked.proofs.Receipts.{adds_looks}
-use Rattle.tp_pool.specs.Endings.{IsBarred}
+use Rattle.tp_locked.specs.Moments.{AtFront}
+use Rattle.tp_locked.specs.Readings.{has_come}
+use Rattle.tp_locked.specs.Passes.{Adds, AddsStep, IsRefusal, tidied, ended}
 use Rattle.tp_pool.specs.Lives.{IsShut}
-use Rattle.tp_pool.proofs.Ends.{reached}
+use Rattle.tp_shared.specs.Endings.{IsBarred}
+use Rattle.tp_shared.proofs.Ends.{reached}
 
 -- the wait is torn: the step `tidy` was made, and `ended` not
 abbrev pub IsTorn : Config → PassView → PassView → PoolError → Type 0
 IsTorn c old new e = (e ≡ TornRecord) × IsBarred c new.front ask.Ended × Adds c old (tidied old.number ∷ []) new
 
 module _ (c : Config) (old new : PassView) where
-  pub torn : (mid : PassView) → Adds c old (tidied old.number ∷ []) mid → (r : Result (Unit {0}) PoolError) → IfErr r (λ e. (e ≡ TornRecord) × IsBarred c new.front ask.Ended) →
-      OnErr r (LooksOnly c mid new) → IfErr r (IsTorn c old new)
-  torn mid first (Ok x) refused looks = tt
-  torn mid first (Err e) refused looks = (refused.0, refused.1, adds_looks c old mid new (tidied old.number ∷ []) first looks)
+  -- no deadline comes
+  pub torn : (r : Result (Unit {0}) PoolError) → IfErr r (λ e. e ≡ TimedOut → AtFront c new.front (λ s. (has_come None s.now ≡ true) × ¬ (s.rank ≡ 4))) →
+      IfErr r (λ e. ((e ≡ TimedOut) × Adds c old [] new) ⊎ ((e ≡ TornRecord) × IsBarred c new.front ask.Ended × Adds c old (tidied old.number ∷ []) new)) → IfErr r (IsTorn c old new)
+  torn (Ok x) late refused = tt
+  torn (Err e) late (inl timed) = absurd (false≢true (late timed.0).holds.0)
+  torn (Err e) late (inr is) = is
 
   -- however the wait ends, the pool has no slot then
   pub over : (r : Result (Unit {0}) PoolError) → OnOk r (rank new.front ≡ 4) → IfErr r (IsTorn c old new) → 3 ≤ rank new.front

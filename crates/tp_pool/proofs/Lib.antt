@@ -1,12 +1,8 @@
-pub mod Asked
 pub mod Cuts
 pub mod Endless
-pub mod Ends
 pub mod Forgotten
 pub mod Got
-pub mod Left
 pub mod Refusals
-pub mod Returned
 pub mod Starts
 pub mod Submissions
 pub mod Turned

@@ -32,10 +32,11 @@ use Rattle.tp_locked.specs.declared.answers.Admitted.{Admitted}
 use Rattle.tp_locked.specs.declared.answers.Refused.{Refused}
 use Rattle.tp_locked.specs.declared.tasks.Task.{Task}
 use Rattle.tp_machine.specs.Answers.{ComesBack}
-use Rattle.tp_pool.specs.Admissions.{task_of, end_of, AddsFront, AsksFor, Awaits, GotJob, IsUndone, IsAdmitted, IsTurnedAway, TakesOut}
+use Rattle.tp_pool.specs.Admissions.{task_of, end_of, AddsFront, AsksFor, Awaits, GotJob, IsUndone, IsAdmitted, IsTurnedAway}
+use Rattle.tp_shared.specs.Submitting.{TakesOut}
 use Rattle.tp_locked.proofs.Receipts.{adds_looks, adds_then, leads_front}
 use Rattle.tp_pool.proofs.Refusals.{refuses_ever}
-use Rattle.tp_pool.proofs.Returned.{comes_back_as, takes_from}
+use Rattle.tp_shared.proofs.Returned.{comes_back_as, takes_from}
 use Rattle.tp_pool.proofs.Submissions.{got_on}
 use Rattle.std.proofs.lemmas.Bool.{eq-eqb}
 

@@ -3,7 +3,6 @@ use Rattle.std.specs.Prelude.{ℕ, Bool, true, ◌≡◌, ◌⊎◌, ◌≤◌, 
 use Rattle.tp_types.specs.declared.configs.Config.{Config}
 use Rattle.tp_types.specs.declared.configs.Verdict.{Verdict}
 use Rattle.tp_types.specs.declared.ids.TaskId.{TaskId}
-use Rattle.tp_types.specs.declared.refusals.PoolError.{PoolError}
 use Rattle.tp_types.specs.declared.refusals.PoolError.TheVariants as error
 use Rattle.tp_types.specs.declared.tasks.Kind.{Kind}
 use Rattle.tp_types.specs.declared.tasks.Promise.{Promise}
@@ -13,14 +12,13 @@ use Rattle.tp_record.specs.declared.entries.Did.{Did}
 use Rattle.tp_record.specs.declared.entries.Did.TheVariants as did
 use Rattle.tp_record.specs.declared.entries.Entry.{Entry}
 use Rattle.tp_record.specs.declared.entries.Looked.{Looked}
-use Rattle.tp_record.specs.declared.entries.Ruled.TheVariants as ruled
 use Rattle.tp_record.specs.Paths.{Admission, Accepted, RanHere, Discarded, Rejected, Follow, Then, Astray, IsPath}
 use Rattle.tp_record.specs.Step.{allows}
-use Rattle.tp_parts.specs.Payloads.{PutsIn, HandsOut}
+use Rattle.tp_parts.specs.Payloads.{PutsIn}
 use Rattle.tp_paths.specs.Fronts.{IsFront, follow_of, goes}
 use Rattle.tp_paths.specs.declared.paths.Next.{Next}
 use Rattle.tp_paths.specs.declared.paths.Next.TheVariants as next
-use Rattle.tp_machine.specs.Answers.{ComesBack, ruled_of}
+use Rattle.tp_machine.specs.Answers.{ComesBack}
 use Rattle.tp_glance.specs.Word.{IsFrontOf}
 use Rattle.tp_book.specs.PassView.{PassView}
 use Rattle.tp_locked.specs.Passes.{Adds, AddsNone, IsRefusal, Refuses, opening}
@@ -29,6 +27,7 @@ use Rattle.tp_locked.specs.declared.answers.Admitted.{Admitted}
 use Rattle.tp_locked.specs.declared.answers.Admitted.TheVariants as admitted
 use Rattle.tp_locked.specs.declared.answers.Refused.{Refused}
 use Rattle.tp_locked.specs.declared.tasks.Task.{Task}
+use Rattle.tp_shared.specs.Submitting.{IsHalted, TakesOut}
 
 -- whose submission was admitted, and how it ended
 abbrev pub task_of : Admitted → TaskId
@@ -61,17 +60,6 @@ pub record GotJob {J : Type 0} (c : Config) (kind : Kind) (priority : ℕ) (job 
   pub makes : Makes J c by before (ask.Submit kind priority) (did.Submit number kind priority look) (λ old new. PutsIn old new t promise task) then_history
   pub goes_on : IsFrontOf then_history after
 
--- a verdict of the pass rejected task t, and took this out of the pool's book, where it lay for t: at a history between the two
-pub record TakesOut {J : Type 0} (c : Config) (by t : ℕ) (payload : Option (Task J)) (before after : List Entry) : Type 0 where
-  pub number : TaskId
-  pub is_task : number.0 ≡ t
-  pub verdict : Verdict
-  pub made : Did
-  pub rejects : ruled_of made ≡ ruled.Rejected
-  pub then_history : List Entry
-  pub makes : Makes J c by before (ask.Verdict number verdict) made (λ old new. HandsOut old new t payload) then_history
-  pub goes_on : IsFrontOf then_history after
-
 -- so it is with this job, or with none
 abbrev pub IsJobOut : {J : Type 0} → Config → ℕ → ℕ → Option J → List Entry → List Entry → Type 0
 IsJobOut {J} c by t job before after = (payload : Option (Task J)) × (job ≡ option_map (λ k. k.job) payload) × TakesOut c by t payload before after
@@ -94,10 +82,6 @@ IsAskOf c t next.Grow a = a ≡ ask.Grow t
 IsAskOf c t next.Judge a = (v : Verdict) × (a ≡ ask.Verdict t v) × (allows c.policy v ≡ true)
 IsAskOf c t (next.Staff w) a = (staffed : Bool) × (a ≡ opening w staffed)
 IsAskOf c t _ a = ⊥
-
--- at this history a pool with these settings refuses this ask, of whose task it may know nothing any more
-abbrev pub IsHalted : Bool → Config → List Entry → Ask → Type 0
-IsHalted keeps c history a = (e : PoolError) × IsRefusal keeps c history a e
 
 -- the deed is left undone: at this history the pool refuses what it asks, or it was to tell how the submitter's own run ended
 abbrev pub IsUndone : Bool → Config → TaskId → Next → List Entry → Type 0

@@ -1,12 +1,7 @@
 pub mod Admissions
-pub mod Closing
-pub mod Deeds
-pub mod Endings
 pub mod Lives
 pub mod Outcomes
 pub mod Prestarts
-pub mod Refusals
-pub mod Rescues
 pub mod Snapshots
 pub mod Submissions
 pub mod Turns

@@ -15,8 +15,8 @@ use Rattle.tp_locked.specs.Moments.{AtSome, BookAt}
 use Rattle.tp_locked.specs.Passes.{LooksOnly}
 use Rattle.tp_locked.specs.Readings.{got, IsFound}
 use Rattle.tp_locked.specs.declared.tasks.Task.{Task}
-use Rattle.tp_pool.specs.Closing.{Reports}
-use Rattle.tp_pool.specs.Endings.{IsBarred}
+use Rattle.tp_shared.specs.Closing.{Reports}
+use Rattle.tp_shared.specs.Endings.{IsBarred}
 use Rattle.tp_pool.specs.Submissions.{Submits}
 use Rattle.tp_pool.specs.Turns.{ThroughBoth}
 

@@ -1,7 +1,16 @@
-//! Jobs in boxes.
+//! A caller's jobs and objects in boxes.
 
+use std::sync::{Mutex, Wait};
+use tp_callbacks::factories::ThreadFactory;
 use tp_callbacks::flags::CancelFlag;
+use tp_callbacks::gates::{Gate, Point};
+use tp_callbacks::handlers::RejectionHandler;
+use tp_callbacks::hooks::Hooks;
 use tp_callbacks::jobs::Job;
+use tp_shared::edges::Edge;
+use tp_types::configs::Verdict;
+use tp_types::ids::{SlotId, TaskId};
+use tp_types::states::RunState;
 use tp_types::tasks::{Outcome, Promise};
 
 /// A job in a box, which is a job again: so one pool holds jobs of several types.
@@ -28,5 +37,58 @@ impl Job for Boxed {
 
     fn call(&mut self, cancel: &CancelFlag) -> Outcome {
         self.job.call(cancel)
+    }
+}
+
+/// The caller's boxes. The factory, the handler and the hooks change when they are called, so each of them is
+/// behind a lock of its own.
+#[derive(Drop)]
+pub struct Boxes {
+    factory: Mutex<Box<dyn ThreadFactory>>,
+    handler: Mutex<Box<dyn RejectionHandler>>,
+    hooks: Mutex<Box<dyn Hooks>>,
+    gate: Box<dyn Gate>,
+}
+
+impl Boxes {
+    /// Puts these boxes behind one bound.
+    pub fn new(
+        factory: Box<dyn ThreadFactory>,
+        handler: Box<dyn RejectionHandler>,
+        hooks: Box<dyn Hooks>,
+        gate: Box<dyn Gate>,
+    ) -> Boxes {
+        Boxes {
+            factory: Mutex::new(factory),
+            handler: Mutex::new(handler),
+            hooks: Mutex::new(hooks),
+            gate,
+        }
+    }
+}
+
+impl Edge for Boxes {
+    fn allow<R: Wait>(&self, rt: &R, w: SlotId) -> bool {
+        self.factory.lock(rt).allow(w)
+    }
+
+    fn verdict<R: Wait>(&self, rt: &R, t: TaskId, state: RunState) -> Verdict {
+        self.handler.lock(rt).verdict(t, state)
+    }
+
+    fn before<R: Wait>(&self, rt: &R, w: SlotId, t: TaskId) {
+        self.hooks.lock(rt).before(w, t);
+    }
+
+    fn after<R: Wait>(&self, rt: &R, w: SlotId, t: TaskId, outcome: Option<&Outcome>) {
+        self.hooks.lock(rt).after(w, t, outcome);
+    }
+
+    fn terminated<R: Wait>(&self, rt: &R) {
+        self.hooks.lock(rt).terminated();
+    }
+
+    fn pass(&self, p: Point, w: SlotId) {
+        self.gate.before(p, w);
     }
 }

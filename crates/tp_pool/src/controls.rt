@@ -6,7 +6,6 @@ ghost use Rattle.tp_locked.specs.Answers.{is_removed};
 ghost use Rattle.tp_locked.specs.Passes.{AddsStep, AddsNone, Refuses};
 ghost use Rattle.tp_locked.specs.Steps.{Removes, removal_of};
 
-use crate::edges::Edge;
 use crate::pool::PoolOf;
 use std::sync::Wait;
 use tp_book::passes::Pass;
@@ -18,6 +17,7 @@ use tp_machine::machine::releases::Keeper;
 use tp_machine::typed::controllers::{Cancel, Purge, Remove};
 use tp_machine::typed::settings::{CoreTimeout, Keep, Maximum, Tick};
 use tp_record::entries::{Ask, Did};
+use tp_shared::edges::Edge;
 use tp_types::ids::TaskId;
 use tp_types::refusals::PoolError;
 

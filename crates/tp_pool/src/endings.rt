@@ -7,9 +7,8 @@ ghost use Rattle.tp_glance.specs.Word.{IsFrontOf};
 ghost use Rattle.tp_locked.specs.Moments.{AtFront};
 ghost use Rattle.tp_locked.specs.Passes.{Adds, AddsNone, Refuses, tidied, ended};
 ghost use Rattle.tp_locked.specs.Steps.{Stops};
-ghost use Rattle.tp_pool.specs.Endings.{AddsAndEnds, IsBarred};
+ghost use Rattle.tp_shared.specs.Endings.{AddsAndEnds, IsBarred};
 
-use crate::edges::Edge;
 use crate::pool::PoolOf;
 use std::sync::Wait;
 use std::thread::Threads;
@@ -20,6 +19,7 @@ use tp_locked::names::PoolNaming;
 use tp_machine::machine::releases::Keeper;
 use tp_machine::typed::controllers::Shutdown;
 use tp_record::entries::{Ask, Did};
+use tp_shared::edges::Edge;
 use tp_types::refusals::PoolError;
 
 impl<
@@ -120,9 +120,6 @@ impl<G: PoolNaming, J: Job, E: Edge, K: Keeper> PoolOf<G, J, E, K> {
             ⊎ ((e ≡ PoolError.TimedOut) × Adds (K.terms G.config) pass.old [] pass.new)
             ⊎ ((e ≡ PoolError.TornRecord) × IsBarred (K.terms G.config) pass.new.front Ask.Ended × Adds (K.terms G.config) pass.old (tidied pass.old.number ∷ []) pass.new)) }
     {
-        if let Err(error) = pass.reserve(2) {
-            return Err(error);
-        }
-        self.shared().await_end(rt, deadline, pass)
+        self.await_end(rt, Some(deadline), pass)
     }
 }

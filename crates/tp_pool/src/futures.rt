@@ -7,9 +7,7 @@ ghost use Rattle.tp_locked.specs.Readings.{got, IsFound, IsUndoneAt};
 ghost use Rattle.tp_locked.specs.declared.tasks.Task.{Task};
 ghost use Rattle.tp_pool.specs.Admissions.{task_of as task_of_admitted};
 
-use crate::edges::Edge;
 use crate::pool::PoolOf;
-use crate::shared::Shared;
 use std::sync::Wait;
 use tp_book::passes::Pass;
 use tp_callbacks::jobs::Job;
@@ -18,6 +16,7 @@ use tp_locked::names::PoolNaming;
 use tp_machine::machine::releases::Keeper;
 use tp_machine::typed::controllers::TakeDone;
 use tp_record::entries::{Ask, Did};
+use tp_shared::edges::Edge;
 use tp_types::ids::TaskId;
 use tp_types::refusals::PoolError;
 
@@ -51,7 +50,7 @@ impl<G: PoolNaming, J: Job, E: Edge, K: Keeper> PoolOf<G, J, E, K> {
             if let Some(answer) = core.await_result(t, deadline).transpose() {
                 return answer;
             }
-            core = shared.conditions.results.wait(rt, core);
+            core = shared.around.conditions.results.wait(rt, core);
         }
         unreachable!()
     }
@@ -71,11 +70,11 @@ impl<G: PoolNaming, J: Job, E: Edge, K: Keeper> PoolOf<G, J, E, K> {
         let shared = self.shared();
         let mut core = shared.hold(rt);
         for _ in rt.forever() {
-            let found = core.show_awaited(t, deadline, &shared.glance, pass);
+            let found = core.show_awaited(t, deadline, &shared.around.glance, pass);
             if let Some(answer) = found.transpose() {
                 return answer;
             }
-            core = shared.conditions.results.wait(rt, core);
+            core = shared.around.conditions.results.wait(rt, core);
         }
         unreachable!()
     }
@@ -126,38 +125,7 @@ impl<G: PoolNaming, J: Job, E: Edge, K: Keeper> PoolOf<G, J, E, K> {
         for _ in rt.forever() {
             match core.await_step(seen) {
                 Some(steps) => return steps,
-                None => core = shared.conditions.steps.wait(rt, core),
-            }
-        }
-        unreachable!()
-    }
-}
-
-impl<G: PoolNaming, J: Job, E: Edge, K: Keeper> Shared<G, J, E, K> {
-    // The looks of `await_done`, with a pass that has room for the receipt.
-    fn await_done<R: Wait>(
-        &self,
-        rt: &R,
-        group: u32,
-        pass: &mut Pass<G>,
-    ) -> Result<TaskId, PoolError>
-        requires room { 0 < pass.old.room }
-        ensures step { IfOk result (λ t. AddsStep (K.terms G.config) pass.old (Ask.TakeDone group) (Did.TakeDone group t) pass.new) }
-        ensures refused { IfErr result (λ e. AtFront (K.terms G.config) pass.new.front (λ s. IsUndoneAt (K.terms G.config) s group e)) }
-        ensures unchanged { OnErr result (LooksOnly (K.terms G.config) pass.old pass.new) }
-    {
-        let mut core = self.hold(rt);
-        for _ in rt.forever() {
-            match core.await_done(group, &self.glance, pass) {
-                Ok(Some(t)) => {
-                    self.release(core);
-                    return Ok(t);
-                }
-                Ok(None) => core = self.conditions.results.wait(rt, core),
-                Err(error) => {
-                    self.release(core);
-                    return Err(error);
-                }
+                None => core = shared.around.conditions.steps.wait(rt, core),
             }
         }
         unreachable!()

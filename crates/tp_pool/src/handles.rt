@@ -2,29 +2,20 @@
 ghost use Rattle.std.specs.Prelude.{◌≡◌, ◌⊎◌, [], ◌∷◌, length, IfOk, IfErr};
 ghost use Rattle.tp_locked.specs.Closing.{KeepsOpen};
 ghost use Rattle.tp_locked.specs.declared.tasks.Task.{Task};
-ghost use Rattle.tp_pool.specs.Closing.{Closes};
+ghost use Rattle.tp_shared.specs.Closing.{Closes};
 
 use crate::closing::{CloseFault, Reporter};
-use crate::edges::Edge;
 use crate::pool::{Hold, PoolOf};
 use std::sync::{Arc, Wait};
 use tp_book::passes::Pass;
 use tp_callbacks::jobs::Job;
 use tp_locked::names::PoolNaming;
 use tp_machine::machine::releases::Keeper;
-use tp_record::recorders::Full;
+use tp_shared::edges::Edge;
 use tp_types::refusals::PoolError;
 
 /// The answer of a close with one pass that was refused: the pool comes back, with the pass.
-#[derive(Drop)]
-pub struct CloseOneFault<G: PoolNaming, J, E, K: Keeper = Full> {
-    /// The refusal: NoMemory (4), NotTerminated (20), MissingPass (21) or TornRecord (22).
-    pub error: PoolError,
-    /// The pool, handed back.
-    pub pool: PoolOf<G, J, E, K>,
-    /// The pass, handed back.
-    pub pass: Pass<G>,
-}
+pub type CloseOneFault<G, J, E, K> = CloseFault<G, J, E, K, Pass<G>>;
 
 impl<G: PoolNaming, J: Job, E: Edge, K: Keeper> PoolOf<G, J, E, K> {
     /// One more handle of this pool, for an owner of its own, as a copied reference in Java. A close by one handle waits until
@@ -50,7 +41,7 @@ fn of_one<G: PoolNaming, J, E, K: Keeper>(
 ) -> CloseOneFault<G, J, E, K>
     requires one { length fault.passes.items ≡ 1 }
     ensures error { result.error ≡ fault.error }
-    ensures pass { fault.passes.items ≡ result.pass ∷ [] }
+    ensures pass { fault.passes.items ≡ result.passes ∷ [] }
 {
     let CloseFault {
         error,
@@ -60,7 +51,11 @@ fn of_one<G: PoolNaming, J, E, K: Keeper>(
     let Some(pass) = passes.pop() else {
         unreachable!()
     };
-    CloseOneFault { error, pool, pass }
+    CloseFault {
+        error,
+        pool,
+        passes: pass,
+    }
 }
 
 impl<G: PoolNaming, J: Job, E: Edge, K: Keeper> PoolOf<G, J, E, K> {
@@ -70,15 +65,15 @@ impl<G: PoolNaming, J: Job, E: Edge, K: Keeper> PoolOf<G, J, E, K> {
         pass: Pass<G>,
     ) -> Result<(PoolOf<G, J, E, K>, Vec<Pass<G>>), CloseOneFault<G, J, E, K>>
         ensures one { IfOk result (λ r. r.1.items ≡ pass ∷ []) }
-        ensures refused { IfErr result (λ f. (f.error ≡ PoolError.NoMemory) × (f.pass ≡ pass)) }
+        ensures refused { IfErr result (λ f. (f.error ≡ PoolError.NoMemory) × (f.passes ≡ pass)) }
     {
-        let mut passes = Vec::new(self.shared().alloc);
+        let mut passes = Vec::new(self.shared().around.alloc);
         match passes.push(pass) {
             Ok(()) => Ok((self, passes)),
-            Err(failed) => Err(CloseOneFault {
+            Err(failed) => Err(CloseFault {
                 error: PoolError::NoMemory,
                 pool: self,
-                pass: failed.value,
+                passes: failed.value,
             }),
         }
     }
@@ -94,7 +89,7 @@ impl<G: PoolNaming, J: Job, E: Edge, K: Reporter> PoolOf<G, J, E, K> {
     ) -> Result<K::Report, CloseOneFault<G, J, E, K>>
         ensures report { IfOk result (Closes K.told K.RECEIPTS G.config (K.terms G.config) (pass ∷ [])) }
         ensures refused { IfErr result (λ f. (f.error ≡ PoolError.NoMemory) ⊎ KeepsOpen (Task J) (K.terms G.config) (pass ∷ []) f.error) }
-        ensures returned { IfErr result (λ f. f.pass ≡ pass) }
+        ensures returned { IfErr result (λ f. f.passes ≡ pass) }
     {
         let (pool, passes) = match self.with_one(pass) {
             Ok(one) => one,

@@ -1,10 +1,11 @@
 //! A pool of threads after `ThreadPoolExecutor`: its calls, the objects that its users write, and its
 //! answers.
 //!
-//! `run_all` has a pool for the time of one call, and ends it on every path. A user hands in jobs, and with the making of a pool a thread factory, a rejection handler, hooks and a gate, or
-//! `Defaults` for all of them. The pool calls all of them outside its lock, so each of them may ask the pool for its state, its
-//! counters and its steps. The pages of the traits say which calls from within would wait for ever. All that a
-//! caller names can be imported from here.
+//! `run_all` has a pool for the time of one call, and ends it on every path. A user hands in jobs, and with the making of
+//! a pool a thread factory, a rejection handler, hooks and a gate, or `Defaults` for all of them. The pool calls all of
+//! them outside its lock, so each of them may ask the pool for its state, its counters and its steps. The pages of the
+//! traits say which calls from within would wait for ever. All that a caller names can be imported from here. What a
+//! pool's threads share lies below, in `tp_shared`.
 #![tactic(auto)]
 
 pub mod bodies;
@@ -12,14 +13,10 @@ pub mod boxes;
 pub mod callers;
 pub mod closing;
 pub mod controls;
-pub mod defaults;
-pub mod edges;
 pub mod endings;
 pub mod futures;
 pub mod handles;
 pub mod lives;
-pub mod lock;
-mod policies;
 pub mod pool;
 mod prestarts;
 pub mod readings;
@@ -27,18 +24,13 @@ mod refusing;
 pub mod releases;
 pub mod reports;
 mod rescues;
-mod shared;
 pub mod snapshots;
-mod staffing;
 mod submitting;
 mod waits;
-mod working;
 
 pub use bodies::{Any, Body};
 pub use callers::{PoolName, Runtime, in_two};
 pub use closing::{CloseFault, Report, Reporter, TallyReport};
-pub use defaults::Defaults;
-pub use edges::Edge;
 pub use futures::task_of;
 pub use lives::{Answer, run_all};
 pub use pool::PoolOf;
@@ -53,11 +45,20 @@ pub use tp_locked::answers::{Admitted, Drained, Refused, Removal};
 pub use tp_locked::{answers, names};
 pub use tp_record::entries::{Ask, Did, Entry, Ruled};
 pub use tp_record::recorders::{Full, Tally};
+pub use tp_shared::defaults::Defaults;
+pub use tp_shared::edges::Edge;
+pub use tp_shared::{defaults, lock};
 pub use tp_types::configs::{Config, Policy, QueueKind, Verdict};
 pub use tp_types::ids::{SlotId, TaskId};
 pub use tp_types::refusals::PoolError;
 pub use tp_types::states::{Counts, RunState};
 pub use tp_types::tasks::{Fate, Kind, Outcome, Place, Promise};
+
+/// A caller's objects behind one bound.
+pub mod edges {
+    pub use crate::boxes::Boxes;
+    pub use tp_shared::edges::{Edge, STACK};
+}
 
 /// The bodies that a pool runs.
 pub mod jobs {
@@ -70,8 +71,6 @@ pub mod prelude {
     pub use crate::bodies::{Any, Body};
     pub use crate::callers::{PoolName, Runtime, in_two};
     pub use crate::closing::{Report, Reporter, TallyReport};
-    pub use crate::defaults::Defaults;
-    pub use crate::edges::Edge;
     pub use crate::lives::{Answer, run_all};
     pub use crate::pool::PoolOf;
     pub use crate::reports::outcome_of;
@@ -82,6 +81,8 @@ pub mod prelude {
     pub use tp_locked::answers::{Admitted, Refused};
     pub use tp_record::entries::{Did, Entry, Ruled};
     pub use tp_record::recorders::{Full, Tally};
+    pub use tp_shared::defaults::Defaults;
+    pub use tp_shared::edges::Edge;
     pub use tp_types::configs::{Config, Policy, QueueKind, Verdict};
     pub use tp_types::ids::{SlotId, TaskId};
     pub use tp_types::refusals::PoolError;

@@ -3,13 +3,12 @@ ghost use Rattle.std.specs.Prelude.{◌≡◌, ◌⊎◌, ◌≤◌, true, [], �
 ghost use Rattle.tp_record.specs.Fields.{rank};
 ghost use Rattle.tp_record.specs.Step.{Legal};
 ghost use Rattle.tp_book.specs.PassView.{PassView};
-ghost use Rattle.tp_pool.specs.Closing.{Reports};
+ghost use Rattle.tp_shared.specs.Closing.{Reports};
 ghost use Rattle.tp_pool.specs.Lives.{AreAnswered, AreSubmitted, AreTold, IsCut, IsOver, IsRun, IsShut, IsTold};
 ghost use Rattle.tp_pool.specs.Submissions.{Submits};
 
 use crate::callers::{PoolName, Runtime};
 use crate::closing::{CloseFault, Report, sole};
-use crate::edges::Edge;
 use crate::futures::task_of;
 use crate::pool::{Hold, PoolOf};
 use std::alloc::Global;
@@ -21,6 +20,7 @@ use tp_book::sights::Sight;
 use tp_callbacks::jobs::Job;
 use tp_locked::names::PoolNaming;
 use tp_machine::typed::controllers::Shutdown;
+use tp_shared::edges::Edge;
 use tp_turns::rescues::Remains;
 use tp_types::configs::Config;
 use tp_types::ids::TaskId;
@@ -330,7 +330,7 @@ impl<
         ensures ended { OnOk result (rank pass.new.front ≡ 4) }
         ensures torn { IfErr result (λ e. e ≡ PoolError.TornRecord) }
     {
-        self.shared().await_end_on(rt, pass)
+        self.shared().await_end(rt, None, pass)
     }
 
     // Lets the pool go, once no thread has it any more.

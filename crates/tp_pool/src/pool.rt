@@ -7,14 +7,9 @@ ghost use Rattle.tp_glance.specs.Word.{IsFrontOf};
 ghost use Rattle.tp_locked.specs.Moments.{BookAtSome};
 ghost use Rattle.tp_locked.specs.declared.tasks.Task.{Task};
 
-use crate::boxes::Boxed;
-use crate::edges::{Boxes, Edge};
-use crate::policies::PolicyOf;
-use crate::shared::{Conditions, Shared};
-use std::alloc::{AllocError, Global};
+use crate::boxes::{Boxed, Boxes};
+use std::alloc::Global;
 use std::sync::{Arc, Wait};
-use std::thread::Parker;
-use tp_book::book::Book;
 use tp_book::opening::Unopened;
 use tp_book::passes::Pass;
 use tp_callbacks::factories::ThreadFactory;
@@ -22,14 +17,12 @@ use tp_callbacks::gates::Gate;
 use tp_callbacks::handlers::RejectionHandler;
 use tp_callbacks::hooks::Hooks;
 use tp_callbacks::jobs::Job;
-use tp_glance::glance::Glance;
-use tp_locked::locked::Core;
-use tp_locked::locks::PoolLock;
 use tp_locked::names::PoolNaming;
 use tp_machine::machine::releases::Keeper;
 use tp_record::recorders::Full;
+use tp_shared::edges::Edge;
+use tp_shared::shared::Shared;
 use tp_types::configs::Config;
-use tp_types::limits::MAX_WORKERS;
 use tp_types::refusals::PoolError;
 use tp_types::states::RunState;
 
@@ -110,16 +103,12 @@ impl<G: PoolNaming, J: Job, E: Edge, K: Keeper> PoolOf<G, J, E, K> {
         ensures good { OnOk result (IsConfig config) }
         ensures refused { IfErr result (λ e. (checked config ≡ Err e) ⊎ ((e ≡ PoolError.NoMemory) × IsConfig config)) }
     {
-        let (core, glance, pass) = match begin(alloc, unopened, config) {
-            Ok(begun) => begun,
-            Err(error) => return Err(error),
-        };
-        match share(alloc, core, glance, edge, PolicyOf::new(&config)) {
-            Ok(shared) => {
+        match Shared::over(alloc, unopened, config, edge) {
+            Ok((shared, pass)) => {
                 let hold = Hold::Many(shared);
                 Ok((PoolOf { hold }, pass))
             }
-            Err(_) => Err(PoolError::NoMemory),
+            Err(error) => Err(error),
         }
     }
 
@@ -134,7 +123,7 @@ impl<G: PoolNaming, J: Job, E: Edge, K: Keeper> PoolOf<G, J, E, K> {
         let shared = self.shared();
         shared
             .hold(rt)
-            .split_pass(shared.alloc, &shared.glance, pass)
+            .split_pass(shared.around.alloc, &shared.around.glance, pass)
     }
 
     /// The run state that is published now, as `isShutdown` and `isTerminated` tell it. It is read without
@@ -145,64 +134,6 @@ impl<G: PoolNaming, J: Job, E: Edge, K: Keeper> PoolOf<G, J, E, K> {
         ensures goes_on { IsFrontOf pass.old.front pass.new.front }
         ensures same { pass.new ≡ record pass.old { front = pass.new.front } }
     {
-        pass.glance(&self.shared().glance)
+        pass.glance(&self.shared().around.glance)
     }
-}
-
-// The value that a new pool's lock guards, the word that publishes its run state, and its first pass.
-fn begin<G: PoolNaming, J: Drop, K: Keeper>(
-    alloc: Global,
-    unopened: Unopened,
-    config: Config,
-) -> Result<(PoolLock<G, J, K>, Glance<G>, Pass<G>), PoolError>
-    requires named { unopened ≡ record { ledger = G.name; parts = G.parts; table = G.table } }
-    requires settings { config ≡ G.config }
-    ensures pass { IfOk result (λ r. r.2 ≡ record { number = 0; amount = 0; front = []; keeps = K.RECEIPTS; receipts = []; room = r.2.room }) }
-    ensures good { OnOk result (IsConfig config) }
-    ensures refused { IfErr result (λ e. (checked config ≡ Err e) ⊎ ((e ≡ PoolError.NoMemory) × IsConfig config)) }
-{
-    let (book, glance, pass) = match Book::open(alloc, unopened, config) {
-        Ok(opened) => opened,
-        Err(error) => return Err(error),
-    };
-    let tasks = if K::RECEIPTS {
-        config.runs() as usize
-    } else {
-        usize::MAX
-    };
-    match Core::new(alloc, book, tasks) {
-        Ok(core) => Ok((PoolLock::new(core), glance, pass)),
-        Err(error) => Err(error),
-    }
-}
-
-// What all threads of a new pool share.
-fn share<G: PoolNaming, J: Drop, E: Drop, K: Keeper>(
-    alloc: Global,
-    core: PoolLock<G, J, K>,
-    glance: Glance<G>,
-    edge: E,
-    policy: PolicyOf<G>,
-) -> Result<Arc<Shared<G, J, E, K>>, AllocError> {
-    let parkers = parkers(alloc)?;
-    let shared = Shared {
-        core,
-        conditions: Conditions::new(),
-        parkers,
-        glance,
-        edge,
-        policy,
-        alloc,
-    };
-    match Arc::new(alloc, shared) {
-        Ok(shared) => Ok(shared),
-        Err(_) => Err(AllocError),
-    }
-}
-
-// A place to sleep for the worker of each slot.
-fn parkers(alloc: Global) -> Result<Vec<Parker>, AllocError> {
-    let mut parkers = Vec::new(alloc);
-    parkers.resize_with(MAX_WORKERS as usize, Parker::new)?;
-    Ok(parkers)
 }

@@ -5,7 +5,6 @@ ghost use Rattle.tp_record.specs.Step.{Legal};
 ghost use Rattle.tp_locked.specs.Passes.{AddsNone, IsRefusal, LooksOnly, Refuses, entry_of};
 ghost use Rattle.tp_pool.specs.Prestarts.{is_live as is_live_opening, AddsPrestart, AddsStarts, IsRefusedMore, IsServed};
 
-use crate::edges::Edge;
 use crate::pool::PoolOf;
 use std::sync::Wait;
 use std::thread::Threads;
@@ -15,6 +14,7 @@ use tp_locked::names::PoolNaming;
 use tp_machine::machine::releases::Keeper;
 use tp_machine::typed::settings::{Core, Prestart};
 use tp_record::entries::{Ask, Did, Opened};
+use tp_shared::edges::Edge;
 use tp_types::ids::SlotId;
 use tp_types::limits::MAX_WORKERS;
 use tp_types::refusals::PoolError;

@@ -13,7 +13,6 @@ ghost use Rattle.tp_locked.specs.Moments.{AtFront, AtSome, BookAt, BookAtSome};
 ghost use Rattle.tp_locked.specs.Passes.{LooksOnly};
 ghost use Rattle.tp_locked.specs.declared.tasks.Task.{Task};
 
-use crate::edges::Edge;
 use crate::pool::PoolOf;
 use std::sync::Wait;
 use tp_book::passes::Pass;
@@ -22,6 +21,7 @@ use tp_callbacks::jobs::Job;
 use tp_locked::locked::Core;
 use tp_locked::names::PoolNaming;
 use tp_machine::machine::releases::Keeper;
+use tp_shared::edges::Edge;
 use tp_types::ids::{SlotId, TaskId};
 use tp_types::refusals::PoolError;
 use tp_types::states::{Counts, RunState};
@@ -66,7 +66,7 @@ impl<G: PoolNaming, J: Job, E: Edge, K: Keeper> PoolOf<G, J, E, K> {
         let shared = self.shared();
         let mut core = shared.hold(rt);
         core.law_is_book();
-        let state = core.show(&shared.glance, pass);
+        let state = core.show(&shared.around.glance, pass);
         reading_of(&core, state)
     }
 
@@ -79,7 +79,7 @@ impl<G: PoolNaming, J: Job, E: Edge, K: Keeper> PoolOf<G, J, E, K> {
         let shared = self.shared();
         let mut core = shared.hold(rt);
         core.law_is_book();
-        let state = core.show_sight(&shared.glance, sight);
+        let state = core.show_sight(&shared.around.glance, sight);
         reading_of(&core, state)
     }
 
@@ -88,7 +88,7 @@ impl<G: PoolNaming, J: Job, E: Edge, K: Keeper> PoolOf<G, J, E, K> {
         ensures begins { result ≡ pass.old.front }
         ensures same { pass.new ≡ pass.old }
     {
-        pass.sight(&self.shared().glance)
+        pass.sight(&self.shared().around.glance)
     }
 
     /// The run state, as the record has it. `glance` answers without the lock.
@@ -172,7 +172,7 @@ impl<G: PoolNaming, J: Job, E: Edge, K: Keeper> PoolOf<G, J, E, K> {
         ensures looks { LooksOnly (K.terms G.config) pass.old pass.new }
     {
         let shared = self.shared();
-        shared.hold(rt).show_result(t, &shared.glance, pass)
+        shared.hold(rt).show_result(t, &shared.around.glance, pass)
     }
 
     /// The record's length, in entries.

@@ -2,7 +2,6 @@
 ghost use Rattle.std.specs.Prelude.{◌≡◌};
 
 use crate::closing::CloseFault;
-use crate::handles::CloseOneFault;
 use std::error::Error;
 use std::fmt;
 use tp_locked::names::PoolNaming;
@@ -10,51 +9,27 @@ use tp_machine::machine::releases::Keeper;
 use tp_types::refusals::PoolError;
 
 /// The refusal alone: the pool and the passes are dropped, and what workers it has run on until the process ends.
-impl<G: PoolNaming, J: Drop, E: Drop, K: Keeper> From<CloseFault<G, J, E, K>> for PoolError {
+impl<G: PoolNaming, J: Drop, E: Drop, K: Keeper, P: Drop> From<CloseFault<G, J, E, K, P>>
+    for PoolError {
     ghost from_gives = { λ fault e. e ≡ fault.error };
 
-    fn from(fault: CloseFault<G, J, E, K>) -> PoolError {
-        fault.error
-    }
-}
-
-/// The refusal alone: the pool and the pass are dropped, and what workers it has run on until the process ends.
-impl<G: PoolNaming, J: Drop, E: Drop, K: Keeper> From<CloseOneFault<G, J, E, K>> for PoolError {
-    ghost from_gives = { λ fault e. e ≡ fault.error };
-
-    fn from(fault: CloseOneFault<G, J, E, K>) -> PoolError {
+    fn from(fault: CloseFault<G, J, E, K, P>) -> PoolError {
         fault.error
     }
 }
 
 /// Prints the refusal.
-impl<G: PoolNaming, J, E, K: Keeper> fmt::Display for CloseFault<G, J, E, K> {
+impl<G: PoolNaming, J, E, K: Keeper, P> fmt::Display for CloseFault<G, J, E, K, P> {
     fn fmt<W: fmt::Write>(&self, f: &mut fmt::Formatter<W>) -> fmt::Result {
         write!(f, "{}", self.error)
     }
 }
 
 /// Prints the refusal, as `Display`.
-impl<G: PoolNaming, J, E, K: Keeper> fmt::Debug for CloseFault<G, J, E, K> {
+impl<G: PoolNaming, J, E, K: Keeper, P> fmt::Debug for CloseFault<G, J, E, K, P> {
     fn fmt<W: fmt::Write>(&self, f: &mut fmt::Formatter<W>) -> fmt::Result {
         write!(f, "{}", self.error)
     }
 }
 
-impl<G: PoolNaming, J: Drop, E: Drop, K: Keeper> Error for CloseFault<G, J, E, K> {}
-
-/// Prints the refusal.
-impl<G: PoolNaming, J, E, K: Keeper> fmt::Display for CloseOneFault<G, J, E, K> {
-    fn fmt<W: fmt::Write>(&self, f: &mut fmt::Formatter<W>) -> fmt::Result {
-        write!(f, "{}", self.error)
-    }
-}
-
-/// Prints the refusal, as `Display`.
-impl<G: PoolNaming, J, E, K: Keeper> fmt::Debug for CloseOneFault<G, J, E, K> {
-    fn fmt<W: fmt::Write>(&self, f: &mut fmt::Formatter<W>) -> fmt::Result {
-        write!(f, "{}", self.error)
-    }
-}
-
-impl<G: PoolNaming, J: Drop, E: Drop, K: Keeper> Error for CloseOneFault<G, J, E, K> {}
+impl<G: PoolNaming, J: Drop, E: Drop, K: Keeper, P: Drop> Error for CloseFault<G, J, E, K, P> {}

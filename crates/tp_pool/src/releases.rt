@@ -6,7 +6,6 @@ ghost use Rattle.tp_book.specs.BookView.{BookView, EachLeft, Forgets};
 ghost use Rattle.tp_locked.specs.Moments.{BookAt};
 ghost use Rattle.tp_locked.specs.declared.tasks.Task.{Task};
 
-use crate::edges::Edge;
 use crate::pool::PoolOf;
 use std::sync::Wait;
 use tp_book::passes::Pass;
@@ -15,6 +14,7 @@ use tp_glance::glance::Glance;
 use tp_locked::locked::Core;
 use tp_locked::names::PoolNaming;
 use tp_record::recorders::{Recorder, Tally};
+use tp_shared::edges::Edge;
 use tp_types::ids::TaskId;
 use tp_types::refusals::PoolError;
 
@@ -51,7 +51,7 @@ impl<G: PoolNaming, J: Job, E: Edge> PoolOf<G, J, E, Tally> {
     {
         let shared = self.shared();
         let mut held = shared.hold(rt);
-        release_in(&mut held, t, &shared.glance, pass)
+        release_in(&mut held, t, &shared.around.glance, pass)
     }
 
     /// How many tasks are kept: those that were submitted and not released.

@@ -8,7 +8,6 @@ ghost use Rattle.tp_locked.specs.Moments.{AtFront, AtSome, BookAtSome};
 ghost use Rattle.tp_locked.specs.declared.tasks.Task.{Task};
 ghost use Rattle.tp_pool.specs.Snapshots.{IsSnapshot};
 
-use crate::edges::Edge;
 use crate::pool::PoolOf;
 use std::alloc::Global;
 use std::fmt;
@@ -21,6 +20,7 @@ use tp_locked::locked::Core;
 use tp_locked::names::PoolNaming;
 use tp_machine::machine::releases::Keeper;
 use tp_record::entries::Entry;
+use tp_shared::edges::Edge;
 use tp_types::refusals::PoolError;
 use tp_types::states::{Counts, RunState};
 
@@ -137,7 +137,7 @@ impl<G: PoolNaming, J: Job, E: Edge, K: Keeper> PoolOf<G, J, E, K> {
     {
         let shared = self.shared();
         let mut held = shared.hold(rt);
-        snapshot_shown(&mut held, &shared.glance, sight, alloc)
+        snapshot_shown(&mut held, &shared.around.glance, sight, alloc)
     }
 }
 
@@ -175,7 +175,7 @@ impl<G: PoolNaming, J: Job, E: Edge> PoolOf<G, J, E> {
         let shared = self.shared();
         let mut held = shared.hold(rt);
         held.law_is_book();
-        held.show_sight(&shared.glance, sight);
+        held.show_sight(&shared.around.glance, sight);
         held.record_since(alloc, n)
     }
 }

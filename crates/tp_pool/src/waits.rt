@@ -1,21 +1,19 @@
 //! The wait for a pool's end, with a deadline or with none.
-ghost use Rattle.std.specs.Prelude.{◌≡◌, ◌⊎◌, ◌<◌, ◌≤◌, [], ◌∷◌, true, IfErr, OnOk};
+ghost use Rattle.std.specs.Prelude.{◌≡◌, ◌⊎◌, ◌<◌, [], ◌∷◌, true, IfErr, OnOk};
 ghost use Rattle.tp_record.specs.Fields.{rank};
 ghost use Rattle.tp_locked.specs.Moments.{AtFront};
 ghost use Rattle.tp_locked.specs.Passes.{Adds, AddsNone, tidied, ended};
 ghost use Rattle.tp_locked.specs.Readings.{has_come};
-ghost use Rattle.tp_pool.specs.Endings.{IsBarred};
+ghost use Rattle.tp_shared.specs.Endings.{IsBarred};
 
-use crate::edges::Edge;
 use crate::pool::PoolOf;
-use crate::shared::Shared;
 use std::sync::Wait;
 use tp_book::passes::Pass;
 use tp_callbacks::jobs::Job;
-use tp_locked::locked::Look;
 use tp_locked::names::PoolNaming;
 use tp_machine::machine::releases::Keeper;
 use tp_record::entries::Ask;
+use tp_shared::edges::Edge;
 use tp_types::refusals::PoolError;
 
 impl<G: PoolNaming, J: Job, E: Edge, K: Keeper> PoolOf<G, J, E, K> {
@@ -35,35 +33,9 @@ impl<G: PoolNaming, J: Job, E: Edge, K: Keeper> PoolOf<G, J, E, K> {
             ⊎ ((e ≡ PoolError.TimedOut) × Adds (K.terms G.config) pass.old [] pass.new)
             ⊎ ((e ≡ PoolError.TornRecord) × IsBarred (K.terms G.config) pass.new.front Ask.Ended × Adds (K.terms G.config) pass.old (tidied pass.old.number ∷ []) pass.new)) }
     {
-        if let Some(deadline) = deadline {
-            return self.await_termination(rt, deadline, pass);
-        }
         if let Err(error) = pass.reserve(2) {
             return Err(error);
         }
-        self.shared().await_end_on(rt, pass)
-    }
-}
-
-impl<G: PoolNaming, J: Drop, E: Edge, K: Keeper> Shared<G, J, E, K> {
-    /// As `await_end`, with no deadline.
-    pub fn await_end_on<R: Wait>(&self, rt: &R, pass: &mut Pass<G>) -> Result<(), PoolError>
-        requires room { 2 ≤ pass.old.room }
-        ensures steps { OnOk result (Adds (K.terms G.config) pass.old [] pass.new ⊎ Adds (K.terms G.config) pass.old (tidied pass.old.number ∷ ended pass.old.number ∷ []) pass.new) }
-        ensures seen { OnOk result (rank pass.new.front ≡ 4) }
-        ensures refused { IfErr result (λ e. (e ≡ PoolError.TornRecord) × IsBarred (K.terms G.config) pass.new.front Ask.Ended × Adds (K.terms G.config) pass.old (tidied pass.old.number ∷ []) pass.new) }
-    {
-        let mut core = self.hold(rt);
-        for _ in rt.forever() {
-            match core.look_on(&self.glance, pass) {
-                Look::Terminated => return Ok(()),
-                Look::Tidied => {
-                    self.release(core);
-                    return self.terminate(rt, pass);
-                }
-                Look::Late | Look::Waits => core = self.conditions.end.wait(rt, core),
-            }
-        }
-        unreachable!()
+        self.shared().await_end(rt, deadline, pass)
     }
 }

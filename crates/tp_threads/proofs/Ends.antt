@@ -16,8 +16,8 @@ use Rattle.tp_book.specs.PassView.{PassView, receipts_with}
 use Rattle.tp_book.specs.Reports.{IsOwn, TellsRecord}
 use Rattle.tp_book.specs.declared.reports.Report.{Report}
 use Rattle.tp_locked.specs.Passes.{Adds, entry_of, tidied, ended}
-use Rattle.tp_pool.specs.Closing.{Reports}
-use Rattle.tp_pool.specs.Endings.{AddsAndEnds, IsBarred, IsEnding}
+use Rattle.tp_shared.specs.Closing.{Reports}
+use Rattle.tp_shared.specs.Endings.{AddsAndEnds, IsBarred, IsEnding}
 use Rattle.tp_locked.proofs.Receipts.{adds_both}
 use Rattle.tp_threads.specs.Runs.{AddsEnd, AddsSubmissions, Asked, IsEnd, IsLife, IsRun}
 

@@ -1,7 +1,7 @@
 //! A pool's whole life: it runs the jobs of a file, with its record or without one.
 ghost use Rattle.std.specs.Prelude.{◌≡◌, [], ◌∷◌, IfOk, IfErr, OnOk};
 ghost use Rattle.tp_book.specs.PassView.{PassView};
-ghost use Rattle.tp_pool.specs.Closing.{Closes};
+ghost use Rattle.tp_shared.specs.Closing.{Closes};
 ghost use Rattle.tp_threads.specs.Runs.{AddsEnd, IsLife, IsRun, IsShort, IsTally, RefusesRun, asked};
 
 use crate::submissions::{Company, submit_all};

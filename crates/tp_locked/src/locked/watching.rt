@@ -1,24 +1,16 @@
-//! What a thread that watches a pool reads in one hold of the lock, and its looks for the end with no deadline.
-ghost use Rattle.std.specs.Prelude.{◌≡◌, ◌≢◌, ◌≤◌, ◌<◌, ◌+◌, length, drop, reverse, IfOk, IfErr, IsTrue};
-ghost use Rattle.tp_record.specs.Fields.{rank};
-ghost use Rattle.tp_parts.specs.Payloads.{Keeps};
-ghost use Rattle.tp_book.specs.BookView.{state_of, IsDenied, IsUnmoved};
-ghost use Rattle.tp_locked.specs.Holds.{Holds};
-ghost use Rattle.tp_locked.specs.Passes.{AddsStep, LooksOnly};
+//! What a thread that watches a pool reads in one hold of the lock.
+ghost use Rattle.std.specs.Prelude.{◌≡◌, drop, reverse, IfOk, IfErr};
+ghost use Rattle.tp_book.specs.BookView.{state_of};
 ghost use Rattle.tp_locked.specs.Watched.{AreBusy};
 
-use super::{Core, Look};
+use super::Core;
 use crate::names::PoolNaming;
 use std::alloc::Global;
-use tp_book::passes::Pass;
-use tp_glance::glance::Glance;
 use tp_machine::machine::releases::Keeper;
-use tp_machine::typed::controllers::Tidy;
-use tp_record::entries::{Ask, Did, Entry};
+use tp_record::entries::Entry;
 use tp_types::ids::{SlotId, TaskId};
 use tp_types::limits::MAX_WORKERS;
 use tp_types::refusals::PoolError;
-use tp_types::states::RunState;
 
 /// A slot that has a task.
 #[derive(Clone, Copy, Debug, PartialEq, Eq)]
@@ -45,34 +37,6 @@ impl<G: PoolNaming, J: Drop, R: Keeper> Core<G, J, R> {
             }
         }
         Ok(busy)
-    }
-
-    /// As `look`, with no deadline: the answer is never `Look::Late`.
-    pub fn look_on(&mut self, glance: &Glance<G>, pass: &mut Pass<G>) -> Look
-        requires room { 0 < pass.old.room }
-        ensures terminated { result ≡ Look.Terminated → rank pass.new.front ≡ 4 }
-        ensures never { result ≢ Look.Late }
-        ensures unended { result ≡ Look.Waits → ¬ ((state_of self.old.book).rank ≡ 4) }
-        ensures untidy { result ≡ Look.Waits → (e : PoolError) × IsDenied R.RECEIPTS self.old.book Ask.Tidy e }
-        ensures awaits { result ≡ Look.Waits → IsTrue self.new.waking.awaited.end }
-        ensures holds { result ≡ Look.Tidied → Holds R.RECEIPTS self.old self.new pass.old.number Ask.Tidy Did.Tidy Keeps }
-        ensures tidied { result ≡ Look.Tidied → AddsStep (R.terms G.config) pass.old Ask.Tidy Did.Tidy pass.new }
-        ensures left { result ≡ Look.Tidied → pass.old.room ≤ pass.new.room + 1 }
-        ensures others { result ≢ Look.Tidied → LooksOnly (R.terms G.config) pass.old pass.new }
-        ensures asleep { result ≢ Look.Tidied → self.new.waking ≡ record self.old.waking { awaited = self.new.waking.awaited } }
-        ensures unmoved { result ≢ Look.Tidied → IsUnmoved self.old.book self.new.book }
-        ensures threads { self.new.roster ≡ self.old.roster }
-    {
-        self.law_is_book();
-        if self.show(glance, pass) == RunState::Terminated {
-            return Look::Terminated;
-        }
-        match self.ask(Tidy, glance, pass) {
-            Ok(()) => return Look::Tidied,
-            Err(_) => {}
-        }
-        self.waking.await_end();
-        Look::Waits
     }
 }
 

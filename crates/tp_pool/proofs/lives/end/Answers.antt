@@ -2,7 +2,7 @@ use Rattle.std.proofs.Common.{ap, ◌∙◌, subst}
 use Rattle.tp_record.specs.Fields.{rank}
 use Rattle.tp_locked.specs.Closing.{KeepsOpen}
 use Rattle.tp_locked.specs.declared.tasks.Task.{Task}
-use Rattle.tp_pool.specs.Closing.{Reports}
+use Rattle.tp_shared.specs.Closing.{Reports}
 use Rattle.tp_pool.proofs.Cuts.{cut}
 use Rattle.tp_pool.proofs.lives.end.Goals as goal
 

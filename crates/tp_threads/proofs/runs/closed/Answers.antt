@@ -1,6 +1,6 @@
 use Rattle.std.proofs.Common.{◌≡◌, true, not, ap, subst, ◌∙◌}
 use Rattle.std.specs.Result.{is_ok}
-use Rattle.tp_pool.specs.Closing.{Closes}
+use Rattle.tp_shared.specs.Closing.{Closes}
 use Rattle.tp_threads.proofs.Ends.{one_pass}
 use Rattle.tp_threads.proofs.runs.closed.Goals as goal
 

@@ -3,11 +3,14 @@ use Rattle.std.specs.Prelude.{ℕ, Some}
 use Rattle.tp_types.specs.declared.configs.Verdict.{Verdict}
 use Rattle.tp_types.specs.declared.ids.TaskId.{TaskId}
 use Rattle.tp_types.specs.declared.tasks.Kind.{Kind}
+use Rattle.tp_record.specs.declared.entries.Ask.TheVariants as ask
 use Rattle.tp_record.specs.declared.entries.Did.TheVariants as did
 use Rattle.tp_record.specs.declared.entries.Looked.{Looked}
 use Rattle.tp_record.specs.declared.entries.Ruled.TheVariants as ruled
+use Rattle.tp_parts.specs.Payloads.{PutsIn}
 use Rattle.tp_paths.specs.Fronts.{admission_of, follow_of}
-use Rattle.tp_pool.proofs.Returned.{unrejected}
+use Rattle.tp_locked.specs.Steps.{Makes}
+use Rattle.tp_shared.proofs.Returned.{unrejected}
 use Rattle.tp_pool.proofs.Walks.{Walk, begun, walked, taken_on, admits_at, rejects_at, torn_off}
 use Rattle.tp_pool.proofs.pool.PoolOf.submit.Goals as goal
 
@@ -17,13 +20,16 @@ submitted_otherwise is = absurd (cc)
 pub loop-init : goal.loop-init
 loop-init g c =
     let t = c.in-Ok.submitted.0 in
+    let look = c.in-Ok.submitted.1 in
     let got = c.in-Ok.ensures.makes in
     let job = c.args.job in
-    let promise = g.J.Job.promised job in (
+    let promise = g.J.Job.promised job in
+    let makes = subst (λ p. Makes g.row.J.Denot (g.K.Recorder.terms g.G.PoolNaming.config) c.args.pass.now.number c.args.pass.now.front (ask.Submit c.args.kind c.args.priority) (did.Submit t c.args.kind c.args.priority look)
+    (λ old new. PutsIn old new t.0 p got.0) c.submit.new.pass.front) c.promise-promise.ensures got.2 in (
       subst (λ f. Walk (g.K.Recorder.terms g.G.PoolNaming.config) c.args.kind c.args.priority job promise t.0 c.args.pass.now f 1 c.submit.new.pass) (sym c.follows-next.ensures)
-          (begun (g.K.Recorder.terms g.G.PoolNaming.config) c.args.kind c.args.priority job promise c.law_fronts_are_paths.ensures.begins t c.in-Ok.submitted.1 c.args.pass.now c.submit.new.pass got.0 got.1
-          got.2 c.in-Ok.ensures.step c.requires.room c.in-Ok.ensures.left),
-      λ rejected. absurd (unrejected t.0 (did.Submit t c.args.kind c.args.priority c.in-Ok.submitted.1) (λ u v. submitted_otherwise) (sym c.follows-next.ensures ∙ rejected)),
+          (begun (g.K.Recorder.terms g.G.PoolNaming.config) c.args.kind c.args.priority job promise c.law_fronts_are_paths.ensures.begins t look c.args.pass.now c.submit.new.pass got.0 got.1
+          makes c.in-Ok.ensures.step c.requires.room c.in-Ok.ensures.left),
+      λ rejected. absurd (unrejected t.0 (did.Submit t c.args.kind c.args.priority look) (λ u v. submitted_otherwise) (sym c.follows-next.ensures ∙ rejected)),
     )
 
 pub loop-preserved : goal.loop-preserved

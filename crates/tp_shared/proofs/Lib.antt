@@ -1,0 +1,5 @@
+pub mod Asked
+pub mod Ends
+pub mod Left
+pub mod Refusals
+pub mod Returned

@@ -1,0 +1,32 @@
+-- What the steps of a submission come to, each by itself.
+use Rattle.std.specs.Prelude.{ℕ, Bool, ◌≡◌, List, Option}
+use Rattle.tp_types.specs.declared.configs.Config.{Config}
+use Rattle.tp_types.specs.declared.configs.Verdict.{Verdict}
+use Rattle.tp_types.specs.declared.ids.TaskId.{TaskId}
+use Rattle.tp_types.specs.declared.refusals.PoolError.{PoolError}
+use Rattle.tp_record.specs.declared.entries.Ask.{Ask}
+use Rattle.tp_record.specs.declared.entries.Ask.TheVariants as ask
+use Rattle.tp_record.specs.declared.entries.Did.{Did}
+use Rattle.tp_record.specs.declared.entries.Entry.{Entry}
+use Rattle.tp_record.specs.declared.entries.Ruled.TheVariants as ruled
+use Rattle.tp_parts.specs.Payloads.{HandsOut}
+use Rattle.tp_machine.specs.Answers.{ruled_of}
+use Rattle.tp_glance.specs.Word.{IsFrontOf}
+use Rattle.tp_locked.specs.Passes.{IsRefusal}
+use Rattle.tp_locked.specs.Steps.{Makes}
+use Rattle.tp_locked.specs.declared.tasks.Task.{Task}
+
+-- at this history a pool with these settings refuses this ask, of whose task it may know nothing any more
+abbrev pub IsHalted : Bool → Config → List Entry → Ask → Type 0
+IsHalted keeps c history a = (e : PoolError) × IsRefusal keeps c history a e
+
+-- a verdict of the pass rejected task t, and took this out of the pool's book, where it lay for t: at a history between the two
+pub record TakesOut {J : Type 0} (c : Config) (by t : ℕ) (payload : Option (Task J)) (before after : List Entry) : Type 0 where
+  pub number : TaskId
+  pub is_task : number.0 ≡ t
+  pub verdict : Verdict
+  pub made : Did
+  pub rejects : ruled_of made ≡ ruled.Rejected
+  pub then_history : List Entry
+  pub makes : Makes J c by before (ask.Verdict number verdict) made (λ old new. HandsOut old new t payload) then_history
+  pub goes_on : IsFrontOf then_history after

@@ -1,0 +1,274 @@
+//! The steps of a submission, each in a hold of its own.
+ghost use Rattle.std.specs.Prelude.{true, ◌≡◌, ◌+◌, ◌<◌, ◌≤◌, Some, IfSome, IfNone, IfOk, IfErr, OnSome, OnOk, OnErr, ⊤};
+ghost use Rattle.tp_record.specs.State.{state};
+ghost use Rattle.tp_record.specs.Paths.{Ends, Rejected, follows as what_follows};
+ghost use Rattle.tp_parts.specs.Payloads.{PutsIn};
+ghost use Rattle.tp_locked.specs.Left.{IsLeft};
+ghost use Rattle.tp_locked.specs.Passes.{AddsStep, AddsNone, IsRefusal, LooksOnly, Refuses, opening};
+ghost use Rattle.tp_locked.specs.Steps.{Makes};
+ghost use Rattle.tp_locked.specs.declared.tasks.Task.{Task as TaskOf};
+ghost use Rattle.tp_machine.specs.Answers.{ComesBack};
+ghost use Rattle.tp_shared.specs.Submitting.{IsHalted, TakesOut};
+
+use crate::edges::Edge;
+use crate::shared::{Shared, left_in};
+use std::sync::{MutexGuard, Wait};
+use tp_book::passes::Pass;
+use tp_callbacks::flags::CancelFlag;
+use tp_callbacks::jobs::Job;
+use tp_locked::locked::Core;
+use tp_locked::names::PoolNaming;
+use tp_locked::tasks::Task;
+use tp_machine::machine::releases::Keeper;
+use tp_machine::typed::submitters::{CallerEnd, Grow, Judge, Look, Offer, Second, Submit};
+use tp_machine::typed::workers::Fail;
+use tp_record::entries::{Ask, Did, Looked, Seconded};
+use tp_turns::rescues::Remains;
+use tp_types::configs::Verdict;
+use tp_types::ids::{SlotId, TaskId};
+use tp_types::refusals::PoolError;
+use tp_types::tasks::Outcome;
+
+// What is left to do after a second look: it is looked for only where the task came back.
+#[inline(always)]
+fn left_by_second<G: PoolNaming, J: Drop, K: Keeper>(
+    core: &Core<G, J, K>,
+    answer: &Result<Seconded, PoolError>,
+) -> Remains
+    ensures { answer.now ≡ Ok Seconded.Back → IsLeft (state (K.terms G.config) core.now.book.history) result }
+{
+    match answer {
+        Ok(Seconded::Back) => left_in(core),
+        _ => Remains::Nothing,
+    }
+}
+
+impl<G: PoolNaming, J: Job, E: Edge, K: Keeper> Shared<G, J, E, K> {
+    /// The first step of a submission, in a hold of its own. NoMemory (4) or BookFull (5), with the job.
+    #[inline(always)]
+    pub fn submit<R: Wait>(
+        &self,
+        rt: &R,
+        step: Submit,
+        job: J,
+        pass: &mut Pass<G>,
+    ) -> Result<(TaskId, Looked), (PoolError, J)>
+        requires room { 0 < pass.old.room }
+        ensures makes { IfOk result (λ x. (task : TaskOf J) × (task.job ≡ job) × Makes J (K.terms G.config) pass.old.number pass.old.front (Ask.Submit step.kind step.priority) (Did.Submit x.0 step.kind step.priority x.1) (λ old new. PutsIn old new x.0.0 step.promise task) pass.new.front) }
+        ensures step { IfOk result (λ x. AddsStep (K.terms G.config) pass.old (Ask.Submit step.kind step.priority) (Did.Submit x.0 step.kind step.priority x.1) pass.new) }
+        ensures left { OnOk result (pass.old.room ≤ pass.new.room + 1) }
+        ensures refused { IfErr result (λ r. Refuses true (K.terms G.config) ⊤ pass.new.front (Ask.Submit step.kind step.priority) r.0) }
+        ensures returned { IfErr result (λ r. r.1 ≡ job) }
+        ensures unchanged { OnErr result (AddsNone pass.old pass.new) }
+    {
+        let (mut core, flag) = match self.hold_with_flag(rt) {
+            Ok(held) => held,
+            Err(error) => return Err((error, job)),
+        };
+        let submitted = core.submit(step, Task { job, flag }, &self.around.glance, pass);
+        self.release(core);
+        match submitted {
+            Ok(submitted) => Ok(submitted),
+            Err((error, task)) => Err((error, task.into_job())),
+        }
+    }
+
+    // Takes the lock, with a flag for a task that comes: one that served before, where there is one. Else a new one
+    // is made with no lock held. NoMemory (4).
+    #[inline(always)]
+    fn hold_with_flag<R: Wait>(
+        &self,
+        rt: &R,
+    ) -> Result<(MutexGuard<'_, Core<G, J, K>>, CancelFlag), PoolError>
+        ensures { IfErr result (λ e. e ≡ PoolError.NoMemory) }
+    {
+        let mut core = self.hold(rt);
+        if let Some(flag) = core.take_flag() {
+            return Ok((core, flag));
+        }
+        self.release(core);
+        let flag = CancelFlag::new(self.around.alloc)?;
+        Ok((self.hold(rt), flag))
+    }
+
+    /// The step `look`, after a retry: what it did.
+    #[inline(always)]
+    pub fn look_again<R: Wait>(&self, rt: &R, t: TaskId, pass: &mut Pass<G>) -> Option<Did>
+        requires room { 0 < pass.old.room }
+        ensures step { IfSome result (λ d. AddsStep (K.terms G.config) pass.old (Ask.Look t) d pass.new) }
+        ensures left { OnSome result (pass.old.room ≤ pass.new.room + 1) }
+        ensures refused { IfNone result (IsHalted K.RECEIPTS (K.terms G.config) pass.new.front (Ask.Look t)) }
+        ensures unchanged { IfNone result (LooksOnly (K.terms G.config) pass.old pass.new) }
+    {
+        match self.ask(rt, Look(t), pass) {
+            Ok(answer) => Some(Did::Look(t, answer)),
+            Err(_) => None,
+        }
+    }
+
+    /// The step `offer`: what it did.
+    #[inline(always)]
+    pub fn offer<R: Wait>(&self, rt: &R, t: TaskId, pass: &mut Pass<G>) -> Option<Did>
+        requires room { 0 < pass.old.room }
+        ensures step { IfSome result (λ d. AddsStep (K.terms G.config) pass.old (Ask.Offer t) d pass.new) }
+        ensures left { OnSome result (pass.old.room ≤ pass.new.room + 1) }
+        ensures refused { IfNone result (IsHalted K.RECEIPTS (K.terms G.config) pass.new.front (Ask.Offer t)) }
+        ensures unchanged { IfNone result (LooksOnly (K.terms G.config) pass.old pass.new) }
+    {
+        match self.ask(rt, Offer(t), pass) {
+            Ok(answer) => Some(Did::Offer(t, answer)),
+            Err(_) => None,
+        }
+    }
+
+    /// The step `second`: what it did, and what is left to do where the task came back.
+    #[inline(always)]
+    pub fn second<R: Wait>(&self, rt: &R, t: TaskId, pass: &mut Pass<G>) -> (Option<Did>, Remains)
+        requires room { 0 < pass.old.room }
+        ensures step { IfSome result.0 (λ d. AddsStep (K.terms G.config) pass.old (Ask.Second t) d pass.new) }
+        ensures left { OnSome result.0 (pass.old.room ≤ pass.new.room + 1) }
+        ensures refused { IfNone result.0 (IsHalted K.RECEIPTS (K.terms G.config) pass.new.front (Ask.Second t)) }
+        ensures unchanged { IfNone result.0 (LooksOnly (K.terms G.config) pass.old pass.new) }
+        ensures remains { result.0 ≡ Some (Did.Second t Seconded.Back) → IsLeft (state (K.terms G.config) pass.new.front) result.1 }
+    {
+        let mut core = self.hold(rt);
+        let answer = core.ask(Second(t), &self.around.glance, pass);
+        let remains = left_by_second(&core, &answer);
+        self.release(core);
+        match answer {
+            Ok(answer) => (Some(Did::Second(t, answer)), remains),
+            Err(_) => (None, remains),
+        }
+    }
+
+    /// The step `grow`: what it did.
+    #[inline(always)]
+    pub fn grow<R: Wait>(&self, rt: &R, t: TaskId, pass: &mut Pass<G>) -> Option<Did>
+        requires room { 0 < pass.old.room }
+        ensures step { IfSome result (λ d. AddsStep (K.terms G.config) pass.old (Ask.Grow t) d pass.new) }
+        ensures left { OnSome result (pass.old.room ≤ pass.new.room + 1) }
+        ensures refused { IfNone result (IsHalted K.RECEIPTS (K.terms G.config) pass.new.front (Ask.Grow t)) }
+        ensures unchanged { IfNone result (LooksOnly (K.terms G.config) pass.old pass.new) }
+    {
+        match self.ask(rt, Grow(t), pass) {
+            Ok(answer) => Some(Did::Grow(t, answer)),
+            Err(_) => None,
+        }
+    }
+
+    /// The step `verdict`: what it did, and what is left to do. A task that its submitter is to run, or that is
+    /// gone, is handed out unless it was cancelled.
+    pub fn judge<R: Wait>(
+        &self,
+        rt: &R,
+        t: TaskId,
+        verdict: Verdict,
+        held: &mut Option<Task<J>>,
+        pass: &mut Pass<G>,
+    ) -> (Option<Did>, Remains)
+        requires room { 0 < pass.old.room }
+        ensures step { IfSome result.0 (λ d. AddsStep (K.terms G.config) pass.old (Ask.Verdict t verdict) d pass.new) }
+        ensures left { OnSome result.0 (pass.old.room ≤ pass.new.room + 1) }
+        ensures refused { IfNone result.0 (IsHalted K.RECEIPTS (K.terms G.config) pass.new.front (Ask.Verdict t verdict)) }
+        ensures returned { IfSome result.0 (λ d. what_follows t.0 d ≡ Ends Rejected → ComesBack t.0 held.new pass.new.front × TakesOut (K.terms G.config) pass.old.number t.0 held.new pass.old.front pass.new.front) }
+        ensures unchanged { IfNone result.0 (LooksOnly (K.terms G.config) pass.old pass.new) }
+        ensures remains { IsLeft (state (K.terms G.config) pass.new.front) result.1 }
+    {
+        let (judged, remains) = self.ask_left(rt, Judge(t, verdict), pass);
+        match judged {
+            Ok(judged) => {
+                *held = judged.payload;
+                (Some(judged.did), remains)
+            }
+            Err(_) => (None, remains),
+        }
+    }
+
+    /// The step `callerend`: what it did.
+    pub fn end_here<R: Wait>(
+        &self,
+        rt: &R,
+        t: TaskId,
+        outcome: Outcome,
+        pass: &mut Pass<G>,
+    ) -> Option<Did>
+        requires room { 0 < pass.old.room }
+        ensures step { IfSome result (λ d. AddsStep (K.terms G.config) pass.old (Ask.CallerEnd t outcome) d pass.new) }
+        ensures left { OnSome result (pass.old.room ≤ pass.new.room + 1) }
+        ensures unchanged { IfNone result (LooksOnly (K.terms G.config) pass.old pass.new) }
+    {
+        match self.ask(rt, CallerEnd(t, outcome), pass) {
+            Ok(()) => Some(Did::CallerEnd(t, outcome)),
+            Err(_) => None,
+        }
+    }
+
+    /// Tells, in a hold of its own, whether a worker was made for this slot, and wakes the threads that are
+    /// to hear of it. What it did, and what is left to do then.
+    pub fn open<R: Wait>(
+        &self,
+        rt: &R,
+        w: SlotId,
+        staffed: bool,
+        pass: &mut Pass<G>,
+    ) -> (Result<Did, PoolError>, Remains)
+        requires room { 0 < pass.old.room }
+        ensures step { IfOk result.0 (λ d. AddsStep (K.terms G.config) pass.old (opening w staffed) d pass.new) }
+        ensures left { OnOk result.0 (pass.old.room ≤ pass.new.room + 1) }
+        ensures refused { IfErr result.0 (IsRefusal true (K.terms G.config) pass.new.front (opening w staffed)) }
+        ensures unchanged { OnErr result.0 (LooksOnly (K.terms G.config) pass.old pass.new) }
+        ensures remains { IsLeft (state (K.terms G.config) pass.new.front) result.1 }
+    {
+        if staffed {
+            self.open_live(rt, w, pass)
+        } else {
+            self.fail(rt, w, pass)
+        }
+    }
+
+    // The step `open`: what it did, and what is left to do.
+    fn open_live<R: Wait>(
+        &self,
+        rt: &R,
+        w: SlotId,
+        pass: &mut Pass<G>,
+    ) -> (Result<Did, PoolError>, Remains)
+        requires room { 0 < pass.old.room }
+        ensures step { IfOk result.0 (λ d. AddsStep (K.terms G.config) pass.old (Ask.Open w) d pass.new) }
+        ensures left { OnOk result.0 (pass.old.room ≤ pass.new.room + 1) }
+        ensures refused { IfErr result.0 (IsRefusal true (K.terms G.config) pass.new.front (Ask.Open w)) }
+        ensures unchanged { OnErr result.0 (LooksOnly (K.terms G.config) pass.old pass.new) }
+        ensures remains { IsLeft (state (K.terms G.config) pass.new.front) result.1 }
+    {
+        let mut core = self.hold(rt);
+        let opened = core.open(w, &self.around.glance, pass);
+        let remains = left_in(&core);
+        self.release(core);
+        self.around.conditions.begun.notify_all();
+        match opened {
+            Ok(opened) => (Ok(Did::Open(w, opened)), remains),
+            Err(error) => (Err(error), remains),
+        }
+    }
+
+    // The step `fail`: what it did, and what is left to do.
+    fn fail<R: Wait>(
+        &self,
+        rt: &R,
+        w: SlotId,
+        pass: &mut Pass<G>,
+    ) -> (Result<Did, PoolError>, Remains)
+        requires room { 0 < pass.old.room }
+        ensures step { IfOk result.0 (λ d. AddsStep (K.terms G.config) pass.old (Ask.Fail w) d pass.new) }
+        ensures left { OnOk result.0 (pass.old.room ≤ pass.new.room + 1) }
+        ensures refused { IfErr result.0 (IsRefusal true (K.terms G.config) pass.new.front (Ask.Fail w)) }
+        ensures unchanged { OnErr result.0 (LooksOnly (K.terms G.config) pass.old pass.new) }
+        ensures remains { IsLeft (state (K.terms G.config) pass.new.front) result.1 }
+    {
+        let (failed, remains) = self.ask_left(rt, Fail(w), pass);
+        match failed {
+            Ok(failed) => (Ok(Did::Fail(w, failed)), remains),
+            Err(error) => (Err(error), remains),
+        }
+    }
+}

@@ -1,0 +1,402 @@
+//! A worker's thread: its turns, and its end.
+ghost use Rattle.std.specs.Prelude.{◌≡◌, IfSome, IfNone};
+ghost use Rattle.tp_record.specs.State.{state};
+ghost use Rattle.tp_turns.specs.Turns.{told};
+ghost use Rattle.tp_locked.specs.Steps.{taking_of, begun_of, departed_of, IsEndOf};
+ghost use Rattle.tp_shared.specs.Deeds.{Takes, BeginsAt, Ends, Leaves, EndsPool};
+
+use crate::edges::Edge;
+use crate::lock::rest;
+use crate::shared::Shared;
+use std::sync::{Arc, Wait};
+use std::thread::{Threads, yield_now};
+use tp_book::passes::WorkerPass;
+use tp_callbacks::flags::CancelFlag;
+use tp_callbacks::gates::Point;
+use tp_callbacks::jobs::Job;
+use tp_locked::locked::Taking;
+use tp_locked::names::PoolNaming;
+use tp_locked::roster::Start;
+use tp_locked::tasks::Task;
+use tp_machine::answers::Begun as Started;
+use tp_machine::machine::releases::Keeper;
+use tp_machine::typed::controllers;
+use tp_machine::typed::workers::{Begin, End, Leave};
+use tp_record::recorders::Full;
+use tp_turns::deeds::{Departed, Ended, Taken};
+use tp_turns::turns::{Begun, Workplace, one_turn};
+use tp_types::ids::{SlotId, TaskId};
+use tp_types::tasks::Outcome;
+
+// A worker that is listed looks whether it was called before it parks, where the next task may come soon: so often, with
+// a pause before each look.
+const DOZES: u32 = 8;
+
+// That pause, in turns of `spin_loop`.
+const DOZE: u32 = 1_000;
+
+// So many tasks in a row, found without a wait, are a stream.
+const STREAM: u32 = 64;
+
+// After so many waits in a row with no stream between them a worker gives way all the same.
+const WAITS: u32 = 64;
+
+// How a worker's tasks came of late, by which it waits for the next one.
+//
+// A worker that is woken often runs on the processor of the thread that woke it, and that thread waits for it. If it
+// parked then, it would be woken for each task by itself. Where it gives way instead, its waker goes on, and the worker
+// finds many tasks. But a thread that gives way also gives way to all others on its processor, for milliseconds where
+// these never sleep. So it does so after a stream of tasks, and else rarely, to find out whether one comes.
+#[derive(Drop)]
+struct Pace {
+    // Whether it has parked since its last task.
+    parked: bool,
+    // Whether that task came with no park before it: then the next one may come soon too.
+    soon: bool,
+    // How many came since its last wait.
+    streak: u32,
+    // How often it has waited since it gave way last.
+    waits: u32,
+    // Whether it is to give way first in its wait.
+    gives_way: bool,
+    // So many short pauses come next in its wait, before it parks.
+    dozes: u32,
+}
+
+// What a worker does before it looks whether it was called.
+#[derive(Clone, Copy)]
+enum Pause {
+    GiveWay,
+    Doze,
+    Park,
+}
+
+impl Pace {
+    // Of a worker that had no task yet.
+    fn new() -> Pace {
+        Pace {
+            parked: false,
+            soon: false,
+            streak: 0,
+            waits: 0,
+            gives_way: false,
+            dozes: 0,
+        }
+    }
+
+    // A task has come.
+    #[inline(always)]
+    fn found(&mut self) {
+        self.soon = !self.parked;
+        self.parked = false;
+        self.streak = self.streak.saturating_add(1);
+    }
+
+    // A wait begins.
+    fn begin_wait(&mut self) {
+        self.gives_way = self.streak >= STREAM || self.waits >= WAITS;
+        self.streak = 0;
+        self.waits = if self.gives_way {
+            0
+        } else {
+            self.waits.saturating_add(1)
+        };
+        self.dozes = if self.soon && !self.parked { DOZES } else { 0 };
+    }
+
+    // The next pause of the wait.
+    fn next_pause(&mut self) -> Pause {
+        if self.gives_way {
+            self.gives_way = false;
+            return Pause::GiveWay;
+        }
+        if let Some(left) = self.dozes.checked_sub(1) {
+            self.dozes = left;
+            return Pause::Doze;
+        }
+        self.parked = true;
+        Pause::Park
+    }
+}
+
+/// A worker at its slot.
+#[derive(Drop)]
+pub struct Post<G: PoolNaming, J, E, K: Keeper = Full> {
+    shared: Arc<Shared<G, J, E, K>>,
+    w: SlotId,
+    pass: WorkerPass<G>,
+    // The slot that is reserved in its place, once it has left.
+    heir: Option<SlotId>,
+    // The flag of the job that it ran last, until the pool has it back.
+    flag: Option<CancelFlag>,
+    // How its tasks came of late.
+    pace: Pace,
+}
+
+impl<
+    G: PoolNaming + Send + Sync + 'static,
+    J: Job + 'static,
+    E: Edge + Send + Sync + 'static,
+    K: Keeper + Send + 'static,
+    R: Threads + Wait + Copy + Send + 'static,
+> Workplace<J, R> for Post<G, J, E, K> {
+    ghost use Rattle.std.specs.Prelude.{◌≡◌};
+    ghost use Rattle.tp_shared.specs.Deeds.{IsDone, heir_after};
+
+    ghost did = { λ old d new. (new.w ≡ old.w) × (new.pass.number ≡ old.pass.number) × (new.heir ≡ heir_after old.heir d.0) × IsDone J K.RECEIPTS (K.terms G.config) old.w old.pass.number old.pass.front new.pass.front old.heir d.0 d.1 };
+
+    ghost owes = { λ _ _. Unit {0} };
+
+    fn pass(&mut self, p: Point) {
+        self.shared.around.edge.pass(p, self.w);
+    }
+
+    fn take(&mut self, rt: &R) -> Taken {
+        let mut taking = self.shared.take(rt, self.w, &mut self.pass);
+        for _ in rt.forever() {
+            match taking {
+                Taking::Task => {
+                    self.pace.found();
+                    return Taken::Task;
+                }
+                Taking::Left => return Taken::Left,
+                Taking::Refused => return Taken::Refused,
+                Taking::Sleeps => {
+                    taking = (self.shared).sleep(rt, self.w, &mut self.pace, &mut self.pass);
+                }
+            }
+        }
+        unreachable!()
+    }
+
+    fn begin(&mut self, rt: &R) -> Begun<J> {
+        self.shared.begin(rt, self.w, &mut self.pass)
+    }
+
+    fn before(&mut self, rt: &R, t: TaskId) {
+        self.shared.around.edge.before(rt, self.w, t);
+    }
+
+    fn run(&mut self, job: J, flag: CancelFlag) -> Outcome {
+        let mut job = job;
+        let outcome = job.call(&flag);
+        self.flag = Some(flag);
+        outcome
+    }
+
+    fn after(&mut self, rt: &R, t: TaskId, outcome: Option<Outcome>) {
+        self.shared
+            .around
+            .edge
+            .after(rt, self.w, t, outcome.as_ref());
+    }
+
+    fn end(&mut self, rt: &R, outcome: Outcome) -> Ended {
+        let flag = self.flag.take();
+        self.shared.end(rt, self.w, outcome, flag, &mut self.pass)
+    }
+
+    fn leave(&mut self, rt: &R) -> Departed {
+        self.shared.leave(rt, self.w, &mut self.pass)
+    }
+
+    // The turn ends here. Its thread has the other worker made right after it, and then does what is left, so
+    // that no turn starts a thread that makes turns.
+    fn replace(&mut self, _rt: &R, w: SlotId) {
+        self.heir = Some(w);
+    }
+
+    fn tidy(&mut self, rt: &R) {
+        if self.heir.is_none() {
+            self.shared.try_end_as_worker(rt, &mut self.pass);
+        }
+    }
+}
+
+impl<
+    G: PoolNaming + Send + Sync + 'static,
+    J: Job + 'static,
+    E: Edge + Send + Sync + 'static,
+    K: Keeper + Send + 'static,
+> Post<G, J, E, K> {
+    /// A worker that is yet to hear of its slot.
+    pub fn new(
+        shared: Arc<Shared<G, J, E, K>>,
+        w: SlotId,
+        pass: WorkerPass<G>,
+    ) -> Post<G, J, E, K> {
+        Post {
+            shared,
+            w,
+            pass,
+            heir: None,
+            flag: None,
+            pace: Pace::new(),
+        }
+    }
+
+    /// Makes its turns, once its slot is live, and answers the slot that is reserved in its place, where one
+    /// is.
+    pub fn work<R: Threads + Wait + Copy + Send + 'static>(&mut self, rt: &R) -> Option<SlotId> {
+        if !self.shared.await_start(rt, self.w, &self.pass) {
+            return None;
+        }
+        for _ in rt.forever() {
+            if !one_turn(rt, self).goes_on() {
+                return self.heir;
+            }
+        }
+        unreachable!()
+    }
+
+    /// Its pool and its pass, once its turns are over.
+    pub fn into_parts(self) -> (Arc<Shared<G, J, E, K>>, WorkerPass<G>) {
+        let Post {
+            shared,
+            w: _,
+            pass,
+            heir: _,
+            flag: _,
+            pace: _,
+        } = self;
+        (shared, pass)
+    }
+}
+
+impl<G: PoolNaming, J: Drop, E: Edge, K: Keeper> Shared<G, J, E, K> {
+    // One hold of a worker that asks for its next task.
+    #[inline(always)]
+    fn take<R: Wait>(&self, rt: &R, w: SlotId, pass: &mut WorkerPass<G>) -> Taking
+        ensures asks { Takes J K.RECEIPTS (K.terms G.config) pass.old.number pass.old.front w pass.new.front (λ r. result ≡ taking_of r) }
+        ensures number { pass.new.number ≡ pass.old.number }
+    {
+        let mut core = self.hold_as_worker(rt);
+        let taking = core.take(w, &self.around.glance, pass);
+        self.release(core);
+        taking
+    }
+
+    // One hold of a worker that begins the task that it took.
+    #[inline(always)]
+    fn begin<R: Wait>(&self, rt: &R, w: SlotId, pass: &mut WorkerPass<G>) -> Begun<J>
+        ensures asks { BeginsAt J K.RECEIPTS (K.terms G.config) pass.old.number pass.old.front w pass.new.front (λ r. result ≡ begun_of r) }
+        ensures number { pass.new.number ≡ pass.old.number }
+    {
+        match self.step(rt, Begin(w), pass) {
+            Ok(Started::Run(t, Task { job, flag })) => Begun::Run(t, job, flag),
+            Ok(Started::Skip(t)) => Begun::Skip(t),
+            Err(_) => Begun::Refused,
+        }
+    }
+
+    // One hold of a worker that tells its task's outcome, and gives back the flag of its job. A flag that does not
+    // serve again is let go of after it.
+    #[inline(always)]
+    fn end<R: Wait>(
+        &self,
+        rt: &R,
+        w: SlotId,
+        outcome: Outcome,
+        flag: Option<CancelFlag>,
+        pass: &mut WorkerPass<G>,
+    ) -> Ended
+        ensures asks { Ends J K.RECEIPTS (K.terms G.config) pass.old.number pass.old.front w outcome pass.new.front (IsEndOf (state (K.terms G.config) pass.new.front) w.0 result) }
+        ensures number { pass.new.number ≡ pass.old.number }
+    {
+        let mut core = self.hold_as_worker(rt);
+        let told = core.step(End(w, outcome), &self.around.glance, pass);
+        let dying = core.is_dying(w);
+        let spent = match flag {
+            Some(flag) => core.give_back(flag),
+            None => None,
+        };
+        self.release(core);
+        drop(spent);
+        match told {
+            Ok(_) if dying => Ended::Dying,
+            Ok(_) => Ended::Live,
+            Err(_) => Ended::Refused,
+        }
+    }
+
+    // One hold of a worker that leaves after a fault.
+    fn leave<R: Wait>(&self, rt: &R, w: SlotId, pass: &mut WorkerPass<G>) -> Departed
+        ensures asks { Leaves J K.RECEIPTS (K.terms G.config) pass.old.number pass.old.front w pass.new.front (λ r. result ≡ departed_of r) }
+        ensures number { pass.new.number ≡ pass.old.number }
+    {
+        match self.step(rt, Leave(w), pass) {
+            Ok(Some(next)) => Departed::Replaced(next),
+            Ok(None) => Departed::Alone,
+            Err(_) => Departed::Refused,
+        }
+    }
+
+    // One hold of a worker that was listed among the sleepers: where another thread took it off the list, it asks for its
+    // next task in the same hold. A worker that is listed still must not ask, since it might get a task and be called for
+    // another one while it runs.
+    fn take_if_called<R: Wait>(&self, rt: &R, w: SlotId, pass: &mut WorkerPass<G>) -> Option<Taking>
+        ensures asks { IfSome result (λ k. Takes J K.RECEIPTS (K.terms G.config) pass.old.number pass.old.front w pass.new.front (λ r. k ≡ taking_of r)) }
+        ensures unchanged { IfNone result (pass.new ≡ pass.old) }
+        ensures number { pass.new.number ≡ pass.old.number }
+    {
+        let mut core = self.hold_as_worker(rt);
+        if core.is_asleep(w) {
+            return None;
+        }
+        let taking = core.take(w, &self.around.glance, pass);
+        self.release(core);
+        Some(taking)
+    }
+
+    // Sleeps until another thread took the worker off the list of sleepers, and asks for its next task then. Where a task
+    // comes before the worker parks, neither thread makes a system call. Each wake is checked under the lock, since one
+    // may be left over from an earlier sleep.
+    fn sleep<R: Wait>(&self, rt: &R, w: SlotId, pace: &mut Pace, pass: &mut WorkerPass<G>) -> Taking
+        ensures asks { Takes J K.RECEIPTS (K.terms G.config) pass.old.number pass.old.front w pass.new.front (λ r. result ≡ taking_of r) }
+        ensures number { pass.new.number ≡ pass.old.number }
+    {
+        pace.begin_wait();
+        for _ in rt.forever() {
+            match pace.next_pause() {
+                Pause::GiveWay => yield_now(),
+                Pause::Doze => rest(DOZE),
+                Pause::Park => self.park(rt, w),
+            }
+            if let Some(taking) = self.take_if_called(rt, w, pass) {
+                return taking;
+            }
+        }
+        unreachable!()
+    }
+
+    // Ends the pool, where it can end now, by a worker's steps.
+    fn try_end_as_worker<R: Wait>(&self, rt: &R, pass: &mut WorkerPass<G>)
+        ensures ends { EndsPool J K.RECEIPTS (K.terms G.config) pass.old.number pass.old.front pass.new.front }
+        ensures number { pass.new.number ≡ pass.old.number }
+    {
+        if self.step(rt, controllers::Tidy, pass).is_ok() {
+            self.around.edge.terminated(rt);
+            let _ = self.step(rt, controllers::Ended, pass);
+        }
+    }
+
+    // Waits until the thread of this slot and pass is told whether its slot is live. It is told by its pass,
+    // since a slot that was given up may be reserved anew before this thread has looked.
+    fn await_start<R: Wait>(&self, rt: &R, w: SlotId, pass: &WorkerPass<G>) -> bool {
+        let mut core = self.hold_as_worker(rt);
+        for _ in rt.forever() {
+            match core.told(w, pass) {
+                Start::Live => return true,
+                Start::GivenUp => return false,
+                Start::Waits => core = self.around.conditions.begun.wait(rt, core),
+            }
+        }
+        unreachable!()
+    }
+
+    /// Takes back the pass of a thread that needs it no more.
+    pub fn hand_in<R: Wait>(&self, rt: &R, pass: WorkerPass<G>) {
+        self.hold_as_worker(rt).hand_in(pass);
+        self.around.conditions.gone.notify_all();
+    }
+}
