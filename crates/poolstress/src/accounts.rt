@@ -107,24 +107,41 @@ fn owners_of(alloc: Global, rows: &[Row], submitted: u32) -> Result<Vec<u32>, Mi
     Ok(owners)
 }
 
+// The number of the job of this task; no job's where there is no such task.
+fn owner_of(owners: &[u32], t: TaskId) -> u32 {
+    owners.get(t.0 as usize).copied().unwrap_or(u32::MAX)
+}
+
+// The record begins the job of this number once more.
+fn begins(rows: &mut [Row], number: u32) {
+    if let Some(row) = rows.get_mut(number as usize) {
+        row.begun = row.begun.saturating_add(1);
+    }
+}
+
+// What this entry does to the jobs' rows: it begins one, or ends one with the outcome of its body.
+fn follow_one(plan: &Plan, did: Did, owners: &[u32], rows: &mut [Row]) -> Result<(), Mishap> {
+    match did {
+        Did::Begin(_, Started::Run(t)) | Did::Verdict(t, _, Ruled::Caller) => {
+            begins(rows, owner_of(owners, t));
+            Ok(())
+        }
+        Did::End(_, t, outcome) | Did::CallerEnd(t, outcome) => {
+            let number = owner_of(owners, t);
+            if outcome == outcome_of(number, work_of(plan.seed, number)) {
+                Ok(())
+            } else {
+                Err(Mishap::Job(number, "ended with another outcome"))
+            }
+        }
+        _ => Ok(()),
+    }
+}
+
 // The record begins each job so often, and ends it with the outcome of its body.
 fn follow(plan: &Plan, report: &Report, owners: &[u32], rows: &mut [Row]) -> Result<(), Mishap> {
     for entry in &report.entries {
-        match entry.did {
-            Did::Begin(_, Started::Run(t)) | Did::Verdict(t, _, Ruled::Caller) => {
-                let number = owners.get(t.0 as usize).copied().unwrap_or(u32::MAX);
-                if let Some(row) = rows.get_mut(number as usize) {
-                    row.begun = row.begun.saturating_add(1);
-                }
-            }
-            Did::End(_, t, outcome) | Did::CallerEnd(t, outcome) => {
-                let number = owners.get(t.0 as usize).copied().unwrap_or(u32::MAX);
-                if outcome != outcome_of(number, work_of(plan.seed, number)) {
-                    return Err(Mishap::Job(number, "ended with another outcome"));
-                }
-            }
-            _ => {}
-        }
+        follow_one(plan, entry.did, owners, rows)?;
     }
     Ok(())
 }
@@ -207,8 +224,7 @@ fn ends_of(rows: &[Row], ran: &[Count]) -> Result<Ends, Mishap> {
     Ok(ends)
 }
 
-// Accounts for each job of a closed pool that kept no record, by the jobs' own counts and by the pool's counters. A job that was
-// cancelled may have run.
+// Accounts for each job of a closed pool that kept no record, by the jobs' own counts and by the pool's counters.
 fn judge_tally(
     alloc: Global,
     plan: &Plan,
@@ -218,21 +234,36 @@ fn judge_tally(
     let counts = report.counts;
     let rows = rows_of(alloc, books, plan.all_jobs())?;
     owners_of(alloc, &rows, counts.submitted)?;
-    let Ends { ran, back } = ends_of(&rows, &books.ran)?;
+    let ends = ends_of(&rows, &books.ran)?;
     if (counts.submitted, report.unended) != (plan.all_jobs(), 0) {
         return Err(Mishap::Differs("not each job is a task with a fate"));
     }
-    let begun = u64::from(counts.run).saturating_add(u64::from(counts.caller));
-    if ran < begun || ran > begun.saturating_add(u64::from(counts.cancelled)) {
+    told_by(&counts, ends)?;
+    Ok(counts)
+}
+
+// How many runs, and how many returns, the counters say.
+fn begun(counts: &Counts) -> u64 {
+    u64::from(counts.run).saturating_add(u64::from(counts.caller))
+}
+
+fn returned(counts: &Counts) -> u64 {
+    u64::from(counts.rejected)
+        .saturating_add(u64::from(counts.removed))
+        .saturating_add(u64::from(counts.handedback))
+}
+
+// The counters say what the jobs say of themselves. A job that was cancelled may have run.
+fn told_by(counts: &Counts, ends: Ends) -> Result<(), Mishap> {
+    let least = begun(counts);
+    let most = least.saturating_add(u64::from(counts.cancelled));
+    if ends.ran < least || ends.ran > most {
         return Err(Mishap::Differs("the counters of runs are not the jobs' own"));
     }
-    let returned = u64::from(counts.rejected)
-        .saturating_add(u64::from(counts.removed))
-        .saturating_add(u64::from(counts.handedback));
-    if back != returned {
+    if ends.back != returned(counts) {
         return Err(Mishap::Differs("the counters of returns are not the jobs' own"));
     }
-    Ok(counts)
+    Ok(())
 }
 
 /// What keeps a pool's record, where what is told of the closed pool accounts for each of its jobs.

@@ -11,7 +11,7 @@ use std::thread;
 use std::thread::{JoinHandle, Threads};
 use tp_book::passes::Pass;
 use tp_machine::machine::releases::Keeper;
-use tp_pool::answers::{Admitted, Removal};
+use tp_pool::answers::{Admitted, Drained, Removal};
 use tp_pool::names::PoolNaming;
 use tp_pool::pool::PoolOf;
 use tp_record::recorders::Full;
@@ -65,6 +65,14 @@ impl<G: PoolNaming> Told<G> {
     pub fn takes_back(&mut self, job: Option<Chore>) -> Result<(), AllocError> {
         if let Some(job) = job {
             self.back.push(job.number)?;
+        }
+        Ok(())
+    }
+
+    // Notes that the jobs of these tasks came back.
+    fn takes_all_back(&mut self, drained: Vec<Drained<Chore>>) -> Result<(), Mishap> {
+        for drained in drained {
+            self.takes_back(drained.job)?;
         }
         Ok(())
     }
@@ -297,13 +305,9 @@ pub fn stop<G: PoolNaming, K: Keeper + Send + 'static, R: Wait>(
     pool: &Crew<G, K>,
     told: &mut Told<G>,
 ) -> Result<(), Mishap> {
-    let drained = match pool.shutdown_now(rt, &mut told.pass) {
-        Ok(drained) => drained,
-        Err(PoolError::BookFull) if pool.glance(&mut told.pass) >= RunState::Stop => return Ok(()),
-        Err(error) => return Err(Mishap::Refused(error)),
-    };
-    for drained in drained {
-        told.takes_back(drained.job)?;
+    match pool.shutdown_now(rt, &mut told.pass) {
+        Ok(drained) => told.takes_all_back(drained),
+        Err(PoolError::BookFull) if pool.glance(&mut told.pass) >= RunState::Stop => Ok(()),
+        Err(error) => Err(Mishap::Refused(error)),
     }
-    Ok(())
 }

@@ -1,6 +1,7 @@
 //! The close of a pool that callers shared.
 
 use crate::mishaps::Mishap;
+use std::alloc::Global;
 use std::sync::{Arc, Wait};
 use std::thread;
 use tp_book::passes::Pass;
@@ -9,6 +10,33 @@ use tp_pool::closing::Reporter;
 use tp_pool::edges::Edge;
 use tp_pool::names::PoolNaming;
 use tp_pool::pool::PoolOf;
+
+/// A list of both passes, where there is a second one.
+pub fn both<G: PoolNaming>(
+    alloc: Global,
+    pass: Pass<G>,
+    second: Result<Pass<G>, Mishap>,
+) -> Result<Vec<Pass<G>>, Mishap> {
+    let mut passes = Vec::new(alloc);
+    passes.push(pass)?;
+    passes.push(second?)?;
+    Ok(passes)
+}
+
+/// What is told of a pool after its life, where nothing went wrong in it: with the pass of its first caller, and with that of
+/// the second one.
+pub fn ended<G: PoolNaming, J: Job, E: Edge, K: Reporter, R: Wait>(
+    rt: &R,
+    alloc: Global,
+    pool: Arc<PoolOf<G, J, E, K>>,
+    pass: Pass<G>,
+    second: Result<Pass<G>, Mishap>,
+) -> Result<K::Report, Mishap> {
+    match both(alloc, pass, second) {
+        Ok(passes) => closed(rt, pool, passes),
+        Err(mishap) => Err(mishap),
+    }
+}
 
 /// What is told of a pool that has ended, once no caller has it any more.
 pub fn closed<G: PoolNaming, J: Job, E: Edge, K: Reporter, R: Wait>(

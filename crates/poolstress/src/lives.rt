@@ -95,14 +95,58 @@ fn whole_life<
     K: Judged + Send + 'static,
     R: Threads + Wait + Clock + Copy + Send + Sync + 'static,
 >(rt: R, alloc: Global, pool: Crew<G, K>, first: Pass<G>, plan: &Plan) -> Result<Account, Mishap> {
+    let pool = Arc::new(alloc, pool)?;
+    match life_of(rt, alloc, &pool, first, plan) {
+        Ok(
+            Lived {
+                passes,
+                books,
+                stranded,
+                callers,
+            },
+        ) => {
+            let report = closed(&rt, pool, passes)?;
+            K::account(alloc, plan, &report, &books, stranded, &callers)
+        }
+        Err(mishap) => Err(mishap),
+    }
+}
+
+// What a pool's life leaves to its judge.
+#[derive(Drop)]
+struct Lived<G: PoolNaming> {
+    // The passes of all its callers, and their numbers.
+    passes: Vec<Pass<G>>,
+    callers: Vec<u32>,
+    // What they tell of its jobs.
+    books: Books,
+    // Whether it had to be stopped.
+    stranded: bool,
+}
+
+// The life of a new pool, which its callers share.
+fn life_of<
+    G: PoolNaming + Send + Sync + 'static,
+    K: Keeper + Send + 'static,
+    R: Threads + Wait + Clock + Copy + Send + Sync + 'static,
+>(
+    rt: R,
+    alloc: Global,
+    pool: &Arc<Crew<G, K>>,
+    first: Pass<G>,
+    plan: &Plan,
+) -> Result<Lived<G>, Mishap> {
     let ran = counts_of(alloc, plan)?;
     let mut told = Told::new(alloc, first);
-    let pool = Arc::new(alloc, pool)?;
-    let (hands, stranded) = live(rt, alloc, &pool, &mut told, plan, &ran)?;
+    let (hands, stranded) = live(rt, alloc, pool, &mut told, plan, &ran)?;
     let (passes, books) = gathered(alloc, hands, told, ran)?;
     let callers = numbers_of(alloc, &passes)?;
-    let report = closed(&rt, pool, passes)?;
-    K::account(alloc, plan, &report, &books, stranded, &callers)
+    Ok(Lived {
+        passes,
+        callers,
+        books,
+        stranded,
+    })
 }
 
 // The numbers of these passes.

@@ -98,15 +98,27 @@ fn all_at_once<
     ran: &Count,
 ) -> Result<Report, Mishap> {
     let mut pass = first;
-    for number in 0..all {
-        let job = Chore::new(number, Work::Meets(u64::from(all)), Arc::try_clone(ran)?);
-        submit(rt, &pool, job, &mut pass)?;
-    }
-    pool.shutdown(&rt, &mut pass)?;
-    pool.await_termination(&rt, u64::MAX, &mut pass)?;
+    live(rt, &pool, &mut pass, all, ran)?;
     let mut passes = Vec::new(alloc);
     passes.push(pass)?;
     report(&rt, pool, passes)
+}
+
+// So many jobs wait for each other, and then the pool ends.
+fn live<G: PoolNaming + Send + Sync + 'static, R: Threads + Wait + Copy + Send + 'static>(
+    rt: R,
+    pool: &Crew<G>,
+    pass: &mut Pass<G>,
+    all: u32,
+    ran: &Count,
+) -> Result<(), Mishap> {
+    for number in 0..all {
+        let job = Chore::new(number, Work::Meets(u64::from(all)), Arc::try_clone(ran)?);
+        submit(rt, pool, job, pass)?;
+    }
+    pool.shutdown(&rt, pass)?;
+    pool.await_termination(&rt, u64::MAX, pass)?;
+    Ok(())
 }
 
 // Submits a job, which is to become the task of its number.

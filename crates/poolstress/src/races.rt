@@ -3,11 +3,10 @@
 ghost use Rattle.std.specs.Prelude.{◌≡◌};
 
 use crate::chores::{Count, count, reaches};
-use crate::endings::sole;
 use crate::fickle::{Left, Making, Signs};
 use crate::mishaps::Mishap;
 use crate::tales::submit;
-use crate::waits::{WAITERS, Waiter, judge, report, wait};
+use crate::waits::{WAITERS, Waiter, ended, judge, wait};
 use std::alloc::Global;
 use std::hint::spin_loop;
 use std::marker::Brand;
@@ -82,14 +81,24 @@ fn open<G: PoolNaming + Send + Sync + 'static, R: Threads + Wait + Copy + Send +
     let (pool, first) = Left::<G>::over(alloc, unopened, settings, users)?;
     let pool = Arc::new(alloc, pool)?;
     let mut pass = first;
-    let second = live(rt, alloc, &pool, &mut pass, turns, &signs)?;
-    wait(&rt, &pool, &mut pass, waiter, &signs)?;
-    let mut passes = Vec::new(alloc);
-    passes.push(pass)?;
-    passes.push(second)?;
-    let report = report(&rt, sole(&rt, pool), passes)?;
+    let second = life(rt, alloc, &pool, &mut pass, (turns, waiter), &signs);
+    let report = ended(&rt, alloc, pool, pass, second)?;
     judge(alloc, &settings, &report, &signs)?;
     Ok(came_back(&report))
+}
+
+// The second caller's pass, once the pool has ended.
+fn life<G: PoolNaming + Send + Sync + 'static, R: Threads + Wait + Copy + Send + Sync + 'static>(
+    rt: R,
+    alloc: Global,
+    pool: &Arc<Left<G>>,
+    pass: &mut Pass<G>,
+    (turns, waiter): (u32, Waiter),
+    signs: &Signs,
+) -> Result<Pass<G>, Mishap> {
+    let second = live(rt, alloc, pool, pass, turns, signs)?;
+    wait(&rt, pool, pass, waiter, signs)?;
+    Ok(second)
 }
 
 // One thread submits, the other shuts the pool down.

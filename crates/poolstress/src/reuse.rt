@@ -3,7 +3,7 @@
 ghost use Rattle.std.specs.Prelude.{◌≡◌};
 
 use crate::chores::{Chore, Count, Work, count, reaches};
-use crate::endings::closed;
+use crate::endings::ended;
 use crate::mishaps::Mishap;
 use std::alloc::Global;
 use std::marker::Brand;
@@ -86,15 +86,12 @@ fn open<G: PoolNaming + Send + Sync + 'static, R: Threads + Wait + Copy + Send +
         asked: Arc::try_clone(&asked)?,
         goes_on: Arc::try_clone(&goes_on)?,
     };
+    let ran = count(alloc)?;
     let (pool, first) = Halted::<G>::over(alloc, unopened, settings, halting)?;
     let pool = Arc::new(alloc, pool)?;
     let mut pass = first;
-    let ran = count(alloc)?;
-    let second = live(rt, alloc, &pool, &mut pass, (&asked, &goes_on), &ran)?;
-    let mut passes = Vec::new(alloc);
-    passes.push(pass)?;
-    passes.push(second)?;
-    let report = closed(&rt, pool, passes)?;
+    let second = live(rt, alloc, &pool, &mut pass, (&asked, &goes_on), &ran);
+    let report = ended(&rt, alloc, pool, pass, second)?;
     if (report.counts.run, ran.load(Ordering::SeqCst)) != (2, 1) {
         return Err(Mishap::Differs("another number of jobs ran"));
     }

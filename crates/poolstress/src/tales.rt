@@ -3,10 +3,9 @@
 ghost use Rattle.std.specs.Prelude.{◌≡◌};
 
 use crate::chores::{Chore, Count, Work, reaches};
-use crate::endings::sole;
 use crate::fickle::{Left, Making, Signs};
 use crate::mishaps::Mishap;
-use crate::waits::{WAITERS, Waiter, judge, report, wait};
+use crate::waits::{WAITERS, Waiter, ended, judge, wait};
 use std::alloc::Global;
 use std::marker::Brand;
 use std::sync::atomic::Ordering;
@@ -129,17 +128,26 @@ fn open<G: PoolNaming + Send + Sync + 'static, R: Threads + Wait + Copy + Send +
     )?;
     let pool = Arc::new(alloc, pool)?;
     let mut pass = first;
-    let second = live(rt, &pool, &mut pass, tale, &signs)?;
-    wait(&rt, &pool, &mut pass, waiter, &signs)?;
-    let mut passes = Vec::new(alloc);
-    passes.push(pass)?;
-    passes.push(second)?;
-    let report = report(&rt, sole(&rt, pool), passes)?;
+    let second = life(rt, &pool, &mut pass, (tale, waiter), &signs);
+    let report = ended(&rt, alloc, pool, pass, second)?;
     judge(alloc, &settings, &report, &signs)?;
     if report.counts.run != tale.run {
         return Err(Mishap::Differs("not the jobs of the tale ran"));
     }
     Ok(())
+}
+
+// The second caller's pass, once the pool has ended.
+fn life<G: PoolNaming + Send + Sync + 'static, R: Threads + Wait + Copy + Send + Sync + 'static>(
+    rt: R,
+    pool: &Arc<Left<G>>,
+    pass: &mut Pass<G>,
+    (tale, waiter): (Tale, Waiter),
+    signs: &Signs,
+) -> Result<Pass<G>, Mishap> {
+    let second = live(rt, pool, pass, tale, signs)?;
+    wait(&rt, pool, pass, waiter, signs)?;
+    Ok(second)
 }
 
 // The first job's worker is being made while the others are queued and the pool is shut down.

@@ -1,11 +1,12 @@
 //! How a caller comes to hear that a pool has ended, and what the record of such a pool says.
 
 use crate::chores::reaches;
+use crate::endings::{both, sole};
 use crate::fickle::{Left, Signs};
 use crate::mishaps::Mishap;
 use std::alloc::Global;
-use std::sync::Wait;
 use std::sync::atomic::Ordering;
+use std::sync::{Arc, Wait};
 use std::thread;
 use tp_audit::plain::audit_plain;
 use tp_book::passes::Pass;
@@ -60,8 +61,23 @@ fn polled<G: PoolNaming>(pool: &Left<G>, pass: &mut Pass<G>) -> bool {
     false
 }
 
-/// The report of a pool whose hook was called: its last step may be under way.
-pub fn report<G: PoolNaming, R: Wait>(
+/// The report of a pool after its life, where nothing went wrong in it: with the pass of its first caller, and with that of the
+/// second one.
+pub fn ended<G: PoolNaming, R: Wait>(
+    rt: &R,
+    alloc: Global,
+    pool: Arc<Left<G>>,
+    pass: Pass<G>,
+    second: Result<Pass<G>, Mishap>,
+) -> Result<Report, Mishap> {
+    match both(alloc, pass, second) {
+        Ok(passes) => report(rt, sole(rt, pool), passes),
+        Err(mishap) => Err(mishap),
+    }
+}
+
+// The report of a pool whose hook was called: its last step may be under way.
+fn report<G: PoolNaming, R: Wait>(
     rt: &R,
     pool: Left<G>,
     passes: Vec<Pass<G>>,
