@@ -1,13 +1,12 @@
 //! The close of a pool: its record, with every pass accounted for.
 ghost use Rattle.std.specs.Prelude.{◌≡◌, IfOk, IfErr};
 ghost use Rattle.tp_locked.specs.Closing.{KeepsOpen};
-ghost use Rattle.tp_book.specs.BookView.{config};
 ghost use Rattle.tp_shared.specs.Closing.{Closes};
 ghost use Rattle.tp_locked.specs.declared.tasks.Task.{Task as TaskOf};
 
 use crate::pool::{Hold, PoolOf};
 use std::sync::{Arc, Wait};
-use std::thread::{self};
+use std::thread;
 use tp_book::passes::Pass;
 pub use tp_book::reports::{Report, Reporter, TallyReport};
 use tp_callbacks::jobs::Job;

@@ -26,7 +26,6 @@ pub mod reports;
 mod rescues;
 pub mod snapshots;
 mod submitting;
-mod waits;
 
 pub use bodies::{Any, Body};
 pub use callers::{PoolName, Runtime, in_two};
