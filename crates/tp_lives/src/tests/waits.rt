@@ -35,48 +35,26 @@ impl Hooks for Lingering {
     }
 }
 
-// Makes the call that waits.
-fn awaits<
-    G: PoolNaming + Send + Sync + 'static,
-    J: Job + 'static,
-    E: Edge + Send + Sync + 'static,
-    R: Threads + Wait + Copy + Send + 'static,
->(
-    rt: &R,
-    pool: &PoolOf<G, J, E>,
-    waiting: Call,
-    stage: &AtomicU64,
-    mut pass: Pass<G>,
-) -> (Result<bool, PoolError>, Pass<G>) {
-    stage.store(1, Ordering::SeqCst);
-    let awaited = make(rt, pool, waiting, &mut pass);
-    (awaited, pass)
-}
-
-// Makes the step, when the other has had time to fall asleep.
-fn wakes<
-    G: PoolNaming + Send + Sync + 'static,
-    J: Job + 'static,
-    E: Edge + Send + Sync + 'static,
-    R: Threads + Wait + Copy + Send + 'static,
->(
-    rt: &R,
-    pool: &PoolOf<G, J, E>,
-    waker: Call,
-    stage: &AtomicU64,
-    mut pass: Pass<G>,
-) -> (Result<bool, PoolError>, Pass<G>) {
-    await_stage(stage, 1);
-    linger();
-    let stepped = make(rt, pool, waker, &mut pass);
-    (stepped, pass)
-}
-
 // What a caller does: it waits by this call, or wakes the other by this one.
 #[derive(Clone, Copy)]
 enum Part {
     Waits(Call),
     Wakes(Call),
+}
+
+// The call of this part, once its time has come: the other one has had time to fall asleep before it is woken.
+fn call_of(part: Part, stage: &AtomicU64) -> Call {
+    match part {
+        Part::Waits(call) => {
+            stage.store(1, Ordering::SeqCst);
+            call
+        }
+        Part::Wakes(call) => {
+            await_stage(stage, 1);
+            linger();
+            call
+        }
+    }
 }
 
 // Makes the call of this part.
@@ -90,12 +68,10 @@ fn takes_part<
     pool: &PoolOf<G, J, E>,
     part: Part,
     stage: &AtomicU64,
-    pass: Pass<G>,
+    mut pass: Pass<G>,
 ) -> (Result<bool, PoolError>, Pass<G>) {
-    match part {
-        Part::Waits(call) => awaits(rt, pool, call, stage, pass),
-        Part::Wakes(call) => wakes(rt, pool, call, stage, pass),
-    }
+    let answer = make(rt, pool, call_of(part, stage), &mut pass);
+    (answer, pass)
 }
 
 // Both share one closure, since each is proved anew. One waits for the end, and the other makes the step: by itself, and for all jobs and edges, since the check shows
