@@ -1,4 +1,5 @@
 //! The close of a pool: its record, with every pass accounted for.
+ghost use Rattle.std.specs.Arc.{arc_value};
 ghost use Rattle.std.specs.Prelude.{◌≡◌, IfOk, IfErr};
 ghost use Rattle.tp_locked.specs.Closing.{KeepsOpen};
 ghost use Rattle.tp_shared.specs.Closing.{Closes};
@@ -18,8 +19,8 @@ use tp_shared::edges::Edge;
 use tp_shared::shared::Shared;
 use tp_types::refusals::PoolError;
 
-/// The answer of a close that was refused: the pool comes back, with the passes that were handed in, which `close_one` has
-/// but one of.
+/// The answer of a close that was refused: the pool comes back, with the passes that were handed in, or with the one pass of
+/// `close_one`.
 #[derive(Drop)]
 pub struct CloseFault<G: PoolNaming, J, E, K: Keeper = Full, P = Vec<Pass<G>>> {
     /// The refusal: NotTerminated (20), MissingPass (21) or TornRecord (22); of `close_one` NoMemory (4), too.
@@ -96,8 +97,12 @@ impl<G: PoolNaming, J: Job, E: Edge, K: Keeper> PoolOf<G, J, E, K> {
     }
 }
 
-// The value, once no other thread has it: a worker's thread lets go of it after its pass is handed in.
-pub(crate) fn sole<T, R: Wait>(rt: &R, shared: Arc<T>) -> T {
+/// The value that threads share, once no other one has it. `close` takes a pool by value, and a thread that was joined may
+/// let go of its share a little later. It waits for ever where another share is kept. Java has no such call.
+pub fn sole<T, R: Wait>(rt: &R, shared: Arc<T>) -> T
+    ensures value { result ≡ arc_value shared }
+{
+    // A worker's thread lets go of its pool after its pass is handed in.
     let mut shared = shared;
     for _ in rt.forever() {
         match Arc::try_unwrap(shared) {

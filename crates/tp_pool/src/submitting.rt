@@ -21,7 +21,7 @@ use tp_locked::answers::{Admitted, Refused};
 use tp_locked::names::PoolNaming;
 use tp_locked::tasks::Task;
 use tp_machine::machine::releases::Keeper;
-use tp_machine::typed::submitters::Submit;
+use tp_machine::typed::submitters::{Grow, Look, Offer, Submit};
 use tp_paths::laws::law_fronts_are_paths;
 use tp_paths::paths::{Ending, Next, follows};
 use tp_record::entries::{Ask, Did};
@@ -200,10 +200,10 @@ impl<
     {
         let shared = self.shared();
         match next {
-            Next::Offer => shared.offer(&rt, t, pass),
+            Next::Offer => shared.further(&rt, Offer(t), pass),
             Next::Second => self.second(rt, t, pass),
-            Next::Look => shared.look_again(&rt, t, pass),
-            Next::Grow => shared.grow(&rt, t, pass),
+            Next::Look => shared.further(&rt, Look(t), pass),
+            Next::Grow => shared.further(&rt, Grow(t), pass),
             Next::Judge => self.judge(rt, t, self.verdict(&rt, t), held, pass),
             Next::RunHere => shared.end_here(&rt, t, run_here(held.take())?, pass),
             Next::Staff(w) => self.open(rt, w, self.staffed(rt, w), pass).ok(),
@@ -266,7 +266,7 @@ impl<
         ensures refused { IfErr result (IsRefusal true (K.terms G.config) pass.new.front (opening w staffed)) }
         ensures unchanged { OnErr result (LooksOnly (K.terms G.config) pass.old pass.new) }
     {
-        let (opened, remains) = self.shared().open(&rt, w, staffed, pass);
+        let (opened, remains) = self.shared().hand_over(&rt, w, staffed, pass);
         self.rescue(rt, remains);
         opened
     }

@@ -1,5 +1,5 @@
 -- What a worker's deeds are in its pool's book.
-use Rattle.std.specs.Prelude.{ℕ, Bool, true, false, ◌≡◌, ⊤, List, Option, Some, None, Result, IfOk, OnErr}
+use Rattle.std.specs.Prelude.{ℕ, Bool, ◌≡◌, ⊤, List, Option, Some, None, Result, IfOk, OnErr}
 use Rattle.tp_types.specs.declared.configs.Config.{Config}
 use Rattle.tp_types.specs.declared.ids.SlotId.{SlotId}
 use Rattle.tp_types.specs.declared.ids.TaskId.{TaskId}
@@ -50,17 +50,6 @@ module _ (J : Type 0) (keeps : Bool) (c : Config) (by : ℕ) (before : List Entr
 
   abbrev pub Leaves : SlotId → List Entry → (Result (Option SlotId) PoolError → Type 0) → Type 0
   Leaves w after F = Asks J keeps c by before (ask.Leave w) (λ x. did.Leave w x) (λ _. Keeps) after F
-
-  abbrev pub Opens : SlotId → List Entry → Type 0
-  Opens w after = Asks J keeps c by before (ask.Open w) (λ x. did.Open w x) (λ _. Keeps) after (λ _. ⊤)
-
-  abbrev pub Fails : SlotId → List Entry → Type 0
-  Fails w after = Asks J keeps c by before (ask.Fail w) (λ x. did.Fail w x) (λ _. Keeps) after (λ _. ⊤)
-
-  -- it tells whether another worker was made for this slot
-  abbrev pub HandsOver : SlotId → Bool → List Entry → Type 0
-  HandsOver w true after = Opens w after
-  HandsOver w false after = Fails w after
 
   abbrev pub Tidies : List Entry → (Result (Unit {0}) PoolError → Type 0) → Type 0
   Tidies after F = Asks J keeps c by before ask.Tidy (λ _. did.Tidy) (λ _. Keeps) after F

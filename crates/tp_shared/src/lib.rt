@@ -11,6 +11,7 @@ mod opening;
 pub mod policies;
 pub mod rescues;
 pub mod shared;
+mod slots;
 pub mod staffing;
 mod submitting;
 mod waits;

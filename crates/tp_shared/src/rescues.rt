@@ -1,12 +1,8 @@
 //! What a thread does where its step leaves a pool that is shut down to nobody: with a pass of the pool's own,
 //! it ends the pool, or has a worker made for the tasks that are queued. A caller's own pass has no part in it.
-ghost use Rattle.std.specs.Prelude.{◌≡◌};
-ghost use Rattle.tp_record.specs.State.{state};
-ghost use Rattle.tp_locked.specs.Left.{IsLeft};
-ghost use Rattle.tp_shared.specs.Deeds.{HandsOver, Opens, Fails};
 
 use crate::edges::Edge;
-use crate::shared::{Shared, left_in};
+use crate::shared::Shared;
 use crate::staffing::save;
 use std::sync::{Arc, Wait};
 use std::thread::Threads;
@@ -16,7 +12,6 @@ use tp_locked::names::PoolNaming;
 use tp_machine::machine::releases::Keeper;
 use tp_machine::typed::controllers::{Ended, Tidy};
 use tp_machine::typed::settings::Prestart;
-use tp_machine::typed::workers::Fail;
 use tp_turns::rescues::{House, Remains, rescue};
 use tp_types::ids::SlotId;
 
@@ -64,53 +59,6 @@ impl<G: PoolNaming, J: Drop, E: Edge, K: Keeper> Shared<G, J, E, K> {
         };
         rescue(rt, self, &mut pass, remains, 0);
         self.hand_in(rt, pass);
-    }
-
-    /// One hold in which the thread with this pass tells whether a worker was made for this slot, and what is
-    /// left to do then.
-    pub fn hand_over<R: Wait>(
-        &self,
-        rt: &R,
-        w: SlotId,
-        staffed: bool,
-        pass: &mut WorkerPass<G>,
-    ) -> Remains
-        ensures asks { HandsOver J K.RECEIPTS (K.terms G.config) pass.old.number pass.old.front w staffed pass.new.front }
-        ensures number { pass.new.number ≡ pass.old.number }
-        ensures left { IsLeft (state (K.terms G.config) pass.new.front) result }
-    {
-        if staffed {
-            self.open_place(rt, w, pass)
-        } else {
-            self.fail_place(rt, w, pass)
-        }
-    }
-
-    // The step `open` of a slot with no task.
-    fn open_place<R: Wait>(&self, rt: &R, w: SlotId, pass: &mut WorkerPass<G>) -> Remains
-        ensures asks { Opens J K.RECEIPTS (K.terms G.config) pass.old.number pass.old.front w pass.new.front }
-        ensures number { pass.new.number ≡ pass.old.number }
-        ensures left { IsLeft (state (K.terms G.config) pass.new.front) result }
-    {
-        let mut core = self.hold(rt);
-        let _ = core.open(w, &self.around.glance, pass);
-        let remains = left_in(&core);
-        self.release(core);
-        self.around.conditions.begun.notify_all();
-        remains
-    }
-
-    // The step `fail` of a slot with no task.
-    fn fail_place<R: Wait>(&self, rt: &R, w: SlotId, pass: &mut WorkerPass<G>) -> Remains
-        ensures asks { Fails J K.RECEIPTS (K.terms G.config) pass.old.number pass.old.front w pass.new.front }
-        ensures number { pass.new.number ≡ pass.old.number }
-        ensures left { IsLeft (state (K.terms G.config) pass.new.front) result }
-    {
-        let mut core = self.hold(rt);
-        let _ = core.step(Fail(w), &self.around.glance, pass);
-        let remains = left_in(&core);
-        self.release(core);
-        remains
     }
 }
 

@@ -129,7 +129,7 @@ fn run_worker<
         return;
     };
     let staffed = staff_heir(rt, &shared, heir, heirs);
-    let remains = shared.hand_over(&rt, heir, staffed, &mut pass);
+    let (_, remains) = shared.hand_over(&rt, heir, staffed, &mut pass);
     save(rt, &shared, &mut pass, remains, heirs);
     shared.hand_in(&rt, pass);
     drop(shared);
@@ -179,6 +179,7 @@ pub fn save<
             return;
         };
         let staffed = staff_heir(rt, shared, w, heirs);
-        remains = shared.hand_over(&rt, w, staffed, pass);
+        let (_, left) = shared.hand_over(&rt, w, staffed, pass);
+        remains = left;
     }
 }

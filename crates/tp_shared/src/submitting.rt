@@ -4,8 +4,9 @@ ghost use Rattle.tp_record.specs.State.{state};
 ghost use Rattle.tp_record.specs.Paths.{Ends, Rejected, follows as what_follows};
 ghost use Rattle.tp_parts.specs.Payloads.{PutsIn};
 ghost use Rattle.tp_locked.specs.Left.{IsLeft};
-ghost use Rattle.tp_locked.specs.Passes.{AddsStep, AddsNone, IsRefusal, LooksOnly, Refuses, opening};
+ghost use Rattle.tp_locked.specs.Passes.{AddsStep, AddsNone, LooksOnly, Refuses};
 ghost use Rattle.tp_locked.specs.Steps.{Makes};
+ghost use Rattle.tp_locked.specs.Waits.{HasNoOutcome};
 ghost use Rattle.tp_locked.specs.declared.tasks.Task.{Task as TaskOf};
 ghost use Rattle.tp_machine.specs.Answers.{ComesBack};
 ghost use Rattle.tp_shared.specs.Submitting.{IsHalted, TakesOut};
@@ -16,16 +17,16 @@ use std::sync::{MutexGuard, Wait};
 use tp_book::passes::Pass;
 use tp_callbacks::flags::CancelFlag;
 use tp_callbacks::jobs::Job;
-use tp_locked::locked::Core;
+use tp_locked::locked::{Core, Marks};
 use tp_locked::names::PoolNaming;
 use tp_locked::tasks::Task;
 use tp_machine::machine::releases::Keeper;
-use tp_machine::typed::submitters::{CallerEnd, Grow, Judge, Look, Offer, Second, Submit};
-use tp_machine::typed::workers::Fail;
+use tp_machine::typed::Step;
+use tp_machine::typed::submitters::{CallerEnd, Judge, Second, Submit};
 use tp_record::entries::{Ask, Did, Looked, Seconded};
 use tp_turns::rescues::Remains;
 use tp_types::configs::Verdict;
-use tp_types::ids::{SlotId, TaskId};
+use tp_types::ids::TaskId;
 use tp_types::refusals::PoolError;
 use tp_types::tasks::Outcome;
 
@@ -91,32 +92,24 @@ impl<G: PoolNaming, J: Job, E: Edge, K: Keeper> Shared<G, J, E, K> {
         Ok((self.hold(rt), flag))
     }
 
-    /// The step `look`, after a retry: what it did.
+    /// A further step of a submission, with which no outcome comes: what it did.
     #[inline(always)]
-    pub fn look_again<R: Wait>(&self, rt: &R, t: TaskId, pass: &mut Pass<G>) -> Option<Did>
+    pub fn further<R: Wait, X: Drop, S: Marks<J> + Step<Task<J>, Load = (), Answer = X>>(
+        &self,
+        rt: &R,
+        step: S,
+        pass: &mut Pass<G>,
+    ) -> Option<Did>
+        requires brings { S.brings step tt }
+        requires no_outcome { HasNoOutcome (S.ask step) }
         requires room { 0 < pass.old.room }
-        ensures step { IfSome result (λ d. AddsStep (K.terms G.config) pass.old (Ask.Look t) d pass.new) }
+        ensures step { IfSome result (λ d. AddsStep (K.terms G.config) pass.old (S.ask step) d pass.new) }
         ensures left { OnSome result (pass.old.room ≤ pass.new.room + 1) }
-        ensures refused { IfNone result (IsHalted K.RECEIPTS (K.terms G.config) pass.new.front (Ask.Look t)) }
+        ensures refused { IfNone result (IsHalted K.RECEIPTS (K.terms G.config) pass.new.front (S.ask step)) }
         ensures unchanged { IfNone result (LooksOnly (K.terms G.config) pass.old pass.new) }
     {
-        match self.ask(rt, Look(t), pass) {
-            Ok(answer) => Some(Did::Look(t, answer)),
-            Err(_) => None,
-        }
-    }
-
-    /// The step `offer`: what it did.
-    #[inline(always)]
-    pub fn offer<R: Wait>(&self, rt: &R, t: TaskId, pass: &mut Pass<G>) -> Option<Did>
-        requires room { 0 < pass.old.room }
-        ensures step { IfSome result (λ d. AddsStep (K.terms G.config) pass.old (Ask.Offer t) d pass.new) }
-        ensures left { OnSome result (pass.old.room ≤ pass.new.room + 1) }
-        ensures refused { IfNone result (IsHalted K.RECEIPTS (K.terms G.config) pass.new.front (Ask.Offer t)) }
-        ensures unchanged { IfNone result (LooksOnly (K.terms G.config) pass.old pass.new) }
-    {
-        match self.ask(rt, Offer(t), pass) {
-            Ok(answer) => Some(Did::Offer(t, answer)),
+        match self.ask(rt, step, pass) {
+            Ok(answer) => Some(step.did(&answer)),
             Err(_) => None,
         }
     }
@@ -138,21 +131,6 @@ impl<G: PoolNaming, J: Job, E: Edge, K: Keeper> Shared<G, J, E, K> {
         match answer {
             Ok(answer) => (Some(Did::Second(t, answer)), remains),
             Err(_) => (None, remains),
-        }
-    }
-
-    /// The step `grow`: what it did.
-    #[inline(always)]
-    pub fn grow<R: Wait>(&self, rt: &R, t: TaskId, pass: &mut Pass<G>) -> Option<Did>
-        requires room { 0 < pass.old.room }
-        ensures step { IfSome result (λ d. AddsStep (K.terms G.config) pass.old (Ask.Grow t) d pass.new) }
-        ensures left { OnSome result (pass.old.room ≤ pass.new.room + 1) }
-        ensures refused { IfNone result (IsHalted K.RECEIPTS (K.terms G.config) pass.new.front (Ask.Grow t)) }
-        ensures unchanged { IfNone result (LooksOnly (K.terms G.config) pass.old pass.new) }
-    {
-        match self.ask(rt, Grow(t), pass) {
-            Ok(answer) => Some(Did::Grow(t, answer)),
-            Err(_) => None,
         }
     }
 
@@ -200,75 +178,6 @@ impl<G: PoolNaming, J: Job, E: Edge, K: Keeper> Shared<G, J, E, K> {
         match self.ask(rt, CallerEnd(t, outcome), pass) {
             Ok(()) => Some(Did::CallerEnd(t, outcome)),
             Err(_) => None,
-        }
-    }
-
-    /// Tells, in a hold of its own, whether a worker was made for this slot, and wakes the threads that are
-    /// to hear of it. What it did, and what is left to do then.
-    pub fn open<R: Wait>(
-        &self,
-        rt: &R,
-        w: SlotId,
-        staffed: bool,
-        pass: &mut Pass<G>,
-    ) -> (Result<Did, PoolError>, Remains)
-        requires room { 0 < pass.old.room }
-        ensures step { IfOk result.0 (λ d. AddsStep (K.terms G.config) pass.old (opening w staffed) d pass.new) }
-        ensures left { OnOk result.0 (pass.old.room ≤ pass.new.room + 1) }
-        ensures refused { IfErr result.0 (IsRefusal true (K.terms G.config) pass.new.front (opening w staffed)) }
-        ensures unchanged { OnErr result.0 (LooksOnly (K.terms G.config) pass.old pass.new) }
-        ensures remains { IsLeft (state (K.terms G.config) pass.new.front) result.1 }
-    {
-        if staffed {
-            self.open_live(rt, w, pass)
-        } else {
-            self.fail(rt, w, pass)
-        }
-    }
-
-    // The step `open`: what it did, and what is left to do.
-    fn open_live<R: Wait>(
-        &self,
-        rt: &R,
-        w: SlotId,
-        pass: &mut Pass<G>,
-    ) -> (Result<Did, PoolError>, Remains)
-        requires room { 0 < pass.old.room }
-        ensures step { IfOk result.0 (λ d. AddsStep (K.terms G.config) pass.old (Ask.Open w) d pass.new) }
-        ensures left { OnOk result.0 (pass.old.room ≤ pass.new.room + 1) }
-        ensures refused { IfErr result.0 (IsRefusal true (K.terms G.config) pass.new.front (Ask.Open w)) }
-        ensures unchanged { OnErr result.0 (LooksOnly (K.terms G.config) pass.old pass.new) }
-        ensures remains { IsLeft (state (K.terms G.config) pass.new.front) result.1 }
-    {
-        let mut core = self.hold(rt);
-        let opened = core.open(w, &self.around.glance, pass);
-        let remains = left_in(&core);
-        self.release(core);
-        self.around.conditions.begun.notify_all();
-        match opened {
-            Ok(opened) => (Ok(Did::Open(w, opened)), remains),
-            Err(error) => (Err(error), remains),
-        }
-    }
-
-    // The step `fail`: what it did, and what is left to do.
-    fn fail<R: Wait>(
-        &self,
-        rt: &R,
-        w: SlotId,
-        pass: &mut Pass<G>,
-    ) -> (Result<Did, PoolError>, Remains)
-        requires room { 0 < pass.old.room }
-        ensures step { IfOk result.0 (λ d. AddsStep (K.terms G.config) pass.old (Ask.Fail w) d pass.new) }
-        ensures left { OnOk result.0 (pass.old.room ≤ pass.new.room + 1) }
-        ensures refused { IfErr result.0 (IsRefusal true (K.terms G.config) pass.new.front (Ask.Fail w)) }
-        ensures unchanged { OnErr result.0 (LooksOnly (K.terms G.config) pass.old pass.new) }
-        ensures remains { IsLeft (state (K.terms G.config) pass.new.front) result.1 }
-    {
-        let (failed, remains) = self.ask_left(rt, Fail(w), pass);
-        match failed {
-            Ok(failed) => (Ok(Did::Fail(w, failed)), remains),
-            Err(error) => (Err(error), remains),
         }
     }
 }
