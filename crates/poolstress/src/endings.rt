@@ -6,13 +6,14 @@ use std::sync::{Arc, Wait};
 use std::thread;
 use tp_book::passes::Pass;
 use tp_callbacks::jobs::Job;
-use tp_pool::closing::Reporter;
+use tp_pool::closing::{Reporter, sole};
 use tp_pool::edges::Edge;
 use tp_pool::names::PoolNaming;
 use tp_pool::pool::PoolOf;
+use tp_types::refusals::PoolError;
 
-/// A list of both passes, where there is a second one.
-pub fn both<G: PoolNaming>(
+// A list of both passes, where there is a second one.
+fn both<G: PoolNaming>(
     alloc: Global,
     pass: Pass<G>,
     second: Result<Pass<G>, Mishap>,
@@ -38,7 +39,7 @@ pub fn ended<G: PoolNaming, J: Job, E: Edge, K: Reporter, R: Wait>(
     }
 }
 
-/// What is told of a pool that has ended, once no caller has it any more.
+/// What is told of a pool that ends, once no caller has it any more.
 pub fn closed<G: PoolNaming, J: Job, E: Edge, K: Reporter, R: Wait>(
     rt: &R,
     pool: Arc<PoolOf<G, J, E, K>>,
@@ -47,27 +48,26 @@ pub fn closed<G: PoolNaming, J: Job, E: Edge, K: Reporter, R: Wait>(
     report(rt, sole(rt, pool), passes)
 }
 
-/// What is told of a pool that has ended.
+/// What is told of a pool that ends: where its hook alone told of that, its last step may be under way.
 pub fn report<G: PoolNaming, J: Job, E: Edge, K: Reporter, R: Wait>(
     rt: &R,
     pool: PoolOf<G, J, E, K>,
     passes: Vec<Pass<G>>,
 ) -> Result<K::Report, Mishap> {
-    match pool.close(rt, passes) {
-        Ok(report) => Ok(report),
-        Err(fault) => Err(Mishap::Refused(fault.error)),
-    }
-}
-
-/// The value, once nobody else has it: a thread that was joined may yet let go of it.
-pub fn sole<T, R: Wait>(rt: &R, shared: Arc<T>) -> T {
-    let mut shared = shared;
-    for _ in rt.forever() {
-        match Arc::try_unwrap(shared) {
-            Ok(value) => return value,
-            Err(others) => shared = others,
+    let mut pool = pool;
+    let mut passes = passes;
+    for _ in 0..10_000_000 {
+        match pool.close(rt, passes) {
+            Ok(report) => return Ok(report),
+            Err(fault) => {
+                if fault.error != PoolError::NotTerminated {
+                    return Err(Mishap::Refused(fault.error));
+                }
+                pool = fault.pool;
+                passes = fault.passes;
+                thread::yield_now();
+            }
         }
-        thread::yield_now();
     }
-    unreachable!()
+    Err(Mishap::Differs("a pool did not end"))
 }

@@ -20,11 +20,13 @@ pub enum Making {
     NoThread,
 }
 
-/// A factory whose first answer waits until it may go on, and hooks that count the pool's ends.
+/// A factory of whose answers one waits until it may go on, and hooks that count the pool's ends.
 #[derive(Drop)]
 pub struct Fickle {
     first: Making,
     second: Making,
+    // The number of the ask whose answer waits, the first being 1.
+    halts: u64,
     asked: Count,
     goes_on: Count,
     ends: Count,
@@ -50,11 +52,11 @@ impl Edge for Fickle {
     }
 
     fn allow<R: Wait>(&self, _rt: &R, _w: SlotId) -> bool {
-        let before = self.asked.fetch_add(1, Ordering::SeqCst);
-        if before == 0 {
+        let ask = self.asked.fetch_add(1, Ordering::SeqCst).saturating_add(1);
+        if ask == self.halts {
             reaches(&self.goes_on, 1);
         }
-        self.making(before.saturating_add(1)) != Making::Refused
+        self.making(ask) != Making::Refused
     }
 
     fn terminated<R: Wait>(&self, _rt: &R) {
@@ -65,12 +67,14 @@ impl Edge for Fickle {
 /// A pool of such users.
 pub type Left<G> = PoolOf<G, Chore, Fickle>;
 
-/// What the threads of a pool share: the asks, the leave to go on, the ends, and the runs.
+/// What the threads of a pool share: the start of its second caller, the asks, the leave to go on, the ends, and the runs.
 #[derive(Drop)]
 pub struct Signs {
+    /// 1 where the second caller begins.
+    pub starts: Count,
     /// How often the factory was asked.
     pub asked: Count,
-    /// 1 where the factory's first answer may come.
+    /// 1 where the factory's answer may come that waits.
     pub goes_on: Count,
     /// How often the terminated hook was called.
     pub ends: Count,
@@ -82,6 +86,7 @@ impl Signs {
     /// Nothing has come about.
     pub fn new(alloc: Global) -> Result<Signs, Mishap> {
         Ok(Signs {
+            starts: count(alloc)?,
             asked: count(alloc)?,
             goes_on: count(alloc)?,
             ends: count(alloc)?,
@@ -89,11 +94,13 @@ impl Signs {
         })
     }
 
-    /// The users of a pool of whose first two workers this becomes.
-    pub fn users(&self, first: Making, second: Making) -> Result<Fickle, Mishap> {
+    /// The users of a pool of whose first two workers this becomes. The answer to the ask of this number waits, the first being
+    /// 1.
+    pub fn users(&self, first: Making, second: Making, halts: u64) -> Result<Fickle, Mishap> {
         Ok(Fickle {
             first,
             second,
+            halts,
             asked: Arc::try_clone(&self.asked)?,
             goes_on: Arc::try_clone(&self.goes_on)?,
             ends: Arc::try_clone(&self.ends)?,

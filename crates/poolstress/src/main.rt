@@ -24,6 +24,7 @@ mod plans;
 mod races;
 mod reports;
 mod reuse;
+mod second;
 mod tales;
 mod totals;
 mod waits;

@@ -2,18 +2,18 @@
 //! second look, the task comes back and is rejected, and no worker was ever there: such a pool ends by itself.
 ghost use Rattle.std.specs.Prelude.{◌≡◌};
 
-use crate::chores::{Count, count, reaches};
+use crate::chores::reaches;
+use crate::endings::ended;
 use crate::fickle::{Left, Making, Signs};
 use crate::mishaps::Mishap;
-use crate::tales::submit;
-use crate::waits::{WAITERS, Waiter, ended, judge, wait};
+use crate::second::{Part, hire};
+use crate::waits::{WAITERS, Waiter, judge, wait};
 use std::alloc::Global;
 use std::hint::spin_loop;
 use std::marker::Brand;
 use std::sync::atomic::Ordering;
 use std::sync::{Arc, Wait};
-use std::thread;
-use std::thread::{JoinHandle, Threads};
+use std::thread::Threads;
 use tp_book::opening::Unopened;
 use tp_book::passes::Pass;
 use tp_pool::closing::Report;
@@ -77,78 +77,34 @@ fn open<G: PoolNaming + Send + Sync + 'static, R: Threads + Wait + Copy + Send +
 {
     let signs = Signs::new(alloc)?;
     signs.goes_on.fetch_add(1, Ordering::SeqCst);
-    let users = signs.users(Making::Made, Making::Made)?;
+    let users = signs.users(Making::Made, Making::Made, 1)?;
     let (pool, first) = Left::<G>::over(alloc, unopened, settings, users)?;
     let pool = Arc::new(alloc, pool)?;
     let mut pass = first;
-    let second = life(rt, alloc, &pool, &mut pass, (turns, waiter), &signs);
+    let second = live(rt, &pool, &mut pass, (turns, waiter), &signs);
     let report = ended(&rt, alloc, pool, pass, second)?;
     judge(alloc, &settings, &report, &signs)?;
     Ok(came_back(&report))
 }
 
-// The second caller's pass, once the pool has ended.
-fn life<G: PoolNaming + Send + Sync + 'static, R: Threads + Wait + Copy + Send + Sync + 'static>(
+// One thread submits, the other shuts the pool down. The second caller's pass, once the pool has ended.
+fn live<G: PoolNaming + Send + Sync + 'static, R: Threads + Wait + Copy + Send + Sync + 'static>(
     rt: R,
-    alloc: Global,
     pool: &Arc<Left<G>>,
     pass: &mut Pass<G>,
     (turns, waiter): (u32, Waiter),
     signs: &Signs,
 ) -> Result<Pass<G>, Mishap> {
-    let second = live(rt, alloc, pool, pass, turns, signs)?;
-    wait(&rt, pool, pass, waiter, signs)?;
-    Ok(second)
-}
-
-// One thread submits, the other shuts the pool down.
-fn live<G: PoolNaming + Send + Sync + 'static, R: Threads + Wait + Copy + Send + Sync + 'static>(
-    rt: R,
-    alloc: Global,
-    pool: &Arc<Left<G>>,
-    pass: &mut Pass<G>,
-    turns: u32,
-    signs: &Signs,
-) -> Result<Pass<G>, Mishap> {
-    let starts = count(alloc)?;
     let second = pool.split_pass(&rt, pass)?;
-    let other = hire(rt, pool, &starts, &signs.ran, second)?;
-    reaches(&starts, 1);
+    let other = hire(rt, pool, Part::Submits(0), signs, second)?;
+    reaches(&signs.starts, 1);
     for _ in 0..turns {
         spin_loop();
     }
     pool.shutdown(&rt, pass)?;
-    other.join(&rt)
-}
-
-fn hire<G: PoolNaming + Send + Sync + 'static, R: Threads + Wait + Copy + Send + Sync + 'static>(
-    rt: R,
-    pool: &Arc<Left<G>>,
-    starts: &Count,
-    ran: &Count,
-    pass: Pass<G>,
-) -> Result<JoinHandle<Result<Pass<G>, Mishap>>, Mishap> {
-    let theirs = Arc::try_clone(pool)?;
-    let starts = Arc::try_clone(starts)?;
-    let ran = Arc::try_clone(ran)?;
-    match thread::spawn(&rt, move || submits(rt, theirs, starts, ran, pass)) {
-        Ok(other) => Ok(other),
-        Err(_) => Err(Mishap::NoThread),
-    }
-}
-
-// The thread that submits.
-fn submits<G: PoolNaming + Send + Sync + 'static, R: Threads + Wait + Copy + Send + 'static>(
-    rt: R,
-    pool: Arc<Left<G>>,
-    starts: Count,
-    ran: Count,
-    pass: Pass<G>,
-) -> Result<Pass<G>, Mishap> {
-    let mut pass = pass;
-    starts.fetch_add(1, Ordering::SeqCst);
-    submit(rt, &pool, 0, &ran, &mut pass)?;
-    Ok(pass)
+    let second = other.join(&rt)?;
+    wait(&rt, pool, pass, waiter, signs)?;
+    Ok(second)
 }
 
 // Whether a task came back from the queue at its second look.

@@ -2,23 +2,22 @@
 //! run where a worker may be made for them.
 ghost use Rattle.std.specs.Prelude.{◌≡◌};
 
-use crate::chores::{Chore, Count, Work, reaches};
+use crate::chores::{Work, reaches};
+use crate::endings::ended;
 use crate::fickle::{Left, Making, Signs};
 use crate::mishaps::Mishap;
-use crate::waits::{WAITERS, Waiter, ended, judge, wait};
+use crate::second::{Part, hire, submit};
+use crate::waits::{WAITERS, Waiter, judge, wait};
 use std::alloc::Global;
 use std::marker::Brand;
 use std::sync::atomic::Ordering;
 use std::sync::{Arc, Wait};
-use std::thread;
-use std::thread::{JoinHandle, Threads};
+use std::thread::Threads;
 use tp_book::opening::Unopened;
 use tp_book::passes::Pass;
 use tp_pool::names::PoolNaming;
 use tp_types::configs::{Config, Policy, QueueKind};
 use tp_types::ids::TaskId;
-use tp_types::refusals::PoolError;
-use tp_types::tasks::Kind;
 
 // What a caller does once the pool is left to nobody.
 #[derive(Clone, Copy, PartialEq, Eq)]
@@ -124,11 +123,11 @@ fn open<G: PoolNaming + Send + Sync + 'static, R: Threads + Wait + Copy + Send +
         alloc,
         unopened,
         settings,
-        signs.users(tale.first, tale.second)?,
+        signs.users(tale.first, tale.second, 1)?,
     )?;
     let pool = Arc::new(alloc, pool)?;
     let mut pass = first;
-    let second = life(rt, &pool, &mut pass, (tale, waiter), &signs);
+    let second = live(rt, &pool, &mut pass, (tale, waiter), &signs);
     let report = ended(&rt, alloc, pool, pass, second)?;
     judge(alloc, &settings, &report, &signs)?;
     if report.counts.run != tale.run {
@@ -137,37 +136,27 @@ fn open<G: PoolNaming + Send + Sync + 'static, R: Threads + Wait + Copy + Send +
     Ok(())
 }
 
-// The second caller's pass, once the pool has ended.
-fn life<G: PoolNaming + Send + Sync + 'static, R: Threads + Wait + Copy + Send + Sync + 'static>(
+// The first job's worker is being made while the others are queued and the pool is shut down. The second caller's pass,
+// once the pool has ended.
+fn live<G: PoolNaming + Send + Sync + 'static, R: Threads + Wait + Copy + Send + Sync + 'static>(
     rt: R,
     pool: &Arc<Left<G>>,
     pass: &mut Pass<G>,
     (tale, waiter): (Tale, Waiter),
     signs: &Signs,
 ) -> Result<Pass<G>, Mishap> {
-    let second = live(rt, pool, pass, tale, signs)?;
-    wait(&rt, pool, pass, waiter, signs)?;
-    Ok(second)
-}
-
-// The first job's worker is being made while the others are queued and the pool is shut down.
-fn live<G: PoolNaming + Send + Sync + 'static, R: Threads + Wait + Copy + Send + Sync + 'static>(
-    rt: R,
-    pool: &Arc<Left<G>>,
-    pass: &mut Pass<G>,
-    tale: Tale,
-    signs: &Signs,
-) -> Result<Pass<G>, Mishap> {
     let second = pool.split_pass(&rt, pass)?;
-    let other = hire(rt, pool, &signs.ran, second)?;
+    let other = hire(rt, pool, Part::Submits(0), signs, second)?;
     reaches(&signs.asked, 1);
     for number in 0..tale.queued {
-        submit(rt, pool, number.saturating_add(1), &signs.ran, pass)?;
+        let number = number.saturating_add(1);
+        submit(rt, pool, number, Work::Nothing, &signs.ran, pass)?;
     }
     pool.shutdown(&rt, pass)?;
     signs.goes_on.fetch_add(1, Ordering::SeqCst);
     let second = other.join(&rt)?;
     go_on(rt, pool, pass, tale.way)?;
+    wait(&rt, pool, pass, waiter, signs)?;
     Ok(second)
 }
 
@@ -190,48 +179,4 @@ fn go_on<G: PoolNaming + Send + Sync + 'static, R: Threads + Wait + Copy + Send 
         Way::SetsCore => pool.set_core(&rt, 1, pass)?,
     }
     Ok(())
-}
-
-/// Submits a job; it may be rejected.
-pub fn submit<G: PoolNaming + Send + Sync + 'static, R: Threads + Wait + Copy + Send + 'static>(
-    rt: R,
-    pool: &Left<G>,
-    number: u32,
-    ran: &Count,
-    pass: &mut Pass<G>,
-) -> Result<(), Mishap> {
-    let job = Chore::new(number, Work::Nothing, Arc::try_clone(ran)?);
-    match pool.execute_as(&rt, Kind::Future, job, pass) {
-        Ok(_) => Ok(()),
-        Err(refused) => match refused.error {
-            PoolError::Rejected(_) => Ok(()),
-            error => Err(Mishap::Refused(error)),
-        },
-    }
-}
-
-fn hire<G: PoolNaming + Send + Sync + 'static, R: Threads + Wait + Copy + Send + Sync + 'static>(
-    rt: R,
-    pool: &Arc<Left<G>>,
-    ran: &Count,
-    pass: Pass<G>,
-) -> Result<JoinHandle<Result<Pass<G>, Mishap>>, Mishap> {
-    let theirs = Arc::try_clone(pool)?;
-    let ran = Arc::try_clone(ran)?;
-    match thread::spawn(&rt, move || first_job(rt, theirs, ran, pass)) {
-        Ok(other) => Ok(other),
-        Err(_) => Err(Mishap::NoThread),
-    }
-}
-
-// The thread that submits the first job.
-fn first_job<G: PoolNaming + Send + Sync + 'static, R: Threads + Wait + Copy + Send + 'static>(
-    rt: R,
-    pool: Arc<Left<G>>,
-    ran: Count,
-    pass: Pass<G>,
-) -> Result<Pass<G>, Mishap> {
-    let mut pass = pass;
-    submit(rt, &pool, 0, &ran, &mut pass)?;
-    Ok(pass)
 }

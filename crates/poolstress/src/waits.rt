@@ -1,19 +1,17 @@
 //! How a caller comes to hear that a pool has ended, and what the record of such a pool says.
 
 use crate::chores::reaches;
-use crate::endings::{both, sole};
 use crate::fickle::{Left, Signs};
 use crate::mishaps::Mishap;
 use std::alloc::Global;
+use std::sync::Wait;
 use std::sync::atomic::Ordering;
-use std::sync::{Arc, Wait};
 use std::thread;
 use tp_audit::plain::audit_plain;
 use tp_book::passes::Pass;
 use tp_pool::closing::Report;
 use tp_pool::names::PoolNaming;
 use tp_types::configs::Config;
-use tp_types::refusals::PoolError;
 use tp_types::states::RunState;
 
 /// Who waits for the end.
@@ -59,45 +57,6 @@ fn polled<G: PoolNaming>(pool: &Left<G>, pass: &mut Pass<G>) -> bool {
         thread::yield_now();
     }
     false
-}
-
-/// The report of a pool after its life, where nothing went wrong in it: with the pass of its first caller, and with that of the
-/// second one.
-pub fn ended<G: PoolNaming, R: Wait>(
-    rt: &R,
-    alloc: Global,
-    pool: Arc<Left<G>>,
-    pass: Pass<G>,
-    second: Result<Pass<G>, Mishap>,
-) -> Result<Report, Mishap> {
-    match both(alloc, pass, second) {
-        Ok(passes) => report(rt, sole(rt, pool), passes),
-        Err(mishap) => Err(mishap),
-    }
-}
-
-// The report of a pool whose hook was called: its last step may be under way.
-fn report<G: PoolNaming, R: Wait>(
-    rt: &R,
-    pool: Left<G>,
-    passes: Vec<Pass<G>>,
-) -> Result<Report, Mishap> {
-    let mut pool = pool;
-    let mut passes = passes;
-    for _ in 0..10_000_000 {
-        match pool.close(rt, passes) {
-            Ok(report) => return Ok(report),
-            Err(fault) => {
-                if fault.error != PoolError::NotTerminated {
-                    return Err(Mishap::Refused(fault.error));
-                }
-                pool = fault.pool;
-                passes = fault.passes;
-                thread::yield_now();
-            }
-        }
-    }
-    Err(Mishap::Differs("a pool did not end"))
 }
 
 /// The record is legal, the hook was called once, and as many jobs ran as the record says.
