@@ -75,9 +75,9 @@ fn answer<J: Drop>(t: TaskId, ending: Ending, held: Option<Task<J>>) -> Result<A
 
 // Runs a task's job on its submitter's thread, None where no task was handed out.
 fn run_here<J: Job>(held: Option<Task<J>>) -> Option<Outcome> {
-    let Task { job, flag } = held?;
+    let Task { job, flags } = held?;
     let mut job = job;
-    Some(job.call(&flag))
+    Some(job.call(&flags.lent))
 }
 
 impl<

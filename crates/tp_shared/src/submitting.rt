@@ -15,7 +15,7 @@ use crate::edges::Edge;
 use crate::shared::{Shared, left_in};
 use std::sync::{MutexGuard, Wait};
 use tp_book::passes::Pass;
-use tp_callbacks::flags::CancelFlag;
+use tp_callbacks::flags::FlagPair;
 use tp_callbacks::jobs::Job;
 use tp_locked::locked::{Core, Marks};
 use tp_locked::names::PoolNaming;
@@ -62,11 +62,11 @@ impl<G: PoolNaming, J: Job, E: Edge, K: Keeper> Shared<G, J, E, K> {
         ensures returned { IfErr result (λ r. r.1 ≡ job) }
         ensures unchanged { OnErr result (AddsNone pass.old pass.new) }
     {
-        let (mut core, flag) = match self.hold_with_flag(rt) {
+        let (mut core, flags) = match self.hold_with_flag(rt) {
             Ok(held) => held,
             Err(error) => return Err((error, job)),
         };
-        let submitted = core.submit(step, Task { job, flag }, &self.around.glance, pass);
+        let submitted = core.submit(step, Task { job, flags }, &self.around.glance, pass);
         self.release(core);
         match submitted {
             Ok(submitted) => Ok(submitted),
@@ -80,16 +80,16 @@ impl<G: PoolNaming, J: Job, E: Edge, K: Keeper> Shared<G, J, E, K> {
     fn hold_with_flag<R: Wait>(
         &self,
         rt: &R,
-    ) -> Result<(MutexGuard<'_, Core<G, J, K>>, CancelFlag), PoolError>
+    ) -> Result<(MutexGuard<'_, Core<G, J, K>>, FlagPair), PoolError>
         ensures { IfErr result (λ e. e ≡ PoolError.NoMemory) }
     {
         let mut core = self.hold(rt);
-        if let Some(flag) = core.take_flag() {
-            return Ok((core, flag));
+        if let Some(flags) = core.take_flag() {
+            return Ok((core, flags));
         }
         self.release(core);
-        let flag = CancelFlag::new(self.around.alloc)?;
-        Ok((self.hold(rt), flag))
+        let flags = FlagPair::new(self.around.alloc)?;
+        Ok((self.hold(rt), flags))
     }
 
     /// A further step of a submission, with which no outcome comes: what it did.

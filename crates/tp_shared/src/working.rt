@@ -17,11 +17,9 @@ use tp_callbacks::jobs::Job;
 use tp_locked::locked::Taking;
 use tp_locked::names::PoolNaming;
 use tp_locked::roster::Start;
-use tp_locked::tasks::Task;
-use tp_machine::answers::Begun as Started;
 use tp_machine::machine::releases::Keeper;
 use tp_machine::typed::controllers;
-use tp_machine::typed::workers::{Begin, End, Leave};
+use tp_machine::typed::workers::{End, Leave};
 use tp_record::recorders::Full;
 use tp_turns::deeds::{Departed, Ended, Taken};
 use tp_turns::turns::{Begun, Workplace, one_turn};
@@ -282,11 +280,10 @@ impl<G: PoolNaming, J: Drop, E: Edge, K: Keeper> Shared<G, J, E, K> {
         ensures asks { BeginsAt J K.RECEIPTS (K.terms G.config) pass.old.number pass.old.front w pass.new.front (λ r. result ≡ begun_of r) }
         ensures number { pass.new.number ≡ pass.old.number }
     {
-        match self.step(rt, Begin(w), pass) {
-            Ok(Started::Run(t, Task { job, flag })) => Begun::Run(t, job, flag),
-            Ok(Started::Skip(t)) => Begun::Skip(t),
-            Err(_) => Begun::Refused,
-        }
+        let mut core = self.hold_as_worker(rt);
+        let begun = core.begin(w, &self.around.glance, pass);
+        self.release(core);
+        begun
     }
 
     // One hold of a worker that tells its task's outcome, and gives back the flag of its job. A flag that does not

@@ -8,7 +8,7 @@ use crate::names::PoolNaming;
 use crate::tasks::Task;
 use tp_book::book::Book;
 use tp_callbacks::flags::CancelFlag;
-use tp_machine::answers::{Begun, Judged};
+use tp_machine::answers::Judged;
 use tp_machine::machine::releases::Keeper;
 use tp_machine::typed::Step;
 use tp_machine::typed::controllers::{
@@ -27,8 +27,6 @@ use tp_types::tasks::Place;
 pub enum Mark<'a> {
     /// Nothing.
     Nothing,
-    /// The task with this flag begins in this slot.
-    Begins(SlotId, &'a CancelFlag),
     /// This task, with this flag, begins at its caller.
     BeginsAtCaller(TaskId, &'a CancelFlag),
     /// The task in this slot is gone.
@@ -77,7 +75,6 @@ pub(super) fn mark_flags<G: PoolNaming, J, R: Keeper>(
 ) {
     match mark {
         Mark::Nothing => {}
-        Mark::Begins(w, flag) => flags.begin(w, flag),
         Mark::BeginsAtCaller(t, flag) => flags.begin_at_caller(t, flag),
         Mark::Ends(w) => flags.end(w),
         Mark::EndsAtCaller(t) => flags.end_at_caller(t),
@@ -105,7 +102,7 @@ fn stop<G: PoolNaming, J, R: Keeper>(book: &Book<G, Task<J>, R>, flags: &Flags) 
         }
         if let Some(t) = book.task_in(SlotId(w)) {
             if let Some(task) = book.payload(t) {
-                task.flag.set();
+                task.flags.kept.set();
             }
         }
     }
@@ -157,7 +154,10 @@ impl<J: Drop> Marks<J> for Judge {
     // A task that its caller is to run begins.
     fn mark<'a>(self, answer: &'a Judged<Task<J>>) -> Mark<'a> {
         match (answer.did, &answer.payload) {
-            (Did::Verdict(t, _, Ruled::Caller), Some(task)) => Mark::BeginsAtCaller(t, &task.flag),
+            (Did::Verdict(t, _, Ruled::Caller), Some(task)) => Mark::BeginsAtCaller(
+                t,
+                &task.flags.kept,
+            ),
             _ => Mark::Nothing,
         }
     }
@@ -188,15 +188,8 @@ impl<J> Marks<J> for Fail {}
 
 impl<J> Marks<J> for Take {}
 
-impl<J> Marks<J> for Begin {
-    #[inline(always)]
-    fn mark<'a>(self, answer: &'a Begun<Task<J>>) -> Mark<'a> {
-        match answer {
-            Begun::Run(_, task) => Mark::Begins(self.0, &task.flag),
-            Begun::Skip(_) => Mark::Nothing,
-        }
-    }
-}
+// `Core::begin` keeps the pool's hold of the flag.
+impl<J> Marks<J> for Begin {}
 
 impl<J> Marks<J> for Leave {}
 

@@ -9,12 +9,12 @@ use Rattle.tp_shared.proofs.shared.Shared.submit.Goals as goal
 
 pub returns-in-Ok-submitted-clause-makes : goal.returns-in-Ok-submitted-clause-makes
 returns-in-Ok-submitted-clause-makes g c =
-    let task : Task g.row.J.Denot = record { job = c.args.job; flag = c.in-Ok.held.1 } in (task, refl, c.in-Ok-submitted.ensures.makes)
+    let task : Task g.row.J.Denot = record { job = c.args.job; flags = c.in-Ok.held.1 } in (task, refl, c.in-Ok-submitted.ensures.makes)
 
 pub returns-in-Ok-submitted-clause-step : goal.returns-in-Ok-submitted-clause-step
 returns-in-Ok-submitted-clause-step g c =
     let x = c.in-Ok-submitted.submitted in
-    let task : Task g.row.J.Denot = record { job = c.args.job; flag = c.in-Ok.held.1 } in
+    let task : Task g.row.J.Denot = record { job = c.args.job; flags = c.in-Ok.held.1 } in
     adds_step (g.K.Recorder.terms g.G.PoolNaming.config) c.args.pass.now c.submit-submitted.new.pass (ask.Submit c.args.step.kind c.args.step.priority) (did.Submit x.0 c.args.step.kind c.args.step.priority x.1)
     (λ old new. PutsIn old new x.0.0 c.args.step.promise task) c.in-Ok-submitted.ensures.makes c.in-Ok-submitted.ensures.paid.0
 
