@@ -12,6 +12,12 @@ use tp_pool::names::PoolNaming;
 use tp_pool::pool::PoolOf;
 use tp_types::refusals::PoolError;
 
+/// How often a pool is closed that a caller has seen terminated.
+pub const ONCE: u32 = 1;
+
+/// How often one is closed at most whose hook alone told of its end: its last step may be under way.
+pub const OFTEN: u32 = 10_000_000;
+
 // A list of both passes, where there is a second one.
 fn both<G: PoolNaming>(
     alloc: Global,
@@ -32,9 +38,10 @@ pub fn ended<G: PoolNaming, J: Job, E: Edge, K: Reporter, R: Wait>(
     pool: Arc<PoolOf<G, J, E, K>>,
     pass: Pass<G>,
     second: Result<Pass<G>, Mishap>,
+    closes: u32,
 ) -> Result<K::Report, Mishap> {
     match both(alloc, pass, second) {
-        Ok(passes) => closed(rt, pool, passes),
+        Ok(passes) => closed(rt, pool, passes, closes),
         Err(mishap) => Err(mishap),
     }
 }
@@ -44,19 +51,21 @@ pub fn closed<G: PoolNaming, J: Job, E: Edge, K: Reporter, R: Wait>(
     rt: &R,
     pool: Arc<PoolOf<G, J, E, K>>,
     passes: Vec<Pass<G>>,
+    closes: u32,
 ) -> Result<K::Report, Mishap> {
-    report(rt, sole(rt, pool), passes)
+    report(rt, sole(rt, pool), passes, closes)
 }
 
-/// What is told of a pool that ends: where its hook alone told of that, its last step may be under way.
+/// What is told of a pool that ends. It is closed so often at most, while it is not terminated.
 pub fn report<G: PoolNaming, J: Job, E: Edge, K: Reporter, R: Wait>(
     rt: &R,
     pool: PoolOf<G, J, E, K>,
     passes: Vec<Pass<G>>,
+    closes: u32,
 ) -> Result<K::Report, Mishap> {
     let mut pool = pool;
     let mut passes = passes;
-    for _ in 0..10_000_000 {
+    for _ in 0..closes {
         match pool.close(rt, passes) {
             Ok(report) => return Ok(report),
             Err(fault) => {

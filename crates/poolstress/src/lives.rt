@@ -4,7 +4,7 @@ ghost use Rattle.std.specs.Prelude.{◌≡◌};
 use crate::accounts::{Books, Judged};
 use crate::callers::{Caller, Crew, Role, Told, hire, stop};
 use crate::chores::{Chore, Count, count};
-use crate::endings::closed;
+use crate::endings::{ONCE, closed};
 use crate::luck::Luck;
 use crate::mishaps::Mishap;
 use crate::plans::{Plan, SUBMITTERS, priority_of, work_of};
@@ -105,7 +105,7 @@ fn whole_life<
                 callers,
             },
         ) => {
-            let report = closed(&rt, pool, passes)?;
+            let report = closed(&rt, pool, passes, ONCE)?;
             K::account(alloc, plan, &report, &books, stranded, &callers)
         }
         Err(mishap) => Err(mishap),

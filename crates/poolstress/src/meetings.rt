@@ -3,7 +3,7 @@ ghost use Rattle.std.specs.Prelude.{◌≡◌};
 
 use crate::callers::Crew;
 use crate::chores::{Chore, Count, Work, count};
-use crate::endings::report;
+use crate::endings::{ONCE, report};
 use crate::mishaps::Mishap;
 use crate::whims::Whims;
 use std::alloc::Global;
@@ -101,7 +101,7 @@ fn all_at_once<
     live(rt, &pool, &mut pass, all, ran)?;
     let mut passes = Vec::new(alloc);
     passes.push(pass)?;
-    report(&rt, pool, passes)
+    report(&rt, pool, passes, ONCE)
 }
 
 // So many jobs wait for each other, and then the pool ends.

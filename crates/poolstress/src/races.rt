@@ -3,7 +3,7 @@
 ghost use Rattle.std.specs.Prelude.{◌≡◌};
 
 use crate::chores::reaches;
-use crate::endings::ended;
+use crate::endings::{OFTEN, ended};
 use crate::fickle::{Left, Making, Signs};
 use crate::mishaps::Mishap;
 use crate::second::{Part, hire};
@@ -82,7 +82,7 @@ fn open<G: PoolNaming + Send + Sync + 'static, R: Threads + Wait + Copy + Send +
     let pool = Arc::new(alloc, pool)?;
     let mut pass = first;
     let second = live(rt, &pool, &mut pass, (turns, waiter), &signs);
-    let report = ended(&rt, alloc, pool, pass, second)?;
+    let report = ended(&rt, alloc, pool, pass, second, OFTEN)?;
     judge(alloc, &settings, &report, &signs)?;
     Ok(came_back(&report))
 }

@@ -2,12 +2,11 @@
 //! has looked.
 ghost use Rattle.std.specs.Prelude.{◌≡◌};
 
-use crate::chores::{Work, reaches};
-use crate::endings::ended;
+use crate::chores::{Work, count, reaches};
+use crate::endings::{ONCE, ended};
 use crate::fickle::{Left, Making, Signs};
 use crate::mishaps::Mishap;
 use crate::second::{Part, hire, submit};
-use crate::waits::judge;
 use std::alloc::Global;
 use std::marker::Brand;
 use std::sync::atomic::Ordering;
@@ -17,6 +16,7 @@ use tp_book::opening::Unopened;
 use tp_book::passes::Pass;
 use tp_pool::names::PoolNaming;
 use tp_types::configs::{Config, Policy, QueueKind};
+use tp_types::tasks::Kind;
 
 // Two workers, and a queue.
 const SETTINGS: Config = Config {
@@ -65,30 +65,32 @@ fn open<G: PoolNaming + Send + Sync + 'static, R: Threads + Wait + Copy + Send +
     let (pool, first) = Left::<G>::over(alloc, unopened, settings, users)?;
     let pool = Arc::new(alloc, pool)?;
     let mut pass = first;
-    let second = live(rt, &pool, &mut pass, &signs);
-    let report = ended(&rt, alloc, pool, pass, second)?;
-    judge(alloc, &settings, &report, &signs)?;
-    if report.counts.run != 2 {
+    let second = live(rt, alloc, &pool, &mut pass, &signs);
+    let report = ended(&rt, alloc, pool, pass, second, ONCE)?;
+    if (report.counts.run, signs.ran.load(Ordering::SeqCst)) != (2, 1) {
         return Err(Mishap::Differs("another number of jobs ran"));
     }
     Ok(())
 }
 
-// The first job holds its worker until the third has run; the second's slot is given up; the third lies in the queue.
+// The first job holds its worker; the second's slot is given up; the third lies in the queue.
 fn live<G: PoolNaming + Send + Sync + 'static, R: Threads + Wait + Copy + Send + Sync + 'static>(
     rt: R,
+    alloc: Global,
     pool: &Arc<Left<G>>,
     pass: &mut Pass<G>,
     signs: &Signs,
 ) -> Result<Pass<G>, Mishap> {
-    submit(rt, pool, 0, Work::Meets(2), &signs.ran, pass)?;
+    let held = count(alloc)?;
+    submit(rt, pool, (Kind::Plain, 0, Work::Meets(2)), &held, pass)?;
     let second = pool.split_pass(&rt, pass)?;
     let other = hire(rt, pool, Part::SubmitsAndStarts(1), signs, second)?;
     reaches(&signs.asked, 2);
-    submit(rt, pool, 2, Work::Nothing, &signs.ran, pass)?;
+    submit(rt, pool, (Kind::Plain, 2, Work::Nothing), &signs.ran, pass)?;
     pool.shutdown(&rt, pass)?;
     signs.goes_on.fetch_add(1, Ordering::SeqCst);
     let second = other.join(&rt)?;
+    held.fetch_add(1, Ordering::SeqCst);
     pool.await_termination(&rt, u64::MAX, pass)?;
     Ok(second)
 }

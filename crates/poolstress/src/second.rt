@@ -15,7 +15,7 @@ use tp_types::tasks::Kind;
 /// What the second caller does, once it has told that it begins.
 #[derive(Clone, Copy)]
 pub enum Part {
-    /// It submits the job of this number.
+    /// It submits the job of this number, which may be rejected.
     Submits(u32),
     /// It submits the job of this number, and then starts a worker.
     SubmitsAndStarts(u32),
@@ -66,9 +66,9 @@ fn calls<G: PoolNaming + Send + Sync + 'static, R: Threads + Wait + Copy + Send 
     pass: &mut Pass<G>,
 ) -> Result<(), Mishap> {
     match part {
-        Part::Submits(number) => submit(rt, pool, number, Work::Nothing, ran, pass),
+        Part::Submits(number) => try_submit(rt, pool, number, ran, pass),
         Part::SubmitsAndStarts(number) => {
-            submit(rt, pool, number, Work::Nothing, ran, pass)?;
+            submit(rt, pool, (Kind::Plain, number, Work::Nothing), ran, pass)?;
             start(rt, pool, pass)
         }
     }
@@ -86,21 +86,31 @@ fn start<G: PoolNaming + Send + Sync + 'static, R: Threads + Wait + Copy + Send 
     }
 }
 
-/// Submits the job of this number and work; it may be rejected.
+/// Submits the job of this number and work, as a task of this kind.
 pub fn submit<G: PoolNaming + Send + Sync + 'static, R: Threads + Wait + Copy + Send + 'static>(
     rt: R,
     pool: &Left<G>,
-    number: u32,
-    work: Work,
+    (kind, number, work): (Kind, u32, Work),
     ran: &Count,
     pass: &mut Pass<G>,
 ) -> Result<(), Mishap> {
     let job = Chore::new(number, work, Arc::try_clone(ran)?);
-    match pool.execute_as(&rt, Kind::Future, job, pass) {
+    match pool.execute_as(&rt, kind, job, pass) {
         Ok(_) => Ok(()),
-        Err(refused) => match refused.error {
-            PoolError::Rejected(_) => Ok(()),
-            error => Err(Mishap::Refused(error)),
-        },
+        Err(refused) => Err(Mishap::Refused(refused.error)),
+    }
+}
+
+/// Submits a job of this number that does nothing, as a future; it may be rejected.
+pub fn try_submit<G: PoolNaming + Send + Sync + 'static, R: Threads + Wait + Copy + Send + 'static>(
+    rt: R,
+    pool: &Left<G>,
+    number: u32,
+    ran: &Count,
+    pass: &mut Pass<G>,
+) -> Result<(), Mishap> {
+    match submit(rt, pool, (Kind::Future, number, Work::Nothing), ran, pass) {
+        Err(Mishap::Refused(PoolError::Rejected(_))) => Ok(()),
+        answer => answer,
     }
 }

@@ -2,11 +2,11 @@
 //! run where a worker may be made for them.
 ghost use Rattle.std.specs.Prelude.{◌≡◌};
 
-use crate::chores::{Work, reaches};
-use crate::endings::ended;
+use crate::chores::reaches;
+use crate::endings::{OFTEN, ended};
 use crate::fickle::{Left, Making, Signs};
 use crate::mishaps::Mishap;
-use crate::second::{Part, hire, submit};
+use crate::second::{Part, hire, try_submit};
 use crate::waits::{WAITERS, Waiter, judge, wait};
 use std::alloc::Global;
 use std::marker::Brand;
@@ -128,7 +128,7 @@ fn open<G: PoolNaming + Send + Sync + 'static, R: Threads + Wait + Copy + Send +
     let pool = Arc::new(alloc, pool)?;
     let mut pass = first;
     let second = live(rt, &pool, &mut pass, (tale, waiter), &signs);
-    let report = ended(&rt, alloc, pool, pass, second)?;
+    let report = ended(&rt, alloc, pool, pass, second, OFTEN)?;
     judge(alloc, &settings, &report, &signs)?;
     if report.counts.run != tale.run {
         return Err(Mishap::Differs("not the jobs of the tale ran"));
@@ -150,7 +150,7 @@ fn live<G: PoolNaming + Send + Sync + 'static, R: Threads + Wait + Copy + Send +
     reaches(&signs.asked, 1);
     for number in 0..tale.queued {
         let number = number.saturating_add(1);
-        submit(rt, pool, number, Work::Nothing, &signs.ran, pass)?;
+        try_submit(rt, pool, number, &signs.ran, pass)?;
     }
     pool.shutdown(&rt, pass)?;
     signs.goes_on.fetch_add(1, Ordering::SeqCst);
