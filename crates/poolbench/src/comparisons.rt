@@ -12,13 +12,17 @@ use std::thread::Threads;
 use std::time::Duration;
 use tp_record::recorders::{Full, Tally};
 
+// What a job takes that is not empty, in turns of `spin_loop`: some microseconds.
+const SOME_TURNS: u32 = 400;
+
 /// What is compared, with the aim: the textbook's time by the pool's, in hundredths.
-const COURSES: [(Course, u64); 6] = [
+const COURSES: [(Course, u64); 8] = [
     (
         Course::Through(Crowd {
             workers: 1,
             submitters: 1,
             tasks: 100_000,
+            turns: 0,
         }),
         100,
     ),
@@ -27,6 +31,7 @@ const COURSES: [(Course, u64); 6] = [
             workers: 2,
             submitters: 1,
             tasks: 100_000,
+            turns: 0,
         }),
         130,
     ),
@@ -35,6 +40,7 @@ const COURSES: [(Course, u64); 6] = [
             workers: 4,
             submitters: 1,
             tasks: 100_000,
+            turns: 0,
         }),
         400,
     ),
@@ -43,11 +49,30 @@ const COURSES: [(Course, u64); 6] = [
             workers: 4,
             submitters: 2,
             tasks: 50_000,
+            turns: 0,
         }),
         180,
     ),
     (Course::Start(1), 100),
     (Course::Start(4), 100),
+    (
+        Course::Through(Crowd {
+            workers: 2,
+            submitters: 1,
+            tasks: 100_000,
+            turns: SOME_TURNS,
+        }),
+        100,
+    ),
+    (
+        Course::Through(Crowd {
+            workers: 4,
+            submitters: 1,
+            tasks: 100_000,
+            turns: SOME_TURNS,
+        }),
+        100,
+    ),
 ];
 
 // A few tasks.
@@ -55,6 +80,7 @@ const FEW: Course = Course::Through(Crowd {
     workers: 2,
     submitters: 2,
     tasks: 50,
+    turns: 0,
 });
 
 /// Lets both pools run a few tasks, and says so: the same text each time.
@@ -124,9 +150,10 @@ fn hundredths(one: Duration, two: Duration) -> u64 {
 
 fn tell_through<R: Print>(rt: &R, crowd: Crowd, medians: &Medians) -> io::Result<()> {
     println!(rt;
-        "{} workers, {} submitters: {} thousand tasks a second, without a record {}, the textbook's {}",
+        "{} workers, {} submitters, jobs of {} turns: {} thousand tasks a second, without a record {}, the textbook's {}",
         crowd.workers,
         crowd.submitters,
+        crowd.turns,
         thousands(crowd, medians.recorded),
         thousands(crowd, medians.tallied),
         thousands(crowd, medians.textbook)

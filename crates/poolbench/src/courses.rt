@@ -11,8 +11,10 @@ pub struct Crowd {
     pub workers: u32,
     /// The submitters, 1 or 2.
     pub submitters: u32,
-    /// The empty tasks that each of them submits.
+    /// The tasks that each of them submits.
     pub tasks: u32,
+    /// How long each task's job takes, in turns of `spin_loop`: 0 of an empty one.
+    pub turns: u32,
 }
 
 /// What is timed of a pool.

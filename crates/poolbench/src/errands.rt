@@ -1,4 +1,4 @@
-//! Jobs that cost nothing themselves, each in a box.
+//! Jobs that cost little or nothing themselves, each in a box.
 
 use std::alloc::{AllocError, Global};
 use std::hint::spin_loop;
@@ -15,9 +15,10 @@ pub type Mark = Arc<AtomicU64>;
 #[derive(Drop)]
 struct Errand {
     mark: Option<Mark>,
+    turns: u32,
 }
 
-/// A job that does nothing, or marks that it has begun.
+/// A job that marks that it has begun, or not, and then passes some time.
 #[derive(Drop)]
 pub struct Parcel {
     answer: i64,
@@ -25,11 +26,11 @@ pub struct Parcel {
 }
 
 impl Parcel {
-    /// A job with this mark, or none.
-    pub fn new(alloc: Global, mark: Option<Mark>) -> Result<Parcel, AllocError> {
+    /// A job with this mark, or none, that passes so many turns of `spin_loop`.
+    pub fn new(alloc: Global, mark: Option<Mark>, turns: u32) -> Result<Parcel, AllocError> {
         Ok(Parcel {
             answer: 0,
-            errand: Box::new(alloc, Errand { mark })?,
+            errand: Box::new(alloc, Errand { mark, turns })?,
         })
     }
 }
@@ -46,6 +47,9 @@ impl Job for Parcel {
     fn call(&mut self, _cancel: &CancelFlag) -> Outcome {
         if let Some(mark) = &self.errand.mark {
             mark.store(1, Ordering::SeqCst);
+        }
+        for _ in 0..self.errand.turns {
+            spin_loop();
         }
         as_widest(Ok(self.answer))
     }

@@ -83,10 +83,10 @@ fn submits<
     alloc: Global,
     pool: &Recorded<G, K>,
     pass: &mut Pass<G>,
-    tasks: u32,
+    crowd: Crowd,
 ) -> Result<(), Unmeasured> {
-    for _ in 0..tasks {
-        let job = Parcel::new(alloc, None)?;
+    for _ in 0..crowd.tasks {
+        let job = Parcel::new(alloc, None, crowd.turns)?;
         if let Err(refused) = pool.execute_as(&rt, Kind::Plain, job, pass) {
             return Err(Unmeasured::Refused(refused.error));
         }
@@ -103,10 +103,10 @@ fn submits_alone<
     alloc: Global,
     pool: Arc<Recorded<G, K>>,
     pass: Pass<G>,
-    tasks: u32,
+    crowd: Crowd,
 ) -> Result<(), Unmeasured> {
     let mut pass = pass;
-    submits(rt, alloc, &pool, &mut pass, tasks)
+    submits(rt, alloc, &pool, &mut pass, crowd)
 }
 
 fn other<
@@ -118,10 +118,10 @@ fn other<
     alloc: Global,
     pool: &Arc<Recorded<G, K>>,
     pass: Pass<G>,
-    tasks: u32,
+    crowd: Crowd,
 ) -> Result<JoinHandle<Result<(), Unmeasured>>, Unmeasured> {
     let theirs = Arc::try_clone(pool)?;
-    match thread::spawn(&rt, move || submits_alone(rt, alloc, theirs, pass, tasks)) {
+    match thread::spawn(&rt, move || submits_alone(rt, alloc, theirs, pass, crowd)) {
         Ok(other) => Ok(other),
         Err(_) => Err(Unmeasured::NoThread),
     }
@@ -140,11 +140,11 @@ fn all_submit<
     crowd: Crowd,
 ) -> Result<(), Unmeasured> {
     if crowd.submitters > 1 {
-        let other = other(rt, alloc, pool, second, crowd.tasks)?;
-        submits(rt, alloc, pool, pass, crowd.tasks)?;
+        let other = other(rt, alloc, pool, second, crowd)?;
+        submits(rt, alloc, pool, pass, crowd)?;
         other.join(&rt)
     } else {
-        submits(rt, alloc, pool, pass, crowd.tasks)
+        submits(rt, alloc, pool, pass, crowd)
     }
 }
 
@@ -213,7 +213,7 @@ fn one_start<
     R: Threads + Wait + Clock + Copy + Send + Sync + 'static,
 >(rt: R, alloc: Global, pool: &Recorded<G, K>, pass: &mut Pass<G>) -> Result<Duration, Unmeasured> {
     let mark = Arc::new(alloc, AtomicU64::new(0))?;
-    let job = Parcel::new(alloc, Some(Arc::try_clone(&mark)?))?;
+    let job = Parcel::new(alloc, Some(Arc::try_clone(&mark)?), 0)?;
     let start = Instant::now(&rt)?;
     if let Err(refused) = pool.execute_as(&rt, Kind::Plain, job, pass) {
         return Err(Unmeasured::Refused(refused.error));

@@ -27,10 +27,10 @@ fn submits<R: Wait>(
     rt: &R,
     alloc: Global,
     counter: &Counter,
-    tasks: u32,
+    crowd: Crowd,
 ) -> Result<(), Unmeasured> {
-    for _ in 0..tasks {
-        let job = Parcel::new(alloc, None)?;
+    for _ in 0..crowd.tasks {
+        let job = Parcel::new(alloc, None, crowd.turns)?;
         counter.execute(rt, job)?;
     }
     Ok(())
@@ -40,19 +40,19 @@ fn submits_alone<R: Wait + Copy>(
     rt: R,
     alloc: Global,
     counter: Arc<Counter>,
-    tasks: u32,
+    crowd: Crowd,
 ) -> Result<(), Unmeasured> {
-    submits(&rt, alloc, &counter, tasks)
+    submits(&rt, alloc, &counter, crowd)
 }
 
 fn other<R: Threads + Wait + Copy + Send + 'static>(
     rt: R,
     alloc: Global,
     counter: &Arc<Counter>,
-    tasks: u32,
+    crowd: Crowd,
 ) -> Result<JoinHandle<Result<(), Unmeasured>>, Unmeasured> {
     let theirs = Arc::try_clone(counter)?;
-    match thread::spawn(&rt, move || submits_alone(rt, alloc, theirs, tasks)) {
+    match thread::spawn(&rt, move || submits_alone(rt, alloc, theirs, crowd)) {
         Ok(other) => Ok(other),
         Err(_) => Err(Unmeasured::NoThread),
     }
@@ -65,11 +65,11 @@ fn all_submit<R: Threads + Wait + Copy + Send + 'static>(
     crowd: Crowd,
 ) -> Result<(), Unmeasured> {
     if crowd.submitters > 1 {
-        let other = other(rt, alloc, counter, crowd.tasks)?;
-        submits(&rt, alloc, counter, crowd.tasks)?;
+        let other = other(rt, alloc, counter, crowd)?;
+        submits(&rt, alloc, counter, crowd)?;
         other.join(&rt)
     } else {
-        submits(&rt, alloc, counter, crowd.tasks)
+        submits(&rt, alloc, counter, crowd)
     }
 }
 
@@ -112,7 +112,7 @@ fn one_start<R: Wait + Clock>(
     counter: &Counter,
 ) -> Result<Duration, Unmeasured> {
     let mark = Arc::new(alloc, AtomicU64::new(0))?;
-    let job = Parcel::new(alloc, Some(Arc::try_clone(&mark)?))?;
+    let job = Parcel::new(alloc, Some(Arc::try_clone(&mark)?), 0)?;
     let start = Instant::now(rt)?;
     counter.execute(rt, job)?;
     await_mark(&mark);

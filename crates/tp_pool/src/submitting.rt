@@ -21,7 +21,7 @@ use tp_locked::answers::{Admitted, Refused};
 use tp_locked::names::PoolNaming;
 use tp_locked::tasks::Task;
 use tp_machine::machine::releases::Keeper;
-use tp_machine::typed::submitters::{Grow, Look, Offer, Submit};
+use tp_machine::typed::submitters::{CallerEnd, Grow, Look, Offer, Submit};
 use tp_paths::laws::law_fronts_are_paths;
 use tp_paths::paths::{Ending, Next, follows};
 use tp_record::entries::{Ask, Did};
@@ -205,7 +205,7 @@ impl<
             Next::Look => shared.further(&rt, Look(t), pass),
             Next::Grow => shared.further(&rt, Grow(t), pass),
             Next::Judge => self.judge(rt, t, self.verdict(&rt, t), held, pass),
-            Next::RunHere => shared.end_here(&rt, t, run_here(held.take())?, pass),
+            Next::RunHere => shared.further(&rt, CallerEnd(t, run_here(held.take())?), pass),
             Next::Staff(w) => self.open(rt, w, self.staffed(rt, w), pass).ok(),
             Next::End(_) | Next::Astray => None,
         }

@@ -21,12 +21,16 @@ pub const CALLER: Patience = Patience {
     first: 150,
 };
 
-/// A worker looks later. Tasks wait meanwhile, and it runs them one after another then: whenever the lock goes
-/// from one thread to another, its memory goes from one processor to another too, which costs about as much as
-/// the steps of a task.
+/// A worker looks soon too: where jobs take a while, it is missed while it waits.
 pub const WORKER: Patience = Patience {
     looks: 12,
-    first: 480,
+    first: 30,
+};
+
+/// A worker that was alone looks much later: `Holds::patience`.
+pub const ALONE: Patience = Patience {
+    looks: 12,
+    first: 2_400,
 };
 
 // The longest pause, in turns. Where the lock is rarely held, no pause comes near it.

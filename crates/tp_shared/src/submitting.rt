@@ -22,13 +22,12 @@ use tp_locked::names::PoolNaming;
 use tp_locked::tasks::Task;
 use tp_machine::machine::releases::Keeper;
 use tp_machine::typed::Step;
-use tp_machine::typed::submitters::{CallerEnd, Judge, Second, Submit};
+use tp_machine::typed::submitters::{Judge, Second, Submit};
 use tp_record::entries::{Ask, Did, Looked, Seconded};
 use tp_turns::rescues::Remains;
 use tp_types::configs::Verdict;
 use tp_types::ids::TaskId;
 use tp_types::refusals::PoolError;
-use tp_types::tasks::Outcome;
 
 // What is left to do after a second look: it is looked for only where the task came back.
 #[inline(always)]
@@ -92,7 +91,7 @@ impl<G: PoolNaming, J: Job, E: Edge, K: Keeper> Shared<G, J, E, K> {
         Ok((self.hold(rt), flags))
     }
 
-    /// A further step of a submission, with which no outcome comes: what it did.
+    /// A further step of a submission: what it did.
     #[inline(always)]
     pub fn further<R: Wait, X: Drop, S: Marks<J> + Step<Task<J>, Load = (), Answer = X>>(
         &self,
@@ -101,11 +100,10 @@ impl<G: PoolNaming, J: Job, E: Edge, K: Keeper> Shared<G, J, E, K> {
         pass: &mut Pass<G>,
     ) -> Option<Did>
         requires brings { S.brings step tt }
-        requires no_outcome { HasNoOutcome (S.ask step) }
         requires room { 0 < pass.old.room }
         ensures step { IfSome result (λ d. AddsStep (K.terms G.config) pass.old (S.ask step) d pass.new) }
         ensures left { OnSome result (pass.old.room ≤ pass.new.room + 1) }
-        ensures refused { IfNone result (IsHalted K.RECEIPTS (K.terms G.config) pass.new.front (S.ask step)) }
+        ensures refused { IfNone result (HasNoOutcome (S.ask step) → IsHalted K.RECEIPTS (K.terms G.config) pass.new.front (S.ask step)) }
         ensures unchanged { IfNone result (LooksOnly (K.terms G.config) pass.old pass.new) }
     {
         match self.ask(rt, step, pass) {
@@ -159,25 +157,6 @@ impl<G: PoolNaming, J: Job, E: Edge, K: Keeper> Shared<G, J, E, K> {
                 (Some(judged.did), remains)
             }
             Err(_) => (None, remains),
-        }
-    }
-
-    /// The step `callerend`: what it did.
-    pub fn end_here<R: Wait>(
-        &self,
-        rt: &R,
-        t: TaskId,
-        outcome: Outcome,
-        pass: &mut Pass<G>,
-    ) -> Option<Did>
-        requires room { 0 < pass.old.room }
-        ensures step { IfSome result (λ d. AddsStep (K.terms G.config) pass.old (Ask.CallerEnd t outcome) d pass.new) }
-        ensures left { OnSome result (pass.old.room ≤ pass.new.room + 1) }
-        ensures unchanged { IfNone result (LooksOnly (K.terms G.config) pass.old pass.new) }
-    {
-        match self.ask(rt, CallerEnd(t, outcome), pass) {
-            Ok(()) => Some(Did::CallerEnd(t, outcome)),
-            Err(_) => None,
         }
     }
 }

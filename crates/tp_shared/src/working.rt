@@ -6,15 +6,15 @@ ghost use Rattle.tp_locked.specs.Steps.{taking_of, begun_of, departed_of, IsEndO
 ghost use Rattle.tp_shared.specs.Deeds.{Takes, BeginsAt, Ends, Leaves, EndsPool};
 
 use crate::edges::Edge;
-use crate::lock::rest;
+use crate::lock::{ALONE, Patience, WORKER, polite, rest};
 use crate::shared::Shared;
-use std::sync::{Arc, Wait};
+use std::sync::{Arc, MutexGuard, Wait};
 use std::thread::{Threads, yield_now};
 use tp_book::passes::WorkerPass;
 use tp_callbacks::flags::CancelFlag;
 use tp_callbacks::gates::Point;
 use tp_callbacks::jobs::Job;
-use tp_locked::locked::Taking;
+use tp_locked::locked::{Core, Taking};
 use tp_locked::names::PoolNaming;
 use tp_locked::roster::Start;
 use tp_machine::machine::releases::Keeper;
@@ -38,6 +38,52 @@ const STREAM: u32 = 64;
 
 // After so many waits in a row with no stream between them a worker gives way all the same.
 const WAITS: u32 = 64;
+
+// A worker is alone after so many holds, those of four tasks, with no step of another thread between.
+const MANY: u32 = 12;
+
+// How a worker's holds followed one another of late, by which it waits for the lock.
+//
+// Whenever the lock goes from one thread to another, its memory goes from one processor to another too, which costs about as
+// much as the steps of a task. Where jobs are short, a thread that finds the lock free takes it again and again. So a
+// worker that was alone for a while waits long, and lets another thread be alone in its turn. Where jobs take a while, others
+// step during each of them; then no thread is ever alone, and a worker that waited long would only be missed.
+#[derive(Drop)]
+struct Holds {
+    // The pool's steps at the end of its last hold.
+    steps: u64,
+    // So many holds before that followed one another with no step of another thread between.
+    alone: u32,
+}
+
+impl Holds {
+    // Of a worker that had none yet.
+    fn new() -> Holds {
+        Holds { steps: 0, alone: 0 }
+    }
+
+    // How it waits for the lock.
+    #[inline(always)]
+    fn patience(&self) -> Patience {
+        if self.alone < MANY { WORKER } else { ALONE }
+    }
+
+    // A hold begins, after so many steps.
+    #[inline(always)]
+    fn begin(&mut self, steps: u64) {
+        self.alone = if steps == self.steps {
+            self.alone.saturating_add(1)
+        } else {
+            0
+        };
+    }
+
+    // A hold ends, after so many steps.
+    #[inline(always)]
+    fn end(&mut self, steps: u64) {
+        self.steps = steps;
+    }
+}
 
 // How a worker's tasks came of late, by which it waits for the next one.
 //
@@ -129,6 +175,8 @@ pub struct Post<G: PoolNaming, J, E, K: Keeper = Full> {
     flag: Option<CancelFlag>,
     // How its tasks came of late.
     pace: Pace,
+    // How its holds of the lock followed one another.
+    holds: Holds,
 }
 
 impl<
@@ -150,7 +198,7 @@ impl<
     }
 
     fn take(&mut self, rt: &R) -> Taken {
-        let mut taking = self.shared.take(rt, self.w, &mut self.pass);
+        let mut taking = (self.shared).take(rt, self.w, &mut self.holds, &mut self.pass);
         for _ in rt.forever() {
             match taking {
                 Taking::Task => {
@@ -168,7 +216,8 @@ impl<
     }
 
     fn begin(&mut self, rt: &R) -> Begun<J> {
-        self.shared.begin(rt, self.w, &mut self.pass)
+        self.shared
+            .begin(rt, self.w, &mut self.holds, &mut self.pass)
     }
 
     fn before(&mut self, rt: &R, t: TaskId) {
@@ -191,7 +240,8 @@ impl<
 
     fn end(&mut self, rt: &R, outcome: Outcome) -> Ended {
         let flag = self.flag.take();
-        self.shared.end(rt, self.w, outcome, flag, &mut self.pass)
+        let holds = &mut self.holds;
+        (self.shared).end(rt, self.w, outcome, flag, holds, &mut self.pass)
     }
 
     fn leave(&mut self, rt: &R) -> Departed {
@@ -230,6 +280,7 @@ impl<
             heir: None,
             flag: None,
             pace: Pace::new(),
+            holds: Holds::new(),
         }
     }
 
@@ -256,33 +307,61 @@ impl<
             heir: _,
             flag: _,
             pace: _,
+            holds: _,
         } = self;
         (shared, pass)
     }
 }
 
 impl<G: PoolNaming, J: Drop, E: Edge, K: Keeper> Shared<G, J, E, K> {
+    // Takes the lock, for a step of a worker's turn.
+    #[inline(always)]
+    fn hold_in_turn<R: Wait>(&self, rt: &R, holds: &mut Holds) -> MutexGuard<'_, Core<G, J, K>> {
+        let core = polite(rt, self.core.mutex(), holds.patience());
+        holds.begin(core.steps());
+        core
+    }
+
+    // Lets go of it.
+    #[inline(always)]
+    fn release_in_turn(&self, core: MutexGuard<'_, Core<G, J, K>>, holds: &mut Holds) {
+        holds.end(core.steps());
+        self.release(core);
+    }
+
     // One hold of a worker that asks for its next task.
     #[inline(always)]
-    fn take<R: Wait>(&self, rt: &R, w: SlotId, pass: &mut WorkerPass<G>) -> Taking
+    fn take<R: Wait>(
+        &self,
+        rt: &R,
+        w: SlotId,
+        holds: &mut Holds,
+        pass: &mut WorkerPass<G>,
+    ) -> Taking
         ensures asks { Takes J K.RECEIPTS (K.terms G.config) pass.old.number pass.old.front w pass.new.front (λ r. result ≡ taking_of r) }
         ensures number { pass.new.number ≡ pass.old.number }
     {
-        let mut core = self.hold_as_worker(rt);
+        let mut core = self.hold_in_turn(rt, holds);
         let taking = core.take(w, &self.around.glance, pass);
-        self.release(core);
+        self.release_in_turn(core, holds);
         taking
     }
 
     // One hold of a worker that begins the task that it took.
     #[inline(always)]
-    fn begin<R: Wait>(&self, rt: &R, w: SlotId, pass: &mut WorkerPass<G>) -> Begun<J>
+    fn begin<R: Wait>(
+        &self,
+        rt: &R,
+        w: SlotId,
+        holds: &mut Holds,
+        pass: &mut WorkerPass<G>,
+    ) -> Begun<J>
         ensures asks { BeginsAt J K.RECEIPTS (K.terms G.config) pass.old.number pass.old.front w pass.new.front (λ r. result ≡ begun_of r) }
         ensures number { pass.new.number ≡ pass.old.number }
     {
-        let mut core = self.hold_as_worker(rt);
+        let mut core = self.hold_in_turn(rt, holds);
         let begun = core.begin(w, &self.around.glance, pass);
-        self.release(core);
+        self.release_in_turn(core, holds);
         begun
     }
 
@@ -295,19 +374,20 @@ impl<G: PoolNaming, J: Drop, E: Edge, K: Keeper> Shared<G, J, E, K> {
         w: SlotId,
         outcome: Outcome,
         flag: Option<CancelFlag>,
+        holds: &mut Holds,
         pass: &mut WorkerPass<G>,
     ) -> Ended
         ensures asks { Ends J K.RECEIPTS (K.terms G.config) pass.old.number pass.old.front w outcome pass.new.front (IsEndOf (state (K.terms G.config) pass.new.front) w.0 result) }
         ensures number { pass.new.number ≡ pass.old.number }
     {
-        let mut core = self.hold_as_worker(rt);
+        let mut core = self.hold_in_turn(rt, holds);
         let told = core.step(End(w, outcome), &self.around.glance, pass);
         let dying = core.is_dying(w);
         let spent = match flag {
             Some(flag) => core.give_back(flag),
             None => None,
         };
-        self.release(core);
+        self.release_in_turn(core, holds);
         drop(spent);
         match told {
             Ok(_) if dying => Ended::Dying,

@@ -8,7 +8,7 @@ returns-in-Ok-clause-step g c =
     subst (λ d. AddsStep (g.K.Recorder.terms g.G.PoolNaming.config) c.args.pass.now (g.S.Step.ask c.args.step) d c.ask.new.pass) (sym c.did.ensures) c.in-Ok.ensures.step
 
 pub returns-in-Err-clause-refused : goal.returns-in-Err-clause-refused
-returns-in-Err-clause-refused g c = (
+returns-in-Err-clause-refused g c no_outcome = (
   c.in-Err.field-0,
-  uncertain g.K.Recorder.RECEIPTS (g.K.Recorder.terms g.G.PoolNaming.config) c.ask.new.pass.front (g.S.Step.ask c.args.step) c.in-Err.field-0 (c.in-Err.ensures.refused c.requires.no_outcome),
+  uncertain g.K.Recorder.RECEIPTS (g.K.Recorder.terms g.G.PoolNaming.config) c.ask.new.pass.front (g.S.Step.ask c.args.step) c.in-Err.field-0 (c.in-Err.ensures.refused no_outcome),
 )
