@@ -34,9 +34,9 @@ use tp_types::states::RunState;
 /// seat knows, whose rank the word publishes.
 #[derive(Drop)]
 pub struct Book<G: Naming, P, R: Keeper = Full> {
-    machine: Machine<P, R>,
     accounts: Accounts<G>,
     seat: BookSeat<G>,
+    machine: Machine<P, R>,
 }
 
 impl<G: Naming, P, R: Keeper> Model for Book<G, P, R> {

@@ -42,8 +42,8 @@ use tp_waking::waking::Waking;
 /// nobody holds the lock, no task is queued where a worker sleeps and nobody looks for a task.
 #[derive(Drop)]
 pub struct Core<G: PoolNaming, J, R: Keeper = Full> {
-    book: Book<G, Task<J>, R>,
     flags: Flags,
+    book: Book<G, Task<J>, R>,
     waking: Waking,
     roster: Roster<G>,
 }

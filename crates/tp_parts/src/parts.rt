@@ -15,18 +15,22 @@ use tp_types::states::RunState;
 /// What a pool keeps beside its record: what it was made with, and what its entries so far have led to.
 #[derive(Drop)]
 pub struct Parts<P> {
+    /// How many entries were made so far.
+    pub steps: u64,
+    /// How many entries are still owed.
+    pub due: u64,
+    /// How many tasks workers ended or skipped.
+    pub completions: u32,
+    /// The work queue.
+    pub queue: Queue,
+    /// The tasks, each with what was handed in with it.
+    pub tasks: Tasks<P>,
+    /// The worker slots, and the order in which they are idle.
+    pub slots: Slots,
     /// The settings that it was made with.
     pub config: Config,
     /// At how many entries the pool is full: what keeps its record says so.
     pub limit: u64,
-    /// How many entries were made so far.
-    pub steps: u64,
-    /// The tasks, each with what was handed in with it.
-    pub tasks: Tasks<P>,
-    /// The work queue.
-    pub queue: Queue,
-    /// The worker slots, and the order in which they are idle.
-    pub slots: Slots,
     /// The run state.
     pub state: RunState,
     /// The core size in workers.
@@ -39,12 +43,8 @@ pub struct Parts<P> {
     pub core_timeout: bool,
     /// The moment in ticks.
     pub moment: u64,
-    /// How many tasks workers ended or skipped.
-    pub completions: u32,
     /// The greatest number of live slots so far.
     pub largest: usize,
-    /// How many entries are still owed.
-    pub due: u64,
 }
 
 impl<P> Parts<P> {

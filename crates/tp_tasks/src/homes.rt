@@ -21,12 +21,12 @@ pub struct Home<P> {
 /// there, which is kept for longer, it lies in a table beside, by the hash of its number.
 #[derive(Drop)]
 pub struct Rows<P> {
-    /// Of each home the task that lies there.
-    pub homes: Vec<Option<Home<P>>>,
-    /// The tasks that lie beside.
-    pub beside: IndexMap<u32, Task<P>>,
     /// How many tasks are kept.
     pub count: u32,
+    /// The tasks that lie beside.
+    pub beside: IndexMap<u32, Task<P>>,
+    /// Of each home the task that lies there.
+    pub homes: Vec<Option<Home<P>>>,
     ghost sized: { IsSize (length homes.items) },
     ghost placed: { ArePlaced homes.items },
     ghost apart: { AreApart homes.items beside },

@@ -25,10 +25,10 @@ use tp_types::tasks::{Fate, Kind, Outcome, Place, Promise};
 #[derive(Drop)]
 pub struct Tasks<P> {
     alloc: Global,
-    tasks: Rows<P>,
-    groups: IndexMap<u32, Group>,
     fates: Fates,
     submitted: u32,
+    tasks: Rows<P>,
+    groups: IndexMap<u32, Group>,
     ghost small: { submitted < 2 ^ 32 },
     ghost below: { AreSubmitted submitted tasks },
     ghost counted: { AreCounted fates tasks submitted },
