@@ -232,6 +232,8 @@ impl<
 
     // The step `verdict`: what it did. A task that its submitter is to run, or that is gone, is handed out unless
     // it was cancelled.
+    #[cold]
+    #[inline(never)]
     fn judge<R: Threads + Wait + Copy + Send + 'static>(
         &self,
         rt: R,
@@ -253,6 +255,7 @@ impl<
     }
 
     // Tells whether a worker was made for this slot, and does what that leaves to do.
+    #[inline(never)]
     pub(crate) fn open<R: Threads + Wait + Copy + Send + 'static>(
         &self,
         rt: R,

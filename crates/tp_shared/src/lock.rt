@@ -4,9 +4,9 @@ use std::hint::spin_loop;
 use std::sync::{Mutex, MutexGuard, Wait};
 use std::thread::yield_now;
 
-/// How a thread waits for the lock before it sleeps: so many looks, with a pause after each. Each pause is twice
-/// as long as the one before, up to the longest. A pause is counted in turns of `spin_loop`, some 5 nanoseconds
-/// each.
+/// How a thread waits for a taken lock before it sleeps: so many looks, with a pause before each. Each pause is twice
+/// as long as the one before, up to the longest. A pause is counted in turns of `spin_loop`, 5 to 15 nanoseconds
+/// each, by the machine.
 #[derive(Clone, Copy)]
 pub struct Patience {
     /// The number of looks.
@@ -27,7 +27,7 @@ pub const WORKER: Patience = Patience {
     first: 30,
 };
 
-/// A worker that was alone looks much later: `Holds::patience`.
+/// A worker that was alone looks much later, and lets another thread be alone in its turn: `Holds::patience`.
 pub const ALONE: Patience = Patience {
     looks: 12,
     first: 2_400,
@@ -36,18 +36,29 @@ pub const ALONE: Patience = Patience {
 // The longest pause, in turns. Where the lock is rarely held, no pause comes near it.
 const LONGEST: u32 = 4_000;
 
-/// Takes the lock. A thread looks a few times before it sleeps: a hold is much shorter than a sleep, and a lock
-/// for which no thread sleeps is let go without a system call.
+/// Takes the lock. Most of the time it is free, so all that a wait needs stands apart: each hold has this code in it.
+#[inline(always)]
 pub fn polite<'a, T, R: Wait>(rt: &R, lock: &'a Mutex<T>, patience: Patience) -> MutexGuard<'a, T> {
+    match lock.try_lock() {
+        Some(guard) => guard,
+        None => wait_for(rt, lock, patience),
+    }
+}
+
+// Takes the lock, which another thread has. A thread looks a few times before it sleeps: a hold is much shorter than a
+// sleep, and a lock for which no thread sleeps is let go without a system call.
+#[cold]
+#[inline(never)]
+fn wait_for<'a, T, R: Wait>(rt: &R, lock: &'a Mutex<T>, patience: Patience) -> MutexGuard<'a, T> {
     let mut pause = patience.first;
     for _ in 0..patience.looks {
-        if let Some(guard) = lock.try_lock() {
-            return guard;
-        }
         if pause == LONGEST {
             yield_now();
         }
         rest(pause);
+        if let Some(guard) = lock.try_lock() {
+            return guard;
+        }
         pause = pause.saturating_mul(2).min(LONGEST);
     }
     lock.lock(rt)

@@ -40,14 +40,16 @@ impl Waiters {
 
 /// Who is to be woken. One worker has a place of its own, since no hold calls two by name. Were it to call a
 /// second one, all workers would be woken: a worker that is woken in vain sleeps again.
+//
+// The four flags do not stand side by side: the compiler would look at all of them by vectors, in twice the instructions.
 #[derive(Clone, Copy, Debug, PartialEq, Eq)]
 pub struct Calls {
+    /// All who wait for these.
+    pub waiters: Waiters,
     /// This worker.
     pub worker: Option<SlotId>,
     /// All workers.
     pub everyone: bool,
-    /// All who wait for these.
-    pub waiters: Waiters,
 }
 
 /// Nobody.
@@ -77,6 +79,6 @@ impl Calls {
     pub fn is_nobody(&self) -> bool
         ensures { IsTrue result ↔ (self.now ≡ NOBODY) }
     {
-        self.worker.is_none() & !self.everyone & self.waiters.is_none()
+        self.worker.is_none() && !self.everyone & self.waiters.is_none()
     }
 }
