@@ -1,8 +1,10 @@
-// Who hears of a stop.
+// Who hears of a stop, and whom a cancel reaches that its submitter runs.
 
 use super::chores::Deed;
 use super::lives::lives;
-use super::scripts::{Answer, Cue, IS_OVER, LETS_GO, LIFE, LOOKS, Life, SETTINGS, Step, TELLS};
+use super::scripts::{
+    Answer, Cue, IS_OVER, LETS_GO, LIFE, LOOKS, Life, SETTINGS, SHUTS_DOWN, Step, TELLS,
+};
 use std::test::Fail;
 use tp_record::entries::Did;
 use tp_stage::boards::Signal;
@@ -35,8 +37,8 @@ fn stopped_job_sees_its_flag(rt: HostRuntime) -> Result<(), Fail> {
     lives(rt, rt.alloc(), &FLAGGED)
 }
 
-// A stop reaches the task in the worker's slot, and not the one that its submitter runs meanwhile.
-static SPARED: [Life; 1] = [Life {
+// The sole worker is held, so a second task is run by its submitter.
+const AT_SUBMITTER: Life = Life {
     settings: Config {
         core: 0,
         maximum: 1,
@@ -44,6 +46,11 @@ static SPARED: [Life; 1] = [Life {
         policy: Policy::CallerRuns,
         ..SETTINGS
     },
+    ..HELD
+};
+
+// A stop reaches the task in the worker's slot, and not the one that its submitter runs meanwhile.
+static SPARED: [Life; 1] = [Life {
     first: &[
         LOOKS,
         Step::Hand(Kind::Plain, Deed::Wait, Answer::RanHere(Ok(0))),
@@ -62,10 +69,40 @@ static SPARED: [Life; 1] = [Life {
         Finding::Run(1),
         Finding::Caller(1),
     ],
-    ..HELD
+    ..AT_SUBMITTER
 }];
 
 #[test]
 fn stop_spares_the_submitters_own_run(rt: HostRuntime) -> Result<(), Fail> {
     lives(rt, rt.alloc(), &SPARED)
+}
+
+// A future that its submitter runs finds its flag set, once it is cancelled with the flag.
+static REACHED: [Life; 1] = [Life {
+    first: &[
+        LOOKS,
+        Step::Hand(Kind::Future, Deed::Wait, Answer::RanHere(Ok(1))),
+        Step::Cue(Cue::Reaches(Signal::Over, 1)),
+        LETS_GO,
+        SHUTS_DOWN,
+    ],
+    beside: &[
+        Step::Cue(Cue::Reaches(Signal::Begun, 1)),
+        Step::Call(Call::Cancel(TaskId(1), true, true)),
+        TELLS,
+        IS_OVER,
+    ],
+    findings: &[
+        Finding::Ended(0, Ok(0)),
+        Finding::Told(1, Did::CallerEnd(TaskId(1), Ok(1))),
+        Finding::Run(1),
+        Finding::Caller(0),
+        Finding::Cancelled(1),
+    ],
+    ..AT_SUBMITTER
+}];
+
+#[test]
+fn cancel_reaches_the_submitters_own_run(rt: HostRuntime) -> Result<(), Fail> {
+    lives(rt, rt.alloc(), &REACHED)
 }
