@@ -1,6 +1,6 @@
 //! What is printed of the pool beside a textbook's.
 
-use crate::courses::{Course, Crowd, median};
+use crate::courses::{Course, Crowd, median, nanoseconds};
 use crate::recorded::recorded;
 use crate::textbooks::textbook;
 use crate::unmeasured::Unmeasured;
@@ -167,10 +167,6 @@ fn tell_start<R: Print>(rt: &R, workers: u32, medians: &Medians) -> io::Result<(
         nanoseconds(medians.tallied),
         nanoseconds(medians.textbook)
     )
-}
-
-fn nanoseconds(time: Duration) -> u64 {
-    u64::try_from(time.as_nanos()).unwrap_or(u64::MAX)
 }
 
 // Thousand tasks a second.

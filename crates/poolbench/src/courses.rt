@@ -48,3 +48,8 @@ pub fn median(times: &mut Vec<Duration>) -> Result<Duration, Unmeasured> {
     let middle = times.get(times.len() / 2).copied();
     Ok(middle.unwrap_or(Duration::ZERO))
 }
+
+/// So many nanoseconds.
+pub fn nanoseconds(time: Duration) -> u64 {
+    u64::try_from(time.as_nanos()).unwrap_or(u64::MAX)
+}

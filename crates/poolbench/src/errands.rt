@@ -1,41 +1,42 @@
 //! Jobs that cost little or nothing themselves, each in a box.
 
+use crate::watches::Watch;
 use std::alloc::{AllocError, Global};
 use std::hint::spin_loop;
-use std::sync::Arc;
-use std::sync::atomic::{AtomicU64, Ordering};
+use std::time::Clock;
 use tp_callbacks::flags::CancelFlag;
 use tp_callbacks::jobs::Job;
 use tp_types::tasks::{Outcome, Promise, WIDEST, as_widest};
 
-/// A word that a job writes where it begins.
-pub type Mark = Arc<AtomicU64>;
-
-/// What lies in the box.
+// What lies in the box.
 #[derive(Drop)]
-struct Errand {
-    mark: Option<Mark>,
+struct Errand<R> {
+    watch: Option<Watch<R>>,
     turns: u32,
 }
 
-/// A job that marks that it has begun, or not, and then passes some time.
+/// A job that reads a watch where it begins, or none, and then passes some time.
 #[derive(Drop)]
-pub struct Parcel {
+pub struct Parcel<R> {
     answer: i64,
-    errand: Box<Errand>,
+    errand: Box<Errand<R>>,
 }
 
-impl Parcel {
-    /// A job with this mark, or none, that passes so many turns of `spin_loop`.
-    pub fn new(alloc: Global, mark: Option<Mark>, turns: u32) -> Result<Parcel, AllocError> {
+impl<R: Copy> Parcel<R> {
+    /// A job with this watch, or none, that passes so many turns of `spin_loop`.
+    pub fn new(
+        alloc: Global,
+        watch: Option<Watch<R>>,
+        turns: u32,
+    ) -> Result<Parcel<R>, AllocError> {
         Ok(Parcel {
             answer: 0,
-            errand: Box::new(alloc, Errand { mark, turns })?,
+            errand: Box::new(alloc, Errand { watch, turns })?,
         })
     }
 }
 
-impl Job for Parcel {
+impl<R: Clock + Copy + Send> Job for Parcel<R> {
     ghost use Rattle.tp_types.specs.declared.tasks.TheConstants.{WIDEST};
 
     ghost promised = { λ _. WIDEST };
@@ -45,22 +46,12 @@ impl Job for Parcel {
     }
 
     fn call(&mut self, _cancel: &CancelFlag) -> Outcome {
-        if let Some(mark) = &self.errand.mark {
-            mark.store(1, Ordering::SeqCst);
+        if let Some(watch) = &self.errand.watch {
+            watch.begin();
         }
         for _ in 0..self.errand.turns {
             spin_loop();
         }
         as_widest(Ok(self.answer))
-    }
-}
-
-/// Spins until the mark is written, or for long.
-pub fn await_mark(mark: &AtomicU64) {
-    for _ in 0..100_000_000u32 {
-        if mark.load(Ordering::SeqCst) != 0 {
-            return;
-        }
-        spin_loop();
     }
 }

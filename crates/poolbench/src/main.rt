@@ -20,6 +20,7 @@ mod reports;
 mod textbook;
 mod textbooks;
 mod unmeasured;
+mod watches;
 
 use comparisons::{compared, rehearse_pools};
 use endless::{Fare, serves};

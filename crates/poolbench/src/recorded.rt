@@ -2,11 +2,11 @@
 ghost use Rattle.std.specs.Prelude.{◌≡◌};
 
 use crate::courses::{Course, Crowd, STARTS, median, settle};
-use crate::errands::{Parcel, await_mark};
+use crate::errands::Parcel;
 use crate::unmeasured::Unmeasured;
+use crate::watches::Watch;
 use std::alloc::Global;
 use std::marker::Brand;
-use std::sync::atomic::AtomicU64;
 use std::sync::{Arc, Wait};
 use std::thread;
 use std::thread::{JoinHandle, Threads};
@@ -21,7 +21,7 @@ use tp_types::configs::{Config, Policy, QueueKind};
 use tp_types::limits::{DEFAULT_RECORD_LIMIT, MAX_RECORD_LIMIT};
 use tp_types::tasks::Kind;
 
-type Recorded<G, K> = PoolOf<G, Parcel, Defaults, K>;
+type Recorded<G, K, R> = PoolOf<G, Parcel<R>, Defaults, K>;
 
 // So many workers, a queue that takes any number of tasks, and a record of so many entries.
 fn settings_of(workers: u32, record_limit: u32) -> Config {
@@ -64,7 +64,7 @@ fn open<
     requires named { unopened ≡ record { ledger = G.name; parts = G.parts; table = G.table } }
     requires settings { settings ≡ G.config }
 {
-    let (pool, first) = Recorded::<G, K>::over(alloc, unopened, settings, Defaults)?;
+    let (pool, first) = Recorded::<G, K, R>::over(alloc, unopened, settings, Defaults)?;
     let mut pass = first;
     pool.prestart_all(&rt, &mut pass)?;
     settle(&rt);
@@ -77,11 +77,11 @@ fn open<
 fn submits<
     G: PoolNaming + Send + Sync + 'static,
     K: Keeper + Send + 'static,
-    R: Threads + Wait + Copy + Send + 'static,
+    R: Threads + Wait + Clock + Copy + Send + 'static,
 >(
     rt: R,
     alloc: Global,
-    pool: &Recorded<G, K>,
+    pool: &Recorded<G, K, R>,
     pass: &mut Pass<G>,
     crowd: Crowd,
 ) -> Result<(), Unmeasured> {
@@ -97,11 +97,11 @@ fn submits<
 fn submits_alone<
     G: PoolNaming + Send + Sync + 'static,
     K: Keeper + Send + 'static,
-    R: Threads + Wait + Copy + Send + 'static,
+    R: Threads + Wait + Clock + Copy + Send + 'static,
 >(
     rt: R,
     alloc: Global,
-    pool: Arc<Recorded<G, K>>,
+    pool: Arc<Recorded<G, K, R>>,
     pass: Pass<G>,
     crowd: Crowd,
 ) -> Result<(), Unmeasured> {
@@ -112,11 +112,11 @@ fn submits_alone<
 fn other<
     G: PoolNaming + Send + Sync + 'static,
     K: Keeper + Send + 'static,
-    R: Threads + Wait + Copy + Send + Sync + 'static,
+    R: Threads + Wait + Clock + Copy + Send + Sync + 'static,
 >(
     rt: R,
     alloc: Global,
-    pool: &Arc<Recorded<G, K>>,
+    pool: &Arc<Recorded<G, K, R>>,
     pass: Pass<G>,
     crowd: Crowd,
 ) -> Result<JoinHandle<Result<(), Unmeasured>>, Unmeasured> {
@@ -130,11 +130,11 @@ fn other<
 fn all_submit<
     G: PoolNaming + Send + Sync + 'static,
     K: Keeper + Send + 'static,
-    R: Threads + Wait + Copy + Send + Sync + 'static,
+    R: Threads + Wait + Clock + Copy + Send + Sync + 'static,
 >(
     rt: R,
     alloc: Global,
-    pool: &Arc<Recorded<G, K>>,
+    pool: &Arc<Recorded<G, K, R>>,
     pass: &mut Pass<G>,
     second: Pass<G>,
     crowd: Crowd,
@@ -156,7 +156,7 @@ fn through<
 >(
     rt: R,
     alloc: Global,
-    pool: Arc<Recorded<G, K>>,
+    pool: Arc<Recorded<G, K, R>>,
     pass: Pass<G>,
     crowd: Crowd,
 ) -> Result<Duration, Unmeasured> {
@@ -183,8 +183,8 @@ fn receipts(tasks: u32) -> usize {
 fn end<
     G: PoolNaming + Send + Sync + 'static,
     K: Keeper + Send + 'static,
-    R: Threads + Wait + Copy + Send + 'static,
->(rt: &R, pool: &Recorded<G, K>, pass: &mut Pass<G>) -> Result<(), Unmeasured> {
+    R: Threads + Wait + Clock + Copy + Send + 'static,
+>(rt: &R, pool: &Recorded<G, K, R>, pass: &mut Pass<G>) -> Result<(), Unmeasured> {
     pool.shutdown(rt, pass)?;
     pool.await_termination(rt, u64::MAX, pass)?;
     Ok(())
@@ -194,7 +194,7 @@ fn start<
     G: PoolNaming + Send + Sync + 'static,
     K: Keeper + Send + 'static,
     R: Threads + Wait + Clock + Copy + Send + Sync + 'static,
->(rt: R, alloc: Global, pool: &Recorded<G, K>, pass: Pass<G>) -> Result<Duration, Unmeasured> {
+>(rt: R, alloc: Global, pool: &Recorded<G, K, R>, pass: Pass<G>) -> Result<Duration, Unmeasured> {
     let mut pass = pass;
     let mut times = Vec::new(alloc);
     pass.reserve(receipts(STARTS))?;
@@ -211,13 +211,17 @@ fn one_start<
     G: PoolNaming + Send + Sync + 'static,
     K: Keeper + Send + 'static,
     R: Threads + Wait + Clock + Copy + Send + Sync + 'static,
->(rt: R, alloc: Global, pool: &Recorded<G, K>, pass: &mut Pass<G>) -> Result<Duration, Unmeasured> {
-    let mark = Arc::new(alloc, AtomicU64::new(0))?;
-    let job = Parcel::new(alloc, Some(Arc::try_clone(&mark)?), 0)?;
-    let start = Instant::now(&rt)?;
+>(
+    rt: R,
+    alloc: Global,
+    pool: &Recorded<G, K, R>,
+    pass: &mut Pass<G>,
+) -> Result<Duration, Unmeasured> {
+    let watch = Watch::new(rt, alloc)?;
+    let job = Parcel::new(alloc, Some(watch.try_clone()?), 0)?;
+    let submitted = watch.time()?;
     if let Err(refused) = pool.execute_as(&rt, Kind::Plain, job, pass) {
         return Err(Unmeasured::Refused(refused.error));
     }
-    await_mark(&mark);
-    Ok(start.elapsed(&rt)?)
+    watch.begun_after(submitted)
 }

@@ -7,27 +7,28 @@ use std::collections::VecDeque;
 use std::sync::{Arc, Condvar, Mutex, Wait};
 use std::thread;
 use std::thread::{JoinHandle, Threads};
+use std::time::Clock;
 use tp_callbacks::flags::CancelFlag;
 use tp_callbacks::jobs::Job;
 use tp_types::refusals::PoolError;
 
 // What lies under the lock.
 #[derive(Drop)]
-struct Waiting {
-    queue: VecDeque<Parcel>,
+struct Waiting<R> {
+    queue: VecDeque<Parcel<R>>,
     closed: bool,
 }
 
 /// What the threads share.
 #[derive(Drop)]
-pub struct Counter {
-    waiting: Mutex<Waiting>,
+pub struct Counter<R> {
+    waiting: Mutex<Waiting<R>>,
     changed: Condvar,
 }
 
-impl Counter {
+impl<R: Wait + Clock + Copy + Send> Counter<R> {
     /// Queues a job.
-    pub fn execute<R: Wait>(&self, rt: &R, job: Parcel) -> Result<(), AllocError> {
+    pub fn execute(&self, rt: &R, job: Parcel<R>) -> Result<(), AllocError> {
         let mut waiting = self.waiting.lock(rt);
         waiting.queue.push_back(job)?;
         drop(waiting);
@@ -35,7 +36,7 @@ impl Counter {
         Ok(())
     }
 
-    fn next<R: Wait>(&self, rt: &R) -> Option<Parcel> {
+    fn next(&self, rt: &R) -> Option<Parcel<R>> {
         let mut waiting = self.waiting.lock(rt);
         for _ in rt.forever() {
             if let Some(job) = waiting.queue.pop_front() {
@@ -50,7 +51,7 @@ impl Counter {
     }
 
     // Runs jobs until the pool is closed; how many it ran.
-    fn work<R: Wait>(&self, rt: &R, flag: &CancelFlag) -> u64 {
+    fn work(&self, rt: &R, flag: &CancelFlag) -> u64 {
         let mut count = 0u64;
         for _ in rt.forever() {
             let Some(mut job) = self.next(rt) else {
@@ -65,15 +66,15 @@ impl Counter {
 
 /// The pool, with its workers.
 #[derive(Drop)]
-pub struct Textbook {
+pub struct Textbook<R> {
     /// What the threads share.
-    pub counter: Arc<Counter>,
+    pub counter: Arc<Counter<R>>,
     workers: Vec<JoinHandle<u64>>,
 }
 
-fn hire<R: Threads + Wait + Copy + Send + 'static>(
+fn hire<R: Threads + Wait + Clock + Copy + Send + Sync + 'static>(
     rt: R,
-    counter: &Arc<Counter>,
+    counter: &Arc<Counter<R>>,
     flag: CancelFlag,
 ) -> Result<JoinHandle<u64>, PoolError> {
     let Ok(theirs) = Arc::try_clone(counter) else {
@@ -85,13 +86,9 @@ fn hire<R: Threads + Wait + Copy + Send + 'static>(
     }
 }
 
-impl Textbook {
+impl<R: Threads + Wait + Clock + Copy + Send + Sync + 'static> Textbook<R> {
     /// A pool of so many workers. NoMemory (4), also where a thread is not made.
-    pub fn new<R: Threads + Wait + Copy + Send + 'static>(
-        rt: R,
-        alloc: Global,
-        workers: u32,
-    ) -> Result<Textbook, PoolError> {
+    pub fn new(rt: R, alloc: Global, workers: u32) -> Result<Textbook<R>, PoolError> {
         let waiting = Waiting {
             queue: VecDeque::new(alloc),
             closed: false,
@@ -117,7 +114,7 @@ impl Textbook {
     }
 
     /// Closes the pool and waits until all jobs were run; how many there were.
-    pub fn join<R: Threads + Wait>(self, rt: &R) -> u64 {
+    pub fn join(self, rt: &R) -> u64 {
         let Textbook { counter, workers } = self;
         counter.waiting.lock(rt).closed = true;
         counter.changed.notify_all();

@@ -1,11 +1,11 @@
 //! The runs of the textbook's pool that are timed.
 
 use crate::courses::{Course, Crowd, STARTS, median, settle};
-use crate::errands::{Parcel, await_mark};
+use crate::errands::Parcel;
 use crate::textbook::{Counter, Textbook};
 use crate::unmeasured::Unmeasured;
+use crate::watches::Watch;
 use std::alloc::Global;
-use std::sync::atomic::AtomicU64;
 use std::sync::{Arc, Wait};
 use std::thread;
 use std::thread::{JoinHandle, Threads};
@@ -23,10 +23,10 @@ pub fn textbook<R: Threads + Wait + Clock + Copy + Send + Sync + 'static>(
     }
 }
 
-fn submits<R: Wait>(
+fn submits<R: Wait + Clock + Copy + Send>(
     rt: &R,
     alloc: Global,
-    counter: &Counter,
+    counter: &Counter<R>,
     crowd: Crowd,
 ) -> Result<(), Unmeasured> {
     for _ in 0..crowd.tasks {
@@ -36,19 +36,19 @@ fn submits<R: Wait>(
     Ok(())
 }
 
-fn submits_alone<R: Wait + Copy>(
+fn submits_alone<R: Wait + Clock + Copy + Send>(
     rt: R,
     alloc: Global,
-    counter: Arc<Counter>,
+    counter: Arc<Counter<R>>,
     crowd: Crowd,
 ) -> Result<(), Unmeasured> {
     submits(&rt, alloc, &counter, crowd)
 }
 
-fn other<R: Threads + Wait + Copy + Send + 'static>(
+fn other<R: Threads + Wait + Clock + Copy + Send + Sync + 'static>(
     rt: R,
     alloc: Global,
-    counter: &Arc<Counter>,
+    counter: &Arc<Counter<R>>,
     crowd: Crowd,
 ) -> Result<JoinHandle<Result<(), Unmeasured>>, Unmeasured> {
     let theirs = Arc::try_clone(counter)?;
@@ -58,10 +58,10 @@ fn other<R: Threads + Wait + Copy + Send + 'static>(
     }
 }
 
-fn all_submit<R: Threads + Wait + Copy + Send + 'static>(
+fn all_submit<R: Threads + Wait + Clock + Copy + Send + Sync + 'static>(
     rt: R,
     alloc: Global,
-    counter: &Arc<Counter>,
+    counter: &Arc<Counter<R>>,
     crowd: Crowd,
 ) -> Result<(), Unmeasured> {
     if crowd.submitters > 1 {
@@ -99,22 +99,21 @@ fn start<R: Threads + Wait + Clock + Copy + Send + Sync + 'static>(
     let mut times = Vec::new(alloc);
     for _ in 0..STARTS {
         settle(&rt);
-        times.push(one_start(&rt, alloc, &pool.counter)?)?;
+        times.push(one_start(rt, alloc, &pool.counter)?)?;
     }
     pool.join(&rt);
     median(&mut times)
 }
 
 // From a submission until its body begins.
-fn one_start<R: Wait + Clock>(
-    rt: &R,
+fn one_start<R: Wait + Clock + Copy + Send + 'static>(
+    rt: R,
     alloc: Global,
-    counter: &Counter,
+    counter: &Counter<R>,
 ) -> Result<Duration, Unmeasured> {
-    let mark = Arc::new(alloc, AtomicU64::new(0))?;
-    let job = Parcel::new(alloc, Some(Arc::try_clone(&mark)?), 0)?;
-    let start = Instant::now(rt)?;
-    counter.execute(rt, job)?;
-    await_mark(&mark);
-    Ok(start.elapsed(rt)?)
+    let watch = Watch::new(rt, alloc)?;
+    let job = Parcel::new(alloc, Some(watch.try_clone()?), 0)?;
+    let submitted = watch.time()?;
+    counter.execute(&rt, job)?;
+    watch.begun_after(submitted)
 }
