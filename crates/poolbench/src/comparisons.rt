@@ -15,64 +15,47 @@ use tp_record::recorders::{Full, Tally};
 // What a job takes that is not empty, in turns of `spin_loop`: some microseconds.
 const SOME_TURNS: u32 = 400;
 
-/// What is compared, with the aim: the textbook's time by the pool's, in hundredths.
-const COURSES: [(Course, u64); 8] = [
-    (
-        Course::Through(Crowd {
-            workers: 1,
-            submitters: 1,
-            tasks: 100_000,
-            turns: 0,
-        }),
-        100,
-    ),
-    (
-        Course::Through(Crowd {
-            workers: 2,
-            submitters: 1,
-            tasks: 100_000,
-            turns: 0,
-        }),
-        130,
-    ),
-    (
-        Course::Through(Crowd {
-            workers: 4,
-            submitters: 1,
-            tasks: 100_000,
-            turns: 0,
-        }),
-        400,
-    ),
-    (
-        Course::Through(Crowd {
-            workers: 4,
-            submitters: 2,
-            tasks: 50_000,
-            turns: 0,
-        }),
-        180,
-    ),
-    (Course::Start(1), 100),
-    (Course::Start(4), 100),
-    (
-        Course::Through(Crowd {
-            workers: 2,
-            submitters: 1,
-            tasks: 100_000,
-            turns: SOME_TURNS,
-        }),
-        100,
-    ),
-    (
-        Course::Through(Crowd {
-            workers: 4,
-            submitters: 1,
-            tasks: 100_000,
-            turns: SOME_TURNS,
-        }),
-        100,
-    ),
+const ONE: Crowd = Crowd {
+    workers: 1,
+    submitters: 1,
+    tasks: 100_000,
+    turns: 0,
+};
+
+const TWO: Crowd = Crowd { workers: 2, ..ONE };
+
+const FOUR: Crowd = Crowd { workers: 4, ..ONE };
+
+const FOUR_OF_TWO: Crowd = Crowd {
+    submitters: 2,
+    tasks: 50_000,
+    ..FOUR
+};
+
+const LONGER_OF_TWO: Crowd = Crowd {
+    turns: SOME_TURNS,
+    ..TWO
+};
+
+const LONGER_OF_FOUR: Crowd = Crowd {
+    turns: SOME_TURNS,
+    ..FOUR
+};
+
+/// What is compared, with the aim, where there is one: the textbook's time by the pool's, in hundredths.
+const COURSES: [(Course, Option<u64>); 12] = [
+    (Course::Through(ONE), Some(100)),
+    (Course::Through(TWO), Some(130)),
+    (Course::Through(FOUR), Some(400)),
+    (Course::Through(FOUR_OF_TWO), Some(180)),
+    (Course::Start(1), Some(100)),
+    (Course::Start(4), Some(100)),
+    (Course::Through(LONGER_OF_TWO), Some(100)),
+    (Course::Through(LONGER_OF_FOUR), Some(100)),
+    (Course::Life(ONE), None),
+    (Course::Life(TWO), None),
+    (Course::Life(FOUR), None),
+    (Course::Life(FOUR_OF_TWO), None),
 ];
 
 // A few tasks.
@@ -120,24 +103,20 @@ pub fn compared<R: Threads + Wait + Clock + Print + Copy + Send + Sync + 'static
 }
 
 // Prints the medians, and their ratio beside the aim.
-fn tell<R: Print>(rt: &R, course: Course, aim: u64, medians: &Medians) -> io::Result<()> {
-    let Medians {
-        textbook,
-        recorded,
-        tallied,
-    } = *medians;
+fn tell<R: Print>(rt: &R, course: Course, aim: Option<u64>, medians: &Medians) -> io::Result<()> {
     match course {
-        Course::Through(crowd) => tell_through(rt, crowd, medians)?,
+        Course::Through(crowd) => tell_rates(rt, "", crowd, medians)?,
+        Course::Life(crowd) => tell_rates(rt, "whole lives, ", crowd, medians)?,
         Course::Start(workers) => tell_start(rt, workers, medians)?,
     }
-    let ratio = hundredths(textbook, recorded);
-    let without = hundredths(recorded, tallied);
+    let ratio = hundredths(medians.textbook, medians.recorded);
+    let without = hundredths(medians.recorded, medians.tallied);
+    print!(rt; "  {}.{:02} times", ratio / 100, ratio % 100)?;
+    if let Some(aim) = aim {
+        print!(rt; ", the aim is {}.{:02}", aim / 100, aim % 100)?;
+    }
     println!(rt;
-        "  {}.{:02} times, the aim is {}.{:02}; without a record {}.{:02} times that",
-        ratio / 100,
-        ratio % 100,
-        aim / 100,
-        aim % 100,
+        "; without a record {}.{:02} times that",
         without / 100,
         without % 100
     )
@@ -148,9 +127,9 @@ fn hundredths(one: Duration, two: Duration) -> u64 {
     nanoseconds(one).saturating_mul(100) / nanoseconds(two).max(1)
 }
 
-fn tell_through<R: Print>(rt: &R, crowd: Crowd, medians: &Medians) -> io::Result<()> {
+fn tell_rates<R: Print>(rt: &R, what: &str, crowd: Crowd, medians: &Medians) -> io::Result<()> {
     println!(rt;
-        "{} workers, {} submitters, jobs of {} turns: {} thousand tasks a second, without a record {}, the textbook's {}",
+        "{what}{} workers, {} submitters, jobs of {} turns: {} thousand tasks a second, without a record {}, the textbook's {}",
         crowd.workers,
         crowd.submitters,
         crowd.turns,

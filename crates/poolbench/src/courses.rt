@@ -22,6 +22,9 @@ pub struct Crowd {
 pub enum Course {
     /// From the first submission until the last task has run and the workers have ended.
     Through(Crowd),
+    /// The same, from before the pool is made until nothing is left of it. A pool that keeps its record has to be made
+    /// anew whenever its record is full.
+    Life(Crowd),
     /// From the submission of a task to an idle pool of so many workers until its body begins: the
     /// median of many.
     Start(u32),

@@ -1,5 +1,6 @@
 //! Jobs that cost little or nothing themselves, each in a box.
 
+use crate::unmeasured::Unmeasured;
 use crate::watches::Watch;
 use std::alloc::{AllocError, Global};
 use std::hint::spin_loop;
@@ -22,16 +23,26 @@ pub struct Parcel<R> {
     errand: Box<Errand<R>>,
 }
 
-impl<R: Copy> Parcel<R> {
-    /// A job with this watch, or none, that passes so many turns of `spin_loop`.
-    pub fn new(
-        alloc: Global,
-        watch: Option<Watch<R>>,
-        turns: u32,
-    ) -> Result<Parcel<R>, AllocError> {
+impl<R: Clock + Copy> Parcel<R> {
+    /// A job with no watch that passes so many turns of `spin_loop`.
+    pub fn new(alloc: Global, turns: u32) -> Result<Parcel<R>, AllocError> {
+        Parcel::packed(alloc, Errand { watch: None, turns })
+    }
+
+    /// An empty job with a watch that is set now, and that watch.
+    pub fn timed(rt: R, alloc: Global) -> Result<(Parcel<R>, Watch<R>), Unmeasured> {
+        let watch = Watch::new(rt, alloc)?;
+        let errand = Errand {
+            watch: Some(watch.try_clone()?),
+            turns: 0,
+        };
+        Ok((Parcel::packed(alloc, errand)?, watch))
+    }
+
+    fn packed(alloc: Global, errand: Errand<R>) -> Result<Parcel<R>, AllocError> {
         Ok(Parcel {
             answer: 0,
-            errand: Box::new(alloc, Errand { watch, turns })?,
+            errand: Box::new(alloc, errand)?,
         })
     }
 }

@@ -4,7 +4,6 @@ ghost use Rattle.std.specs.Prelude.{◌≡◌};
 use crate::courses::{Course, Crowd, STARTS, median, settle};
 use crate::errands::Parcel;
 use crate::unmeasured::Unmeasured;
-use crate::watches::Watch;
 use std::alloc::Global;
 use std::marker::Brand;
 use std::sync::{Arc, Wait};
@@ -42,14 +41,16 @@ pub fn recorded<
     R: Threads + Wait + Clock + Copy + Send + Sync + 'static,
 >(rt: R, alloc: Global, course: Course) -> Result<Duration, Unmeasured> {
     let settings = match course {
-        Course::Through(crowd) => settings_of(crowd.workers, MAX_RECORD_LIMIT),
+        Course::Through(crowd) | Course::Life(crowd) => {
+            settings_of(crowd.workers, MAX_RECORD_LIMIT)
+        }
         Course::Start(workers) => settings_of(workers, DEFAULT_RECORD_LIMIT),
     };
     let unopened = Unopened::new(alloc)?;
     open::<Brand, K, R>(rt, alloc, unopened, settings, course)
 }
 
-// Opens a pool under its name, and lets its workers fall asleep.
+// Opens a pool under its name.
 fn open<
     G: PoolNaming + Send + Sync + 'static,
     K: Keeper + Send + 'static,
@@ -64,12 +65,19 @@ fn open<
     requires named { unopened ≡ record { ledger = G.name; parts = G.parts; table = G.table } }
     requires settings { settings ≡ G.config }
 {
+    let before = Instant::now(&rt)?;
     let (pool, first) = Recorded::<G, K, R>::over(alloc, unopened, settings, Defaults)?;
     let mut pass = first;
     pool.prestart_all(&rt, &mut pass)?;
-    settle(&rt);
     match course {
-        Course::Through(crowd) => through(rt, alloc, Arc::new(alloc, pool)?, pass, crowd),
+        Course::Through(crowd) => {
+            settle(&rt);
+            through(rt, alloc, Arc::new(alloc, pool)?, pass, crowd)
+        }
+        Course::Life(crowd) => {
+            through(rt, alloc, Arc::new(alloc, pool)?, pass, crowd)?;
+            Ok(before.elapsed(&rt)?)
+        }
         Course::Start(_) => start(rt, alloc, &pool, pass),
     }
 }
@@ -86,7 +94,7 @@ fn submits<
     crowd: Crowd,
 ) -> Result<(), Unmeasured> {
     for _ in 0..crowd.tasks {
-        let job = Parcel::new(alloc, None, crowd.turns)?;
+        let job = Parcel::new(alloc, crowd.turns)?;
         if let Err(refused) = pool.execute_as(&rt, Kind::Plain, job, pass) {
             return Err(Unmeasured::Refused(refused.error));
         }
@@ -148,7 +156,7 @@ fn all_submit<
     }
 }
 
-// Receipts are reserved before the clock starts.
+// Its own clock starts once receipts are reserved.
 fn through<
     G: PoolNaming + Send + Sync + 'static,
     K: Keeper + Send + 'static,
@@ -217,8 +225,7 @@ fn one_start<
     pool: &Recorded<G, K, R>,
     pass: &mut Pass<G>,
 ) -> Result<Duration, Unmeasured> {
-    let watch = Watch::new(rt, alloc)?;
-    let job = Parcel::new(alloc, Some(watch.try_clone()?), 0)?;
+    let (job, watch) = Parcel::timed(rt, alloc)?;
     let submitted = watch.time()?;
     if let Err(refused) = pool.execute_as(&rt, Kind::Plain, job, pass) {
         return Err(Unmeasured::Refused(refused.error));

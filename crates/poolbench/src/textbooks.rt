@@ -4,7 +4,6 @@ use crate::courses::{Course, Crowd, STARTS, median, settle};
 use crate::errands::Parcel;
 use crate::textbook::{Counter, Textbook};
 use crate::unmeasured::Unmeasured;
-use crate::watches::Watch;
 use std::alloc::Global;
 use std::sync::{Arc, Wait};
 use std::thread;
@@ -19,6 +18,7 @@ pub fn textbook<R: Threads + Wait + Clock + Copy + Send + Sync + 'static>(
 ) -> Result<Duration, Unmeasured> {
     match course {
         Course::Through(crowd) => through(rt, alloc, crowd),
+        Course::Life(crowd) => life(rt, alloc, crowd),
         Course::Start(workers) => start(rt, alloc, workers),
     }
 }
@@ -30,7 +30,7 @@ fn submits<R: Wait + Clock + Copy + Send>(
     crowd: Crowd,
 ) -> Result<(), Unmeasured> {
     for _ in 0..crowd.tasks {
-        let job = Parcel::new(alloc, None, crowd.turns)?;
+        let job = Parcel::new(alloc, crowd.turns)?;
         counter.execute(rt, job)?;
     }
     Ok(())
@@ -81,13 +81,34 @@ fn through<R: Threads + Wait + Clock + Copy + Send + Sync + 'static>(
     let pool = Textbook::new(rt, alloc, crowd.workers)?;
     settle(&rt);
     let start = Instant::now(&rt)?;
+    run(rt, alloc, pool, crowd)?;
+    Ok(start.elapsed(&rt)?)
+}
+
+fn life<R: Threads + Wait + Clock + Copy + Send + Sync + 'static>(
+    rt: R,
+    alloc: Global,
+    crowd: Crowd,
+) -> Result<Duration, Unmeasured> {
+    let before = Instant::now(&rt)?;
+    let pool = Textbook::new(rt, alloc, crowd.workers)?;
+    run(rt, alloc, pool, crowd)?;
+    Ok(before.elapsed(&rt)?)
+}
+
+// Has the pool run all tasks, and ends it.
+fn run<R: Threads + Wait + Clock + Copy + Send + Sync + 'static>(
+    rt: R,
+    alloc: Global,
+    pool: Textbook<R>,
+    crowd: Crowd,
+) -> Result<(), Unmeasured> {
     all_submit(rt, alloc, &pool.counter, crowd)?;
-    let ran = pool.join(&rt);
-    let time = start.elapsed(&rt)?;
-    if ran != u64::from(crowd.all_tasks()) {
-        return Err(Unmeasured::Differs);
+    if pool.join(&rt) == u64::from(crowd.all_tasks()) {
+        Ok(())
+    } else {
+        Err(Unmeasured::Differs)
     }
-    Ok(time)
 }
 
 fn start<R: Threads + Wait + Clock + Copy + Send + Sync + 'static>(
@@ -111,8 +132,7 @@ fn one_start<R: Wait + Clock + Copy + Send + 'static>(
     alloc: Global,
     counter: &Counter<R>,
 ) -> Result<Duration, Unmeasured> {
-    let watch = Watch::new(rt, alloc)?;
-    let job = Parcel::new(alloc, Some(watch.try_clone()?), 0)?;
+    let (job, watch) = Parcel::timed(rt, alloc)?;
     let submitted = watch.time()?;
     counter.execute(&rt, job)?;
     watch.begun_after(submitted)
