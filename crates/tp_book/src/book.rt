@@ -205,6 +205,7 @@ impl<G: Naming, P, R: Keeper> Book<G, P, R> {
 mod closing;
 mod readings;
 mod releases;
+mod spaces;
 mod steps;
 
 pub use closing::Unclosed;

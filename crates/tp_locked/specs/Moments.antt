@@ -1,10 +1,9 @@
 -- What is so at a moment of a pool's life: at a history of it, the latest entry first, or of the book that stands there.
-use Rattle.std.specs.Prelude.{◌≡◌, [], List, length}
+use Rattle.std.specs.Prelude.{◌≡◌, List, length}
 use Rattle.tp_types.specs.declared.configs.Config.{Config}
 use Rattle.tp_record.specs.declared.entries.Entry.{Entry}
 use Rattle.tp_record.specs.State.{State, state}
 use Rattle.tp_record.specs.Step.{Legal}
-use Rattle.tp_machine.specs.Seen.{At}
 use Rattle.tp_book.specs.BookView.{BookView, StandsThere, config}
 
 -- this history is legal in these settings, and its state is such

@@ -15,6 +15,7 @@ ghost use Rattle.tp_parts.specs.Tied.{IsTied, is_before};
 use crate::parts::Parts;
 use tp_queue::work::WorkQueue;
 use tp_record::rows::TaskRow;
+use tp_tasks::spaces::Space;
 use tp_types::ids::TaskId;
 use tp_types::refusals::PoolError;
 use tp_types::tasks::{Kind, Place, Promise};
@@ -36,6 +37,16 @@ impl<P> Parts<P> {
             return Err(PoolError::NoMemory);
         }
         self.tasks.reserve(kind)
+    }
+
+    /// Has the tasks lie in this memory: `Tasks::take_space`. The same states are shown.
+    pub fn take_space(&mut self, space: &mut Space<P>)
+        ensures same { (s : State) → Shows self.old s ↔ Shows self.new s }
+        ensures tied { (c : Config) (n : ℕ) → IsTied c n self.old → IsTied c n self.new }
+        ensures rest { self.new ≡ record self.old { tasks = self.new.tasks } }
+        ensures payloads { Keeps self.old.tasks self.new.tasks }
+    {
+        self.tasks.take_space(space);
     }
 
     /// A new task of this kind and priority comes, in a place before its beginning, with what its job promises and its payload.

@@ -1,7 +1,7 @@
 -- A worker's step in one hold, as one of its pool.
 use Rattle.std.proofs.Common.{◌≡◌, ℕ, Bool, List, [], ◌∷◌, refl, ap, sym, ◌∙◌, subst}
 use Rattle.std.proofs.lemmas.Bool.{false≢true}
-use Rattle.std.specs.Prelude.{Option, None, Result, Ok, Err, IsTrue, IfOk, IfErr, OnErr, is_ok}
+use Rattle.std.specs.Prelude.{Option, Result, Ok, Err, IsTrue, IfOk, IfErr, OnErr, is_ok}
 use Rattle.tp_types.specs.declared.configs.Config.{Config}
 use Rattle.tp_types.specs.declared.ids.SlotId.{SlotId}
 use Rattle.tp_types.specs.declared.refusals.PoolError.{PoolError}

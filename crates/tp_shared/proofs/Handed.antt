@@ -1,5 +1,5 @@
 -- What the step that tells of a slot is to a caller's pass.
-use Rattle.std.proofs.Common.{◌≡◌, ℕ, Bool, true, false, List, None, refl, sym, subst}
+use Rattle.std.proofs.Common.{◌≡◌, Bool, true, false, List, None, refl, sym, subst}
 use Rattle.std.specs.Prelude.{Result, Ok, Err, IfErr, OnErr}
 use Rattle.tp_types.specs.declared.configs.Config.{Config}
 use Rattle.tp_types.specs.declared.ids.SlotId.{SlotId}

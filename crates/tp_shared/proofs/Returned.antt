@@ -1,6 +1,6 @@
 -- A rejected task's job comes back unless the task was cancelled.
-use Rattle.std.proofs.Common.{◌≡◌, ℕ, Bool, true, false, List, [], ◌∷◌, refl, sym, ap, subst, ◌∙◌}
-use Rattle.std.specs.Prelude.{◌==◌, not, Option, Some, None, is_some, option_map, unwrap_or, Result, Ok, Err, IfOk, IfSome, OnOk, OnErr, if◌then◌else◌}
+use Rattle.std.proofs.Common.{◌≡◌, ℕ, Bool, true, false, List, ◌∷◌, refl, sym, ap, subst, ◌∙◌}
+use Rattle.std.specs.Prelude.{◌==◌, not, Option, Some, None, is_some, option_map, Result, Ok, Err, IfOk, OnOk, OnErr, if◌then◌else◌}
 use Rattle.tp_types.specs.declared.configs.Config.{Config}
 use Rattle.tp_types.specs.declared.configs.Verdict.{Verdict}
 use Rattle.tp_types.specs.declared.ids.TaskId.{TaskId}
@@ -16,7 +16,6 @@ use Rattle.tp_record.specs.declared.entries.Seconded.TheVariants as seconded
 use Rattle.tp_record.specs.declared.entries.Grown.TheVariants as grown
 use Rattle.tp_record.specs.declared.entries.Opened.TheVariants as opened
 use Rattle.tp_record.specs.declared.entries.Failed.TheVariants as failed
-use Rattle.tp_record.specs.declared.entries.Ruled.{Ruled}
 use Rattle.tp_record.specs.declared.entries.Ruled.TheVariants as ruled
 use Rattle.tp_record.specs.Fields.{is_cancelled}
 use Rattle.tp_record.specs.Paths.{Follow, Then, Ends, Astray, Rejected, follows, is_offer_of, is_verdict_of}

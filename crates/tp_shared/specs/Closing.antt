@@ -1,5 +1,5 @@
 -- What a close answers.
-use Rattle.std.specs.Prelude.{ℕ, Bool, true, false, ◌≡◌, ◌+◌, List, All, length, sum_by}
+use Rattle.std.specs.Prelude.{Bool, true, false, ◌≡◌, ◌+◌, List, All, length, sum_by}
 use Rattle.tp_types.specs.Config.{IsConfig}
 use Rattle.tp_types.specs.declared.configs.Config.{Config}
 use Rattle.tp_record.specs.State.{state}

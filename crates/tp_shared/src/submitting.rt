@@ -24,6 +24,7 @@ use tp_machine::machine::releases::Keeper;
 use tp_machine::typed::Step;
 use tp_machine::typed::submitters::{Judge, Second, Submit};
 use tp_record::entries::{Ask, Did, Looked, Seconded};
+use tp_tasks::spaces::Space;
 use tp_turns::rescues::Remains;
 use tp_types::configs::Verdict;
 use tp_types::ids::TaskId;
@@ -74,7 +75,7 @@ impl<G: PoolNaming, J: Job, E: Edge, K: Keeper> Shared<G, J, E, K> {
     }
 
     // Takes the lock, with a flag for a task that comes: one that served before, where there is one. Else a new one
-    // is made with no lock held. NoMemory (4).
+    // is made with no lock held, and so is memory for more tasks. NoMemory (4).
     #[inline(always)]
     fn hold_with_flag<R: Wait>(
         &self,
@@ -83,12 +84,32 @@ impl<G: PoolNaming, J: Job, E: Edge, K: Keeper> Shared<G, J, E, K> {
         ensures { IfErr result (λ e. e ≡ PoolError.NoMemory) }
     {
         let mut core = self.hold(rt);
+        let homes = core.wants_space();
+        if homes > 0 {
+            self.release(core);
+            self.make_space(rt, homes);
+            core = self.hold(rt);
+        }
         if let Some(flags) = core.take_flag() {
             return Ok((core, flags));
         }
         self.release(core);
         let flags = FlagPair::new(self.around.alloc)?;
         Ok((self.hold(rt), flags))
+    }
+
+    // Makes memory for so many homes of tasks, and hands it in. What the tasks lay in before is let go of after the hold.
+    // Where there is none, the submission takes what it needs, or is refused.
+    #[cold]
+    #[inline(never)]
+    fn make_space<R: Wait>(&self, rt: &R, homes: usize) {
+        let Ok(made) = Space::new(self.around.alloc, homes) else {
+            return;
+        };
+        let mut space = made;
+        let mut core = self.hold(rt);
+        core.take_space(&mut space);
+        self.release(core);
     }
 
     /// A further step of a submission: what it did.

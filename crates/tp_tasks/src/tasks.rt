@@ -10,6 +10,7 @@ ghost use Rattle.tp_tasks.specs.Kept.{AreSubmitted, AreCounted, AreGrouped, AreL
 use crate::fates::Fates;
 use crate::group::Group;
 use crate::homes::Rows;
+use crate::spaces::Space;
 use crate::table::Task;
 use crate::{groups, table};
 use indexmap::IndexMap;
@@ -85,6 +86,21 @@ impl<P> Tasks<P> {
             return Err(PoolError::NoMemory);
         }
         Ok(())
+    }
+
+    /// For how many homes of tasks a `Space` is to be made before the next task comes, 0 for none. Nothing is promised of that:
+    /// where none is made, `reserve` takes the memory.
+    #[inline(always)]
+    pub fn wants_space(&self) -> usize {
+        table::wants_space(&self.tasks, self.submitted)
+    }
+
+    /// Has the tasks lie in this memory, if there is room for twice as many homes in it. What they lay in comes back in its
+    /// place.
+    pub fn take_space(&mut self, space: &mut Space<P>)
+        ensures { IsUnchanged self.old self.new }
+    {
+        table::take_space(&mut self.tasks, space);
     }
 
     /// How many tasks were submitted: the number of the next one.

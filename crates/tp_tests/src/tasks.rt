@@ -10,6 +10,7 @@ use crate::compare::same;
 use std::alloc::Global;
 use std::process::Abort;
 use tp_record::rows::TaskRow;
+use tp_tasks::spaces::Space;
 use tp_tasks::tasks::Tasks;
 use tp_types::ids::{SlotId, TaskId};
 use tp_types::refusals::PoolError;
@@ -272,12 +273,10 @@ fn gives_no_second_fate(rt: HostRuntime) {
     plays(&rt, rt.alloc(), &CANCELLED);
 }
 
-/// Submits 4,000 tasks of seven groups.
-fn submit_thousands(rt: &impl Abort, tasks: &mut Tasks<u64>) {
-    for t in 0..4000u32 {
-        let submit = Call::Submit(Kind::Group(t % 7), u64::from(t) + 10);
-        asks(rt, 0, tasks, submit, Task(Some(TaskId(t))));
-    }
+/// Submits one of 4,000 tasks of seven groups.
+fn submit_one(rt: &impl Abort, tasks: &mut Tasks<u64>, t: u32) {
+    let submit = Call::Submit(Kind::Group(t % 7), u64::from(t) + 10);
+    asks(rt, 0, tasks, submit, Task(Some(TaskId(t))));
 }
 
 /// Runs each of them, the last first.
@@ -343,7 +342,43 @@ fn forgets_ended_tasks(rt: HostRuntime) {
 #[test]
 fn keeps_thousands_of_tasks(rt: HostRuntime) {
     let mut tasks = Tasks::new(rt.alloc());
-    submit_thousands(&rt, &mut tasks);
+    for t in 0..4000u32 {
+        submit_one(&rt, &mut tasks, t);
+    }
+    run_thousands(&rt, &mut tasks);
+    take_thousands(&rt, &mut tasks);
+}
+
+/// Makes memory for as many homes as are wanted before the next task, and has the tasks lie there; then no more are wanted. A
+/// want of memory is tried once more.
+fn make_space(rt: &impl Abort, alloc: Global, tasks: &mut Tasks<u64>) -> usize {
+    let homes = tasks.wants_space();
+    if homes > 0 {
+        let made = Space::new(alloc, homes).or_else(|_| Space::new(alloc, homes));
+        let mut space = made.expect(rt, "memory at the second try");
+        tasks.take_space(&mut space);
+        same(rt, 8, &tasks.wants_space(), &0);
+    }
+    homes
+}
+
+/// Of 4,000 tasks some find that memory for twice as many homes as before is wanted first. Too little is left alone.
+#[test]
+fn lies_in_memory_made_before(rt: HostRuntime) {
+    let mut tasks = Tasks::new(rt.alloc());
+    let mut twice = 128;
+    for t in 0..4000u32 {
+        if let Ok(mut little) = Space::new(rt.alloc(), 64) {
+            tasks.take_space(&mut little);
+        }
+        let homes = make_space(&rt, rt.alloc(), &mut tasks);
+        if homes > 0 {
+            same(&rt, 9, &homes, &twice);
+            twice = twice.saturating_mul(2);
+        }
+        submit_one(&rt, &mut tasks, t);
+    }
+    same(&rt, 10, &twice, &8192);
     run_thousands(&rt, &mut tasks);
     take_thousands(&rt, &mut tasks);
 }

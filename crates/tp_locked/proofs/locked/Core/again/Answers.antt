@@ -1,4 +1,4 @@
-use Rattle.std.proofs.Common.{◌≡◌, ℕ, ap, subst}
+use Rattle.std.proofs.Common.{ℕ, ap, subst}
 use Rattle.std.specs.Prelude.{nat_lt}
 use Rattle.tp_types.specs.declared.states.Counts.{Counts}
 use Rattle.tp_sleepers.specs.Rests.{IsSettled}

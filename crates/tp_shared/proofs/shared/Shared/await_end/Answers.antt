@@ -1,6 +1,6 @@
-use Rattle.std.proofs.Common.{[], ◌∷◌, inl, refl, rules, subst}
+use Rattle.std.proofs.Common.{[], ◌∷◌, inl, refl, rules}
 use Rattle.tp_locked.specs.Passes.{Adds, LooksOnly, tidied}
-use Rattle.tp_locked.proofs.Receipts.{adds_behind, later_looks, later_none, looks_adds, looks_behind, step_behind}
+use Rattle.tp_locked.proofs.Receipts.{later_looks, later_none, looks_adds, looks_behind, step_behind}
 use Rattle.tp_record.specs.declared.entries.Ask.TheVariants as ask
 use Rattle.tp_record.specs.declared.entries.Did.TheVariants as did
 use Rattle.tp_shared.proofs.Ends.{end_steps, end_refused}
