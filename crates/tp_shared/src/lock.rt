@@ -27,13 +27,22 @@ pub const WORKER: Patience = Patience {
     first: 30,
 };
 
-/// A worker that was alone looks much later, and lets another thread be alone in its turn: `Holds::patience`.
-pub const ALONE: Patience = Patience {
-    looks: 12,
-    first: 2_400,
-};
+/// How a worker looks that was alone: much later, so that another thread is alone in its turn (`Holds::patience`). The more
+/// threads the pool has, the more of them look; so each waits longer, and whoever is alone stays alone for as long.
+pub fn alone_among(threads: usize) -> Patience {
+    Patience {
+        looks: 12,
+        first: ALONE.saturating_mul(threads.min(MOST) as u32),
+    }
+}
 
-// The longest pause, in turns. Where the lock is rarely held, no pause comes near it.
+// The first pause of a worker that was alone, in turns, for each thread of the pool.
+const ALONE: u32 = 4_800;
+
+// It grows no longer with more threads than these.
+const MOST: usize = 4;
+
+// The longest pause after the first, in turns. Where the lock is rarely held, no pause comes near it.
 const LONGEST: u32 = 4_000;
 
 /// Takes the lock. Most of the time it is free, so all that a wait needs stands apart: each hold has this code in it.

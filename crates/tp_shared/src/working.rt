@@ -6,7 +6,7 @@ ghost use Rattle.tp_locked.specs.Steps.{taking_of, begun_of, departed_of, IsEndO
 ghost use Rattle.tp_shared.specs.Deeds.{Takes, BeginsAt, Ends, Leaves, EndsPool};
 
 use crate::edges::Edge;
-use crate::lock::{ALONE, Patience, WORKER, polite, rest};
+use crate::lock::{Patience, WORKER, alone_among, polite, rest};
 use crate::shared::Shared;
 use std::sync::{Arc, MutexGuard, Wait};
 use std::thread::{Threads, yield_now};
@@ -54,23 +54,34 @@ struct Holds {
     steps: u64,
     // So many holds before that followed one another with no step of another thread between.
     alone: u32,
+    // So many threads the pool had at its last hold.
+    threads: usize,
 }
 
 impl Holds {
     // Of a worker that had none yet.
     fn new() -> Holds {
-        Holds { steps: 0, alone: 0 }
+        Holds {
+            steps: 0,
+            alone: 0,
+            threads: 1,
+        }
     }
 
     // How it waits for the lock.
     #[inline(always)]
     fn patience(&self) -> Patience {
-        if self.alone < MANY { WORKER } else { ALONE }
+        if self.alone < MANY {
+            WORKER
+        } else {
+            alone_among(self.threads)
+        }
     }
 
-    // A hold begins, after so many steps.
+    // A hold begins, after so many steps, in a pool of so many threads.
     #[inline(always)]
-    fn begin(&mut self, steps: u64) {
+    fn begin(&mut self, steps: u64, threads: usize) {
+        self.threads = threads;
         self.alone = if steps == self.steps {
             self.alone.saturating_add(1)
         } else {
@@ -318,7 +329,7 @@ impl<G: PoolNaming, J: Drop, E: Edge, K: Keeper> Shared<G, J, E, K> {
     #[inline(always)]
     fn hold_in_turn<R: Wait>(&self, rt: &R, holds: &mut Holds) -> MutexGuard<'_, Core<G, J, K>> {
         let core = polite(rt, self.core.mutex(), holds.patience());
-        holds.begin(core.steps());
+        holds.begin(core.steps(), core.running());
         core
     }
 
