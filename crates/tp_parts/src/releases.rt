@@ -19,6 +19,7 @@ use tp_types::tasks::Place;
 
 impl<P> Parts<P> {
     /// Whether a task, which has this row, is gone, owes no second look, and has no completion that waits.
+    #[inline(always)]
     pub fn owes_nothing(&self, t: TaskId, row: TaskRow) -> bool
         ensures { IsTrue result ↔ OwesNothing self.now.tasks t.0 row }
     {
@@ -26,6 +27,7 @@ impl<P> Parts<P> {
     }
 
     /// Forgets a task that has a fate, whose completion does not wait and that is not in the queue. It takes no memory.
+    #[inline(always)]
     pub fn forget_task(&mut self, t: TaskId)
     where
         P: Drop,

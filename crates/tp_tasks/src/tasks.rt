@@ -347,6 +347,7 @@ impl<P> Tasks<P> {
     }
 
     /// Forgets a task that has a fate, unless it is a completed task of a group that is not handed out. It takes no memory.
+    #[inline(always)]
     pub fn release(&mut self, t: TaskId)
     where
         P: Drop,
