@@ -19,7 +19,7 @@ use Rattle.tp_record.specs.Step.{Legal}
 use Rattle.tp_model.proofs.Readings.{slot_read}
 use Rattle.tp_model.proofs.NextState.{slot_row-more}
 use Rattle.tp_model.proofs.Given.{Given}
-use Rattle.tp_model.proofs.Keystone.{number_of}
+use Rattle.tp_model.specs.Seats.{number_of}
 use Rattle.tp_model.proofs.Told.{sound_legal}
 use Rattle.tp_model.proofs.Totals.{at_named}
 use Rattle.tp_model.proofs.Weights.{weight_of, is_core, task_due, slot_due}

@@ -7,7 +7,7 @@ use Rattle.tp_record.specs.declared.entries.Ruled.TheVariants as ruled
 use Rattle.tp_record.specs.declared.entries.Opened.TheVariants as opened
 use Rattle.tp_record.specs.declared.rows.SlotRow.{SlotRow}
 use Rattle.tp_record.specs.State.{State, task_at, slot_at, row_after, slot_after, slot_weight, is_core_slot}
-use Rattle.tp_model.proofs.Keystone.{number_of}
+use Rattle.tp_model.specs.Seats.{number_of}
 use Rattle.tp_model.proofs.Totals.{at_named}
 use Rattle.tp_model.proofs.Weights.{weight_of}
 use Rattle.tp_shapes.proofs.Names.{is_wide, names, seats, replaces}

@@ -10,7 +10,7 @@ use Rattle.tp_record.specs.Lists.{is_it, change_each, long_enough}
 use Rattle.tp_record.specs.Effects.{is_submit, queues, reserves, completes}
 use Rattle.tp_record.specs.State.{State, next, no_row, row_at, task_at, slot_at, row_after, tasks_after, slot_after, slots_after, stays_queued, stays_done}
 use Rattle.tp_model.proofs.ListLaws.{length-change_each, get_or-longer}
-use Rattle.tp_model.proofs.Keystone.{seat_of}
+use Rattle.tp_model.specs.Seats.{seat_of}
 use Rattle.tp_model.proofs.Queues.{among-join, among-filter, among-at_end}
 use Rattle.tp_left.proofs.Spared.{Spares, spared_row, spared_seat, spared_queues, spared_completes}
 use Rattle.tp_left.proofs.Answers.{IsOut}

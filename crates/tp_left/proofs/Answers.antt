@@ -27,7 +27,7 @@ use Rattle.tp_record.specs.Effects.{Outcome, is_plain}
 use Rattle.tp_record.specs.Fields.{is_queued_place, is_idle_stage}
 use Rattle.tp_record.specs.State.{State, task_at, slot_at}
 use Rattle.tp_record.specs.Step.{Answer, of_task, of_row, is_known, slot_count, wants_worker, leaves_room, look_answer, hand_answer, offer_to, offer_answer, second_answer, grow_answer, is_refused_place, allows, rule, retry_of, verdict_answer, caller_end_answer, cancel_answer, is_reserved, given_up, open_answer, failed_task, fail_answer, timed_out, next_of_queue, take_next, held_answer, take_answer, begin_task, begin_answer, end_task, end_answer, leave_answer, first_done, done_of, fitting}
-use Rattle.tp_model.proofs.Keystone.{number_of, seat_of}
+use Rattle.tp_model.specs.Seats.{number_of, seat_of}
 use Rattle.tp_shapes.proofs.Names.{names, drops}
 use Rattle.tp_record.specs.Left.{asked}
 use Rattle.tp_left.proofs.Spared.{Spares}

@@ -17,11 +17,10 @@ use Rattle.tp_record.specs.Lists.{is_it, is_among, IsOnce}
 use Rattle.tp_record.specs.Fields.{is_queued_place, place, submitted, slot_row}
 use Rattle.tp_record.specs.State.{State, state, next, due, counts, task_at, no_row}
 use Rattle.tp_record.specs.Step.{Answer, Legal, step, fitting, within_room, of_task, look_answer, offer_answer, second_answer, grow_answer, verdict_answer, caller_end_answer, cancel_answer}
-use Rattle.tp_model.specs.Seats.{slot_of}
+use Rattle.tp_model.specs.Seats.{slot_of, seat_of}
 use Rattle.tp_model.proofs.Weak.{within}
 use Rattle.tp_model.proofs.Readings.{tasks_counted, row_read, slot_read}
 use Rattle.tp_model.proofs.Queues.{among-queue}
-use Rattle.tp_model.proofs.Keystone.{seat_of}
 use Rattle.tp_model.proofs.Told.{sound_legal}
 use Rattle.tp_record.specs.Left.{leave_out, left, MayRelease, MayAll, asked, is_one_of}
 use Rattle.tp_left.proofs.Answers.{IsOut, answer_spares}

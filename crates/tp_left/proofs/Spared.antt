@@ -13,7 +13,7 @@ use Rattle.tp_record.specs.Lists.{said_of, is_it}
 use Rattle.tp_record.specs.Effects.{kinds_said, priorities_said, moved, seconds, cancels, endings, outcomes, tries, queues, completes, is_plain_fault}
 use Rattle.tp_record.specs.Fields.{swept, handed_back, counted}
 use Rattle.tp_record.specs.State.{State, row_after, slot_after}
-use Rattle.tp_model.proofs.Keystone.{seat_of}
+use Rattle.tp_model.specs.Seats.{seat_of}
 use Rattle.tp_shapes.proofs.Names.{names, drops}
 
 -- the entry neither names the task nor drops it

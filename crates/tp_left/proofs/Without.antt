@@ -33,7 +33,7 @@ use Rattle.tp_record.specs.State.{State, next, due, counts, fated, more_by, is_f
 use Rattle.tp_record.specs.Step.{Answer, is_known, of_task, of_row, leaves_room, within_room, step, fitting, rule, retry_of, allows, look_answer, offer_to, offer_answer, second_answer, grow_answer, caller_end_answer, cancel_answer, is_refused_place, verdict_answer, held_answer, take_answer, begin_task, begin_answer, end_task, end_answer, first_done, is_of_group, look}
 use Rattle.tp_model.proofs.ListLaws.{change_each-agree, length-change_each}
 use Rattle.tp_model.proofs.Arranged.{join-agree, pass-filter}
-use Rattle.tp_model.proofs.Keystone.{number_of, seat_of}
+use Rattle.tp_model.specs.Seats.{number_of, seat_of}
 use Rattle.tp_record.specs.Left.{leave_out, asked}
 use Rattle.tp_left.proofs.Blanks.{change_each-replaced, set-append, filter_but, count_but, pass_but}
 use Rattle.tp_left.proofs.Spared.{Spares, spared_row, spared_queues, same_fault, same_completes}

@@ -2,7 +2,7 @@
 //! record, each thing by itself, is what the tables and the state say, at every legal record. So a
 //! table that is wrong can't agree with its words.
 
-ghost use Rattle.std.specs.Prelude.{◌≡◌, ◌<◌, ◌≤◌, ◌||◌, ◌&&◌, not, false, List, ℕ, Option, Some, None, length, is_some, nat_lt};
+ghost use Rattle.std.specs.Prelude.{◌≡◌, ◌↔◌, ◌<◌, ◌≤◌, ◌||◌, ◌&&◌, not, false, List, ℕ, Option, Some, None, length, is_some, nat_lt};
 ghost use Rattle.tp_types.specs.declared.configs.Config.{Config};
 ghost use Rattle.tp_types.specs.declared.tasks.Fate.{Fate};
 ghost use Rattle.tp_types.specs.declared.tasks.Place.TheVariants as at;
@@ -12,7 +12,7 @@ ghost use Rattle.tp_record.specs.Fields.{submitted, kind, priority, is_cancelled
 ghost use Rattle.tp_record.specs.State.{state, fate_of, is_fate, counts};
 ghost use Rattle.tp_record.specs.Step.{Legal, done_of};
 ghost use Rattle.tp_record.specs.Words.{submissions, is_submitted, kind_of, priority_of, was_cancelled, moment, waits_in_queue, in_slot, is_held_in, is_taken_in, is_running_in, with_submitter, is_at_caller, is_gone, waiting_line, slot_for, is_slot_now, is_live_now, is_busy, idle_since, is_dying, is_at_take, live_slots, largest_live, has_fate, begun, is_begun, is_waiting, done_in_group, counters, owes_look, retry_count, body_outcome};
-ghost use Rattle.tp_model.specs.Seats.{slot_of};
+ghost use Rattle.tp_model.specs.Seats.{slot_of, seat_of};
 ghost use Rattle.tp_words.specs.IdleLine.{idle_line};
 ghost use Rattle.tp_words.specs.Agrees.{submitter_of, is_caller_place, is_gone_place, is_running_place, is_waiting_place, is_held_at, is_taken_at, is_running_at, idle_of, is_dying_stage, is_busy_row, is_taking_row};
 
@@ -82,11 +82,14 @@ pub fn queue_agrees()
     ensures { (c : Config) (h : List Entry) → Legal c h → waiting_line c h ≡ queue c h }
 {}
 
-/// The slots are those with a reservation that no later entry freed. A reserved slot is for what its
-/// stage says; the others are live, and busy, idle since some moment, dying, or about to take. The idle
-/// ones are in the order in which they took nothing.
+/// The slots are those with a reservation that no later entry freed. A slot's row names just the task
+/// that is in it, also where the slot is reserved. A reserved slot is for what its stage says; the
+/// others are live, and busy, idle since some moment, dying, or about to take. The idle ones are in the
+/// order in which they took nothing.
 pub fn slots_agree()
     ensures slots { (h : List Entry) (w : ℕ) → is_slot_now h w ≡ is_slot h w }
+    ensures seat { (c : Config) (h : List Entry) (w t : ℕ) → Legal c h →
+        in_slot h t ≡ Some w ↔ seat_of (slot_row h w) ≡ Some t }
     ensures reserved { (c : Config) (h : List Entry) (w : ℕ) (r : SlotRow) → Legal c h →
         slot_row h w ≡ Some r → is_live_stage r.stage ≡ false → slot_for h w ≡ Some r.stage }
     ensures live { (c : Config) (h : List Entry) (w : ℕ) → Legal c h →
