@@ -13,6 +13,7 @@ use Rattle.tp_laws.specs.Lawful.{IsLawful}
 use Rattle.tp_laws.proofs.Begins as begins
 use Rattle.tp_laws.proofs.Fates as fates
 use Rattle.tp_laws.proofs.Finishes as finishes
+use Rattle.tp_laws.proofs.InLine as line
 use Rattle.tp_laws.proofs.Late as late
 use Rattle.tp_laws.proofs.Order as order
 use Rattle.tp_laws.proofs.Places as places
@@ -58,6 +59,9 @@ module _ (c : Config) (h : List Entry) (good : HasGoodSizes c) (legal : Legal c 
         none_before = λ later e front parts. order.none_before c e front (told_at later (e ∷ front) parts);
         first_of_equals = λ later e front parts after between before queues_u queues_t is.
             order.first_of_equals c e after between before queues_u queues_t (subst (λ x. Told c (e ∷ x)) is (told_at later (e ∷ front) parts));
+        lists_those_waiting = λ later front parts. line.lists_those_waiting c front (told_at later front parts);
+        least_first = λ later front parts. line.least_first c front;
+        offers_in_order = λ later front parts. line.offers_in_order c front;
         nothing_begins_after_shutdown = λ later front parts. late.none_after_shutdown c later front (told_whole later front parts);
         stopped_never_begins = λ later e front parts. late.stopped_never c later e front (told_whole later (e ∷ front) parts);
         queued_late_never_begins = λ later e front parts. late.queued_late_never c later e front (told_whole later (e ∷ front) parts);

@@ -11,6 +11,7 @@ pub mod Places
 pub mod Fates
 pub mod Seconds
 pub mod Order
+pub mod InLine
 pub mod Sums
 pub mod Counting
 pub mod Sizes

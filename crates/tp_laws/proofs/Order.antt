@@ -75,7 +75,7 @@ head_again (x ∷ xs) ys zs rest t u is =
     ∙ ap (λ b. is_among u xs || b) (or_true (u == t)) ∙ or_true (is_among u xs)
 
 -- a filter that passes t and u keeps them in place
-filter_kept : (p : ℕ → Bool) (xs ys zs : List ℕ) (t u : ℕ) → p t ≡ true → p u ≡ true →
+pub filter_kept : (p : ℕ → Bool) (xs ys zs : List ℕ) (t u : ℕ) → p t ≡ true → p u ≡ true →
     filter p (xs ++ t ∷ (ys ++ u ∷ zs)) ≡ filter p xs ++ t ∷ (filter p ys ++ u ∷ filter p zs)
 filter_kept p xs ys zs t u first second =
     filter-append p xs (t ∷ (ys ++ u ∷ zs))

@@ -10,7 +10,7 @@ use Rattle.tp_record.specs.Fields.{rank}
 use Rattle.tp_record.specs.State.{state, due}
 use Rattle.tp_record.specs.Step.{step, IsFreeTo}
 use Rattle.tp_room.specs.Room.{lowers, is_owed}
-use Rattle.tp_laws.specs.Laws.{OnePlace, BeginsOnce, FinishesOnce, OneTaskASlot, FatesAreDisjoint, FateNeverChanges, GoneHasFate, FatedIsGone, NumberedInOrder, SubmissionsAddUp, QueuedOnce, FirstLeaves, QueueOrder, NoneBefore, FirstOfEquals, NothingBeginsAfterShutdown, StoppedNeverBegins, QueuedLateNeverBegins, NoIdleAfterShutdown, NoneIdling, TidyOnce, EndedOnce, NoSlotsAfterTidy, SecondLookOwedAfterStop, OwedAfterTidy, Served, SlotsWithinMaximum, QueueWithinCapacity}
+use Rattle.tp_laws.specs.Laws.{OnePlace, BeginsOnce, FinishesOnce, OneTaskASlot, FatesAreDisjoint, FateNeverChanges, GoneHasFate, FatedIsGone, NumberedInOrder, SubmissionsAddUp, QueuedOnce, FirstLeaves, QueueOrder, NoneBefore, FirstOfEquals, ListsThoseWaiting, LeastFirst, OffersInOrder, NothingBeginsAfterShutdown, StoppedNeverBegins, QueuedLateNeverBegins, NoIdleAfterShutdown, NoneIdling, TidyOnce, EndedOnce, NoSlotsAfterTidy, SecondLookOwedAfterStop, OwedAfterTidy, Served, SlotsWithinMaximum, QueueWithinCapacity}
 
 -- at each front of the record, the whole record among them, with the entries that come later
 abbrev pub AtEachFront : List Entry → (List Entry → List Entry → Type 0) → Type 0
@@ -41,6 +41,9 @@ pub record IsLawful (c : Config) (h : List Entry) : Type 0 where
   pub none_before : AtEachEntry h (λ later e front. NoneBefore c e front)
   pub first_of_equals : AtEachEntry h (λ later e front. (after between before : List Entry) (queues_u queues_t : Entry) →
       front ≡ after ++ queues_u ∷ (between ++ queues_t ∷ before) → FirstOfEquals e after queues_u between queues_t before)
+  pub lists_those_waiting : AtEachFront h (λ later front. ListsThoseWaiting c front)
+  pub least_first : AtEachFront h (λ later front. LeastFirst c front)
+  pub offers_in_order : AtEachFront h (λ later front. OffersInOrder c front)
   -- after a shutdown or a stop
   pub nothing_begins_after_shutdown : AtEachFront h NothingBeginsAfterShutdown
   pub stopped_never_begins : AtEachEntry h StoppedNeverBegins

@@ -15,7 +15,7 @@ use Rattle.tp_record.specs.declared.entries.Did.TheVariants as did
 use Rattle.tp_record.specs.declared.entries.Opened.TheVariants as opened
 use Rattle.tp_record.specs.declared.entries.Ruled.TheVariants as ruled
 use Rattle.tp_record.specs.declared.entries.Took.TheVariants as took
-use Rattle.tp_record.specs.Lists.{is_it, count_from}
+use Rattle.tp_record.specs.Lists.{is_it, is_among, count_from, IsOnce}
 use Rattle.tp_record.specs.Effects.{sets_core, sets_maximum}
 use Rattle.tp_record.specs.Fields.{rank, last_set}
 use Rattle.tp_record.specs.State.{state}
@@ -83,6 +83,33 @@ FirstOfEquals e after queues_u between queues_t before =
     let h = after ++ queues_u ∷ (between ++ queues_t ∷ before) in
     (t u : ℕ) → queued_by queues_t.did ≡ Some t → queued_by queues_u.did ≡ Some u → leaves_in_turn e.did ≡ Some u →
     priority_of h t ≡ priority_of h u → waits_in_queue h t ≡ false
+
+-- the queue lists just the tasks that wait, each once
+abbrev pub ListsThoseWaiting : Config → List Entry → Type 0
+ListsThoseWaiting c h = IsOnce (waiting_line c h) × ((t : ℕ) → is_among t (waiting_line c h) ≡ waits_in_queue h t)
+
+-- no task stands in a priority queue behind one whose priority number is greater
+abbrev pub LeastFirst : Config → List Entry → Type 0
+LeastFirst c h =
+    is_ranked c.queue ≡ true → (ahead between behind : List ℕ) (t u : ℕ) →
+    waiting_line c h ≡ ahead ++ t ∷ (between ++ u ∷ behind) → priority_of h t ≤ priority_of h u
+
+-- an entry puts t in the queue, and a later one u
+pub record IsQueuedBefore (h : List Entry) (t u : ℕ) : Type 0 where
+  pub after : List Entry
+  pub queues_u : Entry
+  pub between : List Entry
+  pub queues_t : Entry
+  pub before : List Entry
+  pub whole : h ≡ after ++ queues_u ∷ (between ++ queues_t ∷ before)
+  pub first : queued_by queues_t.did ≡ Some t
+  pub second : queued_by queues_u.did ≡ Some u
+
+-- tasks stand in the order of their offers: in a priority queue those whose priority is the same, in any other queue all
+abbrev pub OffersInOrder : Config → List Entry → Type 0
+OffersInOrder c h =
+    (ahead between behind : List ℕ) (t u : ℕ) → waiting_line c h ≡ ahead ++ t ∷ (between ++ u ∷ behind) →
+    (is_ranked c.queue ≡ true → priority_of h t ≡ priority_of h u) → IsQueuedBefore h t u
 
 -- so many tasks fit the queue: none where it has no places
 abbrev pub IsWithin : QueueKind → ℕ → Type 0

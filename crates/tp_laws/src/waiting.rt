@@ -1,7 +1,7 @@
 //! The queue.
 
 ghost use Rattle.std.specs.Prelude.{◌≡◌, List, ◌∷◌, ◌++◌, false};
-ghost use Rattle.tp_laws.specs.Laws.{FirstLeaves, QueueOrder, NoneBefore, FirstOfEquals, QueueWithinCapacity, QueuedOnce};
+ghost use Rattle.tp_laws.specs.Laws.{FirstLeaves, QueueOrder, NoneBefore, FirstOfEquals, ListsThoseWaiting, LeastFirst, OffersInOrder, QueueWithinCapacity, QueuedOnce};
 ghost use Rattle.tp_record.specs.Step.{Legal};
 ghost use Rattle.tp_record.specs.declared.entries.Entry.{Entry};
 ghost use Rattle.tp_types.specs.declared.configs.Config.{Config};
@@ -27,6 +27,14 @@ pub fn queue_order()
     ensures equals { (c : Config) (e : Entry) (after between before : List Entry) (queues_u queues_t : Entry) →
         Legal c (e ∷ (after ++ queues_u ∷ (between ++ queues_t ∷ before))) →
         FirstOfEquals e after queues_u between queues_t before }
+{}
+
+/// The queue lists just the tasks that wait, each once. In a priority queue no task stands behind one whose priority number is
+/// greater, and tasks of one priority number stand in the order of their offers. In any other queue all tasks do.
+pub fn queue_in_order()
+    ensures whole { (c : Config) (h : List Entry) → Legal c h → ListsThoseWaiting c h }
+    ensures least { (c : Config) (h : List Entry) → LeastFirst c h }
+    ensures offers { (c : Config) (h : List Entry) → OffersInOrder c h }
 {}
 
 /// A bounded queue never exceeds its capacity, and a queue of no places never has a task.
