@@ -8,3 +8,4 @@ mod playing;
 mod refusals;
 mod scripts;
 mod waits;
+mod watching;

@@ -2,7 +2,7 @@
 
 use super::chores::{Chore, Deed};
 use super::compare::same;
-use super::scripts::{Cue, Many, Step};
+use super::scripts::{Cue, Many, Step, View};
 use std::alloc::Global;
 use std::process::Abort;
 use std::sync::{Arc, Wait};
@@ -13,13 +13,16 @@ use tp_book::passes::Pass;
 use tp_pool::answers::{Admitted, Refused};
 use tp_pool::names::PoolNaming;
 use tp_pool::pool::PoolOf;
+use tp_pool::snapshots::Busy;
 use tp_service::completions::CompletionService;
-use tp_service::futures::{get, get_until, submit, try_get};
+use tp_service::futures::{
+    get, get_until, get_until_with, get_with, submit, try_get, try_get_with,
+};
 use tp_service::invoking::{invoke_all, invoke_all_until, invoke_any};
 use tp_stage::boards::{Board, shared};
 use tp_stage::calls::make;
 use tp_stage::users::Users;
-use tp_types::ids::TaskId;
+use tp_types::ids::{SlotId, TaskId};
 use tp_types::refusals::PoolError;
 use tp_types::tasks::Kind;
 
@@ -181,6 +184,56 @@ fn goes_on<G: PoolNaming, R: Wait>(rt: &R, pool: &Tested<G>, seen: u64, least: u
     steps > seen && steps >= least
 }
 
+// Asks a future twice, without a pass and with it: both answers are the one that the line says.
+fn gets<G: PoolNaming, R: Wait>(rt: &R, pool: &Tested<G>, step: Step, pass: &mut Pass<G>) -> bool {
+    match step {
+        Step::Get(t, answer) => {
+            let t = TaskId(t);
+            [get(pool, rt, t), get_with(pool, rt, t, pass)] == [answer, answer]
+        }
+        Step::GetUntil(t, at, answer) => {
+            let t = TaskId(t);
+            let with_pass = get_until_with(pool, rt, t, at, pass);
+            [get_until(pool, rt, t, at), with_pass] == [answer, answer]
+        }
+        Step::TryGet(t, answer) => {
+            let t = TaskId(t);
+            [try_get(pool, rt, t), try_get_with(pool, rt, t, pass)] == [answer, answer]
+        }
+        _ => false,
+    }
+}
+
+// Whether a sight sees the pool so, in each of its three ways. Nobody makes a step meanwhile.
+fn watches<G: PoolNaming, R: Wait>(
+    rt: &R,
+    alloc: Global,
+    pool: &Tested<G>,
+    view: View,
+    pass: &mut Pass<G>,
+) -> bool {
+    let mut sight = pool.sight(pass);
+    let reading = pool.look_by(rt, &mut sight);
+    let Ok(seen) = pool.snapshot_by(rt, alloc, &mut sight) else {
+        return false;
+    };
+    let Ok(latest) = pool.record_since_by(rt, alloc, view.steps.saturating_sub(1), &mut sight)
+    else {
+        return false;
+    };
+    (reading.state, reading.steps, reading.counts.queued) == (view.state, view.steps, view.queued)
+        && (seen.state, seen.steps, seen.counts) == (view.state, view.steps, reading.counts)
+        && are_busy(seen.busy.as_slice(), view.busy)
+        && latest.len() == 1
+}
+
+// Whether just these slots have a task, each this one.
+fn are_busy(seen: &[Busy], wanted: &[(usize, u32)]) -> bool {
+    seen.len() == wanted.len()
+        && seen.iter().zip(wanted).all(|(busy, &(slot, task))| (busy.slot, busy.task)
+            == (SlotId(slot), TaskId(task)))
+}
+
 // Makes the step: whether it is answered as it says.
 fn makes<G: PoolNaming + Send + Sync + 'static, R: Threads + Wait + Clock + Copy + Send + 'static>(
     rt: R,
@@ -192,9 +245,8 @@ fn makes<G: PoolNaming + Send + Sync + 'static, R: Threads + Wait + Clock + Copy
 ) -> bool {
     match step {
         Step::Submit(kind, deed, number) => submits(rt, pool, board, (kind, deed, number), pass),
-        Step::Get(t, answer) => get(pool, &rt, TaskId(t)) == answer,
-        Step::GetUntil(t, deadline, answer) => get_until(pool, &rt, TaskId(t), deadline) == answer,
-        Step::TryGet(t, answer) => try_get(pool, &rt, TaskId(t)) == answer,
+        Step::Get(..) | Step::GetUntil(..) | Step::TryGet(..) => gets(&rt, pool, step, pass),
+        Step::Watch(view) => watches(&rt, alloc, pool, view, pass),
         Step::Many(many) => invokes(rt, alloc, pool, board, many, pass),
         Step::Take(group, answer) => CompletionService::new(group).take(pool, &rt, pass) == answer,
         Step::Poll(group, answer) => CompletionService::new(group).poll(pool, &rt, pass) == answer,

@@ -7,6 +7,7 @@ use tp_stage::findings::Finding;
 use tp_types::configs::Config;
 use tp_types::ids::TaskId;
 use tp_types::refusals::PoolError;
+use tp_types::states::RunState;
 use tp_types::tasks::Kind;
 
 // Many jobs at once.
@@ -32,6 +33,16 @@ pub enum Cue {
     Rest(u32),
 }
 
+// What a thread sees that watches the pool: its run state, how many steps it has made, how many tasks are queued, and each slot that has
+// a task, with its number.
+#[derive(Clone, Copy)]
+pub struct View {
+    pub state: RunState,
+    pub steps: u64,
+    pub queued: u32,
+    pub busy: &'static [(usize, u32)],
+}
+
 // Each line says how it is answered.
 #[derive(Clone, Copy)]
 pub enum Step {
@@ -51,6 +62,8 @@ pub enum Step {
     Steps(u64),
     // It comes to have more than the first, and then has as many as the second at least.
     WaitStep(u64, u64),
+    // A sight sees the pool so.
+    Watch(View),
 }
 
 // A caller's lines, and those of a second caller, in a thread of its own beside the first, where there is one; each in parts, which
