@@ -171,7 +171,9 @@ fn through<
     let mut pass = pass;
     let mut second = pool.split_pass(&rt, &mut pass)?;
     pass.reserve(receipts(crowd.tasks))?;
-    second.reserve(receipts(crowd.tasks))?;
+    if crowd.submitters > 1 {
+        second.reserve(receipts(crowd.tasks))?;
+    }
     let start = Instant::now(&rt)?;
     all_submit(rt, alloc, &pool, &mut pass, second, crowd)?;
     end(&rt, &pool, &mut pass)?;
