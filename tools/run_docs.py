@@ -15,7 +15,8 @@ What a block of a document is, fenced or indented:
 - a file, where the line just above it ends in its name, in backticks and with a colon: it is written there. As
   `diff` it is an edit of that file instead: the lines with `-` become those with `+`.
 
-All other blocks are passed over. The status is 1 where a document and a run differ.
+All other blocks are passed over. Each command must succeed, unless what is printed next has a line with `error`, `not
+proved` or `hides`: there the page shows a failure. The status is 1 where a document and a run differ.
 """
 import argparse
 import pathlib
@@ -30,6 +31,7 @@ COMMANDS = r"(rt|cd|git|python3|tools/\S+|mkdir|rm|cat|echo|printf|touch)\b"
 PROVES = r"rt (check|run|test|ci|lib|all|verdict|must-fail|plant|tidy)\b|further\.py|gate_costs\.py"
 GATE = r"rt ci\b|gate_costs\.py"
 FENCED = re.compile(r"^```(\w*)\n(.*?)^```$", re.M | re.S)
+SHOWN = re.compile(r"error|not proved|hides")
 INDENTED = re.compile(r"(?<=\n\n)((?: {4}[^\n]*\n|\n(?= {4}))+)")
 FILE = re.compile(r"`([\w./-]+)`[^`\n]*:$")
 
@@ -76,20 +78,30 @@ class Reader:
         self.clone = clone
         self.left_out = left_out
         self.printed = None
+        self.failed = []
         self.faults = 0
 
     def fault(self, what):
         self.faults += 1
         print(f"    DIFFERS: {what}")
 
+    def settle(self):
+        """A command that failed, with no failure shown behind it, is a fault."""
+        for line in self.failed:
+            self.fault(f"this command failed: {line}")
+        self.failed = []
+
     def run(self, lines):
-        script = "\n".join(lines)
-        if self.left_out and re.search(self.left_out, script):
+        self.settle()
+        if self.left_out and re.search(self.left_out, "\n".join(lines)):
             print(f"  left out: {lines[0]}")
             self.printed = None
             return
         print("  " + "\n  ".join(lines), flush=True)
-        done = subprocess.run(["bash", "-c", script], cwd=self.clone, stdout=subprocess.PIPE, stderr=subprocess.STDOUT)
+        with tempfile.NamedTemporaryFile("r") as told:
+            script = "\n".join(f"{{ {line}\n}} || echo {at} >> {told.name}" for at, line in enumerate(lines))
+            done = subprocess.run(["bash", "-c", script], cwd=self.clone, stdout=subprocess.PIPE, stderr=subprocess.STDOUT)
+            self.failed = [lines[int(at)] for at in told.read().split()]
         self.printed = done.stdout.decode(errors="replace").split("\n")
 
     def read(self, above, label, lines):
@@ -100,6 +112,8 @@ class Reader:
         elif label == "sh" or (not label and all(re.match(COMMANDS, line) for line in lines)):
             self.run(lines)
         elif label in ("", "text") and re.search(r"\b(prints?|output)\b", above, re.I):
+            if any(map(SHOWN.search, lines)):
+                self.failed = []
             if self.printed is not None and not comes(lines, self.printed):
                 self.fault("the document says\n" + "\n".join(lines) + "\n    and it printed\n" + "\n".join(self.printed))
         elif name:
@@ -130,6 +144,7 @@ def main():
             reader = Reader(clone, PROVES if asked.only_quick else GATE if asked.libs else None)
             for above, label, lines in blocks((ROOT / document).read_text()):
                 reader.read(above, label, lines)
+            reader.settle()
             faults += reader.faults
     print(f"{faults} differ")
     return 1 if faults else 0
