@@ -23,7 +23,7 @@ use Rattle.tp_parts.specs.Shows.{Views}
 use Rattle.tp_parts.specs.Steps.{Fits}
 use Rattle.tp_parts.specs.Terms.{terms}
 use Rattle.tp_parts.proofs.Answering.{Moves}
-use Rattle.tp_parts.proofs.Drains.{queued_held}
+use Rattle.tp_parts.proofs.Drains.{queued_once, queued_held}
 
 queued_place : (p : Place) → is_queued_place p ≡ true → p ≡ at.Queued
 queued_place at.Queued is = refl
@@ -32,6 +32,7 @@ queued_place _ is = absurd (false≢true is)
 pub holds_queued : (c : Config) (h : List Entry) (rs : List ℕ) → Legal c h → MayAll rs (state c h) → HoldsQueued (view (mark rs (state c h)))
 holds_queued c h rs legal may = record {
   known = λ t has. queued_held c h legal rs may t (queued t has);
+  once = queued_once c h legal;
   placed = λ t. (
     (λ has. read t ∙ queued_place (place h t) (queued t has)),
     (λ placed. Contains-from_among (queue c h) t (among-queue c h t ∙ ap is_queued_place (sym (read t) ∙ placed))),

@@ -8,7 +8,7 @@ use tp_parts::parts::Parts;
 use tp_record::entries::{Ask, Did};
 use tp_types::refusals::PoolError;
 
-/// How many cancelled tasks are in the queue. It looks at each task of the queue once. BookFull (5).
+/// How many cancelled tasks are in the queue, without a look at any task. BookFull (5).
 pub fn answer<P>(parts: &Parts<P>) -> Result<u32, PoolError>
     requires stands { Stands parts.now }
     ensures accepts { IfOk result (λ n. Accepts parts.now Ask.Purge (Did.Purge n)) }

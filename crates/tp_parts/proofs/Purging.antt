@@ -1,9 +1,9 @@
 -- A purge: what a pass over the queue takes out of it is gone, and all else stays.
-use Rattle.std.proofs.Common.{◌≡◌, ℕ, suc, ◌+◌, Bool, true, false, not, ◌&&◌, ◌||◌, cond, List, [], ◌∷◌, length, map, Option, Some, None, Contains, refl, arith, sym, ap, subst, ◌∙◌, inl, inr}
-use Rattle.std.specs.Prelude.{◌==◌, nat_eq, filter, count_by, sum_by, is_some, option_map}
+use Rattle.std.proofs.Common.{◌≡◌, ℕ, Bool, true, false, not, ◌&&◌, ◌||◌, cond, List, [], ◌∷◌, length, map, Option, Some, None, Contains, refl, arith, sym, ap, subst, ◌∙◌, inl, inr}
+use Rattle.std.specs.Prelude.{◌==◌, nat_eq, filter, count_by, is_some, option_map}
 use Rattle.std.specs.List.{FoldsTo}
 use Rattle.std.proofs.lemmas.Bool.{cases_eq, eq-eqb, ne_eqb, false≢true}
-use Rattle.std.proofs.lemmas.List.Sums.{sum_by-cons}
+use Rattle.std.proofs.lemmas.List.Sums.{length-filter}
 use Rattle.tp_line.specs.Line.{ids}
 use Rattle.tp_types.specs.declared.configs.Config.{Config}
 use Rattle.tp_types.specs.declared.ids.TaskId.{TaskId}
@@ -13,13 +13,15 @@ use Rattle.tp_types.specs.declared.tasks.Promise.{Promise}
 use Rattle.tp_record.specs.declared.rows.TaskRow.{TaskRow}
 use Rattle.tp_record.specs.Lists.{is_among}
 use Rattle.tp_record.specs.Fields.{is_queued_place}
-use Rattle.tp_model.proofs.Queues.{among-filter, Contains-from_among, among_from_Contains}
+use Rattle.tp_model.proofs.Queues.{among-filter, once-filter, Contains-from_among, among_from_Contains}
 use Rattle.tp_queue.specs.declared.queues.Queue.{Queue}
 use Rattle.tp_queue.specs.Queues.{waiting_of}
 use Rattle.tp_tasks.specs.declared.tasks.Tasks.{Tasks}
 use Rattle.tp_tasks.specs.declared.table.Task.{Task}
-use Rattle.tp_tasks.specs.Table.{row_of_task, number_of_task, payload_of_task, promise_of_task}
-use Rattle.tp_tasks.specs.Tasks.{task_of, row_of, number_of, payload_of, promise_of, submissions, KeepsDone, KeepsFates, Purges, was_cancelled}
+use Rattle.tp_tasks.specs.Homes.{is_purgeable}
+use Rattle.tp_tasks.specs.Table.{passes, row_of_task, number_of_task, payload_of_task, promise_of_task}
+use Rattle.tp_tasks.specs.Tasks.{task_of, row_of, number_of, payload_of, promise_of, submissions, KeepsDone, KeepsFates, Purges, was_cancelled, purgeable_of}
+use Rattle.tp_tasks.proofs.Away.{passing_counted}
 use Rattle.tp_shapes.specs.View.{View, is_held}
 use Rattle.tp_shapes.proofs.Controllers.Purge.{purged}
 use Rattle.tp_parts.specs.declared.parts.Parts.{Parts}
@@ -44,7 +46,7 @@ pub record AreGone {P : Type 0} (old new : Tasks P) (ts : List ℕ) : Type 0 whe
   pub submitted : submissions new ≡ submissions old
 
 -- one task after another
-pub are_gone : {P : Type 0} (old new : Tasks P) (ts : List TaskId) → FoldsTo (λ m t n. Purges m n t.0) old ts new → AreGone old new (map (λ t. t.0) ts)
+are_gone : {P : Type 0} (old new : Tasks P) (ts : List TaskId) → FoldsTo (λ m t n. Purges m n t.0) old ts new → AreGone old new (map (λ t. t.0) ts)
 are_gone {P} old new [] same =
     let Q : Tasks P → Type 0 = λ m. AreGone old m [] in
     subst Q same (record { rows = λ u. refl; places = λ u. refl; payloads = λ u. refl; promises = λ u. refl; done = λ g. refl; fates = λ f. refl; submitted = refl })
@@ -88,7 +90,7 @@ are_gone {P} old new (t ∷ ts) folds =
 -- Lists of items
 
 -- the numbers of those that pass a test
-pub numbers-filter : (f : ℕ → Bool) (xs : List (TaskId × ℕ)) → numbers (filter (λ x. f x.0.0) xs) ≡ filter f (numbers xs)
+numbers-filter : (f : ℕ → Bool) (xs : List (TaskId × ℕ)) → numbers (filter (λ x. f x.0.0) xs) ≡ filter f (numbers xs)
 numbers-filter f [] = refl
 numbers-filter f (x ∷ xs) = by (f x.0.0) (numbers-filter f xs)
   where
@@ -99,10 +101,6 @@ numbers-filter f (x ∷ xs) = by (f x.0.0) (numbers-filter f xs)
 numbers-ids : (xs : List (TaskId × ℕ)) → map (λ t. t.0) (ids xs) ≡ numbers xs
 numbers-ids [] = refl
 numbers-ids (x ∷ xs) = ap (λ us. x.0.0 ∷ us) (numbers-ids xs)
-
-pub numbers_length : (xs : List (TaskId × ℕ)) → length xs ≡ length (numbers xs)
-numbers_length [] = refl
-numbers_length (x ∷ xs) = ap suc (numbers_length xs)
 
 -- tests that agree on a list
 or_true : (b : Bool) → (b || true) ≡ true
@@ -115,18 +113,15 @@ filter_alike f g (x ∷ xs) same =
     let here : f x ≡ g x = same x (rw (eq-eqb x x refl) refl) in
     rw here (ap (λ ys. cond (g x) (x ∷ ys) ys) (filter_alike f g xs (λ y is. same y (rw is (or_true (y == x))))))
 
-count_length : (f : ℕ → Bool) (xs : List ℕ) → length (filter f xs) ≡ count_by f xs
-count_length f [] = refl
-count_length f (x ∷ xs) =
-    let rest = count_length f xs in
-    let e : sum_by (λ z. cond (f z) 1 0) (x ∷ xs) ≡ cond (f x) 1 0 + sum_by (λ z. cond (f z) 1 0) xs = sum_by-cons (λ z. cond (f z) 1 0) x xs in
-    let l = by (f x) in
-    let p : length (filter f (x ∷ xs)) ≡ count_by f (x ∷ xs) = omega (arith, rest, e, l) in
-    p
+-- where none passes, those that do not are all
+all_left : (f : ℕ → Bool) (xs : List ℕ) → length (filter f xs) ≡ 0 → filter (λ x. not (f x)) xs ≡ xs
+all_left f [] none = refl
+all_left f (x ∷ xs) none = by (f x) (all_left f xs) none
   where
-    by : (b : Bool) → length (cond b (x ∷ filter f xs) (filter f xs)) ≡ cond b 1 0 + length (filter f xs)
-    by true = omega arith
-    by false = omega arith
+    by : (b : Bool) → (length (filter f xs) ≡ 0 → filter (λ y. not (f y)) xs ≡ xs) → length (cond b (x ∷ filter f xs) (filter f xs)) ≡ 0 →
+        cond (not b) (x ∷ filter (λ y. not (f y)) xs) (filter (λ y. not (f y)) xs) ≡ x ∷ xs
+    by true rest none = absurd (omega (arith, none))
+    by false rest none = ap (λ ys. x ∷ ys) (rest none)
 
 queued_place : (p : Place) → is_queued_place p ≡ true → p ≡ at.Queued
 queued_place p is = grind arith
@@ -155,21 +150,41 @@ module _ {P : Type 0} (p : Parts P) (v : View) (views : Views p v) (holds : Hold
       by false is false placed = refl
 
   -- how many queued tasks are cancelled
-  pub cancelled_count : length (filter (λ x. flag p.tasks x.0.0) (waiting_of p.queue).items) ≡ count_by (λ t. (v.tasks t).cancelled) v.queue
+  pub cancelled_count : purgeable_of p.tasks ≡ count_by (λ t. (v.tasks t).cancelled) v.queue
   cancelled_count =
-      numbers_length (filter (λ x. flag p.tasks x.0.0) (waiting_of p.queue).items)
-      ∙ ap (λ xs. length xs) (numbers-filter (flag p.tasks) (waiting_of p.queue).items ∙ ap (filter (flag p.tasks)) (sym views.queued) ∙ filter_alike (flag p.tasks) (λ t. (v.tasks t).cancelled) v.queue flag_seen)
-      ∙ count_length (λ t. (v.tasks t).cancelled) v.queue
+      passing_counted p.tasks.tasks p.tasks.submitted p.tasks.below is_purgeable (filter cancelled v.queue) (once-filter cancelled v.queue holds.once) (λ t. among-filter t cancelled v.queue ∙ there t (is_held v t) refl)
+      ∙ length-filter cancelled v.queue
+    where
+      cancelled : ℕ → Bool
+      cancelled t = (v.tasks t).cancelled
+
+      and_false : (b : Bool) → (b && false) ≡ false
+      and_false true = refl
+      and_false false = refl
+
+      absent : (t : ℕ) → is_held v t ≡ false → (b : Bool) → is_among t v.queue ≡ b → b ≡ false
+      absent t off true is = absurd (false≢true (sym off ∙ holds.known t (Contains-from_among v.queue t is)))
+      absent t off false is = refl
+
+      there : (t : ℕ) (b : Bool) → is_held v t ≡ b → (cancelled t && is_among t v.queue) ≡ passes is_purgeable (row_of p.tasks t)
+      there t true held = ap (λ b. cancelled t && b) (queued_seen t) ∙ sym (ap (passes is_purgeable) (views.rows t held))
+      there t false off = ap (λ b. cancelled t && b) (absent t off (is_among t v.queue) refl) ∙ and_false (cancelled t) ∙ sym (ap (passes is_purgeable) (views.unknown t off))
+
+  -- where none is, none is taken
+  none_taken : purgeable_of p.tasks ≡ 0 → length (filter (flag p.tasks) (numbers (waiting_of p.queue).items)) ≡ 0
+  none_taken none =
+      ap (λ xs. length xs) (ap (filter (flag p.tasks)) (sym views.queued) ∙ filter_alike (flag p.tasks) (λ t. (v.tasks t).cancelled) v.queue flag_seen)
+      ∙ length-filter (λ t. (v.tasks t).cancelled) v.queue ∙ sym cancelled_count ∙ none
 
   -- those that stay
-  pub queue_left : filter (λ t. not (v.tasks t).cancelled) v.queue ≡ numbers (filter (λ x. not (flag p.tasks x.0.0)) (waiting_of p.queue).items)
+  queue_left : filter (λ t. not (v.tasks t).cancelled) v.queue ≡ numbers (filter (λ x. not (flag p.tasks x.0.0)) (waiting_of p.queue).items)
   queue_left =
       filter_alike (λ t. not (v.tasks t).cancelled) (λ u. not (flag p.tasks u)) v.queue (λ u is. ap not (sym (flag_seen u is)))
       ∙ ap (filter (λ u. not (flag p.tasks u))) views.queued
       ∙ sym (numbers-filter (λ u. not (flag p.tasks u)) (waiting_of p.queue).items)
 
   -- the row of a task after the purge
-  pub row_left : (tasks : Tasks P) → AreGone p.tasks tasks (filter (flag p.tasks) (numbers (waiting_of p.queue).items)) → (u : ℕ) → is_held v u ≡ true → row_of tasks u ≡ Some (purged (v.tasks u))
+  row_left : (tasks : Tasks P) → AreGone p.tasks tasks (filter (flag p.tasks) (numbers (waiting_of p.queue).items)) → (u : ℕ) → is_held v u ≡ true → row_of tasks u ≡ Some (purged (v.tasks u))
   row_left tasks are u known =
       let row = views.rows u known in
       are.rows u
@@ -189,12 +204,49 @@ module _ {P : Type 0} (p : Parts P) (v : View) (views : Views p v) (holds : Hold
       either false false r = refl
 
   -- no row comes
-  pub none_left : (tasks : Tasks P) (ts : List ℕ) → AreGone p.tasks tasks ts → (u : ℕ) → row_of p.tasks u ≡ None → row_of tasks u ≡ None
+  none_left : (tasks : Tasks P) (ts : List ℕ) → AreGone p.tasks tasks ts → (u : ℕ) → row_of p.tasks u ≡ None → row_of tasks u ≡ None
   none_left tasks ts are u none = are.rows u ∙ ap (λ o. cond (is_among u ts) (option_map gone o) o) none ∙ either (is_among u ts)
     where
       either : (b : Bool) → ◌≡◌ {A = Option TaskRow} (cond b None None) None
       either true = refl
       either false = refl
+
+  -- what is seen after the purge
+  pub views_left : (tasks : Tasks P) (queue : Queue) → AreGone p.tasks tasks (filter (flag p.tasks) (numbers (waiting_of p.queue).items)) →
+      numbers (waiting_of queue).items ≡ numbers (filter (λ x. not (flag p.tasks x.0.0)) (waiting_of p.queue).items) →
+      Views (record p { tasks = tasks; queue = queue }) (record v { tasks = λ t. purged (v.tasks t); queue = filter (λ t. not (v.tasks t).cancelled) v.queue })
+  views_left tasks queue are rest = record {
+    rank = views.rank;
+    core_size = views.core_size;
+    maximum_size = views.maximum_size;
+    keep_alive = views.keep_alive;
+    times_out = views.times_out;
+    present = views.present;
+    submitted = views.submitted ∙ sym are.submitted;
+    rows = row_left tasks are;
+    unknown = λ u off. none_left tasks _ are u (views.unknown u off);
+    issued = views.issued;
+    fates = λ f. views.fates f ∙ sym (are.fates f);
+    queued = queue_left ∙ sym rest;
+    seats = views.seats;
+    order = views.order;
+    done = λ k. views.done k ∙ sym (are.done k);
+    completed = views.completed;
+    most = views.most;
+  }
+
+  -- which is what was seen, where no queued task is cancelled
+  pub views_same : purgeable_of p.tasks ≡ 0 → Views p (record v { tasks = λ t. purged (v.tasks t); queue = filter (λ t. not (v.tasks t).cancelled) v.queue })
+  views_same none =
+      let items = (waiting_of p.queue).items in
+      let nobody = none_taken none in
+      let Q : List ℕ → Type 0 = λ ts. AreGone p.tasks p.tasks ts in
+      views_left p.tasks p.queue (subst Q (sym (nothing (filter (flag p.tasks) (numbers items)) nobody)) (are_gone p.tasks p.tasks [] refl))
+      (sym (numbers-filter (λ u. not (flag p.tasks u)) items ∙ all_left (flag p.tasks) (numbers items) nobody))
+    where
+      nothing : (xs : List ℕ) → length xs ≡ 0 → xs ≡ []
+      nothing [] is = refl
+      nothing (x ∷ xs) is = absurd (omega (arith, is))
 
 -- What ties the structures together lasts
 module _ {P : Type 0} (c : Config) (n : ℕ) (old : Parts P) (tied : IsTied c n old) where

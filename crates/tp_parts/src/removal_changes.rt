@@ -1,6 +1,6 @@
 //! Changes by which tasks are cancelled, taken and purged.
 
-ghost use Rattle.std.specs.Prelude.{ℕ, ◌≡◌, ◌+◌, ◌==◌, ◌^◌, ◌<◌, ◌++◌, ◌∷◌, [], true, not, ◌&&◌, drop, filter, length, count_by, slice_get, option_map, Some, None, if◌then◌else◌};
+ghost use Rattle.std.specs.Prelude.{ℕ, ◌≡◌, ◌+◌, ◌==◌, ◌^◌, ◌<◌, ◌++◌, ◌∷◌, [], true, not, ◌&&◌, drop, filter, count_by, slice_get, option_map, Some, None, if◌then◌else◌};
 ghost use Rattle.tp_types.specs.declared.configs.Config.{Config};
 ghost use Rattle.tp_types.specs.declared.tasks.Fate.{Fate};
 ghost use Rattle.tp_types.specs.declared.tasks.Place.{Place};
@@ -8,7 +8,6 @@ ghost use Rattle.tp_record.specs.declared.rows.TaskRow.{TaskRow};
 ghost use Rattle.tp_record.specs.Fields.{is_queued_place};
 ghost use Rattle.tp_record.specs.State.{fate_of, is_fate};
 ghost use Rattle.tp_record.specs.Step.{is_of_group};
-ghost use Rattle.tp_queue.specs.Queues.{waiting_of};
 ghost use Rattle.tp_tasks.specs.Tasks.{row_of, done_of};
 ghost use Rattle.tp_shapes.specs.View.{View, put};
 ghost use Rattle.tp_parts.specs.Payloads.{Keeps, HandsOut};
@@ -53,15 +52,15 @@ impl<P> Parts<P> {
         self.tasks.take_done(g)
     }
 
-    /// How many queued tasks are cancelled, in one pass over the queue.
+    /// How many queued tasks are cancelled. It looks at no task.
     pub fn count_cancelled(&self) -> u32
-        requires few { length (waiting_of self.now.queue).items < 2 ^ 32 }
         ensures { (v : View) → Views self.now v → HoldsQueued v → result ≡ count_by (λ t. (v.tasks t).cancelled) v.queue }
     {
-        self.queue.count(&self.tasks) as u32
+        self.tasks.purgeable()
     }
 
-    /// Takes the cancelled tasks out of the queue, in one pass over it and without memory: they are gone.
+    /// Takes the cancelled tasks out of the queue, without memory: they are gone. It takes one pass over the queue, and none where
+    /// no queued task is cancelled.
     pub fn purge(&mut self)
         ensures views { (v : View) → Views self.old v → HoldsQueued v → Views self.new (record v {
           tasks = λ t. if is_queued_place (v.tasks t).place && (v.tasks t).cancelled then record (v.tasks t) { place = Place.Gone } else v.tasks t;
@@ -71,6 +70,8 @@ impl<P> Parts<P> {
         ensures rest { self.new ≡ record self.old { tasks = self.new.tasks; queue = self.new.queue } }
         ensures payloads { Keeps self.old.tasks self.new.tasks }
     {
-        self.queue.sweep(&mut self.tasks);
+        if self.tasks.purgeable() > 0 {
+            self.queue.sweep(&mut self.tasks);
+        }
     }
 }

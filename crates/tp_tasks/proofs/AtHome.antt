@@ -5,7 +5,7 @@ use Rattle.std.specs.List.{sum_by}
 use Rattle.std.proofs.lemmas.Bool.{cases_eq, ne_eqb, eq-eqb, eqb-true, false≢true}
 use Rattle.std.proofs.lemmas.List.{length-set, length-replicate, get_or-set_same, get_or-set_other}
 use Rattle.std.proofs.lemmas.List.Folds.{sum_by-replicate}
-use Rattle.std.proofs.lemmas.List.Sums.{sum_by-set}
+use Rattle.std.proofs.lemmas.List.Sums.{sum_by-set, sum_by-le-sum_by}
 use Rattle.std.proofs.lemmas.Nat.{and_mask, pow_pos}
 use Rattle.std.proofs.Math.Logic.{∥∥₁_elim}
 use Rattle.std.proofs.Math.Nat.{mod-zero, ℕ_set}
@@ -20,12 +20,47 @@ use Rattle.tp_record.specs.declared.rows.TaskRow.{TaskRow}
 use Rattle.tp_tasks.specs.declared.homes.Home.{Home}
 use Rattle.tp_tasks.specs.declared.homes.Rows.{Rows}
 use Rattle.tp_tasks.specs.declared.table.Task.{Task}
-use Rattle.tp_tasks.specs.Homes.{home_of, IsSize, held, holder, home_passes, is_free, is_held, home_at, or_beside, found, home_count, beside_count, ArePlaced, AreApart, AreKept}
+use Rattle.tp_tasks.specs.Homes.{home_of, IsSize, is_purgeable, held, holder, home_passes, is_free, is_held, home_at, or_beside, found, home_count, beside_count, ArePlaced, AreApart, AreKept}
 use Rattle.tp_tasks.proofs.Counts.{count-put, count-removed}
 use Rattle.tp_tasks.specs.Table.{row_of_task, task_in, row_in, row_count}
 
 abbrev pub one : Bool → ℕ
 one b = cond b 1 0
+
+-- no more rows pass a test than there are
+module _ {P S : Type 0} where
+  pass_few : (p : TaskRow → Bool) (homes : List (Option (Home P))) (beside : IndexMap ℕ (Task P) S) → home_count p homes + beside_count p beside ≤ home_count (λ _. true) homes + beside_count (λ _. true) beside
+  pass_few p homes beside =
+      let at_homes = sum_by-le-sum_by (λ h. one (home_passes p h)) (λ h. one (home_passes (λ _. true) h)) homes at_home in
+      let others = sum_by-le-sum_by (λ (k : Task P). one (p k.row)) (λ k. one true) (values_of beside.entries) (λ k. short (p k.row)) in
+      omega (arith, at_homes, others)
+    where
+      short : (b : Bool) → one b ≤ 1
+      short true = omega arith
+      short false = omega arith
+
+      at_home : (h : Option (Home P)) → one (home_passes p h) ≤ one (home_passes (λ _. true) h)
+      at_home None = omega arith
+      at_home (Some h) = short (p h.task.row)
+
+module _ {P : Type 0} (m : Rows P) where
+  -- so a purge takes no more tasks than are kept
+  pub purged_few : m.purgeable < 2 ^ 32
+  purged_few =
+      let few = pass_few is_purgeable m.homes.items m.beside in
+      let all = m.counted in
+      let taken = m.purged in
+      let small = m.small in
+      omega (arith, few, all, taken, small)
+
+  -- also after a write to a task
+  pub recounted_few : (homes : List (Option (Home P))) (beside : IndexMap ℕ (Task P) (BuildHasherDefault FoldHasher)) (before after : Bool) →
+      home_count is_purgeable homes + beside_count is_purgeable beside + one before ≡ m.purgeable + one after → home_count (λ _. true) homes + beside_count (λ _. true) beside ≡ m.count →
+      m.purgeable + one after < 2 ^ 32 + one before
+  recounted_few homes beside before after sum all =
+      let few = pass_few is_purgeable homes beside in
+      let small = m.small in
+      omega (arith, few, sum, all, small)
 
 -- the low bits of a number are what is left of it
 pub low_bits : (n t : ℕ) → IsSize n → n < 2 ^ 64 → t < 2 ^ 32 → bit_and t ((n + 18446744073709551615) % 18446744073709551616) ≡ home_of n t
@@ -274,7 +309,7 @@ module _ {P : Type 0} (m : Rows P) (t : ℕ) (away : is_held t (slice_get m.home
 
   -- a task beside is forgotten
   module _ (out : beside.entries ≡ swap_remove_entry (nat_eq t) m.beside.entries) where
-    count_out : (p : TaskRow → Bool) (r : TaskRow) → row_of_task (get nat_eq m.beside t) ≡ Some r → beside_count p beside + one (p r) ≡ beside_count p m.beside
+    pub count_out : (p : TaskRow → Bool) (r : TaskRow) → row_of_task (get nat_eq m.beside t) ≡ Some r → beside_count p beside + one (p r) ≡ beside_count p m.beside
     count_out p r is = count-removed m.beside beside t r out is p
 
     pub count_less : (p : TaskRow → Bool) (r : TaskRow) → row_in m t ≡ Some r → home_count p m.homes.items + beside_count p beside + one (p r) ≡ row_count p m

@@ -1,24 +1,28 @@
--- How many tasks are kept: as many as were submitted and are not away.
-use Rattle.std.proofs.Common.{◌≡◌, ℕ, zero, suc, ◌+◌, ◌<◌, ◌≤◌, Bool, true, false, not, ◌||◌, List, [], ◌∷◌, ◌++◌, length, is_some, Option, Some, None, arith, refl, sym, ap, ◌∙◌, inl, inr}
+-- How many tasks are kept: as many as were submitted and are not away. How many rows pass a test: as many as a list has of their tasks.
+use Rattle.std.proofs.Common.{◌≡◌, ℕ, zero, suc, ◌+◌, ◌<◌, ◌≤◌, Bool, true, false, not, ◌||◌, ◌&&◌, cond, List, [], ◌∷◌, ◌++◌, length, slice_get, is_some, Option, Some, None, arith, refl, sym, ap, ◌∙◌, inl, inr}
 use mathlib.Core.Path.{ap₂}
 use Rattle.std.specs.Prelude.{nat_eq}
-use Rattle.std.specs.List.{IsDistinct, list_any, AllByRecursion, sum_by}
+use Rattle.std.specs.List.{IsDistinct, list_any, AllByRecursion, sum_by, filter}
 use Rattle.std.specs.Map.{keys_of, values_of}
 use Rattle.std.proofs.lemmas.Bool.{cases_lt, eq-eqb, eqb-true, or_cases, or_parts, true≢false, false≢true}
 use Rattle.std.proofs.lemmas.List.{length-append}
+use Rattle.std.proofs.lemmas.Cmp.{nat_eq_equiv}
+use Rattle.std.proofs.lemmas.List.Elements.{filter-append}
 use Rattle.std.proofs.lemmas.List.Folds.{list_any-append}
 use Rattle.std.proofs.lemmas.List.Sums.{sum_by-cons}
-use Rattle.std.proofs.lemmas.Map.Made.{is_some-lookup}
+use Rattle.std.proofs.lemmas.Map.Entries.{hash_map_get_place}
+use Rattle.std.proofs.lemmas.Map.Made.{is_some-lookup, is_member-filter, length-from_same_keys}
 use Rattle.std.proofs.lemmas.Map.Steps.{length-le_from_distinct_below, le-length_from_below}
 use Rattle.std.proofs.lemmas.Option.{none-some, same_Some}
 use Rattle.indexmap.specs.IndexMap.{get}
+use Rattle.tp_record.specs.declared.rows.TaskRow.{TaskRow}
 use Rattle.tp_record.specs.Lists.{is_among, IsOnce}
 use Rattle.tp_tasks.specs.declared.homes.Home.{Home}
 use Rattle.tp_tasks.specs.declared.homes.Rows.{Rows}
 use Rattle.tp_tasks.specs.declared.table.Task.{Task}
 use Rattle.tp_tasks.specs.Homes.{home_of, held, holder, home_passes, home_at, home_count}
 use Rattle.tp_tasks.specs.Kept.{AreSubmitted}
-use Rattle.tp_tasks.specs.Table.{row_of_task, task_in, row_in, task_count}
+use Rattle.tp_tasks.specs.Table.{row_of_task, passes, task_in, row_in, row_count, task_count}
 use Rattle.tp_tasks.proofs.AtHome.{one, a_task}
 use Rattle.tp_tasks.proofs.Counts.{keys_counted}
 use Rattle.tp_tasks.proofs.Finds.{holding, placed_of, home_task, beside_task}
@@ -73,6 +77,27 @@ same_truth false false there back = refl
 
 among_append : (x : ℕ) (xs ys : List ℕ) → is_among x (xs ++ ys) ≡ (is_among x xs || is_among x ys)
 among_append x xs ys = sym (among_any x (xs ++ ys)) ∙ list_any-append (nat_eq x) xs ys ∙ ap₂ (λ a b. a || b) (among_any x xs) (among_any x ys)
+
+all_filter : (Q : ℕ → Type 0) (p : ℕ → Bool) (xs : List ℕ) → AllByRecursion Q xs → AllByRecursion Q (filter p xs)
+all_filter Q p [] each = tt
+all_filter Q p (x ∷ xs) each = by (p x) (all_filter Q p xs each.1)
+  where
+    by : (b : Bool) → AllByRecursion Q (filter p xs) → AllByRecursion Q (cond b (x ∷ filter p xs) (filter p xs))
+    by true rest = (each.0, rest)
+    by false rest = rest
+
+distinct_filter : (p : ℕ → Bool) (xs : List ℕ) → IsDistinct nat_eq xs → IsDistinct nat_eq (filter p xs)
+unfolding IsDistinct
+distinct_filter p [] all = tt
+distinct_filter p (x ∷ xs) all = by (p x) (distinct_filter p xs all.1)
+  where
+    by : (b : Bool) → IsDistinct nat_eq (filter p xs) → IsDistinct nat_eq (cond b (x ∷ filter p xs) (filter p xs))
+    by true rest = (all_filter (λ y. nat_eq x y ≡ false) p xs all.0, rest)
+    by false rest = rest
+
+length_more : (b : Bool) (x : ℕ) (xs : List ℕ) → length (cond b (x ∷ xs) xs) ≡ one b + length xs
+length_more true x xs = omega arith
+length_more false x xs = omega arith
 
 -- Whose homes they are
 
@@ -209,3 +234,41 @@ module _ {P : Type 0} (m : Rows P) (n : ℕ) (below : AreSubmitted n m) where
           by : (b : Bool) → is_among x rs ≡ b → (is_among x ks || is_among x rs) ≡ true
           by true away = ap (λ b. is_among x ks || b) away ∙ or_true (is_among x ks)
           by false kept = ap (λ b. b || is_among x rs) (key_row x ∙ rows x less ∙ ap not kept)
+
+  -- so many rows pass a test as a list has numbers that names each of their tasks once
+  pub passing_counted : (p : TaskRow → Bool) (ts : List ℕ) → IsOnce ts → ((t : ℕ) → is_among t ts ≡ passes p (row_in m t)) → row_count p m ≡ length ts
+  passing_counted p ts once rows =
+      let homes = homes_pass m.homes.items (λ i h is. ap (λ o. passes p (row_of_task o)) (home_task m i h is)) in
+      let others = beside_pass m.beside.entries (λ i t v is. ap (λ o. passes p (row_of_task o)) (beside_task m t v (hash_map_get_place nat_eq_equiv m.beside i t v m.unique is))) in
+      sym (ap length (filter-append test at_homes beside) ∙ length-append (filter test at_homes) (filter test beside) ∙ ap₂ (λ a b. a + b) homes others)
+      ∙ length-from_same_keys nat_eq_equiv (filter test ks) ts (distinct_filter test ks keys_distinct) (IsDistinct-once ts once) (λ x.
+      is_member-filter nat_eq_equiv test x (λ y e. ap test (eqb-true x y e)) ks ∙ ap (λ b. b && test x) (among_any x ks ∙ key_row x) ∙ passes_there (row_in m x) ∙ sym (among_any x ts ∙ rows x))
+    where
+      test : ℕ → Bool
+      test t = passes p (row_in m t)
+
+      passes_there : (o : Option TaskRow) → (is_some o && passes p o) ≡ passes p o
+      passes_there None = refl
+      passes_there (Some r) = refl
+
+      homes_pass : (hs : List (Option (Home P))) → ((i : ℕ) (h : Home P) → home_at hs i ≡ Some h → test h.number ≡ p h.task.row) → length (filter test (numbers hs)) ≡ home_count p hs
+      homes_pass [] each = refl
+      homes_pass (None ∷ hs) each =
+          let rest = homes_pass hs (λ i h is. each (suc i) h is) in
+          let all = sum_by-cons (λ (h : Option (Home P)). one (home_passes p h)) None hs in
+          omega (arith, rest, all)
+      homes_pass (Some h ∷ hs) each =
+          let rest = homes_pass hs (λ i k is. each (suc i) k is) in
+          let all = sum_by-cons (λ k. one (home_passes p k)) (Some h) hs in
+          let more = length_more (test h.number) h.number (filter test (numbers hs)) in
+          let same = ap one (each 0 h refl) in
+          omega (arith, rest, all, more, same)
+
+      beside_pass : (es : List (ℕ × Task P)) → ((i t : ℕ) (v : Task P) → slice_get es i ≡ Some (t, v) → test t ≡ p v.row) → length (filter test (keys_of es)) ≡ sum_by (λ (k : Task P). one (p k.row)) (values_of es)
+      beside_pass [] each = refl
+      beside_pass (e ∷ es) each =
+          let rest = beside_pass es (λ i t v is. each (suc i) t v is) in
+          let all = sum_by-cons (λ (k : Task P). one (p k.row)) e.1 (values_of es) in
+          let more = length_more (test e.0) e.0 (filter test (keys_of es)) in
+          let same = ap one (each 0 e.0 e.1 refl) in
+          omega (arith, rest, all, more, same)

@@ -1,14 +1,19 @@
 -- Where a task lies: at its home, or beside.
-use Rattle.std.specs.Prelude.{ℕ, ◌≡◌, ◌+◌, ◌%◌, ◌<◌, ◌≤◌, ◌⊎◌, Bool, true, false, not, List, length, slice_get, slice_index_or, sum_by, Option, Some, None, is_some, nat_eq, if◌then◌else◌}
+use Rattle.std.specs.Prelude.{ℕ, ◌≡◌, ◌+◌, ◌%◌, ◌<◌, ◌≤◌, ◌⊎◌, ◌&&◌, Bool, true, false, not, List, length, slice_get, slice_index_or, sum_by, Option, Some, None, is_some, nat_eq, if◌then◌else◌}
 use Rattle.std.specs.Int.{IsPowerOfTwo}
 use Rattle.indexmap.specs.IndexMap.{IndexMap, get, values}
 use Rattle.tp_record.specs.declared.rows.TaskRow.{TaskRow}
+use Rattle.tp_record.specs.Fields.{is_queued_place}
 use Rattle.tp_tasks.specs.declared.homes.Home.{Home}
 use Rattle.tp_tasks.specs.declared.table.Task.{Task}
 
 -- the home of task t among n homes: the low bits of its number
 abbrev pub home_of : ℕ → ℕ → ℕ
 home_of n t = t % n
+
+-- a purge takes a task with this row
+abbrev pub is_purgeable : TaskRow → Bool
+is_purgeable r = r.cancelled && is_queued_place r.place
 
 -- there is no home, or there are as many as some power of two
 abbrev pub IsSize : ℕ → Type 0
@@ -99,3 +104,7 @@ module _ {P S : Type 0} where
   -- so many tasks are kept
   abbrev pub AreKept : ℕ → List (Option (Home P)) → IndexMap ℕ (Task P) S → Type 0
   AreKept n homes beside = home_count (λ _. true) homes + beside_count (λ _. true) beside ≡ n
+
+  -- so many of them a purge takes
+  abbrev pub ArePurgeable : ℕ → List (Option (Home P)) → IndexMap ℕ (Task P) S → Type 0
+  ArePurgeable n homes beside = home_count is_purgeable homes + beside_count is_purgeable beside ≡ n

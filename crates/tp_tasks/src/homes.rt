@@ -1,9 +1,9 @@
 //! Where the tasks lie.
 
-ghost use Rattle.std.specs.Prelude.{length, nat_eq};
+ghost use Rattle.std.specs.Prelude.{◌<◌, ◌^◌, length, nat_eq};
 ghost use Rattle.std.proofs.Props.{props};
 ghost use Rattle.indexmap.specs.IndexMap.{IsUnique};
-ghost use Rattle.tp_tasks.specs.Homes.{IsSize, ArePlaced, AreApart, AreKept};
+ghost use Rattle.tp_tasks.specs.Homes.{IsSize, ArePlaced, AreApart, AreKept, ArePurgeable};
 
 use crate::table::Task;
 use indexmap::IndexMap;
@@ -23,6 +23,8 @@ pub struct Home<P> {
 pub struct Rows<P> {
     /// How many tasks are kept.
     pub count: u32,
+    /// How many of them a purge takes: they are queued and cancelled.
+    pub purgeable: u32,
     /// The tasks that lie beside.
     pub beside: IndexMap<u32, Task<P>>,
     /// Of each home the task that lies there.
@@ -32,4 +34,6 @@ pub struct Rows<P> {
     ghost apart: { AreApart homes.items beside },
     ghost unique: { IsUnique nat_eq beside } by { Prim.hlevel props },
     ghost counted: { AreKept count homes.items beside },
+    ghost small: { count < 2 ^ 32 },
+    ghost purged: { ArePurgeable purgeable homes.items beside },
 }

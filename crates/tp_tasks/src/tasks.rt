@@ -38,7 +38,7 @@ pub struct Tasks<P> {
 }
 
 impl<P> Tasks<P> {
-    ghost use Rattle.tp_tasks.specs.Tasks.{task_of, row_of, promise_of, number_of, payload_of, done_of, fated_of, submissions, kept_of, HasNone, IsReady, IsOpenIn, IsListed, AreReleased, KeepsOthers, KeepsDone, KeepsFates, SetsRow, IsUnchanged};
+    ghost use Rattle.tp_tasks.specs.Tasks.{task_of, row_of, promise_of, number_of, payload_of, done_of, fated_of, submissions, kept_of, purgeable_of, HasNone, IsReady, IsOpenIn, IsListed, AreReleased, KeepsOthers, KeepsDone, KeepsFates, SetsRow, IsUnchanged};
 
     /// No tasks. It takes no memory.
     pub fn new(alloc: Global) -> Tasks<P>
@@ -369,6 +369,13 @@ impl<P> Tasks<P> {
         ensures released { (rs : List ℕ) → AreReleased self.now rs → result + length rs ≡ submissions self.now }
     {
         table::len(&self.tasks)
+    }
+
+    /// How many of them are cancelled and in the queue: a purge takes these. It looks at no task.
+    pub fn purgeable(&self) -> u32
+        ensures { result ≡ purgeable_of self.now }
+    {
+        table::purgeable(&self.tasks)
     }
 
     /// How many tasks came to this fate.

@@ -2,12 +2,8 @@ use Rattle.std.proofs.Common.{refl}
 use Rattle.tp_record.specs.declared.entries.Ask.TheVariants as ask
 use Rattle.tp_record.specs.declared.entries.Did.TheVariants as did
 use Rattle.tp_parts.proofs.Answering.{accepts_room, refuses_fitting}
-use Rattle.tp_parts.proofs.Few.{few_queued}
 use Rattle.tp_controllers.proofs.Purges.{purge_fits, purge_moves}
 use Rattle.tp_controllers.proofs.purge.answer.Goals as goal
-
-pub count_cancelled-cancelled-requires : goal.count_cancelled-cancelled-requires
-count_cancelled-cancelled-requires g c = record { few = few_queued c.args.parts.now c.requires.stands }
 
 pub returns-then-not-has_room-clause-refuses : goal.returns-then-not-has_room-clause-refuses
 returns-then-not-has_room-clause-refuses g c =

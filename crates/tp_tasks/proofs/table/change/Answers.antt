@@ -1,11 +1,29 @@
-use Rattle.std.proofs.Common.{true, ap, sym, refl, ◌∙◌, arith}
+use Rattle.std.proofs.Common.{true, Some, set, ap, sym, refl, ◌∙◌, arith}
 use Rattle.std.specs.Prelude.{nat_eq}
 use Rattle.std.proofs.lemmas.Option.{none-some, same_Some}
 use Rattle.indexmap.specs.IndexMap.{get}
-use Rattle.tp_tasks.specs.Homes.{or_beside}
+use Rattle.tp_tasks.specs.Homes.{is_purgeable, or_beside}
 use Rattle.tp_tasks.specs.Table.{task_in}
-use Rattle.tp_tasks.proofs.AtHome.{lent, lent_home, held_same, found_home, change_home}
+use Rattle.tp_tasks.proofs.AtHome.{one, recounted_few, lent, lent_home, held_same, found_home, change_home}
 use Rattle.tp_tasks.proofs.table.change.Goals as goal
+
+pub recount-tasks-requires-clause-few : goal.recount-tasks-requires-clause-few
+unfolding task_in
+recount-tasks-requires-clause-few g c =
+    let m = c.args.tasks.now in
+    let i = c.place_of-place.result in
+    let h = c.in-Some.home in
+    let at = lent_home m.homes.items i c.args.t c.index_mut.result.now (sym c.is_at.ensures ∙ c.if-is_at.true) c.index_mut.ensures.value h c.in-Some.is in
+    let w = c.write-done.new.arg2 in
+    let x = change_home m c.args.t i c.place_of-place.ensures h at.0 at.1 w in
+    let same = x.count (λ _. true) in
+    let all = m.counted in
+    let sum = x.count is_purgeable in
+    let taken = m.purged in
+    let before = ap one c.is_purged-before.ensures in
+    let after = ap one c.is_purged-after.ensures in
+    recounted_few m (set m.homes.items i (Some (record { number = h.number; task = w }))) m.beside c.is_purged-before.result c.is_purged-after.result
+    (omega (arith, sum, taken, before, after)) (omega (arith, same, all))
 
 pub invariant_of-tasks : goal.invariant_of-tasks
 unfolding task_in
@@ -13,16 +31,28 @@ invariant_of-tasks g c =
     let m = c.args.tasks.now in
     let h = c.in-Some.home in
     let at = lent_home m.homes.items c.place_of-place.result c.args.t c.index_mut.result.now (sym c.is_at.ensures ∙ c.if-is_at.true) c.index_mut.ensures.value h c.in-Some.is in
-    let x = change_home m c.args.t c.place_of-place.result c.place_of-place.ensures h at.0 at.1 c.write.new.arg2 in
+    let x = change_home m c.args.t c.place_of-place.result c.place_of-place.ensures h at.0 at.1 c.write-done.new.arg2 in
     let same = x.count (λ _. true) in
     let all = m.counted in
+    let sum = x.count is_purgeable in
+    let taken = m.purged in
+    let before = ap one c.is_purged-before.ensures in
+    let after = ap one c.is_purged-after.ensures in
+    let now = c.recount-tasks.ensures in
     record {
       sized = x.sized;
       placed = x.placed;
       apart = x.apart;
       unique = m.unique;
       counted = omega (arith, same, all);
+      small = m.small;
+      purged = omega (arith, sum, taken, before, after, now);
     }
+
+pub invariant_of-tasks-in-None : goal.invariant_of-tasks-in-None
+invariant_of-tasks-in-None g c =
+    let x = lent c.args.tasks.now.homes.items c.place_of-place.result c.args.t c.index_mut.result.now (sym c.is_at.ensures ∙ c.if-is_at.true) c.index_mut.ensures.value in
+    absurd (none-some x.0 (sym c.in-None.is ∙ x.1))
 
 pub returns-in-Some-clause-found : goal.returns-in-Some-clause-found
 unfolding task_in
@@ -32,12 +62,12 @@ returns-in-Some-clause-found g c = λ v is.
     let h = c.in-Some.home in
     let at = lent_home m.homes.items i c.args.t c.index_mut.result.now (sym c.is_at.ensures ∙ c.if-is_at.true) c.index_mut.ensures.value h c.in-Some.is in
     let same = same_Some h.task v (sym (found_home m c.args.t i c.place_of-place.ensures h at.0 at.1) ∙ is) in
-    let w = c.write.new.arg2 in
+    let w = c.write-done.new.arg2 in
     let x = change_home m c.args.t i c.place_of-place.ensures h at.0 at.1 w in (
       _,
       w,
       refl,
-      record { shown = _; shows = same; left = _; met = c.write.ensures; leaves = refl },
+      record { shown = _; shows = same; left = _; met = c.write-done.ensures; leaves = refl },
       rw (sym same) record {
         task = x.task ∙ ap (λ o. or_beside o (get nat_eq m.beside c.args.t)) (held_same (record { number = h.number; task = w }) c.args.t at.1);
         others = x.others;

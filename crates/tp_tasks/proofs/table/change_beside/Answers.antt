@@ -1,25 +1,49 @@
-use Rattle.std.proofs.Common.{true, sym, refl, ◌∙◌, arith}
+use Rattle.std.proofs.Common.{true, ap, sym, refl, ◌∙◌, arith}
 use Rattle.std.proofs.lemmas.Option.{none-some, same_Some}
+use Rattle.tp_tasks.specs.Homes.{is_purgeable}
 use Rattle.tp_tasks.specs.Table.{task_in}
-use Rattle.tp_tasks.proofs.AtHome.{kept_beside, updates_through, count_through, apart_other, task_other, others_other}
+use Rattle.tp_tasks.proofs.AtHome.{one, recounted_few, kept_beside, updates_through, count_through, apart_other, task_other, others_other}
 use Rattle.tp_tasks.proofs.table.change_beside.Goals as goal
+
+pub recount-tasks-requires-clause-few : goal.recount-tasks-requires-clause-few
+unfolding task_in
+recount-tasks-requires-clause-few g c =
+    let m = c.args.tasks.now in
+    let w = c.write-done.new.arg2 in
+    let beside = c.get_mut.follows.lender w in
+    let there = sym c.in-Some.ensures.value in
+    let count = count_through m c.args.t c.requires.away beside c.in-Some.task.now w there (c.get_mut.follows.holds w) in
+    let same = count (λ _. true) in
+    let all = m.counted in
+    let sum = count is_purgeable in
+    let taken = m.purged in
+    let before = ap one c.is_purged-before.ensures in
+    let after = ap one c.is_purged-after.ensures in
+    recounted_few m m.homes.items beside c.is_purged-before.result c.is_purged-after.result (omega (arith, sum, taken, before, after)) (omega (arith, same, all))
 
 pub invariant_of-tasks : goal.invariant_of-tasks
 unfolding task_in
 invariant_of-tasks g c =
     let m = c.args.tasks.now in
-    let w = c.write.new.arg2 in
+    let w = c.write-done.new.arg2 in
     let beside = c.get_mut.follows.lender w in
     let there = sym c.in-Some.ensures.value in
     let updates = updates_through m c.args.t c.requires.away beside c.in-Some.task.now w there (c.get_mut.follows.holds w) in
     let same = count_through m c.args.t c.requires.away beside c.in-Some.task.now w there (c.get_mut.follows.holds w) (λ _. true) in
     let all = m.counted in
+    let sum = count_through m c.args.t c.requires.away beside c.in-Some.task.now w there (c.get_mut.follows.holds w) is_purgeable in
+    let taken = m.purged in
+    let before = ap one c.is_purged-before.ensures in
+    let after = ap one c.is_purged-after.ensures in
+    let now = c.recount-tasks.ensures in
     record {
       sized = m.sized;
       placed = m.placed;
       apart = apart_other m c.args.t c.requires.away beside _ updates;
       unique = (c.get_mut.follows.holds w).4;
       counted = omega (arith, same, all);
+      small = m.small;
+      purged = omega (arith, sum, taken, before, after, now);
     }
 
 pub returns-in-Some-clause-found : goal.returns-in-Some-clause-found
@@ -27,7 +51,7 @@ unfolding task_in
 returns-in-Some-clause-found g c = λ v is.
     let m = c.args.tasks.now in
     let k = c.in-Some.task.now in
-    let w = c.write.new.arg2 in
+    let w = c.write-done.new.arg2 in
     let beside = c.get_mut.follows.lender w in
     let there = sym c.in-Some.ensures.value in
     let through = c.get_mut.follows.holds w in
@@ -36,7 +60,7 @@ returns-in-Some-clause-found g c = λ v is.
       _,
       w,
       refl,
-      record { shown = _; shows = same; left = _; met = c.write.ensures; leaves = refl },
+      record { shown = _; shows = same; left = _; met = c.write-done.ensures; leaves = refl },
       rw (sym same) record {
         task = task_other m c.args.t c.requires.away beside _ updates;
         others = others_other m c.args.t c.requires.away beside _ updates;

@@ -1,5 +1,5 @@
 use Rattle.std.proofs.Common.{◌+◌, true, length, sym, ap, subst, ◌∙◌, arith}
-use Rattle.tp_tasks.specs.Homes.{IsSize, ArePlaced, AreApart, AreKept, beside_count}
+use Rattle.tp_tasks.specs.Homes.{IsSize, ArePlaced, AreApart, AreKept, ArePurgeable, is_purgeable, beside_count}
 use Rattle.tp_tasks.specs.Table.{task_in}
 use Rattle.tp_tasks.proofs.Doubled.{wide_size, all_spread, sized_doubled, placed_doubled, apart_doubled, found_doubled, count_doubled}
 use Rattle.tp_tasks.proofs.table.double.Goals as goal
@@ -20,6 +20,8 @@ invariant_of-tasks g c =
       apart = subst (λ hs. AreApart hs m.beside) same m.apart;
       unique = m.unique;
       counted = subst (λ hs. AreKept m.count hs m.beside) same m.counted;
+      small = m.small;
+      purged = subst (λ hs. ArePurgeable m.purgeable hs m.beside) same m.purged;
     }
 
 pub invariant_of-tasks-2 : goal.invariant_of-tasks-2
@@ -31,12 +33,16 @@ invariant_of-tasks-2 g c =
     let spread = all_spread homes _ now c.len-old.result (c.len-old.ensures ∙ m.homes.ok.0) c.in_ok-add_free.ensures.added c.spread.ensures in
     let same = count_doubled homes now m.beside c.requires spread (λ _. true) in
     let all = m.counted in
+    let sum = count_doubled homes now m.beside c.requires spread is_purgeable in
+    let taken = m.purged in
     record {
       sized = sized_doubled homes now m.beside c.requires spread m.sized;
       placed = placed_doubled homes now m.beside c.requires spread m.placed;
       apart = apart_doubled homes now m.beside c.requires spread m.placed m.apart;
       unique = m.unique;
       counted = omega (arith, same, all);
+      small = m.small;
+      purged = omega (arith, sum, taken);
     }
 
 pub returns : goal.returns

@@ -1,4 +1,5 @@
 use Rattle.std.proofs.Common.{true, inr, arith}
+use Rattle.tp_tasks.specs.Homes.{is_purgeable}
 use Rattle.tp_tasks.proofs.AtHome.{is_nil, made_free, sized_free, placed_free, apart_free, count_free}
 use Rattle.tp_tasks.proofs.table.make_first_homes.Goals as goal
 
@@ -11,10 +12,15 @@ invariant_of-tasks g c =
     let before = count_free (λ _. true) 0 m.homes.items none in
     let now = count_free (λ _. true) made.0 homes made.2 in
     let all = m.counted in
+    let purged_before = count_free is_purgeable 0 m.homes.items none in
+    let purged_now = count_free is_purgeable made.0 homes made.2 in
+    let taken = m.purged in
     record {
       sized = sized_free homes made.0 made.2 m.beside made.1;
       placed = placed_free homes made.0 made.2 m.beside;
       apart = apart_free homes made.0 made.2 m.beside;
       unique = m.unique;
       counted = omega (arith, all, before, now);
+      small = m.small;
+      purged = omega (arith, taken, purged_before, purged_now);
     }

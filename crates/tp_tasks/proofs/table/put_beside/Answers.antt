@@ -1,6 +1,7 @@
-use Rattle.std.proofs.Common.{arith}
+use Rattle.std.proofs.Common.{ap, arith}
+use Rattle.tp_tasks.specs.Homes.{is_purgeable}
 use Rattle.tp_tasks.specs.Table.{task_in}
-use Rattle.tp_tasks.proofs.AtHome.{apart_other, task_other, count_more, kept_more}
+use Rattle.tp_tasks.proofs.AtHome.{one, apart_other, task_other, count_more, kept_more}
 use Rattle.tp_tasks.proofs.table.put_beside.Goals as goal
 
 pub overflow_add-tasks : goal.overflow_add-tasks
@@ -13,12 +14,19 @@ pub invariant_of-tasks : goal.invariant_of-tasks
 unfolding task_in
 invariant_of-tasks g c =
     let m = c.args.tasks.now in
+    let all = m.counted in
+    let few = c.requires.few in
+    let sum = count_more m c.args.t c.requires.away c.insert.new.self c.args.task c.in-Ok.ensures.entries c.requires.absent is_purgeable in
+    let taken = m.purged in
+    let stays = ap one c.requires.stays in
     record {
       sized = m.sized;
       placed = m.placed;
       apart = apart_other m c.args.t c.requires.away c.insert.new.self _ c.in-Ok.ensures.updates;
       unique = c.in-Ok.ensures.unique;
       counted = kept_more m c.args.t c.requires.away c.insert.new.self c.args.task c.in-Ok.ensures.entries c.requires.absent;
+      small = omega (arith, all, few);
+      purged = omega (arith, sum, taken, stays);
     }
 
 pub returns-clause-task : goal.returns-clause-task

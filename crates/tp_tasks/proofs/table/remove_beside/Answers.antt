@@ -1,38 +1,56 @@
-use Rattle.std.proofs.Common.{sym, ap, ◌∙◌, is_some}
-use Rattle.tp_tasks.specs.Table.{task_in}
-use Rattle.tp_tasks.proofs.AtHome.{a_task, apart_other, task_other, count_less, some_beside, kept_less}
+use Rattle.std.proofs.Common.{sym, ap, ◌∙◌, arith}
+use Rattle.tp_tasks.specs.Homes.{is_purgeable}
+use Rattle.tp_tasks.specs.Table.{row_of_task, task_in}
+use Rattle.tp_tasks.proofs.AtHome.{one, purged_few, apart_other, task_other, count_out, count_less, some_beside, kept_less}
 use Rattle.tp_tasks.proofs.table.remove_beside.Goals as goal
 
 pub overflow_sub-tasks : goal.overflow_sub-tasks
-overflow_sub-tasks g c =
-    let v = a_task _ (ap is_some (sym c.swap_remove.ensures.value) ∙ sym c.is_some.ensures ∙ c.if-is_some.true) in
-    some_beside c.args.tasks.now c.args.t c.requires c.swap_remove.new.self c.swap_remove.ensures.entries v.0 v.1
+overflow_sub-tasks g c = some_beside c.args.tasks.now c.args.t c.requires c.swap_remove.new.self c.swap_remove.ensures.entries c.in-Some.task (sym c.swap_remove.ensures.value ∙ c.in-Some.is)
+
+pub recount-tasks-requires-clause-counted : goal.recount-tasks-requires-clause-counted
+recount-tasks-requires-clause-counted g c =
+    let m = c.args.tasks.now in
+    let there = sym c.swap_remove.ensures.value ∙ c.in-Some.is in
+    let sum = count_out m c.args.t c.requires c.swap_remove.new.self c.swap_remove.ensures.entries is_purgeable c.in-Some.task.row (ap row_of_task there) in
+    let taken = m.purged in
+    let before = ap one c.is_purged.ensures in
+    omega (arith, sum, taken, before)
+
+pub recount-tasks-requires-clause-few : goal.recount-tasks-requires-clause-few
+recount-tasks-requires-clause-few g c = let few = purged_few c.args.tasks.now in omega (arith, few)
 
 pub invariant_of-tasks : goal.invariant_of-tasks
 unfolding task_in
 invariant_of-tasks g c =
     let m = c.args.tasks.now in
-    let v = a_task _ (ap is_some (sym c.swap_remove.ensures.value) ∙ sym c.is_some.ensures ∙ c.if-is_some.true) in
+    let there = sym c.swap_remove.ensures.value ∙ c.in-Some.is in
+    let sum = count_out m c.args.t c.requires c.swap_remove.new.self c.swap_remove.ensures.entries is_purgeable c.in-Some.task.row (ap row_of_task there) in
+    let taken = m.purged in
+    let before = ap one c.is_purged.ensures in
+    let now = c.recount-tasks.ensures in
+    let small = m.small in
     record {
       sized = m.sized;
       placed = m.placed;
       apart = apart_other m c.args.t c.requires c.swap_remove.new.self _ c.swap_remove.ensures.updates;
       unique = c.swap_remove.ensures.unique;
-      counted = kept_less m c.args.t c.requires c.swap_remove.new.self c.swap_remove.ensures.entries v.0 v.1;
+      counted = kept_less m c.args.t c.requires c.swap_remove.new.self c.swap_remove.ensures.entries c.in-Some.task there;
+      small = omega (arith, small);
+      purged = omega (arith, sum, taken, before, now);
     }
 
-pub returns-then-is_some-clause-task : goal.returns-then-is_some-clause-task
+pub returns-in-Some-clause-task : goal.returns-in-Some-clause-task
 unfolding task_in
-returns-then-is_some-clause-task g c = task_other c.args.tasks.now c.args.t c.requires c.swap_remove.new.self _ c.swap_remove.ensures.updates
+returns-in-Some-clause-task g c = task_other c.args.tasks.now c.args.t c.requires c.swap_remove.new.self _ c.swap_remove.ensures.updates
 
-pub returns-then-is_some-clause-count : goal.returns-then-is_some-clause-count
+pub returns-in-Some-clause-count : goal.returns-in-Some-clause-count
 unfolding task_in
-returns-then-is_some-clause-count g c = count_less c.args.tasks.now c.args.t c.requires c.swap_remove.new.self c.swap_remove.ensures.entries
+returns-in-Some-clause-count g c = count_less c.args.tasks.now c.args.t c.requires c.swap_remove.new.self c.swap_remove.ensures.entries
 
-pub returns-else-is_some-clause-task : goal.returns-else-is_some-clause-task
+pub returns-in_default-clause-task : goal.returns-in_default-clause-task
 unfolding task_in
-returns-else-is_some-clause-task g c = task_other c.args.tasks.now c.args.t c.requires c.swap_remove.new.self _ c.swap_remove.ensures.updates
+returns-in_default-clause-task g c = task_other c.args.tasks.now c.args.t c.requires c.swap_remove.new.self _ c.swap_remove.ensures.updates
 
-pub returns-else-is_some-clause-count : goal.returns-else-is_some-clause-count
+pub returns-in_default-clause-count : goal.returns-in_default-clause-count
 unfolding task_in
-returns-else-is_some-clause-count g c = count_less c.args.tasks.now c.args.t c.requires c.swap_remove.new.self c.swap_remove.ensures.entries
+returns-in_default-clause-count g c = count_less c.args.tasks.now c.args.t c.requires c.swap_remove.new.self c.swap_remove.ensures.entries

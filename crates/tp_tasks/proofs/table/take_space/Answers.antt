@@ -1,5 +1,5 @@
 use Rattle.std.proofs.Common.{◌≡◌, ◌++◌, cond, length, sym, ap, subst, ◌∙◌}
-use Rattle.tp_tasks.specs.Homes.{IsSize, ArePlaced, AreApart, AreKept}
+use Rattle.tp_tasks.specs.Homes.{IsSize, ArePlaced, AreApart, AreKept, ArePurgeable}
 use Rattle.tp_tasks.proofs.table.take_space.Goals as goal
 
 pub invariant_of-tasks : goal.invariant_of-tasks
@@ -16,4 +16,6 @@ invariant_of-tasks g c =
       apart = subst (λ hs. AreApart hs m.beside) same m.apart;
       unique = m.unique;
       counted = subst (λ hs. AreKept m.count hs m.beside) same m.counted;
+      small = m.small;
+      purged = subst (λ hs. ArePurgeable m.purgeable hs m.beside) same m.purged;
     }
