@@ -5,7 +5,6 @@ use Rattle.tp_types.specs.declared.ids.TaskId.{TaskId}
 use Rattle.tp_record.specs.declared.entries.Entry.{Entry}
 use Rattle.tp_record.specs.declared.rows.SlotRow.{SlotRow}
 use Rattle.tp_record.specs.Fields.{slot_row}
-use Rattle.tp_record.specs.Left.{left}
 use Rattle.tp_record.specs.State.{state, slot_at}
 use Rattle.tp_record.specs.Words.{in_slot}
 use Rattle.tp_model.specs.Seats.{number_of, seat_of}

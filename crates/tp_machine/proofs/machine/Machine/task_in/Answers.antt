@@ -1,4 +1,4 @@
-use Rattle.std.proofs.Common.{◌≡◌, sym, ap, ◌∙◌}
+use Rattle.std.proofs.Common.{sym, ap, ◌∙◌}
 use Rattle.tp_machine.specs.Seen.{task_of_row}
 use Rattle.tp_machine.proofs.Seated.{seated}
 use Rattle.tp_machine.proofs.machine.Machine.task_in.Goals as goal
