@@ -10,11 +10,13 @@ pub record CanEnd (s : State) : Type 0 where
   pub empty : slot_count s ≡ 0
   pub ends : (s.rank ≡ 2) ⊎ ((s.rank ≡ 1) × (length s.queue ≡ 0))
 
--- tasks are queued in a pool that is shut down, and its core size allows a worker for them
+-- tasks are queued in a pool that is shut down, and no slot is there for them
+abbrev pub IsStranded : State → Type 0
+IsStranded s = (slot_count s ≡ 0) × (s.rank ≡ 1) × (0 < length s.queue)
+
+-- so it is, and the core size allows a worker for these tasks
 pub record LacksWorker (s : State) : Type 0 where
-  pub empty : slot_count s ≡ 0
-  pub shut : s.rank ≡ 1
-  pub queued : 0 < length s.queue
+  pub stranded : IsStranded s
   pub core : 0 < s.core
 
 -- this is left

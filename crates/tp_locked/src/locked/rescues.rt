@@ -1,10 +1,11 @@
 //! What a thread that leaves a pool to nobody learns in one hold of the lock, and with what it goes on.
-ghost use Rattle.std.specs.Prelude.{◌≡◌, ◌⊎◌, ◌+◌, ◌≤◌, length, IfOk, IfErr, OnOk, OnErr};
+ghost use Rattle.std.specs.Prelude.{◌≡◌, ◌↔◌, ◌⊎◌, ◌+◌, ◌≤◌, length, IsTrue, IfOk, IfErr, OnOk, OnErr};
 ghost use Rattle.tp_types.specs.RunState.{state_rank};
 ghost use Rattle.tp_record.specs.State.{State};
 ghost use Rattle.tp_record.specs.Step.{slot_count};
 ghost use Rattle.tp_book.specs.BookView.{state_of};
-ghost use Rattle.tp_locked.specs.Left.{IsLeft};
+ghost use Rattle.tp_locked.specs.Left.{IsLeft, IsStranded};
+ghost use Rattle.tp_locked.specs.Moments.{AtSome};
 
 use super::Core;
 use crate::names::PoolNaming;
@@ -32,6 +33,14 @@ fn left_in(state: RunState, slots: usize, queued: u32, core: u32) -> Remains
     }
 }
 
+// Whether the tasks of a pool in this state are stranded, with so many slots and queued tasks.
+#[inline(always)]
+fn strands(state: RunState, slots: usize, queued: u32) -> bool
+    ensures { (s : State) → state_rank state ≡ s.rank → slots ≡ slot_count s → queued ≡ length s.queue → (IsTrue result ↔ IsStranded s) }
+{
+    slots == 0 && queued > 0 && state == RunState::Shutdown
+}
+
 impl<G: PoolNaming, J: Drop, R: Keeper> Core<G, J, R> {
     /// What is left to do in a pool that is shut down and has no slot: its end, or a worker for the tasks that
     /// are queued.
@@ -46,6 +55,17 @@ impl<G: PoolNaming, J: Drop, R: Keeper> Core<G, J, R> {
             book.counts().queued,
             book.core_size(),
         )
+    }
+
+    /// Whether tasks are stranded: they are queued in a pool that is shut down and has no slot, so no worker comes for them
+    /// unless one is made.
+    pub fn is_stranded(&self) -> bool
+        ensures here { IsTrue result ↔ IsStranded (state_of self.now.book) }
+        ensures some { AtSome (R.terms G.config) (λ s. IsTrue result ↔ IsStranded s) }
+    {
+        self.law_is_book();
+        let book = &self.book;
+        strands(book.state(), book.slots(), book.counts().queued)
     }
 
     /// A pass of the pool's own, for a thread that does what is left: a worker's, of no slot, which is to be
