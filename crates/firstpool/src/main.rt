@@ -20,8 +20,9 @@ fn main(rt: HostRuntime) -> anyhow::Result<()> {
     }
     let (answers, report) = run_all(&rt, rt.alloc(), Config::fixed(2), Defaults, jobs)?;
     for (t, answer) in answers.iter().enumerate() {
-        if let Ok(value) = answer {
-            println!(&rt; "t{t} run value {value}")?;
+        match answer {
+            Ok(value) => println!(&rt; "t{t} run value {value}")?,
+            Err(error) => println!(&rt; "t{t} {error}")?,
         }
     }
     let counts = report.counts;

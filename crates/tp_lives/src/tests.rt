@@ -9,4 +9,5 @@ mod memory;
 mod receipts;
 mod settings;
 mod sharing;
+mod stranded;
 mod waits;

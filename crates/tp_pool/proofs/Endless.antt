@@ -1,18 +1,24 @@
 -- The wait for a pool's end, with no deadline.
-use Rattle.std.proofs.Common.{◌≡◌, ◌⊎◌, ◌≤◌, true, [], ◌∷◌, ⊎_elim, inl, inr, arith}
+use Rattle.std.proofs.Common.{◌≡◌, ◌⊎◌, ◌≤◌, true, List, [], ◌∷◌, ⊎_elim, inl, inr, arith}
 use Rattle.std.proofs.lemmas.Bool.{false≢true}
-use Rattle.std.specs.Prelude.{None, Result, Ok, Err, IfOk, IfErr, OnOk}
+use Rattle.std.specs.Prelude.{None, Result, Ok, Err, IfOk, IfErr, OnOk, OnErr}
 use Rattle.tp_types.specs.declared.configs.Config.{Config}
 use Rattle.tp_types.specs.declared.refusals.PoolError.{PoolError}
 use Rattle.tp_types.specs.declared.refusals.PoolError.TheVariants.{TimedOut, TornRecord}
 use Rattle.tp_record.specs.declared.entries.Ask.TheVariants as ask
 use Rattle.tp_record.specs.declared.entries.Did.TheVariants as did
+use Rattle.tp_record.specs.declared.entries.Ask.{Ask}
+use Rattle.tp_record.specs.declared.entries.Did.{Did}
+use Rattle.tp_record.specs.declared.entries.Entry.{Entry}
 use Rattle.tp_record.specs.Fields.{rank}
 use Rattle.tp_record.specs.Step.{Legal}
+use Rattle.tp_glance.specs.Word.{IsFrontOf}
+use Rattle.tp_glance.proofs.Fronts.{IsFrontOf_refl, IsFrontOf_trans, rank_grows}
 use Rattle.tp_book.specs.PassView.{PassView}
 use Rattle.tp_locked.specs.Moments.{AtFront}
 use Rattle.tp_locked.specs.Readings.{has_come}
-use Rattle.tp_locked.specs.Passes.{Adds, AddsStep, IsRefusal, tidied, ended}
+use Rattle.tp_locked.specs.Passes.{Adds, AddsNone, AddsStep, IsRefusal, entry_of, tidied, ended}
+use Rattle.tp_locked.proofs.Receipts.{leads_front, reserved}
 use Rattle.tp_pool.specs.Lives.{IsShut}
 use Rattle.tp_shared.specs.Endings.{IsBarred}
 use Rattle.tp_shared.proofs.Ends.{reached}
@@ -41,4 +47,19 @@ module _ (c : Config) (old new : PassView) where
   -- a shutdown that was asked for has shut the pool down, or is refused
   pub shut_by : (r : Result (Unit {0}) PoolError) → IfOk r (λ _. AddsStep c old ask.Shutdown did.Shutdown new) → IfErr r (λ e. IsRefusal true c new.front ask.Shutdown e) → IsShut c new.front
   shut_by (Ok x) step refused = inl (reached c old new _ [] step)
-  shut_by (Err e) step refused = inr (e, refused)
+  shut_by (Err e) step refused = inr (new.front, IsFrontOf_refl new.front, (e, refused))
+
+-- and so it is at every later history
+pub shut_still : (c : Config) (f h : List Entry) → IsFrontOf f h → IsShut c f → IsShut c h
+shut_still c f h goes_on (inl shut) = inl (omega (arith, rank_grows goes_on, shut))
+shut_still c f h goes_on (inr barred) = inr (barred.0, IsFrontOf_trans barred.1 goes_on, barred.2)
+
+module _ (c : Config) (old new : PassView) where
+  -- room for more changes nothing of it
+  pub shut_reserved : new ≡ record old { room = new.room } → IsShut c old.front → IsShut c new.front
+  shut_reserved same shut = shut_still c old.front new.front (reserved old new same).1 shut
+
+  -- nor does a step, made or refused
+  pub shut_asked : {A : Type 0} (a : Ask) (d : A → Did) (r : Result A PoolError) → IfOk r (λ x. AddsStep c old a (d x) new) → OnErr r (AddsNone old new) → IsShut c old.front → IsShut c new.front
+  shut_asked a d (Ok x) step none shut = shut_still c old.front new.front (leads_front old.front new.front (entry_of old.number a (d x) ∷ []) step.leads) shut
+  shut_asked a d (Err e) step none shut = shut_still c old.front new.front none.1 shut

@@ -9,6 +9,7 @@ use Rattle.tp_types.specs.declared.tasks.Promise.{Promise}
 use Rattle.tp_record.specs.declared.entries.Ask.TheVariants as ask
 use Rattle.tp_record.specs.declared.entries.Entry.{Entry}
 use Rattle.tp_record.specs.Fields.{rank}
+use Rattle.tp_glance.specs.Word.{IsFrontOf}
 use Rattle.tp_book.specs.PassView.{PassView}
 use Rattle.tp_book.specs.declared.reports.Report.{Report}
 use Rattle.tp_locked.specs.Moments.{AtSome, BookAt}
@@ -65,6 +66,6 @@ IsCut e = (e ≡ NoMemory) ⊎ (e ≡ MissingPass) ⊎ (e ≡ TornRecord)
 abbrev pub IsOver : Config → PoolError → Type 0
 IsOver c e = IsUnopened c e ⊎ (IsCut e × AtSome c (λ s. 3 ≤ s.rank))
 
--- at this history the pool is shut down, or a shutdown is refused
+-- at this history the pool is shut down, or at a front of it a shutdown is refused
 abbrev pub IsShut : Config → List Entry → Type 0
-IsShut c h = (1 ≤ rank h) ⊎ IsBarred c h ask.Shutdown
+IsShut c h = (1 ≤ rank h) ⊎ ((f : List Entry) × IsFrontOf f h × IsBarred c f ask.Shutdown)

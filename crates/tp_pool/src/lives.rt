@@ -1,5 +1,5 @@
 //! Jobs on a pool of their own, in one call: the pool is opened, runs them, is shut down, waited for and closed.
-ghost use Rattle.std.specs.Prelude.{◌≡◌, ◌⊎◌, ◌≤◌, true, [], ◌∷◌, IfOk, IfErr, OnOk};
+ghost use Rattle.std.specs.Prelude.{◌≡◌, ◌⊎◌, ◌≤◌, true, [], ◌∷◌, IsTrue, IfOk, IfErr, OnOk};
 ghost use Rattle.tp_record.specs.Fields.{rank};
 ghost use Rattle.tp_record.specs.Step.{Legal};
 ghost use Rattle.tp_book.specs.PassView.{PassView};
@@ -14,6 +14,7 @@ use crate::pool::{Hold, PoolOf};
 use std::alloc::Global;
 use std::marker::Brand;
 use std::sync::Wait;
+use std::thread;
 use tp_book::opening::Unopened;
 use tp_book::passes::Pass;
 use tp_book::sights::Sight;
@@ -32,12 +33,16 @@ use tp_types::tasks::Kind;
 pub type Answer = Result<i64, PoolError>;
 
 /// Runs these jobs on a pool of their own, and answers what became of each, in their order, with the report of the
-/// closed pool. The pool is opened with these settings and objects; each job is submitted with a future, and then each
-/// future is waited for. Whatever comes of that, the pool is shut down, waited for and closed, as Java's
+/// closed pool. The pool is opened with these settings and objects; each job is submitted with a future; then the pool is
+/// shut down, and each future is waited for. Whatever comes of that, the pool is waited for and closed, as Java's
 /// `try (var pool = ..)` does since Java 19: no pool is left with threads that run.
 ///
-/// A job's answer is its value; Faulted (14) with the fault's code; Lost (15) with its fate, where a policy dropped it;
-/// or the refusal of its submission: Rejected (12), BookFull (5) or NoMemory (4).
+/// Where no worker could be made for the jobs that are queued, since the factory refused them, no thread could be made or
+/// the record is full, the pool is stopped, and each of these jobs is Lost (15) with the fate HandedBack. Java's pool throws
+/// `OutOfMemoryError` where it can make no thread.
+///
+/// A job's answer is its value; Faulted (14) with the fault's code; Lost (15) with its fate, where a policy dropped it or
+/// no worker came for it; or the refusal of its submission: Rejected (12), BookFull (5) or NoMemory (4).
 ///
 /// BadSizes (1), BadCapacity (2), BadLimit (3) or KeepZero (11) where no pool has these settings, and NoMemory (4)
 /// where there is none for a pool: then the jobs are dropped. Else NoMemory (4) where there is none for the answers,
@@ -111,7 +116,7 @@ fn ending_pass<G: PoolNaming, J: Job, E: Edge, R: Wait>(
     pool: &PoolOf<G, J, E>,
     pass: &mut Pass<G>,
 ) -> Result<Pass<G>, PoolError>
-    ensures room { IfOk result (λ p. 3 ≤ p.room) }
+    ensures room { IfOk result (λ p. 4 ≤ p.room) }
     ensures refused { IfErr result (λ e. (e ≡ PoolError.NoMemory) ⊎ (e ≡ PoolError.BookFull)) }
     ensures same { pass.new ≡ pass.old }
 {
@@ -119,7 +124,7 @@ fn ending_pass<G: PoolNaming, J: Job, E: Edge, R: Wait>(
         Ok(last) => last,
         Err(error) => return Err(error),
     };
-    match last.reserve(3) {
+    match last.reserve(4) {
         Ok(()) => Ok(last),
         Err(error) => Err(error),
     }
@@ -135,14 +140,15 @@ fn lived<G: PoolName, J: Job + 'static, E: Edge + Send + Sync + 'static, R: Runt
     last: Pass<G>,
     seen: &mut Sight<G>,
 ) -> Result<(Vec<Answer>, Report), PoolError>
-    requires room { 3 ≤ last.room }
+    requires room { 4 ≤ last.room }
     ensures run { IfOk result (λ r. (new other : PassView) × AreAnswered G.config J.promised J.urgency jobs.items r.0.items pass new × Reports G.config (new ∷ other ∷ []) r.1) }
     ensures cut { IfErr result IsCut }
     ensures seen { 3 ≤ rank seen.new }
     ensures legal { Legal G.config seen.new }
 {
     let mut pass = pass;
-    let answers = answers_of(rt, alloc, &pool, jobs, &mut pass);
+    let mut last = last;
+    let answers = answers_of(rt, alloc, &pool, jobs, &mut pass, &mut last);
     let report = end(rt, alloc, pool, pass, last, seen);
     match (answers, report) {
         (Ok(answers), Ok(report)) => Ok((answers, report)),
@@ -151,22 +157,28 @@ fn lived<G: PoolName, J: Job + 'static, E: Edge + Send + Sync + 'static, R: Runt
     }
 }
 
-// Submits these jobs, and waits for what becomes of each. NoMemory (4) for the answers.
+// Submits these jobs, shuts the pool down with its last pass, and waits for what becomes of each job. NoMemory (4) for the
+// answers.
 fn answers_of<G: PoolName, J: Job + 'static, E: Edge + Send + Sync + 'static, R: Runtime>(
     rt: &R,
     alloc: Global,
     pool: &PoolOf<G, J, E>,
     jobs: Vec<J>,
     pass: &mut Pass<G>,
+    last: &mut Pass<G>,
 ) -> Result<Vec<Answer>, PoolError>
+    requires room { 4 ≤ last.old.room }
     ensures answered { IfOk result (λ answers. AreAnswered G.config J.promised J.urgency jobs.items answers.items pass.old pass.new) }
     ensures refused { IfErr result (λ e. e ≡ PoolError.NoMemory) }
+    ensures left { 2 ≤ last.new.room }
+    ensures shut { IsShut G.config last.new.front }
 {
-    let tasks = match submit_each(rt, alloc, pool, jobs, pass) {
-        Ok(tasks) => tasks,
-        Err(error) => return Err(error),
-    };
-    tell_each(rt, alloc, pool, tasks.as_slice(), pass)
+    let tasks = submit_each(rt, alloc, pool, jobs, pass);
+    pool.shut(rt, last);
+    match tasks {
+        Ok(tasks) => tell_each(rt, alloc, pool, tasks.as_slice(), pass),
+        Err(error) => Err(error),
+    }
 }
 
 // Submits these jobs in their order: the task of each, or why it was refused.
@@ -235,7 +247,7 @@ fn told<G: PoolName, J: Job, E: Edge, R: Runtime>(
     }
 }
 
-// Shuts the pool down, waits for its end and closes it. Whatever comes of that, its threads are gone then.
+// Waits for the end of a pool that is shut down, and closes it. Whatever comes of that, its threads are gone then.
 fn end<G: PoolName, J: Job + 'static, E: Edge + Send + Sync + 'static, R: Runtime>(
     rt: &R,
     alloc: Global,
@@ -244,14 +256,15 @@ fn end<G: PoolName, J: Job + 'static, E: Edge + Send + Sync + 'static, R: Runtim
     last: Pass<G>,
     seen: &mut Sight<G>,
 ) -> Result<Report, PoolError>
-    requires room { 3 ≤ last.room }
+    requires room { 2 ≤ last.room }
+    requires shut { IsShut G.config last.front }
     ensures report { IfOk result (λ r. (other : PassView) × Reports G.config (pass ∷ other ∷ []) r) }
     ensures cut { IfErr result IsCut }
     ensures seen { 3 ≤ rank seen.new }
     ensures legal { Legal G.config seen.new }
 {
     let mut last = last;
-    let ended = pool.finish(rt, &mut last);
+    let ended = pool.await_shut(rt, &mut last);
     *seen = pool.sight(&mut last);
     if let Err(error) = ended {
         pool.leave(rt);
@@ -294,22 +307,20 @@ impl<
     J: Job + 'static,
     E: Edge + Send + Sync + 'static,
 > PoolOf<G, J, E> {
-    // Shuts the pool down, where nobody did, and waits for its end, with a pass that has room for all its receipts.
-    fn finish<R: Runtime>(&self, rt: &R, pass: &mut Pass<G>) -> Result<(), PoolError>
-        requires room { 3 ≤ pass.old.room }
-        ensures seen { 3 ≤ rank pass.new.front }
-        ensures legal { Legal G.config pass.new.front }
-        ensures ended { OnOk result (rank pass.new.front ≡ 4) }
-        ensures torn { IfErr result (λ e. e ≡ PoolError.TornRecord) }
+    // Shuts the pool down, where it runs still, and stops it where no worker could be made for its tasks.
+    fn shut<R: Runtime>(&self, rt: &R, pass: &mut Pass<G>)
+        requires room { 4 ≤ pass.old.room }
+        ensures room { 2 ≤ pass.new.room }
+        ensures shut { IsShut G.config pass.new.front }
     {
-        self.shut(rt, pass);
-        self.await_shut(rt, pass)
+        self.shut_down(rt, pass);
+        self.stop_stranded(rt, pass);
     }
 
     // Shuts the pool down, where it runs still, and has a worker made where one is wanted for that.
-    fn shut<R: Runtime>(&self, rt: &R, pass: &mut Pass<G>)
-        requires room { 3 ≤ pass.old.room }
-        ensures room { 2 ≤ pass.new.room }
+    fn shut_down<R: Runtime>(&self, rt: &R, pass: &mut Pass<G>)
+        requires room { 4 ≤ pass.old.room }
+        ensures room { 3 ≤ pass.new.room }
         ensures shut { IsShut G.config pass.new.front }
     {
         if self.glance(pass) != RunState::Running {
@@ -319,6 +330,37 @@ impl<
         if remains != Remains::End {
             self.rescue(*rt, remains);
         }
+    }
+
+    // Stops a pool that is shut down, where tasks are stranded. Where there is no memory for the answer of the stop, it tries
+    // again: other threads may give some back.
+    fn stop_stranded<R: Runtime>(&self, rt: &R, pass: &mut Pass<G>)
+        requires shut { IsShut G.config pass.old.front }
+        ensures room { 2 ≤ pass.new.room }
+        ensures shut { IsShut G.config pass.new.front }
+    {
+        for _ in rt.forever() {
+            if self.none_stranded(rt, pass) {
+                return;
+            }
+            thread::yield_now();
+        }
+        unreachable!()
+    }
+
+    // Whether no task is stranded, once the pool is stopped where one was. False for want of memory.
+    fn none_stranded<R: Runtime>(&self, rt: &R, pass: &mut Pass<G>) -> bool
+        requires shut { IsShut G.config pass.old.front }
+        ensures room { IsTrue result → 2 ≤ pass.new.room }
+        ensures shut { IsShut G.config pass.new.front }
+    {
+        if pass.reserve(3).is_err() {
+            return false;
+        }
+        if !self.is_stranded(rt) {
+            return true;
+        }
+        self.shared().stop(rt, pass).is_ok()
     }
 
     // Waits for the end of a pool that is shut down.

@@ -9,6 +9,7 @@ ghost use Rattle.tp_machine.specs.Seen.{task_of_row};
 ghost use Rattle.tp_locked.specs.Readings.{known, IsPromiseOf, IsResult};
 ghost use Rattle.tp_glance.specs.Word.{IsFrontOf};
 ghost use Rattle.tp_book.specs.BookView.{OrReleased, state_of};
+ghost use Rattle.tp_locked.specs.Left.{IsStranded};
 ghost use Rattle.tp_locked.specs.Moments.{AtFront, AtSome, BookAt, BookAtSome};
 ghost use Rattle.tp_locked.specs.Passes.{LooksOnly};
 ghost use Rattle.tp_locked.specs.declared.tasks.Task.{Task};
@@ -103,6 +104,15 @@ impl<G: PoolNaming, J: Job, E: Edge, K: Keeper> PoolOf<G, J, E, K> {
         ensures { AtSome (K.terms G.config) (λ s. result ≡ counts_of s) }
     {
         self.shared().hold(rt).counts()
+    }
+
+    /// Whether tasks are stranded: they are queued in a pool that is shut down and has no slot, live or reserved. Then no
+    /// worker comes for them unless a call has one made, and the pool stays open until `remove` or `shutdown_now` takes them
+    /// out. Java has no such call.
+    pub fn is_stranded<R: Wait>(&self, rt: &R) -> bool
+        ensures { AtSome (K.terms G.config) (λ s. IsTrue result ↔ IsStranded s) }
+    {
+        self.shared().hold(rt).is_stranded()
     }
 
     /// The moment, in ticks.
