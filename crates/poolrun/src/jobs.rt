@@ -38,7 +38,7 @@ fn write_file<H: Files, E: Write>(
 }
 
 /// Runs a file of jobs by threads. The record's text goes to `out`, and to the file at the path, if there is one: there also where
-/// a submission is refused. What is left of such a run is kept.
+/// a submission is refused or no thread could be made. What is left of such a run is kept.
 fn run_jobs<H: Files + Threads + Wait + Copy + Send + 'static, W: Write, E: Write>(
     rt: H,
     alloc: Global,
@@ -88,6 +88,13 @@ pub fn run_threads<
     let outcome = run_jobs(rt, alloc, record, text, out, errors, &mut kept);
     let status = finish(out, &outcome);
     match (outcome, kept) {
+        (Err(PoolError::NoMemory), Some(left)) if left.stranded > 0 => {
+            let jobs = left.stranded;
+            let _ = writeln!(
+                errors,
+                "poolrun: {name}: no thread could be made for {jobs} of its jobs"
+            );
+        }
         (Err(refusal), Some(left)) => {
             let job = left.submitted.saturating_add(1);
             let finding = in_job_refused(text, job, refusal);

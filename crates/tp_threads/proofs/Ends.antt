@@ -1,6 +1,6 @@
 -- The end of a pool, and what its record says of the caller that made it run.
-use Rattle.std.proofs.Common.{◌≡◌, ◌⊎◌, ℕ, true, List, [], ◌∷◌, ◌++◌, reverse, refl, sym, ap, subst, ◌∙◌, inl, inr, ⊎_elim}
-use Rattle.std.specs.Prelude.{All, Some, if◌then◌else◌}
+use Rattle.std.proofs.Common.{◌≡◌, ◌⊎◌, ℕ, Bool, true, List, [], ◌∷◌, ◌++◌, reverse, refl, sym, ap, subst, ◌∙◌, inl, inr, ⊎_elim}
+use Rattle.std.specs.Prelude.{◌↔◌, IsTrue, All, Some, if◌then◌else◌}
 use Rattle.std.proofs.lemmas.List.{append-nil, reverse-reverse}
 use Rattle.std.proofs.lemmas.List.Elements.{All-nil, All-cons, All-append, All-pop}
 use Rattle.tp_types.specs.Config.{IsConfig}
@@ -15,6 +15,8 @@ use Rattle.tp_record.specs.Step.{Legal}
 use Rattle.tp_book.specs.PassView.{PassView, receipts_with}
 use Rattle.tp_book.specs.Reports.{IsOwn, TellsRecord}
 use Rattle.tp_book.specs.declared.reports.Report.{Report}
+use Rattle.tp_locked.specs.Left.{IsStranded}
+use Rattle.tp_locked.specs.Moments.{AtSome}
 use Rattle.tp_locked.specs.Passes.{Adds, entry_of, tidied, ended}
 use Rattle.tp_shared.specs.Closing.{Reports}
 use Rattle.tp_shared.specs.Endings.{AddsAndEnds, IsBarred, IsEnding}
@@ -35,7 +37,7 @@ are_endings c by steps history is =
     is
 
 -- a shutdown, and the wait for the end
-pub adds_end : (c : Config) (old mid new : PassView) → AddsAndEnds c old ask.Shutdown did.Shutdown mid
+adds_end : (c : Config) (old mid new : PassView) → AddsAndEnds c old ask.Shutdown did.Shutdown mid
     → Adds c mid [] new ⊎ Adds c mid (tidied mid.number ∷ ended mid.number ∷ []) new → rank new.front ≡ 4 → AddsEnd c old new
 adds_end c old mid new first waited seen =
     let P : Entry → Type 0 = λ e. (e ≡ tidied old.number) ⊎ (e ≡ ended old.number) in
@@ -51,6 +53,16 @@ adds_end c old mid new first waited seen =
       seen,
     ))
     waited
+
+-- the same, where the pass was not touched between the two
+pub adds_own_end : (c : Config) (old mid left new : PassView) → AddsAndEnds c old ask.Shutdown did.Shutdown mid → left ≡ mid
+    → Adds c left [] new ⊎ Adds c left (tidied left.number ∷ ended left.number ∷ []) new → rank new.front ≡ 4 → AddsEnd c old new
+adds_own_end c old mid left new first same waited seen =
+    adds_end c old mid new first (subst (λ p. Adds c p [] new ⊎ Adds c p (tidied p.number ∷ ended p.number ∷ []) new) same waited) seen
+
+-- where a reading says that tasks are stranded, they are so somewhere
+pub stranded_there : (c : Config) (reading : Bool) → IsTrue reading → AtSome c (λ s. IsTrue reading ↔ IsStranded s) → AtSome c IsStranded
+stranded_there c reading says is = record { history = is.history; is = record { legal = is.is.legal; holds = is.is.holds.0 says } }
 
 -- the list of one caller's pass
 pub one_pass : (passes pushed : List PassView) (now : PassView) → passes ≡ [] → pushed ≡ passes ++ now ∷ [] → pushed ≡ now ∷ []

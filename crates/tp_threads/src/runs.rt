@@ -1,6 +1,8 @@
 //! A pool's whole life: it runs the jobs of a file, with its record or without one.
-ghost use Rattle.std.specs.Prelude.{◌≡◌, [], ◌∷◌, IfOk, IfErr, OnOk};
+ghost use Rattle.std.specs.Prelude.{◌≡◌, [], ◌∷◌, IsTrue, IfOk, IfErr};
 ghost use Rattle.tp_book.specs.PassView.{PassView};
+ghost use Rattle.tp_locked.specs.Left.{IsStranded};
+ghost use Rattle.tp_locked.specs.Moments.{AtSome};
 ghost use Rattle.tp_shared.specs.Closing.{Closes};
 ghost use Rattle.tp_threads.specs.Runs.{AddsEnd, IsLife, IsRun, IsShort, IsTally, RefusesRun, asked};
 
@@ -19,6 +21,7 @@ use tp_record::recorders::{Full, Tally};
 use tp_scenario::jobs::{JobLine, Jobs};
 use tp_types::configs::Config;
 use tp_types::refusals::PoolError;
+use tp_types::states::RunState;
 
 // What is told of a refusal at a pool's end: those that do not come there say that its record is torn.
 fn at_the_end(error: PoolError) -> PoolError
@@ -30,50 +33,95 @@ fn at_the_end(error: PoolError) -> PoolError
     }
 }
 
-// Shuts the pool down and waits for its end.
+// Whether the pool that is shut down comes to its end by itself. Where tasks are stranded in it, since no thread could be
+// made for them, the pool is stopped, and they come back unrun. The wait looks after each step, since a worker's thread may
+// fail to make the one in its place.
+fn ends_by_itself<
+    G: PoolNaming + Send + Sync + 'static,
+    K: Keeper + Send + 'static,
+    R: Threads + Wait + Copy + Send + 'static,
+>(rt: &R, pool: &Company<G, K>, pass: &mut Pass<G>) -> Result<bool, PoolError>
+    ensures untouched { IfOk result (λ by_itself. IsTrue by_itself → pass.new ≡ pass.old) }
+    ensures stranded { IfOk result (λ by_itself. ¬ IsTrue by_itself → AtSome (K.terms G.config) IsStranded) }
+    ensures refused { IfErr result IsShort }
+{
+    for _ in rt.forever() {
+        let seen = pool.steps(rt);
+        if pool.is_stranded(rt) {
+            return match pool.shutdown_now(rt, pass) {
+                Ok(_) => Ok(false),
+                Err(error) => Err(at_the_end(error)),
+            };
+        }
+        if pool.state(rt) == RunState::Terminated {
+            return Ok(true);
+        }
+        pool.wait_step(rt, seen);
+    }
+    unreachable!()
+}
+
+// Shuts the pool down and waits for its end, and tells whether that came by itself.
 fn end<
     G: PoolNaming + Send + Sync + 'static,
     K: Keeper + Send + 'static,
     R: Threads + Wait + Copy + Send + 'static,
->(rt: &R, pool: &Company<G, K>, pass: &mut Pass<G>) -> Result<(), PoolError>
-    ensures ends { OnOk result (AddsEnd (K.terms G.config) pass.old pass.new) }
+>(rt: &R, pool: &Company<G, K>, pass: &mut Pass<G>) -> Result<bool, PoolError>
+    ensures ends { IfOk result (λ by_itself. IsTrue by_itself → AddsEnd (K.terms G.config) pass.old pass.new) }
+    ensures stranded { IfOk result (λ by_itself. ¬ IsTrue by_itself → AtSome (K.terms G.config) IsStranded) }
     ensures refused { IfErr result IsShort }
 {
     if let Err(error) = pool.shutdown(rt, pass) {
         return Err(at_the_end(error));
     }
+    let by_itself = match ends_by_itself(rt, pool, pass) {
+        Ok(by_itself) => by_itself,
+        Err(error) => return Err(error),
+    };
     match pool.await_termination(rt, u64::MAX, pass) {
-        Ok(()) => Ok(()),
+        Ok(()) => Ok(by_itself),
         Err(error) => Err(at_the_end(error)),
     }
 }
 
-// Ends the pool and closes it with this pass, for which the list has room.
+// Ends the pool and closes it with this pass, for which the list has room. NoMemory (4) where tasks were stranded: what is
+// told of the pool is kept then.
 fn closed<
     G: PoolNaming + Send + Sync + 'static,
     K: Reporter + Send + 'static,
     R: Threads + Wait + Copy + Send + 'static,
->(rt: &R, pool: Company<G, K>, pass: Pass<G>, passes: Vec<Pass<G>>) -> Result<K::Report, PoolError>
+>(
+    rt: &R,
+    pool: Company<G, K>,
+    pass: Pass<G>,
+    passes: Vec<Pass<G>>,
+    kept: &mut Option<K::Report>,
+) -> Result<K::Report, PoolError>
     requires alone { passes.items ≡ [] }
     ensures report { IfOk result (λ r. (new : PassView) × AddsEnd (K.terms G.config) pass new × Closes K.told K.RECEIPTS G.config (K.terms G.config) (new ∷ []) r) }
     ensures refused { IfErr result IsShort }
 {
     let mut pass = pass;
     let mut passes = passes;
-    if let Err(error) = end(rt, &pool, &mut pass) {
-        return Err(error);
-    }
+    let by_itself = match end(rt, &pool, &mut pass) {
+        Ok(by_itself) => by_itself,
+        Err(error) => return Err(error),
+    };
     if passes.push(pass).is_err() {
         return Err(PoolError::NoMemory);
     }
     match pool.close(rt, passes) {
-        Ok(report) => Ok(report),
+        Ok(report) if by_itself => Ok(report),
+        Ok(report) => {
+            *kept = Some(report);
+            Err(PoolError::NoMemory)
+        }
         Err(fault) => Err(at_the_end(fault.error)),
     }
 }
 
-// A pool's life under a name of its own: it runs the jobs, ends and is closed. Where a submission is refused,
-// it is ended and closed all the same, and what is told of it is kept.
+// A pool's life under a name of its own: it runs the jobs, ends and is closed. Where a submission is refused, or no thread
+// could be made, it is ended and closed all the same, and what is told of it is kept.
 fn life<
     G: PoolNaming + Send + Sync + 'static,
     K: Reporter + Send + 'static,
@@ -100,13 +148,14 @@ fn life<
         Err(error) => return Err(error),
     };
     let submitted = submit_all(rt, &pool, jobs, &mut pass);
-    let report = closed(&rt, pool, pass, passes);
-    match submitted {
-        Ok(()) => report,
-        Err(error) => {
-            *kept = report.ok();
+    let report = closed(&rt, pool, pass, passes, kept);
+    match (submitted, report) {
+        (Ok(()), report) => report,
+        (Err(error), Ok(report)) => {
+            *kept = Some(report);
             Err(error)
         }
+        (Err(error), Err(_)) => Err(error),
     }
 }
 
@@ -133,8 +182,9 @@ fn lived<K: Reporter + Send + 'static, R: Threads + Wait + Copy + Send + 'static
 /// next is submitted.
 ///
 /// NoMemory (4), BookFull (5) and TornRecord (22) at a submission end the run: no further job is submitted, the
-/// pool is shut down and closed, its report is kept, and the refusal is the answer. BadSizes (1), BadCapacity (2), BadLimit (3) and
-/// KeepZero (11) where no pool has these settings.
+/// pool is shut down and closed, its report is kept, and the refusal is the answer. So it is with NoMemory (4) where no thread
+/// could be made for jobs that are queued: the pool is stopped, and these jobs have the fate HandedBack. BadSizes (1),
+/// BadCapacity (2), BadLimit (3) and KeepZero (11) where no pool has these settings.
 pub fn run_jobs<R: Threads + Wait + Copy + Send + 'static>(
     rt: R,
     alloc: Global,
@@ -150,8 +200,8 @@ pub fn run_jobs<R: Threads + Wait + Copy + Send + 'static>(
 /// Runs the jobs by threads, as `run_jobs`, on a pool that keeps no record, and answers its report.
 ///
 /// NoMemory (4), BookFull (5) and TornRecord (22) at a submission end the run: no further job is submitted, the
-/// pool is shut down and closed, and the refusal is the answer. BadSizes (1), BadCapacity (2), BadLimit (3) and
-/// KeepZero (11) where no pool has these settings.
+/// pool is shut down and closed, and the refusal is the answer. So it is with NoMemory (4) where no thread could be made for
+/// jobs that are queued. BadSizes (1), BadCapacity (2), BadLimit (3) and KeepZero (11) where no pool has these settings.
 pub fn tally_jobs<R: Threads + Wait + Copy + Send + 'static>(
     rt: R,
     alloc: Global,

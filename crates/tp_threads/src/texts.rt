@@ -17,11 +17,13 @@ use tp_text::writing::write_text;
 use tp_types::configs::Config;
 use tp_types::refusals::PoolError;
 
-/// What a run leaves that ended with the refusal of a submission.
+/// What a run leaves that ended with the refusal of a submission, or for want of a thread.
 #[derive(Debug, PartialEq, Eq, Drop)]
 pub struct Unfinished {
     /// How many jobs were submitted before.
     pub submitted: usize,
+    /// For how many jobs that were queued no thread could be made: they came back unrun.
+    pub stranded: u32,
     /// The text of the closed pool's record.
     pub text: Vec<u8>,
 }
@@ -40,14 +42,18 @@ fn left_of(alloc: Global, config: &Config, report: Option<Report>) -> Option<Unf
     let entries = report.entries.as_slice();
     let submitted = entries.iter().filter(|entry| is_submission(entry)).count();
     let text = record_text(alloc, config, entries).ok()?;
-    Some(Unfinished { submitted, text })
+    Some(Unfinished {
+        submitted,
+        stranded: report.counts.handedback,
+        text,
+    })
 }
 
 /// Reads a file of jobs whole, as `read_jobs`, before a thread starts; runs its jobs by threads, as `run_jobs`;
 /// and writes the text of the pool's record, and nothing in place of one. Refused as these are, with nothing
 /// written, or by NoMemory (4) where there is no memory for the text. ReadFailed (25) and WriteFailed (26) come just
 /// where the reader or the writer fails now, which keep why, or the reader gives too much; 26 may come after some
-/// of the text was written. Where a submission is refused, what the run leaves is kept.
+/// of the text was written. Where a submission is refused, or no thread could be made, what the run leaves is kept.
 pub fn run_text<R: Threads + Wait + Copy + Send + 'static, I: Read, W: Write>(
     rt: R,
     alloc: Global,

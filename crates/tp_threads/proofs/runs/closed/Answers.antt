@@ -4,8 +4,8 @@ use Rattle.tp_shared.specs.Closing.{Closes}
 use Rattle.tp_threads.proofs.Ends.{one_pass}
 use Rattle.tp_threads.proofs.runs.closed.Goals as goal
 
-pub returns-in-Ok-clause-report : goal.returns-in-Ok-clause-report
-returns-in-Ok-clause-report g c =
+pub returns-in-Ok-close-clause-report : goal.returns-in-Ok-close-clause-report
+returns-in-Ok-close-clause-report g c =
     let ok : is_ok c.push.result ≡ true = c.is_err.ensures.negation ∙ ap not c.if-is_err.false in
     let passes = one_pass c.args.passes.items c.push.new.self.items c.end.new.pass c.requires.alone (rw ok at c.push.ensures.items) in
-    (c.end.new.pass, c.in_default.ensures.ends, subst (λ ps. Closes g.K.Reporter.told g.K.Recorder.RECEIPTS g.G.PoolNaming.config (g.K.Recorder.terms g.G.PoolNaming.config) ps c.in-Ok.report) passes c.in-Ok.ensures.report)
+    (c.end.new.pass, c.in-Ok.ensures.ends c.if-by_itself.true, subst (λ ps. Closes g.K.Reporter.told g.K.Recorder.RECEIPTS g.G.PoolNaming.config (g.K.Recorder.terms g.G.PoolNaming.config) ps c.in-Ok-close.report) passes c.in-Ok-close.ensures.report)
