@@ -8,7 +8,7 @@ says is resident (VmRSS) is read, and at the end by how much it grew since the f
 import subprocess
 import sys
 
-FARES = ["plain", "futures", "cancels", "faults", "groups"]
+FARES = ["plain", "futures", "cancels", "faults", "groups", "any"]
 
 
 def resident(pid):

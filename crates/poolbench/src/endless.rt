@@ -20,6 +20,7 @@ use tp_pool::names::PoolNaming;
 use tp_pool::pool::PoolOf;
 use tp_pool::task_of;
 use tp_record::recorders::Tally;
+use tp_service::invoking::invoke_any;
 use tp_types::configs::{Config, Policy, QueueKind};
 use tp_types::ids::TaskId;
 use tp_types::limits::MIN_RECORD_LIMIT;
@@ -39,6 +40,8 @@ pub enum Fare {
     Faults,
     /// Tasks of a group, each taken and released.
     Groups,
+    /// Futures in fours, of which one value is asked. The pool forgets them by itself.
+    Any,
 }
 
 // More tasks wait for their submitter, or for a worker, than these at no time.
@@ -154,8 +157,12 @@ fn serve<
     held.reserve(MOST as usize)?;
     let mut next = FIRST;
     for number in 0..tasks {
-        let t = submit(rt, pool, pass, fare, number)?;
-        keep(&rt, pool, pass, fare, &mut held, t)?;
+        if matches!(fare, Fare::Any) {
+            ask_any(rt, alloc, pool, pass, number)?;
+        } else {
+            let t = submit(rt, pool, pass, fare, number)?;
+            keep(&rt, pool, pass, fare, &mut held, t)?;
+        }
         if number % 64 == 0 {
             await_workers(&rt, pool);
         }
@@ -177,10 +184,29 @@ fn fared(fare: Fare, number: u32) -> (Kind, Crumb) {
     let faults = matches!(fare, Fare::Faults) && number % 100 == 0;
     let kind = match fare {
         Fare::Plain | Fare::Faults => Kind::Plain,
-        Fare::Futures | Fare::Cancels => Kind::Future,
+        Fare::Futures | Fare::Cancels | Fare::Any => Kind::Future,
         Fare::Groups => Kind::Group(number / 1_000),
     };
     (kind, Crumb { faults })
+}
+
+// Asks one value of four tasks, where the last of them is reached.
+fn ask_any<G: PoolNaming + Send + Sync + 'static, R: Threads + Wait + Copy + Send + 'static>(
+    rt: R,
+    alloc: Global,
+    pool: &Endless<G>,
+    pass: &mut Pass<G>,
+    number: u32,
+) -> Result<(), Unmeasured> {
+    if number % 4 < 3 {
+        return Ok(());
+    }
+    let mut jobs = Vec::new(alloc);
+    for _ in 0..4 {
+        jobs.push(Crumb { faults: false })?;
+    }
+    invoke_any(pool, &rt, alloc, jobs, pass)?;
+    Ok(())
 }
 
 // Submits one task, and cancels it where that is its turn.

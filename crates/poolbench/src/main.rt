@@ -59,6 +59,7 @@ fn fare(word: &str) -> Option<Fare> {
         "cancels" => Some(Fare::Cancels),
         "faults" => Some(Fare::Faults),
         "groups" => Some(Fare::Groups),
+        "any" => Some(Fare::Any),
         _ => None,
     }
 }

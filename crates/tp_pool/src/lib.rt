@@ -8,6 +8,7 @@
 //! pool's threads share lies below, in `tp_shared`.
 #![tactic(auto)]
 
+pub mod abandoned;
 pub mod bodies;
 pub mod boxes;
 pub mod callers;

@@ -8,6 +8,7 @@ ghost use Rattle.tp_service.specs.Futures.{later_fault as later_fault_of, Closes
 ghost use Rattle.tp_service.specs.Submitted.{AddsCancel, AddsCancels, AddsSubmissions, AreTurnedBack, HasNoValue, IsAll, IsAllUntil, IsAnyValue, IsOneLate};
 
 use crate::futures::submit;
+use crate::leaving::Leaving;
 use std::alloc::Global;
 use std::sync::Wait;
 use std::thread::Threads;
@@ -20,9 +21,13 @@ use tp_pool::pool::PoolOf;
 use tp_types::ids::TaskId;
 use tp_types::refusals::PoolError;
 
+// A pool without a record looks at so many abandoned tasks for each task of a call. So it forgets more than are abandoned.
+const LOOKS: usize = 2;
+
 // Has a task cancelled with its flag, where its future is open. Between the look and the cancel the task may
-// end: the cancel then has no effect. A cancel that is refused is left undone.
-fn cancel_open<G: PoolNaming, J: Job, E: Edge, K: Keeper, R: Wait>(
+// end: the cancel then has no effect. A cancel that is refused is left undone. Before it looks, it has the pool forget
+// abandoned tasks.
+fn cancel_open<G: PoolNaming, J: Job, E: Edge, K: Leaving<G, J, E, R>, R: Wait>(
     pool: &PoolOf<G, J, E, K>,
     rt: &R,
     t: TaskId,
@@ -30,6 +35,7 @@ fn cancel_open<G: PoolNaming, J: Job, E: Edge, K: Keeper, R: Wait>(
 )
     ensures { AddsCancel (Task J) K.RECEIPTS (K.terms G.config) t pass.old pass.new }
 {
+    K::forget(pool, rt, LOOKS, pass);
     if pool.result_with(rt, t, pass) != Ok(None) {
         return;
     }
@@ -37,7 +43,7 @@ fn cancel_open<G: PoolNaming, J: Job, E: Edge, K: Keeper, R: Wait>(
 }
 
 // Has each of these tasks cancelled likewise.
-fn cancel_all<G: PoolNaming, J: Job, E: Edge, K: Keeper, R: Wait>(
+fn cancel_all<G: PoolNaming, J: Job, E: Edge, K: Leaving<G, J, E, R>, R: Wait>(
     pool: &PoolOf<G, J, E, K>,
     rt: &R,
     tasks: &[TaskId],
@@ -176,7 +182,7 @@ fn submit_all<
     G: PoolNaming + Send + Sync + 'static,
     J: Job + 'static,
     E: Edge + Send + Sync + 'static,
-    K: Keeper + Send + 'static,
+    K: Leaving<G, J, E, R> + Send + 'static,
     R: Threads + Wait + Copy + Send + 'static,
 >(
     pool: &PoolOf<G, J, E, K>,
@@ -198,6 +204,7 @@ fn submit_all<
             Err(refused) => {
                 let earlier = tasks.as_slice();
                 cancel_all(pool, rt, earlier, pass);
+                K::abandon(pool, rt, earlier);
                 return Err(refused.error);
             }
         }
@@ -210,12 +217,13 @@ fn submit_all<
 ///
 /// NoMemory (4) for the answer, before the first job is submitted. Else the first submission that is refused
 /// ends the call, with NoMemory (4), BookFull (5), Rejected (12) or TornRecord (22): the earlier jobs are
-/// cancelled with their flags where they are open, and it and the later ones are dropped.
+/// cancelled with their flags where they are open, and it and the later ones are dropped. A pool that keeps no record forgets
+/// the earlier jobs' tasks, as `invoke_any` says; the one that was rejected is for the caller to release.
 pub fn invoke_all<
     G: PoolNaming + Send + Sync + 'static,
     J: Job + 'static,
     E: Edge + Send + Sync + 'static,
-    K: Keeper + Send + 'static,
+    K: Leaving<G, J, E, R> + Send + 'static,
     R: Threads + Wait + Copy + Send + 'static,
 >(
     pool: &PoolOf<G, J, E, K>,
@@ -240,7 +248,7 @@ pub fn invoke_all_until<
     G: PoolNaming + Send + Sync + 'static,
     J: Job + 'static,
     E: Edge + Send + Sync + 'static,
-    K: Keeper + Send + 'static,
+    K: Leaving<G, J, E, R> + Send + 'static,
     R: Threads + Wait + Copy + Send + 'static,
 >(
     pool: &PoolOf<G, J, E, K>,
@@ -263,7 +271,8 @@ pub fn invoke_all_until<
 }
 
 /// Submits these jobs in their order, waits for one that succeeds, and answers its value, as
-/// `ExecutorService.invokeAny`. The other tasks are cancelled with their flags where they are open.
+/// `ExecutorService.invokeAny`. The other tasks are cancelled with their flags where they are open. A pool that keeps no record
+/// forgets all these tasks: each once it is gone, at this call or a later one of many jobs.
 ///
 /// NoTasks (17) of no jobs; AllFailed (18) where none succeeded, with the last fault in the order given, if
 /// there was one; else a refused submission, as in `invoke_all`: NoMemory (4), BookFull (5), Rejected (12) or
@@ -272,7 +281,7 @@ pub fn invoke_any<
     G: PoolNaming + Send + Sync + 'static,
     J: Job + 'static,
     E: Edge + Send + Sync + 'static,
-    K: Keeper + Send + 'static,
+    K: Leaving<G, J, E, R> + Send + 'static,
     R: Threads + Wait + Copy + Send + 'static,
 >(
     pool: &PoolOf<G, J, E, K>,
@@ -291,7 +300,9 @@ pub fn invoke_any<
         Ok(tasks) => tasks,
         Err(error) => return Err(error),
     };
+    K::forget(pool, rt, LOOKS.saturating_mul(tasks.len()), pass);
     let answer = await_any(pool, rt, tasks.as_slice(), pass);
+    K::abandon(pool, rt, tasks.as_slice());
     if answer.is_err() {
         return answer;
     }

@@ -5,3 +5,4 @@
 pub mod completions;
 pub mod futures;
 pub mod invoking;
+pub mod leaving;

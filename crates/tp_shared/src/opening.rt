@@ -6,7 +6,8 @@ use crate::edges::Edge;
 use crate::policies::PolicyOf;
 use crate::shared::{Around, Conditions, Shared};
 use std::alloc::{AllocError, Global};
-use std::sync::Arc;
+use std::collections::VecDeque;
+use std::sync::{Arc, Mutex};
 use std::thread::Parker;
 use tp_book::book::Book;
 use tp_book::opening::Unopened;
@@ -90,6 +91,7 @@ fn share<G: PoolNaming, J: Drop, E: Drop, K: Keeper>(
         edge,
         policy,
         alloc,
+        abandoned: Mutex::new(VecDeque::new(alloc)),
     };
     let shared = Shared { core, around };
     match Arc::new(alloc, shared) {

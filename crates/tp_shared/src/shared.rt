@@ -14,7 +14,8 @@ use crate::edges::Edge;
 use crate::lock::{CALLER, WORKER, polite};
 use crate::policies::PolicyOf;
 use std::alloc::Global;
-use std::sync::{Condvar, MutexGuard, Wait};
+use std::collections::VecDeque;
+use std::sync::{Condvar, Mutex, MutexGuard, Wait};
 use std::thread::Parker;
 use tp_book::passes::Pass;
 use tp_book::payers::Payer;
@@ -30,7 +31,7 @@ use tp_machine::typed::controllers::{Ended, Tidy};
 use tp_record::entries::{Ask, Did};
 use tp_record::recorders::Full;
 use tp_turns::rescues::Remains;
-use tp_types::ids::SlotId;
+use tp_types::ids::{SlotId, TaskId};
 use tp_types::refusals::PoolError;
 use tp_waking::calls::{Calls, Waiters};
 
@@ -90,6 +91,8 @@ pub struct Around<G: PoolNaming, E> {
     pub policy: PolicyOf<G>,
     /// The allocator of the calls' answers.
     pub alloc: Global,
+    /// Futures of which nobody asks any more, in a pool that keeps no record: each is forgotten once it is gone.
+    pub abandoned: Mutex<VecDeque<TaskId>>,
 }
 
 /// What all threads of a pool share.

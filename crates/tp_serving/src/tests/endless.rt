@@ -18,6 +18,7 @@ use tp_pool::names::PoolNaming;
 use tp_pool::pool::PoolOf;
 use tp_record::recorders::Tally;
 use tp_service::futures::{get, release, submit};
+use tp_service::invoking::{invoke_all, invoke_any};
 use tp_stage::boards::{Board, Signal, shared};
 use tp_types::configs::{Config, Policy, QueueKind};
 use tp_types::ids::TaskId;
@@ -75,6 +76,12 @@ enum Act {
     Ends,
     // The pool keeps so many tasks.
     Keeps(u32),
+    // Has three jobs of which one value is asked, so many times.
+    Any(u32),
+    // Has three jobs of which each is waited for, so many times. Those whose numbers come back are released.
+    All(u32),
+    // It keeps so many tasks at most.
+    KeepsFew(u32),
     // It knows no task of this number.
     Forgot(u32),
 }
@@ -83,6 +90,83 @@ enum Act {
 struct Life {
     acts: &'static [Act],
     jobs: u32,
+}
+
+fn three(alloc: Global, board: &Arc<Board>) -> Result<Vec<Stroke>, PoolError> {
+    let mut jobs = Vec::new(alloc);
+    for _ in 0..3 {
+        let board = shared(board)?;
+        jobs.push(Stroke { board }).or(Err(PoolError::NoMemory))?;
+    }
+    Ok(jobs)
+}
+
+// One value of three jobs.
+fn any_once<G: PoolNaming + Send + Sync + 'static, R: Threads + Wait + Copy + Send + 'static>(
+    rt: &R,
+    alloc: Global,
+    pool: &Endless<G>,
+    board: &Arc<Board>,
+    pass: &mut Pass<G>,
+) -> bool {
+    match three(alloc, board) {
+        Ok(jobs) => invoke_any(pool, rt, alloc, jobs, pass) == Ok(7),
+        Err(_) => false,
+    }
+}
+
+// Three jobs, all of which are run, or of which one is rejected.
+fn all_once<G: PoolNaming + Send + Sync + 'static, R: Threads + Wait + Copy + Send + 'static>(
+    rt: &R,
+    alloc: Global,
+    pool: &Endless<G>,
+    board: &Arc<Board>,
+    pass: &mut Pass<G>,
+) -> bool {
+    let Ok(jobs) = three(alloc, board) else {
+        return false;
+    };
+    match invoke_all(pool, rt, alloc, jobs, pass) {
+        Ok(tasks) => release_each(rt, pool, tasks.as_slice(), pass),
+        Err(PoolError::Rejected(t)) => release(pool, rt, t, pass).is_ok(),
+        Err(_) => false,
+    }
+}
+
+fn release_each<G: PoolNaming + Send + Sync + 'static, R: Threads + Wait + Copy + Send + 'static>(
+    rt: &R,
+    pool: &Endless<G>,
+    tasks: &[TaskId],
+    pass: &mut Pass<G>,
+) -> bool {
+    for t in tasks {
+        if release(pool, rt, *t, pass).is_err() {
+            return false;
+        }
+    }
+    true
+}
+
+// Has many jobs so many times: for one value, or for all.
+fn many<G: PoolNaming + Send + Sync + 'static, R: Threads + Wait + Copy + Send + 'static>(
+    rt: &R,
+    alloc: Global,
+    pool: &Endless<G>,
+    board: &Arc<Board>,
+    (times, for_all): (u32, bool),
+    pass: &mut Pass<G>,
+) -> bool {
+    for _ in 0..times {
+        let well = if for_all {
+            all_once(rt, alloc, pool, board, pass)
+        } else {
+            any_once(rt, alloc, pool, board, pass)
+        };
+        if !well {
+            return false;
+        }
+    }
+    true
 }
 
 fn submits<G: PoolNaming + Send + Sync + 'static, R: Threads + Wait + Copy + Send + 'static>(
@@ -132,6 +216,7 @@ fn strikes<G: PoolNaming + Send + Sync + 'static, R: Threads + Wait + Copy + Sen
 // Does this: whether it is answered as it says.
 fn does<G: PoolNaming + Send + Sync + 'static, R: Threads + Wait + Copy + Send + 'static>(
     rt: &R,
+    alloc: Global,
     pool: &Endless<G>,
     board: &Arc<Board>,
     act: Act,
@@ -145,6 +230,9 @@ fn does<G: PoolNaming + Send + Sync + 'static, R: Threads + Wait + Copy + Send +
         Act::Shutdown => pool.shutdown(rt, pass).is_ok(),
         Act::Ends => pool.await_termination(rt, u64::MAX, pass).is_ok(),
         Act::Keeps(tasks) => pool.kept(rt) == tasks,
+        Act::Any(times) => many(rt, alloc, pool, board, (times, false), pass),
+        Act::All(times) => many(rt, alloc, pool, board, (times, true), pass),
+        Act::KeepsFew(tasks) => pool.kept(rt) <= tasks,
         Act::Forgot(t) => pool.fate(rt, TaskId(t)) == Err(PoolError::UnknownTask),
     }
 }
@@ -152,9 +240,9 @@ fn does<G: PoolNaming + Send + Sync + 'static, R: Threads + Wait + Copy + Send +
 fn does_all<
     G: PoolNaming + Send + Sync + 'static,
     R: Abort + Threads + Wait + Copy + Send + 'static,
->(rt: &R, pool: &Endless<G>, board: &Arc<Board>, acts: &[Act], pass: &mut Pass<G>) {
+>(rt: &R, alloc: Global, pool: &Endless<G>, board: &Arc<Board>, acts: &[Act], pass: &mut Pass<G>) {
     for (line, act) in acts.iter().enumerate() {
-        same(rt, line, &does(rt, pool, board, *act, pass), &true);
+        same(rt, line, &does(rt, alloc, pool, board, *act, pass), &true);
     }
 }
 
@@ -189,7 +277,7 @@ fn lived<G: PoolNaming + Send + Sync + 'static, R: Abort + Threads + Wait + Copy
     requires settings { settings ≡ G.config }
 {
     let (pool, mut pass) = Endless::<G>::over(alloc, unopened, settings, Defaults)?;
-    does_all(rt, &pool, board, acts, &mut pass);
+    does_all(rt, alloc, &pool, board, acts, &mut pass);
     Ok(pool.close_one(rt, pass)?)
 }
 
@@ -245,4 +333,48 @@ static RELEASES: Life = Life {
 #[test]
 fn forgets_a_released_future(rt: HostRuntime) -> Result<(), Fail> {
     Ok(lives(&rt, rt.alloc(), &RELEASES)?)
+}
+
+// One worker, and a task only where it is idle.
+const HANDS: Config = Config {
+    queue: QueueKind::Handoff,
+    ..LONE
+};
+
+const CALLS: u32 = 2_000;
+
+// Many jobs at a time, on one worker. What their calls leave is forgotten: at last no more is kept than the last call left.
+static MANY: [(Config, &[Act]); 2] = [
+    (
+        LONE,
+        &[
+            Act::Any(CALLS),
+            Act::KeepsFew(3),
+            Act::Shutdown,
+            Act::Ends,
+            Act::KeepsFew(3),
+        ],
+    ),
+    (
+        HANDS,
+        &[
+            Act::All(CALLS),
+            Act::KeepsFew(9),
+            Act::Shutdown,
+            Act::Ends,
+            Act::KeepsFew(9),
+        ],
+    ),
+];
+
+#[test]
+fn forgets_what_many_jobs_leave(rt: HostRuntime) -> Result<(), Fail> {
+    let alloc = rt.alloc();
+    for (settings, acts) in &MANY {
+        let board = Board::new(alloc)?;
+        let unopened = Unopened::new(alloc)?;
+        let report = lived::<Brand, HostRuntime>(&rt, alloc, unopened, *settings, &board, acts)?;
+        same(&rt, acts.len(), &report.unended, &0);
+    }
+    Ok(())
 }

@@ -1,0 +1,54 @@
+//! Futures of which nobody asks any more, in a pool that keeps no record. A task that is not gone yet can't be forgotten, so
+//! its number is kept until it can.
+ghost use Rattle.std.specs.Prelude.{◌≡◌};
+ghost use Rattle.tp_glance.specs.Word.{IsFrontOf};
+
+use crate::pool::PoolOf;
+use std::sync::Wait;
+use tp_book::passes::Pass;
+use tp_callbacks::jobs::Job;
+use tp_locked::names::PoolNaming;
+use tp_record::recorders::Tally;
+use tp_shared::edges::Edge;
+use tp_types::ids::TaskId;
+use tp_types::refusals::PoolError;
+
+impl<G: PoolNaming, J: Job, E: Edge> PoolOf<G, J, E, Tally> {
+    /// Says that nobody asks for the futures of these tasks any more: `forget_abandoned` releases each once it is gone. Where
+    /// there is no memory to keep a number, that task is kept until the close. Java's collector needs no such call.
+    pub fn abandon<R: Wait>(&self, rt: &R, tasks: &[TaskId]) {
+        let mut abandoned = self.shared().around.abandoned.lock(rt);
+        for t in tasks {
+            let _ = abandoned.push_back(*t);
+        }
+    }
+
+    /// Releases abandoned tasks that are gone. It looks at so many of them, the longest abandoned first; one that is not gone
+    /// is looked at again after the others. It makes no step. The pass knows the record as it is at the last look.
+    pub fn forget_abandoned<R: Wait>(&self, rt: &R, looks: usize, pass: &mut Pass<G>)
+        ensures shown { pass.new ≡ record pass.old { front = pass.new.front } }
+        ensures goes_on { IsFrontOf pass.old.front pass.new.front }
+    {
+        for _ in 0..looks {
+            self.forget_first(rt, pass);
+        }
+    }
+
+    // Releases the task that was abandoned first, if there is one, or puts it behind the others where it is not gone.
+    fn forget_first<R: Wait>(&self, rt: &R, pass: &mut Pass<G>)
+        ensures shown { pass.new ≡ record pass.old { front = pass.new.front } }
+        ensures goes_on { IsFrontOf pass.old.front pass.new.front }
+    {
+        let Some(t) = self.first_abandoned(rt) else {
+            return;
+        };
+        if self.release(rt, t, pass) == Err(PoolError::NotThere) {
+            self.abandon(rt, &[t]);
+        }
+    }
+
+    // The task that was abandoned first. It is taken off the list.
+    fn first_abandoned<R: Wait>(&self, rt: &R) -> Option<TaskId> {
+        self.shared().around.abandoned.lock(rt).pop_front()
+    }
+}
