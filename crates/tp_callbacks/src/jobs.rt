@@ -12,7 +12,8 @@ use tp_types::tasks::{Outcome, Promise};
 /// `Verdict::CallerRuns`. It may take its time, wait for other tasks that run or will run elsewhere, submit,
 /// and step on the pool with a pass of its own. It would wait for ever where it awaits the pool's termination
 /// or `get`s its own task, since neither comes before it has returned; and where it waits for a queued task
-/// while no other worker is left to run that one, as in Java.
+/// while no other worker is left to run that one, as in Java. A job that is kept after its pool's end, as one that
+/// was handed back, is to have no handle of that pool: a close waits for it.
 pub trait Job: Send + Drop {
     ghost use Rattle.std.specs.Prelude.{ℕ};
     ghost use Rattle.tp_types.specs.declared.tasks.Promise.{Promise};

@@ -41,7 +41,9 @@ impl<G: PoolNaming, J: Job, E: Edge, K: Reporter> PoolOf<G, J, E, K> {
     /// NotTerminated (20) comes first, and never with a pass that has seen the pool terminated.
     /// MissingPass (21) comes next, where fewer or more passes come back than callers got. Then the call
     /// waits until no thread has the pool any more, since a worker's thread lets go of it after the last
-    /// step. TornRecord (22) comes last, where a pass's receipts are not its own entries. After a refusal the
+    /// step, and until each other handle of it is dropped. It waits for ever where one is kept: where the pool's own edge (its
+    /// factory, handler, hooks or gate) has a handle, or a job that is kept somewhere, as one that `shutdown_now` handed
+    /// back. TornRecord (22) comes last, where a pass's receipts are not its own entries. After a refusal the
     /// pool and the passes come back.
     pub fn close<R: Wait>(
         self,

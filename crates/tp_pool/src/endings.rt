@@ -34,12 +34,18 @@ impl<
     /// size is above 0, this call has a worker made for them. The pass has then seen the shutdown.
     ///
     /// A pool that is shut down ends by itself: a later call whose step leaves it to nobody does the same, with a
-    /// pass of the pool's own. Java's pool never ends there. What can still hold the end up, as in Java: at core
-    /// size 0 (`corePoolSize`) a queued task whose worker was not made; a factory that refuses as many workers as
-    /// tasks are queued (`ThreadFactory.newThread` that answers null); a job that waits for its own single worker
-    /// (`Future.get` within a task); a hook that waits for the end (`awaitTermination` within `terminated`). The
-    /// way out of the first two is a larger core size, `remove` or `shutdown_now`, and that of the third `cancel`
-    /// or `shutdown_now`. Of its own a pool may want memory for that pass, or room in its record for a worker.
+    /// pass of the pool's own. Java's pool never ends there. What can still hold the end up:
+    ///
+    /// - Tasks are stranded (`is_stranded`). A factory refuses as many workers as tasks are queued, as a
+    ///   `ThreadFactory.newThread` that answers null; no thread can be made, at which Java throws `OutOfMemoryError`; a full
+    ///   record has no room for a worker; or there is no memory for that pass. At core size 0 (`corePoolSize`) the pool asks
+    ///   for no worker of its own: there one worker that was not made is enough, and so is a slot of another task that was
+    ///   given up after the second look of a queued one. The way out is `remove` or `shutdown_now`. Where a worker can be made
+    ///   meanwhile, it is also `prestart_core`, or at core size 0 `set_core`, which starts workers only where it raises the
+    ///   core size.
+    /// - Jobs of all workers wait for a task that is queued (`Future.get` within a task of a single worker). The way out is
+    ///   `cancel` of what they wait for, or `shutdown_now`.
+    /// - A hook, the handler or the factory waits for the end (`awaitTermination` within `terminated`). There is no way out.
     ///
     /// NoMemory (4) for its receipts, else BookFull (5), which does not come while the pool runs. A refused
     /// call makes no step.

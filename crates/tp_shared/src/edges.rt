@@ -19,9 +19,12 @@ use tp_types::tasks::Outcome;
 /// So a factory that submits to its own pool or prestarts there may wait for itself. A handler that prestarts, or
 /// whose call does what is left, waits for the factory or the terminated hook; a factory or a hook that submits
 /// may wait for the handler: two such objects may wait for each other for ever. A factory or a hook may shut its
-/// pool down: nothing is left to do while it answers.
+/// pool down: nothing is left to do while it answers. None of these objects may wait for the pool's end or for a task: the
+/// slot, the task or the end for which it was asked waits meanwhile. None may keep a handle of its own pool: a close waits
+/// for ever then.
 pub trait Edge: Drop {
-    /// Asks the thread factory whether this slot may have a worker. It may, unless said.
+    /// Asks the thread factory whether this slot may have a worker. It may, unless said. The slot is reserved until the
+    /// answer: a factory that waits for a task or for the pool's end may wait for ever.
     fn allow<R: Wait>(&self, _rt: &R, _w: SlotId) -> bool {
         true
     }

@@ -63,7 +63,8 @@ impl<G: PoolNaming, J: Drop, E: Edge, K: Keeper> Shared<G, J, E, K> {
 }
 
 /// Does what a step of a caller's thread left to do, with a pass of the pool's own. Where there is no memory or no number for
-/// that pass, it is left to the next such step.
+/// that pass, it is left to the next such step. Where no worker can be made, the tasks stay stranded: a stop would hand their
+/// jobs back to nobody.
 #[cold]
 #[inline(never)]
 pub fn rescue_with_own<
