@@ -6,14 +6,29 @@ ghost use Rattle.tp_glance.specs.Word.{IsFrontOf};
 use crate::pool::PoolOf;
 use std::sync::Wait;
 use tp_book::passes::Pass;
-use tp_callbacks::jobs::Job;
+use tp_glance::glance::Glance;
+use tp_locked::locked::Core;
 use tp_locked::names::PoolNaming;
 use tp_record::recorders::Tally;
 use tp_shared::edges::Edge;
 use tp_types::ids::TaskId;
 use tp_types::refusals::PoolError;
 
-impl<G: PoolNaming, J: Job, E: Edge> PoolOf<G, J, E, Tally> {
+// Forgets a task of the value under the lock, where it is gone: false where it is not.
+fn forgets_in<G: PoolNaming, J: Drop>(
+    core: &mut Core<G, J, Tally>,
+    t: TaskId,
+    glance: &Glance<G>,
+    pass: &mut Pass<G>,
+) -> bool
+    ensures shown { pass.new ≡ record pass.old { front = pass.new.front } }
+    ensures goes_on { IsFrontOf pass.old.front pass.new.front }
+{
+    core.release_task(t, glance, pass) != Err(PoolError::NotThere)
+}
+
+// The pool's bound on jobs is `Drop` alone: an `impl` for any jobs calls these.
+impl<G: PoolNaming, J: Drop, E: Edge> PoolOf<G, J, E, Tally> {
     /// Says that nobody asks for the futures of these tasks any more: `forget_abandoned` releases each once it is gone. Where
     /// there is no memory to keep a number, that task is kept until the close. Java's collector needs no such call.
     pub fn abandon<R: Wait>(&self, rt: &R, tasks: &[TaskId]) {
@@ -42,7 +57,9 @@ impl<G: PoolNaming, J: Job, E: Edge> PoolOf<G, J, E, Tally> {
         let Some(t) = self.first_abandoned(rt) else {
             return;
         };
-        if self.release(rt, t, pass) == Err(PoolError::NotThere) {
+        let shared = self.shared();
+        let gone = forgets_in(&mut shared.hold(rt), t, &shared.around.glance, pass);
+        if !gone {
             self.abandon(rt, &[t]);
         }
     }

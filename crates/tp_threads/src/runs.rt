@@ -149,13 +149,14 @@ fn life<
     };
     let submitted = submit_all(rt, &pool, jobs, &mut pass);
     let report = closed(&rt, pool, pass, passes, kept);
-    match (submitted, report) {
-        (Ok(()), report) => report,
-        (Err(error), Ok(report)) => {
-            *kept = Some(report);
+    match submitted {
+        Ok(()) => report,
+        Err(error) => {
+            if let Ok(told) = report {
+                *kept = Some(told);
+            }
             Err(error)
         }
-        (Err(error), Err(_)) => Err(error),
     }
 }
 

@@ -1,0 +1,5 @@
+use Rattle.tp_locked.proofs.Receipts.{Later}
+use Rattle.tp_pool.proofs.abandoned.PoolOf+G+J+E+Tally.forget_abandoned.Given as goal
+
+abbrev pub invariant-loop : goal.invariant-loop
+invariant-loop g l = Later l.fn.pass l.pass
