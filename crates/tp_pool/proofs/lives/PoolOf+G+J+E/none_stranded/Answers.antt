@@ -7,8 +7,8 @@ use Rattle.tp_pool.proofs.lives.PoolOf+G+J+E.none_stranded.Goals as goal
 pub returns-then-is_err-clause-shut : goal.returns-then-is_err-clause-shut
 returns-then-is_err-clause-shut g c = shut_reserved g.G.PoolNaming.config c.args.pass.now c.reserve.new.self c.reserve.ensures.same c.requires.shut
 
-pub returns-then-not-clause-shut : goal.returns-then-not-clause-shut
-returns-then-not-clause-shut g c = shut_reserved g.G.PoolNaming.config c.args.pass.now c.reserve.new.self c.reserve.ensures.same c.requires.shut
+pub returns-then-not-is_stranded-clause-shut : goal.returns-then-not-is_stranded-clause-shut
+returns-then-not-is_stranded-clause-shut g c = shut_reserved g.G.PoolNaming.config c.args.pass.now c.reserve.new.self c.reserve.ensures.same c.requires.shut
 
 pub returns-clause-shut : goal.returns-clause-shut
 returns-clause-shut g c =
