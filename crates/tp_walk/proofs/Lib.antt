@@ -1,0 +1,5 @@
+pub mod Counted
+pub mod Handed
+pub mod Paths
+pub mod Places
+pub mod Walked
