@@ -1,0 +1,132 @@
+//! A story that is told entry by entry.
+
+ghost use Rattle.std.specs.Prelude.{ℕ, ◌≡◌, ◌∷◌, [], List, Err, Ok, suc, length, IfOk, IsOkUnless, OnOk, OnErr};
+ghost use Rattle.tp_types.specs.Config.{IsConfig};
+ghost use Rattle.tp_record.specs.declared.entries.Entry.{Entry as Told};
+ghost use Rattle.tp_record.specs.State as states;
+ghost use Rattle.tp_record.specs.Step as steps;
+ghost use Rattle.tp_auditor.specs.Tables.{shown};
+
+use crate::events::{Event, event_after};
+use crate::subjects::Subject;
+use std::alloc::Global;
+use std::marker::Model;
+use tp_audit::summary::Flaw;
+use tp_auditor::auditor::Auditor;
+use tp_auditor::tables::Tables;
+use tp_record::entries::Entry;
+use tp_types::configs::Config;
+use tp_types::ids::TaskId;
+use tp_types::tasks::Fate;
+
+/// The entries so far of a pool's record that tell of one task or of one slot. The memory goes by what an auditor keeps, and
+/// by their number.
+#[derive(Drop)]
+pub struct Story {
+    auditor: Auditor,
+    subject: Subject,
+    events: Vec<Event>,
+}
+
+impl Model for Story {
+    ghost use Rattle.std.specs.Coded.{codes};
+    ghost use Rattle.tp_auditor.specs.contracts.tables.Tables as kept;
+    ghost use Rattle.tp_story.specs.Stories.{Telling};
+
+    ghost Value = { Telling };
+
+    ghost coded = { Prim.hlevel (codes, kept.the_row.coded) };
+
+    ghost view = { λ s. record { judge = s.auditor; subject = s.subject; events = s.events.items } };
+}
+
+impl Story {
+    ghost use Rattle.tp_auditor.specs.Audited.{settings, Judged};
+    ghost use Rattle.tp_story.specs.Stories.{Tells, story, fate_in};
+
+    /// A story of a subject in the record of a pool that is made with `config`, before the first entry. Want of memory is
+    /// NoMemory (4).
+    pub fn new(alloc: Global, config: &Config, subject: Subject) -> Result<Story, Flaw>
+        requires { IsConfig config.now }
+        ensures settings { IfOk result (λ s. settings s.judge ≡ config.now) }
+        ensures subject { IfOk result (λ s. s.subject ≡ subject) }
+        ensures tells { IfOk result (λ s. Tells s []) }
+        ensures refused { IsOkUnless result Flaw.NoMemory }
+    {
+        match Auditor::new(alloc, config) {
+            Ok(auditor) => Ok(Story {
+                auditor,
+                subject,
+                events: Vec::new(alloc),
+            }),
+            Err(flaw) => Err(flaw),
+        }
+    }
+
+    /// Tells the next entry. One that the step does not give after those before it is a flaw, with its number, from 1; want of
+    /// memory is NoMemory (4). After either the story is as it was.
+    pub fn tell(&mut self, entry: &Entry) -> Result<(), Flaw>
+        ensures given { OnOk result ((h : List Told) → Tells self.old h → steps.Gives (settings self.old.judge) (states.state (settings self.old.judge) h) entry.now.ask entry.now.did) }
+        ensures told { OnOk result ((h : List Told) → Tells self.old h → Tells self.new (entry.now ∷ h)) }
+        ensures flaw { (n : ℕ) → result ≡ Err (Flaw.At n) → (h : List Told) → Tells self.old h
+            → (n ≡ suc (length h)) × (steps.Gives (settings self.old.judge) (states.state (settings self.old.judge) h) entry.now.ask entry.now.did → ⊥) }
+        ensures same { OnErr result ((h : List Told) → Tells self.old h → Tells self.new h) }
+        ensures settings { settings self.new.judge ≡ settings self.old.judge }
+        ensures subject { self.new.subject ≡ self.old.subject }
+    {
+        let event = event_after(self.subject, self.auditor.tables(), entry);
+        if self.events.reserve(1).is_err() {
+            return Err(Flaw::NoMemory);
+        }
+        match self.auditor.push(entry) {
+            Ok(()) => {}
+            Err(flaw) => return Err(flaw),
+        }
+        if let Some(event) = event {
+            self.events.push_reserved(event);
+        }
+        Ok(())
+    }
+
+    /// Of what the story tells.
+    pub fn subject(&self) -> Subject
+        ensures { result ≡ self.now.subject }
+    {
+        self.subject
+    }
+
+    /// The entries so far that tell of it, the oldest first: these and no others.
+    pub fn events(&self) -> &[Event]
+        ensures events { result.now ≡ self.now.events }
+        ensures story { (h : List Told) → Tells self.now h → result.now ≡ story (settings self.now.judge) self.now.subject h }
+    {
+        &self.events
+    }
+
+    /// The fate of the task, if it has one; a slot has none.
+    pub fn fate(&self) -> Option<Fate>
+        ensures { (h : List Told) → Tells self.now h → result ≡ fate_in (states.state (settings self.now.judge) h) self.now.subject }
+    {
+        match self.subject {
+            Subject::Task(task) => fate_at(self.auditor.tables(), task),
+            Subject::Slot(_) => None,
+        }
+    }
+
+    /// What all entries so far say of the pool.
+    pub fn tables(&self) -> &Tables
+        ensures { result.now ≡ self.now.judge.tables }
+    {
+        self.auditor.tables()
+    }
+}
+
+/// The fate of a task, if it has one.
+fn fate_at(tables: &Tables, task: TaskId) -> Option<Fate>
+    ensures { result ≡ states.fate_of (states.task_at (shown tables.now) task.0) }
+{
+    match tables.tasks.get(task.0 as usize) {
+        Some(row) => row.fate(),
+        None => None,
+    }
+}
