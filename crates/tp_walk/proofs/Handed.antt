@@ -1,5 +1,5 @@
 -- Numbers that are handed on along the rows of a graph, as a program keeps them and as sums.
-use Rattle.std.proofs.Common.{◌≡◌, ◌≢◌, ◌==◌, ℕ, zero, suc, ◌+◌, ◌*◌, ◌<◌, Bool, true, false, cond, List, [], ◌∷◌, ◌++◌, length, get_or, set, sum_by, refl, sym, ◌∙◌, arith}
+use Rattle.std.proofs.Common.{◌≡◌, ◌≢◌, ◌==◌, ℕ, zero, suc, ◌+◌, ◌*◌, ◌<◌, Bool, true, false, cond, List, [], ◌∷◌, ◌++◌, length, get_or, set, sum_by, refl, ◌∙◌, arith}
 use Rattle.std.specs.List.{All, AllZip}
 use Rattle.std.proofs.Math.Nat.{mul_comm, mul-add}
 use Rattle.std.proofs.lemmas.Bool.Decides.{nat_tests}
@@ -88,9 +88,3 @@ weigh-add_all w ks m ns (j ∷ row) c within often =
     let p = mul-add c (w j) (sum_by w row) in
     let q = mul-add m (c * w j) (c * sum_by w row) in
     rw (more, one, o, s, p, q) (omega arith)
-
-pub get_or-add_all : (ns row : List ℕ) (c k : ℕ) → All (λ j. j ≢ k) row → get_or (add_all ns row c) k 0 ≡ get_or ns k 0
-get_or-add_all ns [] c k apart = refl
-get_or-add_all ns (j ∷ row) c k apart =
-    get_or-add_all (add_at ns j c) row c k (All-tail (λ i. i ≢ k) j row apart)
-    ∙ get_or-set_other ns j k (get_or ns j 0 + c) 0 (λ e. All-head (λ i. i ≢ k) j row apart (sym e))

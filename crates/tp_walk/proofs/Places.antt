@@ -1,7 +1,6 @@
 -- Places in lists, and lists side by side.
 use Rattle.std.proofs.Common.{◌≡◌, ℕ, zero, suc, ◌⊎◌, ◌↔◌, List, [], ◌∷◌, ◌++◌, length, map, refl, sym, ap, subst, inl, inr}
-use Rattle.std.specs.List.{All, AllZip, Contains}
-use Rattle.std.proofs.lemmas.List.Elements.{All-nil, All-cons}
+use Rattle.std.specs.List.{AllZip, Contains}
 use Rattle.std.proofs.lemmas.Option.{slice_get_within, get_or_from_slice_get, slice_get_read, same_Some}
 use Rattle.tp_walk.specs.Moves.{IsAt, Places}
 
@@ -61,12 +60,6 @@ zip_from R [] (b ∷ ys) h k x e = absurd h
 zip_from R (a ∷ xs) [] h k x e = absurd h
 zip_from R (a ∷ xs) (b ∷ ys) h zero x e = let same : a ≡ x = cc in (b, refl, subst (λ z. R z b) same h.0)
 zip_from R (a ∷ xs) (b ∷ ys) h (suc k) x e = zip_from R xs ys h.1 k x e
-
-pub zip_each : {A B : Type 0} (R : A → B → Type 0) (P : A → Type 0) → ((a : A) (b : B) → R a b → P a) → (xs : List A) (ys : List B) → AllZip R xs ys → All P xs
-zip_each R P f [] [] h = All-nil P
-zip_each R P f [] (y ∷ ys) h = absurd h
-zip_each R P f (x ∷ xs) [] h = absurd h
-zip_each R P f (x ∷ xs) (y ∷ ys) h = All-cons P x xs (f x y h.0) (zip_each R P f xs ys h.1)
 
 -- rows
 

@@ -1,5 +1,5 @@
 -- The steps of a walk, over plain lists.
-use Rattle.std.proofs.Common.{◌≡◌, ◌≢◌, ℕ, zero, suc, ◌+◌, ◌<◌, ◌≤◌, ◌⊎◌, ◌↔◌, List, [], ◌∷◌, ◌++◌, length, get_or, take, map, refl, sym, ap, ◌∙◌, subst, inl, inr, arith, append_assoc, slice_get, Some, Bool, false, true, cond}
+use Rattle.std.proofs.Common.{◌≡◌, ◌≢◌, ℕ, zero, suc, ◌+◌, ◌≤◌, ◌⊎◌, ◌↔◌, List, [], ◌∷◌, ◌++◌, length, get_or, take, map, refl, sym, ap, ◌∙◌, subst, inl, inr, arith, append_assoc, slice_get, Some, Bool, false, true, cond}
 use Rattle.std.specs.List.{All, AllPairs, AllZip, Contains, list_any}
 use Rattle.std.proofs.lemmas.Grind.{common_steps}
 use Rattle.std.proofs.lemmas.List.{length-map, map_push}
@@ -9,7 +9,7 @@ use Rattle.std.proofs.lemmas.Map.Keys.{any_passes_from_place}
 use Rattle.std.proofs.lemmas.Option.{slice_get-map}
 use Rattle.std.specs.Prelude.{option_map}
 use Rattle.indexmap.specs.IndexSet.{insert_key}
-use Rattle.tp_walk.specs.Moves.{Reaches, here, moved, IsAt, Places, IsWalk, Added, ReachesMore, empties}
+use Rattle.tp_walk.specs.Moves.{Reaches, here, moved, IsAt, Places, IsWalk, Added, empties}
 use Rattle.tp_walk.proofs.Places.{contained, place_of, still_at, pushed_at, was_at, mapped_at, zip_weaker, zip_append, zip_at, places_stay, no_places}
 
 -- some states more
@@ -172,9 +172,6 @@ module _ {V : Type 0} (next : V → List V) (first : V) (xs : List V) (rows : Li
               (k.0, rw empty (rw n at (empties_at 0 rows k.0 (rw bare at p.1))), at),
         );
       }
-
-  pub reaches_more : (most : ℕ) → IsWalking next first xs rows → most < length xs → ReachesMore next first most
-  reaches_more most w more = record { states = xs; reached = w.sound; once = w.once; more = more }
 
 -- what holds of the first state and stays holds of each that is reached
 pub holds_reached : {V : Type 0} (next : V → List V) (holds : V → Type 0) → ((x y : V) → holds x → Contains (next x) y → holds y) →
