@@ -281,15 +281,26 @@ fn lived<G: PoolNaming + Send + Sync + 'static, R: Abort + Threads + Wait + Copy
     Ok(pool.close_one(rt, pass)?)
 }
 
-// Lives under a name of its own. Each job runs, and none is left open.
+// The same under a name of the pool's own.
+fn named<R: Abort + Threads + Wait + Copy + Send + 'static>(
+    rt: &R,
+    alloc: Global,
+    settings: Config,
+    board: &Arc<Board>,
+    acts: &[Act],
+) -> Result<TallyReport, PoolError> {
+    let unopened = Unopened::new(alloc)?;
+    lived::<Brand, R>(rt, alloc, unopened, settings, board, acts)
+}
+
+// Each job runs, and none is left open.
 fn lives<R: Abort + Threads + Wait + Copy + Send + 'static>(
     rt: &R,
     alloc: Global,
     life: &Life,
 ) -> Result<(), PoolError> {
     let board = Board::new(alloc)?;
-    let unopened = Unopened::new(alloc)?;
-    let report = lived::<Brand, R>(rt, alloc, unopened, LONE, &board, life.acts)?;
+    let report = named(rt, alloc, LONE, &board, life.acts)?;
     let left = (board.read(Signal::Met), report.unended, report.counts);
     let wanted = (u64::from(life.jobs), 0, counts_of(life.jobs));
     same(rt, life.acts.len(), &left, &wanted);
@@ -372,8 +383,7 @@ fn forgets_what_many_jobs_leave(rt: HostRuntime) -> Result<(), Fail> {
     let alloc = rt.alloc();
     for (settings, acts) in &MANY {
         let board = Board::new(alloc)?;
-        let unopened = Unopened::new(alloc)?;
-        let report = lived::<Brand, HostRuntime>(&rt, alloc, unopened, *settings, &board, acts)?;
+        let report = named(&rt, alloc, *settings, &board, acts)?;
         same(&rt, acts.len(), &report.unended, &0);
     }
     Ok(())

@@ -1,4 +1,4 @@
-use Rattle.tp_serving.proofs.tests.endless.lives.Given as goal
+use Rattle.tp_serving.proofs.tests.endless.named.Given as goal
 
 abbrev pub ghosts-lived-G-Ledger : goal.ghosts-lived-G-Ledger
 ghosts-lived-G-Ledger g a = record { name = a.unopened.ledger; parts = a.unopened.parts }
