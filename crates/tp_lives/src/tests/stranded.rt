@@ -107,8 +107,10 @@ fn lives<R: Abort + Runtime>(rt: R, alloc: Global, line: usize, life: &Life) -> 
         jobs.push(Any(Seven))?;
     }
     let (answers, report) = run_all(&rt, alloc, settings, Unstaffed { want: life.want }, jobs)?;
-    for (number, answer) in answers.iter().enumerate() {
-        same(&rt, line, answer, &answer_of(number as u32, life.lost));
+    let mut number = 0u32;
+    for answer in &answers {
+        same(&rt, line, answer, &answer_of(number, life.lost));
+        number = number.saturating_add(1);
     }
     let counts = report.counts;
     same(
