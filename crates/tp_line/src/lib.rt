@@ -8,6 +8,4 @@ mod bounds;
 mod items;
 pub mod lines;
 mod places;
-mod ranked;
 pub mod rankings;
-pub mod sweeps;

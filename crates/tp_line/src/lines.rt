@@ -1,13 +1,11 @@
 //! A line on a ring.
 
 ghost use Rattle.std.specs.Prelude.{◌≡◌, ◌==◌, ◌+◌, ◌-◌, ◌^◌, ◌<◌, ◌≤◌, ◌++◌, ◌∷◌, [], length, drop, slice_get, option_map, IfOk, IfErr, OnOk, OnErr, IsTrue, IsOk, ◌↔◌};
-ghost use Rattle.std.specs.List.{FoldsTo};
-ghost use Rattle.tp_line.specs.Line.{line, without_place, from_place, staying, leaving, ids, Ordered};
+ghost use Rattle.tp_line.specs.Line.{line, without_place, from_place, Ordered};
 ghost use Rattle.tp_line.specs.Ranks.{AreNumbered};
 
 use crate::items::Item;
-use crate::places::{count, find, first_live, kill, lower_bound, make_place, sweep, trim};
-use crate::sweeps::Sweeper;
+use crate::places::{find, first_live, kill, lower_bound, make_place, trim};
 use circular_buffer::HeapCircularBuffer;
 use std::alloc::{AllocError, Global};
 use std::marker::Model;
@@ -202,24 +200,6 @@ impl<T: Copy> Line<T> {
             self.live -= 1;
         }
         trim(&mut self.ring);
-    }
-
-    /// How many wait that the sweeper would take.
-    pub fn count<S: Sweeper<T>>(&self, sweeper: &S) -> usize
-        ensures { result ≡ length (leaving (S.takes sweeper.now) self.now.items) }
-    {
-        count(&self.ring, sweeper)
-    }
-
-    /// Hands to the sweeper, in order, those that it takes, in one pass and without memory. The others keep their order and
-    /// numbers.
-    pub fn sweep<S: Sweeper<T>>(&mut self, sweeper: &mut S)
-        ensures rest { self.new ≡ line (staying (S.takes sweeper.old) self.old.items) self.old.capacity self.old.offers }
-        ensures took { FoldsTo S.took sweeper.old (ids (leaving (S.takes sweeper.old) self.old.items)) sweeper.new }
-        ensures same { (x : T) → S.takes sweeper.new x ≡ S.takes sweeper.old x }
-    {
-        sweep(&mut self.ring, sweeper);
-        self.live = self.ring.len();
     }
 
     /// Who waits first of those at this place number or a later one, with the place number. A walk

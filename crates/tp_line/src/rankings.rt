@@ -1,14 +1,11 @@
 //! A line in the order of ranks.
 
-ghost use Rattle.std.specs.Prelude.{ℕ, ◌≡◌, ◌+◌, ◌*◌, ◌-◌, ◌^◌, ◌<◌, ◌≤◌, ◌++◌, ◌∷◌, [], length, drop, slice_get, option_map, IfOk, IfErr, OnOk, OnErr, IsTrue, IsOk, ◌↔◌};
-ghost use Rattle.std.specs.List.{FoldsTo};
-ghost use Rattle.tp_line.specs.Line.{line, without_place, staying, leaving, ids, Ordered};
+ghost use Rattle.std.specs.Prelude.{◌≡◌, ◌+◌, ◌-◌, ◌^◌, ◌<◌, ◌≤◌, [], length, drop, slice_get, option_map, IfOk, IfErr, OnOk, OnErr, IsTrue, IsOk, ◌↔◌};
+ghost use Rattle.tp_line.specs.Line.{line, without_place, Ordered};
 ghost use Rattle.tp_line.specs.Ranks.{key, enter, AreNumbered};
 
 use crate::bounds::{behind_rank, first_at};
 use crate::items::Ranked;
-use crate::ranked::{count, sweep};
-use crate::sweeps::Sweeper;
 use std::alloc::{AllocError, Global};
 use std::collections::VecDeque;
 use std::marker::Model;
@@ -153,22 +150,5 @@ impl<T: Copy> Ranking<T> {
                 self.items.remove(at);
             }
         }
-    }
-
-    /// How many wait that the sweeper would take.
-    pub fn count<S: Sweeper<T>>(&self, sweeper: &S) -> usize
-        ensures { result ≡ length (leaving (S.takes sweeper.now) self.now.items) }
-    {
-        count(&self.items, sweeper)
-    }
-
-    /// Hands to the sweeper, in order, those that it takes, in one pass and without memory. The others keep their order and
-    /// numbers.
-    pub fn sweep<S: Sweeper<T>>(&mut self, sweeper: &mut S)
-        ensures rest { self.new ≡ line (staying (S.takes sweeper.old) self.old.items) self.old.capacity self.old.offers }
-        ensures took { FoldsTo S.took sweeper.old (ids (leaving (S.takes sweeper.old) self.old.items)) sweeper.new }
-        ensures same { (x : T) → S.takes sweeper.new x ≡ S.takes sweeper.old x }
-    {
-        sweep(&mut self.items, sweeper);
     }
 }

@@ -1,6 +1,6 @@
 //! Changes by which tasks are cancelled, taken and purged.
 
-ghost use Rattle.std.specs.Prelude.{ℕ, ◌≡◌, ◌+◌, ◌==◌, ◌^◌, ◌<◌, ◌++◌, ◌∷◌, [], true, not, ◌&&◌, drop, filter, count_by, slice_get, option_map, Some, None, if◌then◌else◌};
+ghost use Rattle.std.specs.Prelude.{ℕ, ◌≡◌, ◌+◌, ◌==◌, ◌^◌, ◌<◌, ◌++◌, ◌∷◌, [], true, not, ◌&&◌, drop, filter, count_by, slice_get, option_map, Some, None, IfSome, IfNone, if◌then◌else◌};
 ghost use Rattle.tp_types.specs.declared.configs.Config.{Config};
 ghost use Rattle.tp_types.specs.declared.tasks.Fate.{Fate};
 ghost use Rattle.tp_types.specs.declared.tasks.Place.{Place};
@@ -8,7 +8,8 @@ ghost use Rattle.tp_record.specs.declared.rows.TaskRow.{TaskRow};
 ghost use Rattle.tp_record.specs.Fields.{is_queued_place};
 ghost use Rattle.tp_record.specs.State.{fate_of, is_fate};
 ghost use Rattle.tp_record.specs.Step.{is_of_group};
-ghost use Rattle.tp_tasks.specs.Tasks.{row_of, done_of};
+ghost use Rattle.tp_tasks.specs.Homes.{is_purgeable, passes};
+ghost use Rattle.tp_tasks.specs.Tasks.{row_of, done_of, purgeable_of};
 ghost use Rattle.tp_shapes.specs.View.{View, put};
 ghost use Rattle.tp_parts.specs.Payloads.{Keeps, HandsOut};
 ghost use Rattle.tp_parts.specs.Purges.{HoldsQueued};
@@ -16,8 +17,8 @@ ghost use Rattle.tp_parts.specs.Shows.{Views};
 ghost use Rattle.tp_parts.specs.Tied.{IsTied};
 
 use crate::parts::Parts;
-use tp_queue::work::WorkQueue;
 use tp_types::ids::TaskId;
+use tp_types::tasks::Place;
 
 impl<P> Parts<P> {
     /// Cancels an open task, which completes it where it is of a group. It stays where it is. Its payload is handed out, if it
@@ -59,9 +60,11 @@ impl<P> Parts<P> {
         self.tasks.purgeable()
     }
 
-    /// Takes the cancelled tasks out of the queue, without memory: they are gone. It takes one pass over the queue, and none where
-    /// no queued task is cancelled.
+    /// Takes the cancelled tasks out of the queue, without memory: they are gone. Each is found by its priority and place number, and
+    /// no other task of the queue is looked at.
     pub fn purge(&mut self)
+        requires known { (v : View) × Views self.old v × HoldsQueued v }
+        requires tied { (c : Config) × (n : ℕ) × IsTied c n self.old }
         ensures views { (v : View) → Views self.old v → HoldsQueued v → Views self.new (record v {
           tasks = λ t. if is_queued_place (v.tasks t).place && (v.tasks t).cancelled then record (v.tasks t) { place = Place.Gone } else v.tasks t;
           queue = filter (λ t. not (v.tasks t).cancelled) v.queue;
@@ -70,8 +73,21 @@ impl<P> Parts<P> {
         ensures rest { self.new ≡ record self.old { tasks = self.new.tasks; queue = self.new.queue } }
         ensures payloads { Keeps self.old.tasks self.new.tasks }
     {
-        if self.tasks.purgeable() > 0 {
-            self.queue.sweep(&mut self.tasks);
+        while let Some(t) = self.next_cancelled() {
+            self.unqueue(t);
+            self.place_task(t, Place::Gone);
         }
+    }
+
+    /// A task that is cancelled and in the queue, None where there is none.
+    fn next_cancelled(&mut self) -> Option<TaskId>
+        ensures cancelled { IfSome result (λ t. passes is_purgeable (row_of self.new.tasks t.0) ≡ true) }
+        ensures none { IfNone result (purgeable_of self.new.tasks ≡ 0) }
+        ensures views { (v : View) → Views self.old v → Views self.new v }
+        ensures tied { (c : Config) (n : ℕ) → IsTied c n self.old → IsTied c n self.new }
+        ensures rest { self.new ≡ record self.old { tasks = self.new.tasks } }
+        ensures payloads { Keeps self.old.tasks self.new.tasks }
+    {
+        self.tasks.next_purgeable()
     }
 }

@@ -8,7 +8,6 @@ use crate::work::WorkQueue;
 use std::alloc::{AllocError, Global};
 use std::marker::Model;
 use tp_line::lines::Line;
-use tp_line::sweeps::Sweeper;
 use tp_types::ids::TaskId;
 
 /// A work queue of a fixed capacity, in tasks, as an `ArrayBlockingQueue`. All its memory is taken
@@ -81,13 +80,5 @@ impl WorkQueue for Bounded {
 
     fn remove(&mut self, _priority: u32, number: u64) {
         self.line.remove(number);
-    }
-
-    fn count<S: Sweeper<TaskId>>(&self, sweeper: &S) -> usize {
-        self.line.count(sweeper)
-    }
-
-    fn sweep<S: Sweeper<TaskId>>(&mut self, sweeper: &mut S) {
-        self.line.sweep(sweeper);
     }
 }

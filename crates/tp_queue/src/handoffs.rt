@@ -5,7 +5,6 @@ ghost use Rattle.tp_queue.specs.Waiting.{first_waiting};
 
 use crate::work::WorkQueue;
 use std::alloc::AllocError;
-use tp_line::sweeps::Sweeper;
 use tp_types::ids::TaskId;
 
 /// A work queue in which no task ever waits, as a `SynchronousQueue`: a task goes straight to an idle
@@ -50,10 +49,4 @@ impl WorkQueue for HandoffQueue {
     }
 
     fn remove(&mut self, _priority: u32, _number: u64) {}
-
-    fn count<S: Sweeper<TaskId>>(&self, _sweeper: &S) -> usize {
-        0
-    }
-
-    fn sweep<S: Sweeper<TaskId>>(&mut self, _sweeper: &mut S) {}
 }

@@ -8,7 +8,6 @@ use crate::work::WorkQueue;
 use std::alloc::{AllocError, Global};
 use std::marker::Model;
 use tp_line::rankings::Ranking;
-use tp_line::sweeps::Sweeper;
 use tp_types::ids::TaskId;
 
 /// A work queue without a limit from which the task of the least priority number leaves first, and of
@@ -73,13 +72,5 @@ impl WorkQueue for Priority {
 
     fn remove(&mut self, priority: u32, number: u64) {
         self.ranking.remove(priority, number);
-    }
-
-    fn count<S: Sweeper<TaskId>>(&self, sweeper: &S) -> usize {
-        self.ranking.count(sweeper)
-    }
-
-    fn sweep<S: Sweeper<TaskId>>(&mut self, sweeper: &mut S) {
-        self.ranking.sweep(sweeper);
     }
 }

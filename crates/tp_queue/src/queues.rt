@@ -6,7 +6,6 @@ use crate::priorities::Priority;
 use crate::unbounded::Unbounded;
 use crate::work::WorkQueue;
 use std::alloc::{AllocError, Global};
-use tp_line::sweeps::Sweeper;
 use tp_types::configs::QueueKind;
 use tp_types::ids::TaskId;
 
@@ -123,24 +122,6 @@ impl WorkQueue for Queue {
             Queue::Unbounded(queue) => queue.remove(priority, number),
             Queue::Bounded(queue) => queue.remove(priority, number),
             Queue::Priority(queue) => queue.remove(priority, number),
-        }
-    }
-
-    fn count<S: Sweeper<TaskId>>(&self, sweeper: &S) -> usize {
-        match self {
-            Queue::Handoff(queue) => queue.count(sweeper),
-            Queue::Unbounded(queue) => queue.count(sweeper),
-            Queue::Bounded(queue) => queue.count(sweeper),
-            Queue::Priority(queue) => queue.count(sweeper),
-        }
-    }
-
-    fn sweep<S: Sweeper<TaskId>>(&mut self, sweeper: &mut S) {
-        match self {
-            Queue::Handoff(queue) => queue.sweep(sweeper),
-            Queue::Unbounded(queue) => queue.sweep(sweeper),
-            Queue::Bounded(queue) => queue.sweep(sweeper),
-            Queue::Priority(queue) => queue.sweep(sweeper),
         }
     }
 }

@@ -8,7 +8,6 @@ use crate::work::WorkQueue;
 use std::alloc::{AllocError, Global};
 use std::marker::Model;
 use tp_line::lines::Line;
-use tp_line::sweeps::Sweeper;
 use tp_types::ids::TaskId;
 
 /// A work queue without a limit, as a `LinkedBlockingQueue`. It has room for what was reserved: who
@@ -80,13 +79,5 @@ impl WorkQueue for Unbounded {
 
     fn remove(&mut self, _priority: u32, number: u64) {
         self.line.remove(number);
-    }
-
-    fn count<S: Sweeper<TaskId>>(&self, sweeper: &S) -> usize {
-        self.line.count(sweeper)
-    }
-
-    fn sweep<S: Sweeper<TaskId>>(&mut self, sweeper: &mut S) {
-        self.line.sweep(sweeper);
     }
 }

@@ -1,7 +1,6 @@
 //! What each work queue does.
 
 use std::alloc::AllocError;
-use tp_line::sweeps::Sweeper;
 use tp_types::ids::TaskId;
 
 /// Tasks that wait for a worker, in the order in which they leave, each under a key, as a
@@ -12,8 +11,7 @@ use tp_types::ids::TaskId;
 /// memory.
 pub trait WorkQueue {
     ghost use Rattle.std.specs.Prelude.{◌≡◌, ◌==◌, ◌+◌, ◌-◌, ◌^◌, ◌<◌, ◌≤◌, ◌++◌, ◌∷◌, [], length, drop, slice_get, option_map, IsTrue, vec_len, vec_capacity, IfOk, IfErr, OnOk, OnErr, IsOk, ◌↔◌};
-    ghost use Rattle.std.specs.List.{FoldsTo};
-    ghost use Rattle.tp_line.specs.Line.{without_place, staying, leaving, ids, Ordered};
+    ghost use Rattle.tp_line.specs.Line.{without_place, ids, Ordered};
     ghost use Rattle.tp_line.specs.Ranks.{enter, AreNumbered};
     ghost use Rattle.tp_types.specs.Queues.{is_open};
     ghost use Rattle.tp_queue.specs.Waiting.{Waiting, HasPlaces, place_key, key_bound};
@@ -73,17 +71,6 @@ pub trait WorkQueue {
     /// and numbers. A queue that does not go by priority looks for the number alone.
     fn remove(&mut self, priority: u32, number: u64)
         ensures { waiting self.new ≡ record (waiting self.old) { items = without_place (place_key (waiting self.old).kind priority number) (waiting self.old).items } };
-
-    /// How many tasks wait that the sweeper would take.
-    fn count<S: Sweeper<TaskId>>(&self, sweeper: &S) -> usize
-        ensures { result ≡ length (leaving (S.takes sweeper.now) (waiting self.now).items) };
-
-    /// Hands to the sweeper, in the queue's order, the tasks that it takes, as `BlockingQueue.removeIf`: in one pass and without
-    /// memory. The others keep their order and numbers.
-    fn sweep<S: Sweeper<TaskId>>(&mut self, sweeper: &mut S)
-        ensures rest { waiting self.new ≡ record (waiting self.old) { items = staying (S.takes sweeper.old) (waiting self.old).items } }
-        ensures took { FoldsTo S.took sweeper.old (ids (leaving (S.takes sweeper.old) (waiting self.old).items)) sweeper.new }
-        ensures same { (t : TaskId) → S.takes sweeper.new t ≡ S.takes sweeper.old t };
 
     /// Moves all tasks, in the queue's order, to the end of a list that has room for them, as
     /// `BlockingQueue.drainTo`.

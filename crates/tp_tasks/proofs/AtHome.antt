@@ -3,7 +3,7 @@ use Rattle.std.proofs.Common.{◌≡◌, ℕ, zero, suc, ◌+◌, ◌-◌, ◌%�
 use Rattle.std.specs.Prelude.{nat_eq, slice_get, bit_and}
 use Rattle.std.specs.List.{sum_by}
 use Rattle.std.proofs.lemmas.Bool.{cases_eq, ne_eqb, eq-eqb, eqb-true, false≢true}
-use Rattle.std.proofs.lemmas.List.{length-set, length-replicate, get_or-set_same, get_or-set_other}
+use Rattle.std.proofs.lemmas.List.{length-append, length-set, length-replicate, get_or-set_same, get_or-set_other}
 use Rattle.std.proofs.lemmas.List.Folds.{sum_by-replicate}
 use Rattle.std.proofs.lemmas.List.Sums.{sum_by-set, sum_by-le-sum_by}
 use Rattle.std.proofs.lemmas.Nat.{and_mask, pow_pos}
@@ -101,13 +101,16 @@ module _ {P : Type 0} where
     pub placed_free : ArePlaced homes
     placed_free i t e = absurd (no_holder i t e)
 
+    pub found_free : (t : ℕ) → found homes beside t ≡ get nat_eq beside t
+    found_free t = ap (λ o. or_beside o (get nat_eq beside t)) (ap (λ hs. held t (home_at hs (home_of (length homes) t))) free ∙ ap (held t) (free_at n (home_of (length homes) t)))
+
     pub apart_free : AreApart homes beside
     apart_free i t e = absurd (no_holder i t e)
 
   -- where there was no home, so many are made, or none
-  pub made_free : {T E : Type 0} (old new : List (Option (Home P))) (n : ℕ) (made : Result T E) → old ≡ [] → IsSize n → OnOk made (new ≡ old ++ replicate n None) → OnErr made (new ≡ old) → (k : ℕ) × IsSize k × (new ≡ replicate k None)
-  made_free old new n (Ok x) none size added same = (n, size, added ∙ ap (λ hs. hs ++ replicate n None) none)
-  made_free old new n (Err e) none size added same = (0, ∣ inl refl ∣₁, same ∙ none)
+  pub made_free : {T E : Type 0} (old new : List (Option (Home P))) (n : ℕ) (made : Result T E) → old ≡ [] → IsSize n → OnOk made (new ≡ old ++ replicate n None) → OnErr made (new ≡ old) → (k : ℕ) × IsSize k × (new ≡ replicate k None) × (k ≤ n)
+  made_free old new n (Ok x) none size added same = (n, size, added ∙ ap (λ hs. hs ++ replicate n None) none, omega arith)
+  made_free old new n (Err e) none size added same = (0, ∣ inl refl ∣₁, same ∙ none, omega arith)
 
 module _ {P : Type 0} where
   pub a_task : (o : Option (Task P)) → is_some o ≡ true → (v : Task P) × (o ≡ Some v)
@@ -223,6 +226,7 @@ module _ {P : Type 0} where
 
 -- a table in which `o` lies at the home of task t, where `was` lay
 pub record IsWritten {P : Type 0} (m : Rows P) (t : ℕ) (homes : List (Option (Home P))) (was o : Option (Home P)) : Type 0 where
+  pub len : length homes ≡ length m.homes.items
   pub sized : IsSize (length homes)
   pub placed : ArePlaced homes
   pub apart : AreApart homes m.beside
@@ -238,6 +242,7 @@ module _ {P : Type 0} (m : Rows P) (t i : ℕ) (is : i ≡ home_of (length m.hom
       let within = slice_get_within m.homes.items i was there in
       let lay = here m.homes.items i was there in
       record {
+        len = length-set m.homes.items i o;
         sized = subst IsSize (sym (length-set m.homes.items i o)) m.sized;
         placed = placed_set m.homes.items i o within (λ u e. ap (home_of (length m.homes.items)) (sym (after u e)) ∙ sym is) m.placed;
         apart = apart_set m.homes.items i o within m.beside (λ u e. ap (λ x. is_some (get nat_eq m.beside x)) (sym (after u e)) ∙ alone) m.apart;
@@ -336,6 +341,9 @@ module _ {P : Type 0} (m : Rows P) (t : ℕ) (away : is_held t (slice_get m.home
     count_more p =
         let sum = count-put m.beside beside t w (entries ∙ insert_entry-new nat_eq m.beside t w (sym kept_beside ∙ absent)) p in
         omega (arith, sum)
+
+    pub long_more : length beside.entries ≡ length m.beside.entries + 1
+    long_more = ap length (entries ∙ insert_entry-new nat_eq m.beside t w (sym kept_beside ∙ absent)) ∙ length-append m.beside.entries ((t, w) ∷ [])
 
     pub kept_more : AreKept (m.count + 1) m.homes.items beside
     kept_more =

@@ -46,7 +46,7 @@ all_append : (Q : ℕ → Type 0) (xs ys : List ℕ) → AllByRecursion Q xs →
 all_append Q [] ys each more = more
 all_append Q (x ∷ xs) ys each more = (each.0, all_append Q xs ys each.1 more)
 
-or_true : (b : Bool) → (b || true) ≡ true
+pub or_true : (b : Bool) → (b || true) ≡ true
 or_true true = refl
 or_true false = refl
 
@@ -75,7 +75,7 @@ same_truth true b there back = sym (there refl)
 same_truth false true there back = back refl
 same_truth false false there back = refl
 
-among_append : (x : ℕ) (xs ys : List ℕ) → is_among x (xs ++ ys) ≡ (is_among x xs || is_among x ys)
+pub among_append : (x : ℕ) (xs ys : List ℕ) → is_among x (xs ++ ys) ≡ (is_among x xs || is_among x ys)
 among_append x xs ys = sym (among_any x (xs ++ ys)) ∙ list_any-append (nat_eq x) xs ys ∙ ap₂ (λ a b. a || b) (among_any x xs) (among_any x ys)
 
 all_filter : (Q : ℕ → Type 0) (p : ℕ → Bool) (xs : List ℕ) → AllByRecursion Q xs → AllByRecursion Q (filter p xs)

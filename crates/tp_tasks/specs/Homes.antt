@@ -4,6 +4,7 @@ use Rattle.std.specs.Int.{IsPowerOfTwo}
 use Rattle.indexmap.specs.IndexMap.{IndexMap, get, values}
 use Rattle.tp_record.specs.declared.rows.TaskRow.{TaskRow}
 use Rattle.tp_record.specs.Fields.{is_queued_place}
+use Rattle.tp_record.specs.Lists.{is_among}
 use Rattle.tp_tasks.specs.declared.homes.Home.{Home}
 use Rattle.tp_tasks.specs.declared.table.Task.{Task}
 
@@ -15,11 +16,26 @@ home_of n t = t % n
 abbrev pub is_purgeable : TaskRow → Bool
 is_purgeable r = r.cancelled && is_queued_place r.place
 
+-- whether there is a row, and it passes the test
+abbrev pub passes : (TaskRow → Bool) → Option TaskRow → Bool
+passes p None = false
+passes p (Some r) = p r
+
 -- there is no home, or there are as many as some power of two
 abbrev pub IsSize : ℕ → Type 0
 IsSize n = ∥ (n ≡ 0) ⊎ IsPowerOfTwo n ∥₁
 
+-- task t is noted, where it is to be, and all that were stay
+pub record Notes (old new : List ℕ) (t : ℕ) (is : Bool) : Type 0 where
+  pub stay : (u : ℕ) → is_among u old ≡ true → is_among u new ≡ true
+  pub there : is ≡ true → is_among t new ≡ true
+  pub long : length new ≤ length old + 1
+
 module _ {P : Type 0} where
+  abbrev pub row_of_task : Option (Task P) → Option TaskRow
+  row_of_task None = None
+  row_of_task (Some t) = Some t.row
+
   -- task t, where it lies at this home
   abbrev pub held : ℕ → Option (Home P) → Option (Task P)
   held t None = None
@@ -108,3 +124,7 @@ module _ {P S : Type 0} where
   -- so many of them a purge takes
   abbrev pub ArePurgeable : ℕ → List (Option (Home P)) → IndexMap ℕ (Task P) S → Type 0
   ArePurgeable n homes beside = home_count is_purgeable homes + beside_count is_purgeable beside ≡ n
+
+  -- and each of these is in the list
+  abbrev pub AreNoted : List ℕ → List (Option (Home P)) → IndexMap ℕ (Task P) S → Type 0
+  AreNoted ts homes beside = (t : ℕ) → passes is_purgeable (row_of_task (found homes beside t)) ≡ true → is_among t ts ≡ true

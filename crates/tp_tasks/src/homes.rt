@@ -1,9 +1,9 @@
 //! Where the tasks lie.
 
-ghost use Rattle.std.specs.Prelude.{◌<◌, ◌^◌, length, nat_eq};
+ghost use Rattle.std.specs.Prelude.{◌+◌, ◌<◌, ◌≤◌, ◌^◌, length, nat_eq, vec_capacity};
 ghost use Rattle.std.proofs.Props.{props};
-ghost use Rattle.indexmap.specs.IndexMap.{IsUnique};
-ghost use Rattle.tp_tasks.specs.Homes.{IsSize, ArePlaced, AreApart, AreKept, ArePurgeable};
+ghost use Rattle.indexmap.specs.IndexMap.{IsUnique, index_map_len};
+ghost use Rattle.tp_tasks.specs.Homes.{IsSize, ArePlaced, AreApart, AreKept, ArePurgeable, AreNoted};
 
 use crate::table::Task;
 use indexmap::IndexMap;
@@ -25,6 +25,9 @@ pub struct Rows<P> {
     pub count: u32,
     /// How many of them a purge takes: they are queued and cancelled.
     pub purgeable: u32,
+    /// Each of these, in any order: a task is noted where a write has a purge take it, and goes off the list where a purge comes
+    /// to it. So the list also has tasks that left the queue since, and may have one twice.
+    pub noted: Vec<u32>,
     /// The tasks that lie beside.
     pub beside: IndexMap<u32, Task<P>>,
     /// Of each home the task that lies there.
@@ -36,4 +39,6 @@ pub struct Rows<P> {
     ghost counted: { AreKept count homes.items beside },
     ghost small: { count < 2 ^ 32 },
     ghost purged: { ArePurgeable purgeable homes.items beside },
+    ghost named: { AreNoted noted.items homes.items beside },
+    ghost roomy: { length homes.items + index_map_len beside ≤ vec_capacity noted },
 }

@@ -1,10 +1,11 @@
 //! The tasks of a pool, by number.
 
-ghost use Rattle.std.specs.Prelude.{ℕ, ◌≡◌, ◌↔◌, ◌+◌, ◌-◌, ◌<◌, ◌^◌, ◌&&◌, ◌++◌, ◌∷◌, [], true, false, not, drop, List, length, slice_get, option_map, nat_eq, is_none, option_copied, IsTrue, IsSome, IsOkUnless, IfOk, OnOk, Some, None, if◌then◌else◌};
+ghost use Rattle.std.specs.Prelude.{ℕ, ◌≡◌, ◌↔◌, ◌+◌, ◌-◌, ◌<◌, ◌^◌, ◌&&◌, ◌++◌, ◌∷◌, [], true, false, not, drop, List, length, slice_get, option_map, nat_eq, is_none, option_copied, IsTrue, IsSome, IfSome, IfNone, IsOkUnless, IfOk, OnOk, Some, None, if◌then◌else◌};
 ghost use Rattle.tp_types.specs.declared.tasks.Fate.{Fate};
 ghost use Rattle.tp_record.specs.declared.rows.TaskRow.{TaskRow};
 ghost use Rattle.tp_record.specs.State.{fate_of, is_fate, no_row};
 ghost use Rattle.tp_record.specs.Step.{is_of_group};
+ghost use Rattle.tp_tasks.specs.Homes.{is_purgeable, passes};
 ghost use Rattle.tp_tasks.specs.Kept.{AreSubmitted, AreCounted, AreGrouped, AreListed};
 
 use crate::fates::Fates;
@@ -376,6 +377,19 @@ impl<P> Tasks<P> {
         ensures { result ≡ purgeable_of self.now }
     {
         table::purgeable(&self.tasks)
+    }
+
+    /// One of these, None where there is none. Each task is looked at once after it was cancelled in the queue: the last ones that
+    /// have left it since go off the list here.
+    pub fn next_purgeable(&mut self) -> Option<TaskId>
+        ensures unchanged { IsUnchanged self.old self.new }
+        ensures taken { IfSome result (λ t. passes is_purgeable (row_of self.new t.0) ≡ true) }
+        ensures none { IfNone result (purgeable_of self.new ≡ 0) }
+    {
+        match table::next_purgeable(&mut self.tasks) {
+            Some(t) => Some(TaskId(t)),
+            None => None,
+        }
     }
 
     /// How many tasks came to this fate.

@@ -29,8 +29,6 @@ pub enum Answer {
     Placed(Result<u64, u64>),
     /// A value, and the place under which it waits.
     First(Option<(u64, u64)>),
-    /// How many tasks were counted, and how many were taken out.
-    Swept(usize, u32),
     Rests(Rest),
     Seat(Option<SlotRow>),
     Row(Option<TaskRow>),

@@ -1,6 +1,7 @@
 //! What each seat sees of the published state.
 
-ghost use Rattle.std.specs.Prelude.{◌≡◌, []};
+ghost use Rattle.std.specs.Prelude.{◌≡◌};
+ghost use Rattle.tp_glance.specs.Word.{no_history};
 
 use crate::compare::same;
 use std::marker::Brand;
@@ -8,6 +9,7 @@ use std::process::Abort;
 use std::test::Fail;
 use tp_glance::glance::{BlankGlance, BookSeat, Glance, Naming, PassSeat};
 use tp_record::entries::{Ask, Did, Entry};
+use tp_types::ids::TaskId;
 use tp_types::states::RunState;
 
 const SHUTDOWN: Entry = Entry {
@@ -40,7 +42,7 @@ fn raise_twice<G: Naming>(
     book: &mut BookSeat<G>,
     seat: &mut PassSeat<G>,
 )
-    requires { book.old ≡ [] }
+    requires { book.old ≡ no_history }
 {
     let before = glance.raise(book, seat, &SHUTDOWN, RunState::Shutdown);
     same(rt, 1, &before, &RunState::Running);
@@ -51,7 +53,7 @@ fn raise_twice<G: Naming>(
     sees(rt, 4, glance, seat, RunState::Tidying);
 }
 
-// What another seat sees then, and the book's own.
+// What another seat sees then, and the book's own, also once a task is forgotten.
 fn look_on<G: Naming>(
     rt: &impl Abort,
     glance: &Glance<G>,
@@ -61,7 +63,9 @@ fn look_on<G: Naming>(
     sees(rt, 5, glance, seat, RunState::Tidying);
     glance.show(book, seat);
     glance.law_is_front(book, seat);
+    glance.forget(book, TaskId(0));
     same(rt, 6, &glance.published(book), &RunState::Tidying);
+    sees(rt, 7, glance, seat, RunState::Tidying);
 }
 
 // What other seats see of a raise, and when.

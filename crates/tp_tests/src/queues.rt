@@ -2,12 +2,11 @@
 
 ghost use Rattle.std.specs.Prelude.{◌≤◌};
 
-use crate::compare::Answer::{self, Count, Done, Holds, Placed, Refused, Swept, Task};
+use crate::compare::Answer::{self, Count, Done, Holds, Placed, Refused, Task};
 use crate::compare::{Tested, asks, play, same};
 use std::alloc::{AllocError, Global};
 use std::process::Abort;
 use std::test::Fail;
-use tp_line::sweeps::Sweeper;
 use tp_queue::bounded::Bounded;
 use tp_queue::queues::Queue;
 use tp_queue::unbounded::Unbounded;
@@ -23,39 +22,11 @@ enum Call {
     /// An offer at this priority.
     OfferAt(u32, u32),
     Remove(u32, u64),
-    /// The tasks of odd numbers are counted and taken out.
-    SweepOdd,
     Head,
     TakeHead,
     Len,
     IsFull,
     Reserve(usize),
-}
-
-/// Takes the tasks of odd numbers.
-#[derive(Drop)]
-struct Odd {
-    taken: u32,
-}
-
-impl Sweeper<TaskId> for Odd {
-    ghost use Rattle.std.specs.Prelude.{◌==◌, ◌%◌};
-
-    ghost takes = { λ _ t. t.0 % 2 == 1 };
-
-    ghost took = { λ _ _ _. Unit {0} };
-
-    fn wants(&self, task: TaskId) -> bool {
-        task.0 % 2 == 1
-    }
-
-    fn take(&mut self, task: TaskId) -> bool {
-        let odd = self.wants(task);
-        if odd {
-            self.taken = self.taken.wrapping_add(1);
-        }
-        odd
-    }
 }
 
 /// A queue, with a bound on the offers made to it.
@@ -79,13 +50,6 @@ impl<Q: WorkQueue> Tasks<Q> {
         })
     }
 
-    fn sweep_odd(&mut self) -> Answer {
-        let mut odd = Odd { taken: 0 };
-        let counted = self.queue.count(&odd);
-        self.queue.sweep(&mut odd);
-        Swept(counted, odd.taken)
-    }
-
     /// Takes out all tasks at once.
     fn drain(&mut self, alloc: Global) -> Result<Vec<TaskId>, AllocError> {
         let mut tasks = Vec::with_capacity(alloc, self.queue.len())?;
@@ -105,7 +69,6 @@ impl<Q: WorkQueue> Tested for Tasks<Q> {
                 self.queue.remove(priority, place);
                 Done
             }
-            Call::SweepOdd => self.sweep_odd(),
             Call::Head => Task(self.queue.head()),
             Call::TakeHead => Task(self.queue.take_head()),
             Call::Len => Count(self.queue.len()),
@@ -281,7 +244,7 @@ fn plays(
     Ok(())
 }
 
-const RANKED: [(Call, Answer); 18] = [
+const RANKED: [(Call, Answer); 19] = [
     (Call::OfferAt(0, 5), Placed(Err(0))),
     (Call::Reserve(9), Done),
     (Call::OfferAt(0, 5), Placed(Ok(0))),
@@ -296,7 +259,8 @@ const RANKED: [(Call, Answer); 18] = [
     (Call::TakeHead, Task(Some(TaskId(2)))),
     (Call::OfferAt(6, 0), Placed(Ok(6))),
     // They wait as 4 6 5 0 1.
-    (Call::SweepOdd, Swept(2, 2)),
+    (Call::Remove(u32::MAX, 1), Done),
+    (Call::Remove(2, 5), Done),
     (Call::Len, Count(3)),
     (Call::TakeHead, Task(Some(TaskId(4)))),
     (Call::TakeHead, Task(Some(TaskId(6)))),
@@ -310,13 +274,14 @@ fn priority_queue_goes_by_priority_and_then_by_offer(rt: HostRuntime) -> Result<
     Ok(())
 }
 
-const UNRANKED: [(Call, Answer); 9] = [
+const UNRANKED: [(Call, Answer); 10] = [
     (Call::Reserve(4), Done),
     (Call::OfferAt(0, 9), Placed(Ok(0))),
     (Call::OfferAt(1, 8), Placed(Ok(1))),
     (Call::OfferAt(2, 7), Placed(Ok(2))),
     (Call::OfferAt(3, 6), Placed(Ok(3))),
-    (Call::SweepOdd, Swept(2, 2)),
+    (Call::Remove(6, 3), Done),
+    (Call::Remove(0, 1), Done),
     (Call::TakeHead, Task(Some(TaskId(0)))),
     (Call::TakeHead, Task(Some(TaskId(2)))),
     (Call::TakeHead, Task(None)),
@@ -329,12 +294,11 @@ fn other_queues_go_by_offer(rt: HostRuntime) -> Result<(), Fail> {
     Ok(())
 }
 
-const HANDOFF: [(Call, Answer); 6] = [
+const HANDOFF: [(Call, Answer); 5] = [
     (Call::Reserve(1 << 60), Done),
     (Call::IsFull, Holds(true)),
     (Call::Offer(5), Placed(Err(5))),
     (Call::Remove(0, 0), Done),
-    (Call::SweepOdd, Swept(0, 0)),
     (Call::TakeHead, Task(None)),
 ];
 

@@ -9,6 +9,14 @@ use Rattle.tp_controllers.proofs.Purges.{holds_queued}
 use Rattle.tp_parts.specs.Terms.{terms}
 use Rattle.tp_controllers.proofs.purge.apply.Goals as goal
 
+pub purge-requires-clause-known : goal.purge-requires-clause-known
+purge-requires-clause-known g c =
+    let stands = c.requires.stands in
+    (_, stands.shows.seen, holds_queued (terms c.args.parts.now) stands.history stands.released stands.legal stands.may)
+
+pub purge-requires-clause-tied : goal.purge-requires-clause-tied
+purge-requires-clause-tied g c = (_, _, c.requires.stands.tied)
+
 pub count_entry-requires : goal.count_entry-requires
 count_entry-requires g c =
     let old = c.args.parts.now in

@@ -1,7 +1,8 @@
-use Rattle.std.proofs.Common.{ap, arith}
-use Rattle.tp_tasks.specs.Homes.{is_purgeable}
+use Rattle.std.proofs.Common.{ap, ◌∙◌, arith}
+use Rattle.tp_tasks.specs.Homes.{is_purgeable, passes, row_of_task}
 use Rattle.tp_tasks.specs.Table.{task_in}
-use Rattle.tp_tasks.proofs.AtHome.{one, apart_other, task_other, count_more, kept_more}
+use Rattle.tp_tasks.proofs.AtHome.{one, apart_other, task_other, others_other, long_more, count_more, kept_more}
+use Rattle.tp_tasks.proofs.Noted.{named_off}
 use Rattle.tp_tasks.proofs.table.put_beside.Goals as goal
 
 pub overflow_add-tasks : goal.overflow_add-tasks
@@ -27,6 +28,12 @@ invariant_of-tasks g c =
       counted = kept_more m c.args.t c.requires.away c.insert.new.self c.args.task c.in-Ok.ensures.entries c.requires.absent;
       small = omega (arith, all, few);
       purged = omega (arith, sum, taken, stays);
+      named = named_off m c.args.t m.homes.items c.insert.new.self (others_other m c.args.t c.requires.away c.insert.new.self _ c.in-Ok.ensures.updates)
+          (ap (λ o. passes is_purgeable (row_of_task o)) (task_other m c.args.t c.requires.away c.insert.new.self _ c.in-Ok.ensures.updates) ∙ c.requires.stays);
+      roomy =
+          let more = long_more m c.args.t c.requires.away c.insert.new.self c.args.task c.in-Ok.ensures.entries c.requires.absent in
+          let room = c.requires.room in
+          omega (arith, more, room);
     }
 
 pub returns-clause-task : goal.returns-clause-task

@@ -1,7 +1,8 @@
 use Rattle.std.proofs.Common.{true, Some, ap, sym, ◌∙◌, arith}
-use Rattle.tp_tasks.specs.Homes.{is_purgeable, home_passes}
+use Rattle.tp_tasks.specs.Homes.{is_purgeable, passes, row_of_task, home_passes}
 use Rattle.tp_tasks.specs.Table.{task_in}
 use Rattle.tp_tasks.proofs.AtHome.{one, here, purged_few, is_taken, is_nothing, alone, remove_home, row_home}
+use Rattle.tp_tasks.proofs.Noted.{named_off}
 use Rattle.tp_tasks.proofs.table.remove.Goals as goal
 
 pub overflow_sub-tasks : goal.overflow_sub-tasks
@@ -47,6 +48,9 @@ invariant_of-tasks g c =
       counted = omega (arith, less, all);
       small = omega (arith, less, all, small);
       purged = omega (arith, sum, taken, before, now);
+      named = named_off m c.args.t _ m.beside x.others
+          (ap (λ o. passes is_purgeable (row_of_task o)) (x.task ∙ is_nothing _ (alone m c.args.t c.place_of-place.result c.place_of-place.ensures h.0 h.1 h.2)));
+      roomy = let len = x.len in let roomy = m.roomy in omega (arith, len, roomy);
     }
 
 pub returns-then-is_at-clause-task : goal.returns-then-is_at-clause-task

@@ -1,7 +1,8 @@
 use Rattle.std.proofs.Common.{sym, ap, ◌∙◌, arith}
-use Rattle.tp_tasks.specs.Homes.{is_purgeable}
-use Rattle.tp_tasks.specs.Table.{row_of_task, task_in}
-use Rattle.tp_tasks.proofs.AtHome.{one, purged_few, apart_other, task_other, count_out, count_less, some_beside, kept_less}
+use Rattle.tp_tasks.specs.Homes.{is_purgeable, passes, row_of_task}
+use Rattle.tp_tasks.specs.Table.{task_in}
+use Rattle.tp_tasks.proofs.AtHome.{one, purged_few, apart_other, task_other, others_other, count_out, count_less, some_beside, kept_less}
+use Rattle.tp_tasks.proofs.Noted.{named_off}
 use Rattle.tp_tasks.proofs.table.remove_beside.Goals as goal
 
 pub overflow_sub-tasks : goal.overflow_sub-tasks
@@ -37,6 +38,9 @@ invariant_of-tasks g c =
       counted = kept_less m c.args.t c.requires c.swap_remove.new.self c.swap_remove.ensures.entries c.in-Some.task there;
       small = omega (arith, small);
       purged = omega (arith, sum, taken, before, now);
+      named = named_off m c.args.t m.homes.items c.swap_remove.new.self (others_other m c.args.t c.requires c.swap_remove.new.self _ c.swap_remove.ensures.updates)
+          (ap (λ o. passes is_purgeable (row_of_task o)) (task_other m c.args.t c.requires c.swap_remove.new.self _ c.swap_remove.ensures.updates));
+      roomy = let less = c.swap_remove.ensures.len in let roomy = m.roomy in omega (arith, less, roomy);
     }
 
 pub returns-in-Some-clause-task : goal.returns-in-Some-clause-task

@@ -1,5 +1,5 @@
-use Rattle.std.proofs.Common.{◌≡◌, ◌++◌, cond, length, sym, ap, subst, ◌∙◌}
-use Rattle.tp_tasks.specs.Homes.{IsSize, ArePlaced, AreApart, AreKept, ArePurgeable}
+use Rattle.std.proofs.Common.{◌≡◌, ◌++◌, cond, length, sym, ap, subst, ◌∙◌, arith}
+use Rattle.tp_tasks.specs.Homes.{IsSize, ArePlaced, AreApart, AreKept, ArePurgeable, AreNoted}
 use Rattle.tp_tasks.proofs.table.take_space.Goals as goal
 
 pub invariant_of-tasks : goal.invariant_of-tasks
@@ -18,4 +18,6 @@ invariant_of-tasks g c =
       counted = subst (λ hs. AreKept m.count hs m.beside) same m.counted;
       small = m.small;
       purged = subst (λ hs. ArePurgeable m.purgeable hs m.beside) same m.purged;
+      named = subst (λ hs. AreNoted m.noted.items hs m.beside) same m.named;
+      roomy = let len = ap length same in let roomy = m.roomy in omega (arith, len, roomy);
     }
