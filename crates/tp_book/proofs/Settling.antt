@@ -1,115 +1,105 @@
 -- What a machine forgets, as the book does.
-use Rattle.std.proofs.Common.{◌≡◌, ◌⊎◌, ℕ, Bool, true, false, List, [], ◌∷◌, ◌++◌, None, sym, ap, subst, refl, ◌∙◌, inl, inr}
-use Rattle.std.specs.Prelude.{nat_eq, Result, Ok, Err, OnOk, IfErr}
-use Rattle.std.proofs.lemmas.List.{append_assoc}
-use Rattle.std.proofs.lemmas.Bool.{eqb-true}
+use Rattle.std.proofs.Common.{◌≡◌, ◌+◌, ℕ, Bool, true, false, List, [], ◌∷◌, ◌++◌, length, sym, ap, subst, refl, ◌∙◌, inl, inr, arith}
+use Rattle.std.proofs.lemmas.Bool.{true≢false}
 use Rattle.tp_types.specs.declared.configs.Config.{Config}
-use Rattle.tp_types.specs.declared.refusals.PoolError.{PoolError}
 use Rattle.tp_record.specs.declared.entries.Entry.{Entry}
 use Rattle.tp_record.specs.Left.{left, MayRelease}
 use Rattle.tp_record.specs.State.{State, state}
-use Rattle.tp_tasks.specs.Tasks.{task_of, KeepsOthers}
+use Rattle.tp_left.proofs.LeftOut.{left_length}
+use Rattle.tp_tasks.specs.Tasks.{KeepsOthers}
+use Rattle.tp_glance.specs.declared.view.History.{History}
+use Rattle.tp_glance.specs.Word.{with_released}
 use Rattle.tp_machine.specs.Seen.{Seen, At, config_of}
 use Rattle.tp_machine.specs.Readings.{EachState}
-use Rattle.tp_machine.specs.Releases.{IsSettled, IsSameOrNone, MayForget}
+use Rattle.tp_machine.specs.Releases.{MayForget}
 use Rattle.tp_book.specs.PassView.{AccountsView}
-use Rattle.tp_book.specs.BookView.{BookView, IsHeld, Releases, Forgets, EachLeft, tells, config, state_of}
-use Rattle.tp_book.proofs.Reading.{IsFree, seen}
-use Rattle.tp_book.proofs.Stepping.{own_at, book_at}
+use Rattle.tp_book.specs.BookView.{BookView, IsHeld, Forgets, Settles, SettlesAll, tells, config, left_of, released_of, state_of}
+use Rattle.tp_book.proofs.Reading.{LetsNone, seen}
+use Rattle.tp_book.proofs.Stepping.{book_at}
 
 -- a machine stands at the history still after it forgot a task
-pub settled : {P R : Type 0} (told : R → List Entry → List ℕ → Type 0) (terms : Config → Config) (mid new : Seen P R) (h : List Entry) (t : ℕ) → IsHeld told terms mid h →
-    ((h : List Entry) (rs : List ℕ) → At told mid h rs → IsSettled told mid new h rs t) → config_of new ≡ config_of mid → IsHeld told terms new h
-settled told terms mid new h t held stands config = elim (stands h held.released held.stands) [
-  | inl at ↦ record { released = held.released; stands = at; settings = held.settings; judged = config ∙ held.judged }
-  | inr more ↦ record { released = t ∷ held.released; stands = more.1; settings = held.settings; judged = config ∙ held.judged }
-]
+pub settled : {P R : Type 0} (told : R → List Entry → List ℕ → Type 0) (terms : Config → Config) (mid new : Seen P R) (h : History) (t : ℕ) → IsHeld told terms mid h →
+    At told new h.entries (t ∷ h.released) → config_of new ≡ config_of mid → IsHeld told terms new (with_released t h)
+settled told terms mid new h t held stands config = record { stands = stands; settings = held.settings; judged = config ∙ held.judged }
 
-module _ {P R : Type 0} (told : R → List Entry → List ℕ → Type 0) (terms : Config → Config) (keeps : Bool) (free : IsFree told keeps) (old : BookView P) (mid : Seen P R)
-    (accounts : AccountsView) (history : List Entry) (held : IsHeld told terms mid history) (is : seen mid history keeps accounts ≡ old) where
-  own : (rs : List ℕ) → At tells old.machine old.history rs → At told mid history rs
-  own rs at = own_at told keeps free mid history history held.released rs held.stands.told accounts (subst (λ (x : BookView P). At tells x.machine x.history rs) (sym is) at)
+-- what is left without tasks has so many left out
+more_out : (rs : List ℕ) (s : State) → length (left rs s).left_out ≡ length rs + length s.left_out
+more_out [] s = omega arith
+more_out (t ∷ rs) s = let more : length (left rs s).left_out ≡ length rs + length s.left_out = more_out rs s in omega (arith, more)
 
-  -- what holds of each state that is left
-  pub each_left : (F : State → Type 0) → EachState told mid F → EachLeft old F
-  each_left F each rs at = subst (λ x. F (left rs (state_of x))) is (each history rs (own rs at))
+not_kept : (keeps : Bool) → (keeps ≡ true → true ≡ false) → keeps ≡ false
+not_kept true never = never refl
+not_kept false never = refl
+
+module _ {P R : Type 0} (told : R → List Entry → List ℕ → Type 0) (terms : Config → Config) (keeps : Bool) (free : LetsNone told keeps) (old : BookView P) (mid : Seen P R)
+    (accounts : AccountsView) (history : History) (held : IsHeld told terms mid history) (is : seen mid history keeps accounts ≡ old) where
+  -- what holds of each state of the machine holds of what is left
+  pub each_left : (F : State → Type 0) → EachState told mid F → F (left_of old)
+  each_left F each = subst (λ b. F (left_of b)) is (each history.entries history.released held.stands)
 
   module _ (new : Seen P R) (t : ℕ) (others : KeepsOthers mid.parts.tasks new.parts.tasks t) (same : config_of new ≡ config_of mid) where
-    theirs : KeepsOthers old.machine.parts.tasks new.parts.tasks t
-    theirs = subst (λ (x : BookView P). KeepsOthers x.machine.parts.tasks new.parts.tasks t) is others
+    forgets : MayRelease (left_of old) t → At told new history.entries (t ∷ history.released) → Forgets old (seen new (with_released t history) keeps accounts) t
+    forgets may at = record {
+      may = may;
+      stands =
+          subst (λ rs. At tells (seen new (with_released t history) keeps accounts).machine history.entries (t ∷ rs)) (ap released_of is)
+          (book_at told keeps free new (with_released t history) history.entries (t ∷ history.released) refl refl accounts at);
+      others = subst (λ (x : BookView P). KeepsOthers x.machine.parts.tasks new.parts.tasks t) is others;
+      config = same ∙ ap config is;
+      history = ap (λ (x : BookView P). x.history) is;
+      accounts = ap (λ (x : BookView P). x.accounts) is;
+    }
 
-    pub forgets_here : ((h : List Entry) (rs : List ℕ) → At told mid h rs → MayForget (left rs (state (config_of mid) h)) t → At told new h (t ∷ rs)) →
-        (rs : List ℕ) → At tells old.machine old.history rs → MayForget (left rs (state_of old)) t → At tells (seen new history keeps accounts).machine history (t ∷ rs)
-    forgets_here goes rs at may =
-        book_at told keeps free new history history (t ∷ rs) refl accounts
-        (goes history rs (own rs at) (subst (λ x. MayForget (left rs (state_of x)) t) (sym is) may))
+    -- it forgot the task
+    pub settles : (forgot : Bool) → forgot ≡ true → (keeps ≡ true → forgot ≡ false) → (forgot ≡ true → (h : List Entry) (rs : List ℕ) → At told mid h rs → MayForget (left rs (state (config_of mid) h)) t) →
+        At told new history.entries (t ∷ history.released) → Settles keeps old (seen new (with_released t history) keeps accounts) t
+    settles forgot so whole goes at =
+        let may : MayForget (left_of old) t = each_left (λ s. MayForget s t) (goes so) in
+        inl (not_kept keeps (λ kept. sym so ∙ whole kept), may, forgets may.may at)
 
-    pub releases : ((h : List Entry) (rs : List ℕ) → At told mid h rs → IsSettled told mid new h rs t) → (keeps ≡ true → new ≡ mid) →
-        IsSameOrNone (task_of mid.parts.tasks t) (task_of new.parts.tasks t) → Releases keeps old (seen new history keeps accounts)
-    releases stands whole task =
-        record {
-          stands = λ rs at. elim (stands history rs (own rs at)) [
-            | inl still ↦ ([], book_at told keeps free new history history rs refl accounts still)
-            | inr more ↦ (t ∷ [], book_at told keeps free new history history (t ∷ rs) refl accounts more.1)
-          ];
-          tasks = λ u. each u (nat_eq t u) refl;
-          config = same ∙ ap config is;
-          history = ap (λ (x : BookView P). x.history) is;
-          accounts = ap (λ (x : BookView P). x.accounts) is;
-          whole = λ kept. ap (λ m. seen m history keeps accounts) (whole kept) ∙ is;
-        }
-      where
-        own_task : (task_of new.parts.tasks t ≡ task_of old.machine.parts.tasks t) ⊎ (task_of new.parts.tasks t ≡ None)
-        own_task = subst (λ (x : BookView P). (task_of new.parts.tasks t ≡ task_of x.machine.parts.tasks t) ⊎ (task_of new.parts.tasks t ≡ None)) is task
+    -- it has forgotten the task that it was to forget
+    pub forgotten : ((h : List Entry) (rs : List ℕ) → At told mid h rs → MayRelease (left rs (state (config_of mid) h)) t × At told new h (t ∷ rs)) →
+        Forgets old (seen new (with_released t history) keeps accounts) t
+    forgotten goes = forgets (each_left (λ s. MayRelease s t) (λ h rs at. (goes h rs at).0)) (goes history.entries history.released held.stands).1
 
-        each : (u : ℕ) (b : Bool) → nat_eq t u ≡ b → (task_of new.parts.tasks u ≡ task_of old.machine.parts.tasks u) ⊎ (task_of new.parts.tasks u ≡ None)
-        each u true here = subst (λ n. (task_of new.parts.tasks n ≡ task_of old.machine.parts.tasks n) ⊎ (task_of new.parts.tasks n ≡ None)) (eqb-true t u here) own_task
-        each u false apart = inl (theirs u apart)
+  -- it forgot nothing
+  pub stays_settled : (new : Seen P R) (t : ℕ) → new ≡ mid → (keeps ≡ false → (h : List Entry) (rs : List ℕ) → At told mid h rs → ¬ MayForget (left rs (state (config_of mid) h)) t) →
+      Settles keeps old (seen new history keeps accounts) t
+  stays_settled new t same never =
+      inr ((λ none. each_left (λ s. ¬ MayForget s t) (never none)), ap (λ m. seen m history keeps accounts) same ∙ is)
 
-    pub forgotten : {X E : Type 0} (r : Result X E) → OnOk r ((h : List Entry) (rs : List ℕ) → At told mid h rs → MayRelease (left rs (state (config_of mid) h)) t × At told new h (t ∷ rs)) →
-        OnOk r (Forgets old (seen new history keeps accounts) t)
-    forgotten (Ok x) goes =
-        record {
-          released =
-              λ rs at.
-              let now = goes history rs (own rs at) in
-              (subst (λ b. MayRelease (left rs (state_of b)) t) is now.0, book_at told keeps free new history history (t ∷ rs) refl accounts now.1);
-          others = theirs;
-          config = same ∙ ap config is;
-          history = ap (λ (x : BookView P). x.history) is;
-          accounts = ap (λ (x : BookView P). x.accounts) is;
-        }
-    forgotten (Err e) goes = tt
+  -- what is not kept was released
+  pub counts_kept : (n : ℕ) → EachState told mid (λ s. n + length s.left_out ≡ length s.tasks) → n + length (released_of old) ≡ length (state_of old).tasks
+  counts_kept n each =
+      subst (λ b. n + length (released_of b) ≡ length (state_of b).tasks) is
+      (let whole = each history.entries history.released held.stands in
+      let out = more_out history.released (state (config_of mid) history.entries) in
+      let all = left_length history.released (state (config_of mid) history.entries) in
+      let none : length (state (config_of mid) history.entries).left_out ≡ 0 = refl in
+      let kept : n + length history.released ≡ length (state (config_of mid) history.entries).tasks = omega (arith, whole, out, all, none) in
+      kept)
 
-  -- a refusal that holds of each state of the machine holds of each that is left
-  pub kept_left : {X : Type 0} (r : Result X PoolError) (F : State → PoolError → Type 0) → IfErr r (λ e. EachState told mid (λ s. F s e)) → IfErr r (λ e. EachLeft old (λ s. F s e))
-  kept_left (Ok x) F each = tt
-  kept_left (Err e) F each = each_left (λ s. F s e) each
-
--- Settling more than one task
+-- More than one task
 
 module _ {P : Type 0} (keeps : Bool) where
-  pub releases_none : (b : BookView P) → Releases keeps b b
-  releases_none b = record { stands = λ rs at. ([], at); tasks = λ t. inl refl; config = refl; history = refl; accounts = refl; whole = λ kept. refl }
+  settled_config : (old new : BookView P) (t : ℕ) → Settles keeps old new t → config new ≡ config old
+  settled_config old new t (inl gone) = gone.2.config
+  settled_config old new t (inr same) = ap config same.1
 
-  pub releases_then : (old mid new : BookView P) → Releases keeps old mid → Releases keeps mid new → Releases keeps old new
-  releases_then old mid new first later =
-      record {
-        stands =
-            λ rs at.
-            let one = first.stands rs at in
-            let more = later.stands (one.0 ++ rs) one.1 in
-            (more.0 ++ one.0, subst (λ xs. At tells new.machine new.history xs) (sym (append_assoc more.0 one.0 rs)) more.1);
-        tasks = λ t. kept t (later.tasks t) (first.tasks t);
-        config = later.config ∙ first.config;
-        history = later.history ∙ first.history;
-        accounts = later.accounts ∙ first.accounts;
-        whole = λ kept. later.whole kept ∙ first.whole kept;
-      }
-    where
-      kept : (t : ℕ) → (task_of new.machine.parts.tasks t ≡ task_of mid.machine.parts.tasks t) ⊎ (task_of new.machine.parts.tasks t ≡ None) →
-          (task_of mid.machine.parts.tasks t ≡ task_of old.machine.parts.tasks t) ⊎ (task_of mid.machine.parts.tasks t ≡ None) →
-          (task_of new.machine.parts.tasks t ≡ task_of old.machine.parts.tasks t) ⊎ (task_of new.machine.parts.tasks t ≡ None)
-      kept t (inr gone) was = inr gone
-      kept t (inl same) (inl was) = inl (same ∙ was)
-      kept t (inl same) (inr gone) = inr (same ∙ gone)
+  settled_history : (old new : BookView P) (t : ℕ) → Settles keeps old new t → new.history ≡ old.history
+  settled_history old new t (inl gone) = gone.2.history
+  settled_history old new t (inr same) = ap (λ (b : BookView P). b.history) same.1
+
+  -- they change neither the settings nor the history
+  pub all_config : (old new : BookView P) (ts : List ℕ) → SettlesAll keeps old new ts → config new ≡ config old
+  all_config old new [] same = ap config same
+  all_config old new (t ∷ ts) all = all_config all.0 new ts all.2 ∙ settled_config old all.0 t all.1
+
+  pub all_history : (old new : BookView P) (ts : List ℕ) → SettlesAll keeps old new ts → new.history ≡ old.history
+  all_history old new [] same = ap (λ (b : BookView P). b.history) same
+  all_history old new (t ∷ ts) all = all_history all.0 new ts all.2 ∙ settled_history old all.0 t all.1
+
+  -- one task more
+  pub settles_more : (old mid new : BookView P) (ts : List ℕ) (t : ℕ) → SettlesAll keeps old mid ts → Settles keeps mid new t → SettlesAll keeps old new (ts ++ t ∷ [])
+  settles_more old mid new [] t same one = (new, subst (λ b. Settles keeps b new t) same one, refl)
+  settles_more old mid new (u ∷ us) t all one = (all.0, all.1, settles_more all.0 mid new us t all.2 one)

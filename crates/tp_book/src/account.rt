@@ -2,7 +2,7 @@
 ghost use Rattle.std.specs.Prelude.{◌≡◌, ◌+◌, ◌∷◌};
 ghost use Rattle.tp_types.specs.RunState.{state_rank};
 ghost use Rattle.tp_record.specs.Fields.{rank};
-ghost use Rattle.tp_glance.specs.Word.{IsFrontOf};
+ghost use Rattle.tp_glance.specs.Word.{IsFrontOf, with_entry};
 
 use std::marker::Model;
 use std::sync::ledger;
@@ -25,7 +25,7 @@ impl<G: Naming> Model for Account<G> {
 
     ghost Value = { AccountView };
 
-    ghost view = { λ a. record { number = a.number; amount = a.share.amount; front = a.seat } };
+    ghost view = { λ a. record { number = a.number; amount = a.share.amount; front = a.seat.entries; released = a.seat.released } };
 
     ghost invariant = { λ a. a.share.parts ≡ 1 };
 }
@@ -43,15 +43,17 @@ impl<G: Naming> Account<G> {
     pub fn glance(&mut self, glance: &Glance<G>) -> RunState
         ensures state { state_rank result ≡ rank self.new.front }
         ensures goes_on { IsFrontOf self.old.front self.new.front }
-        ensures same { self.new ≡ record self.old { front = self.new.front } }
+        ensures same { self.new ≡ record self.old { front = self.new.front; released = self.new.released } }
+        ensures released { IsFrontOf self.old.released self.new.released }
     {
         glance.glance(&mut self.seat)
     }
 
     // Lets the seat know the whole history.
     pub fn learn(&mut self, glance: &Glance<G>, book: &mut BookSeat<G>)
-        ensures seen { self.new ≡ record self.old { front = book.old } }
-        ensures goes_on { IsFrontOf self.old.front book.old }
+        ensures seen { self.new ≡ record self.old { front = book.old.entries; released = book.old.released } }
+        ensures goes_on { IsFrontOf self.old.front book.old.entries }
+        ensures released { IsFrontOf self.old.released book.old.released }
         ensures same { book.new ≡ book.old }
     {
         glance.show(book, &mut self.seat);
@@ -59,7 +61,7 @@ impl<G: Naming> Account<G> {
 
     // The law that what the seat knows is a front of the history.
     pub fn law_is_front(&mut self, glance: &Glance<G>, book: &mut BookSeat<G>)
-        ensures front { IsFrontOf self.old.front book.old }
+        ensures front { IsFrontOf self.old.front book.old.entries }
         ensures same { (self.new ≡ self.old) × (book.new ≡ book.old) }
     {
         glance.law_is_front(book, &mut self.seat);
@@ -75,11 +77,11 @@ impl<G: Naming> Account<G> {
         before: RunState,
         after: RunState,
     )
-        requires before { state_rank before ≡ rank book.old }
-        requires after { state_rank after ≡ rank (entry.now ∷ book.old) }
-        ensures noted { book.new ≡ entry.now ∷ book.old }
-        ensures seen { self.new ≡ record self.old { front = book.new } }
-        ensures knew { IsFrontOf self.old.front book.old }
+        requires before { state_rank before ≡ rank book.old.entries }
+        requires after { state_rank after ≡ rank (entry.now ∷ book.old.entries) }
+        ensures noted { book.new ≡ with_entry entry.now book.old }
+        ensures seen { self.new ≡ record self.old { front = book.new.entries; released = book.new.released } }
+        ensures knew { IsFrontOf self.old.front book.old.entries }
     {
         if after.rank() == before.rank() {
             glance.note(book, &mut self.seat, entry);
@@ -90,7 +92,7 @@ impl<G: Naming> Account<G> {
 
     // A seat that knows what this one knows.
     pub fn split_seat(&mut self, glance: &Glance<G>) -> PassSeat<G>
-        ensures begins { result ≡ self.old.front }
+        ensures begins { result ≡ record { entries = self.old.front; released = self.old.released } }
         ensures same { self.new ≡ self.old }
     {
         glance.split(&mut self.seat)

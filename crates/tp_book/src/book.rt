@@ -1,13 +1,10 @@
 //! The value under a pool's lock: the machine with its record, the book's side of the ledger, and the seat
 //! that raises the word.
-ghost use Rattle.std.specs.Prelude.{ℕ, ◌≡◌, ◌⊎◌, ◌<◌, ◌+◌, List, [], ◌∷◌, false, length, IsOk, IfOk, OnOk, IfErr, OnErr, Err};
+ghost use Rattle.std.specs.Prelude.{◌≡◌, ◌⊎◌, ◌<◌, ◌+◌, [], length, IsOk, IfOk, OnOk, IfErr, OnErr, Err};
 ghost use Rattle.tp_types.specs.Config.{IsConfig, checked};
 ghost use Rattle.tp_types.specs.RunState.{state_rank};
 ghost use Rattle.tp_record.specs.Step.{Legal};
-ghost use Rattle.tp_record.specs.Left.{left};
-ghost use Rattle.tp_machine.specs.Releases.{MayForget};
-ghost use Rattle.tp_machine.specs.Seen.{At};
-ghost use Rattle.tp_book.specs.BookView.{Releases, StandsThere, tells, config, state_of};
+ghost use Rattle.tp_book.specs.BookView.{Settles, StandsThere, config, released_of};
 ghost use Rattle.tp_record.specs.Fields.{rank};
 ghost use Rattle.tp_glance.specs.Word.{IsFrontOf};
 
@@ -49,14 +46,14 @@ impl<G: Naming, P, R: Keeper> Model for Book<G, P, R> {
 
     ghost coded = { Prim.hlevel (codes, tasks_code P.code) };
 
-    // The seat knows the record, whether or not it is kept.
+    // The seat knows the record, whether or not it is kept, and the tasks that were released.
     ghost view = { λ b. record {
-      machine = record { parts = b.machine.parts; noted = record { history = b.seat; whole = R.RECEIPTS } };
+      machine = record { parts = b.machine.parts; noted = record { history = b.seat.entries; released = b.seat.released; whole = R.RECEIPTS } };
       accounts = b.accounts;
-      history = b.seat;
+      history = b.seat.entries;
     } };
 
-    ghost invariant = { λ b. IsHeld R.tells R.terms b.machine b.seat × (b.accounts.total ≡ length b.seat) };
+    ghost invariant = { λ b. IsHeld R.tells R.terms b.machine b.seat × (b.accounts.total ≡ length b.seat.entries) };
 }
 
 impl<G: Naming, P, R: Keeper> Book<G, P, R> {
@@ -77,7 +74,7 @@ impl<G: Naming, P, R: Keeper> Book<G, P, R> {
         ensures empty { IfOk result (λ r. r.0.history ≡ []) }
         ensures config { IfOk result (λ r. config r.0 ≡ R.terms settings) }
         ensures accounts { IfOk result (λ r. r.0.accounts ≡ record { total = 0; made = 1; callers = 1 }) }
-        ensures pass { IfOk result (λ r. r.2 ≡ record { number = 0; amount = 0; front = []; keeps = R.RECEIPTS; receipts = []; room = r.2.room }) }
+        ensures pass { IfOk result (λ r. r.2 ≡ record { number = 0; amount = 0; front = []; released = []; keeps = R.RECEIPTS; receipts = []; room = r.2.room }) }
         ensures good { OnOk result (IsConfig settings) }
         ensures refused { IfErr result (λ e. (checked settings ≡ Err e) ⊎ ((e ≡ PoolError.NoMemory) × IsConfig settings)) }
     {
@@ -103,7 +100,7 @@ impl<G: Naming, P, R: Keeper> Book<G, P, R> {
         glance: &Glance<G>,
         pass: &mut Pass<G>,
     ) -> Result<Pass<G>, PoolError>
-        ensures new { IfOk result (λ p. p ≡ record { number = self.old.accounts.made; amount = 0; front = pass.old.front; keeps = R.RECEIPTS; receipts = []; room = p.room }) }
+        ensures new { IfOk result (λ p. p ≡ record { number = self.old.accounts.made; amount = 0; front = pass.old.front; released = pass.old.released; keeps = R.RECEIPTS; receipts = []; room = p.room }) }
         ensures made { OnOk result (self.new ≡ record self.old { accounts = record self.old.accounts { made = self.old.accounts.made + 1; callers = self.old.accounts.callers + 1 } }) }
         ensures room { self.old.accounts.made < 4294967295 → IsOk result }
         ensures refused { IfErr result (λ e. e ≡ PoolError.BookFull) }
@@ -116,7 +113,7 @@ impl<G: Naming, P, R: Keeper> Book<G, P, R> {
     /// Makes a pass for one more caller, which knows the whole history. It is numbered and refused as by
     /// `split_pass`, with BookFull (5).
     pub fn new_pass(&mut self, alloc: Global, glance: &Glance<G>) -> Result<Pass<G>, PoolError>
-        ensures new { IfOk result (λ p. p ≡ record { number = self.old.accounts.made; amount = 0; front = self.old.history; keeps = R.RECEIPTS; receipts = []; room = p.room }) }
+        ensures new { IfOk result (λ p. p ≡ record { number = self.old.accounts.made; amount = 0; front = self.old.history; released = released_of self.old; keeps = R.RECEIPTS; receipts = []; room = p.room }) }
         ensures made { OnOk result (self.new ≡ record self.old { accounts = record self.old.accounts { made = self.old.accounts.made + 1; callers = self.old.accounts.callers + 1 } }) }
         ensures room { self.old.accounts.made < 4294967295 → IsOk result }
         ensures refused { IfErr result (λ e. e ≡ PoolError.BookFull) }
@@ -129,7 +126,7 @@ impl<G: Naming, P, R: Keeper> Book<G, P, R> {
     /// Makes a pass for a worker, which knows the whole history. It is numbered and refused as by
     /// `split_pass`, with BookFull (5), and takes no memory.
     pub fn new_worker_pass(&mut self, glance: &Glance<G>) -> Result<WorkerPass<G>, PoolError>
-        ensures new { IfOk result (λ p. p ≡ record { number = self.old.accounts.made; amount = 0; front = self.old.history }) }
+        ensures new { IfOk result (λ p. p ≡ record { number = self.old.accounts.made; amount = 0; front = self.old.history; released = released_of self.old }) }
         ensures made { OnOk result (self.new ≡ record self.old { accounts = record self.old.accounts { made = self.old.accounts.made + 1 } }) }
         ensures room { self.old.accounts.made < 4294967295 → IsOk result }
         ensures refused { IfErr result (λ e. e ≡ PoolError.BookFull) }
@@ -149,22 +146,24 @@ impl<G: Naming, P, R: Keeper> Book<G, P, R> {
     /// A task of this pool may be gone with the step that was made last: where the pool keeps no record, and the task
     /// is plain and nothing is owed to it, it is forgotten. It writes no entry and takes no memory.
     #[inline(always)]
-    pub fn settle(&mut self, t: TaskId)
+    pub fn settle(&mut self, t: TaskId, glance: &Glance<G>)
     where
         P: Drop,
-        ensures released { Releases R.RECEIPTS self.old self.new }
-        ensures forgets { R.RECEIPTS ≡ false → (rs : List ℕ) → At tells self.old.machine self.old.history rs →
-            MayForget (left rs (state_of self.old)) t.0 → At tells self.new.machine self.new.history (t.0 ∷ rs) }
+        ensures { Settles R.RECEIPTS self.old self.new t.0 }
     {
         R::law_forgets_at_will();
-        R::settle(&mut self.machine, t);
+        if !R::settle(&mut self.machine, t) {
+            return;
+        }
+        glance.forget(&mut self.seat, t);
     }
 
     /// The run state. The pass then knows the whole history, which goes on from what it knew.
     pub fn show(&mut self, glance: &Glance<G>, pass: &mut Pass<G>) -> RunState
         ensures state { state_rank result ≡ rank self.old.history }
-        ensures seen { pass.new ≡ record pass.old { front = self.old.history } }
+        ensures seen { pass.new ≡ record pass.old { front = self.old.history; released = released_of self.old } }
         ensures goes_on { IsFrontOf pass.old.front self.old.history }
+        ensures released { IsFrontOf pass.old.released (released_of self.old) }
         ensures same { self.new ≡ self.old }
     {
         pass.account.learn(glance, &mut self.seat);

@@ -2,7 +2,7 @@
 ghost use Rattle.std.specs.Prelude.{◌≡◌, ◌+◌, ◌∷◌};
 ghost use Rattle.tp_types.specs.RunState.{state_rank};
 ghost use Rattle.tp_record.specs.Fields.{rank};
-ghost use Rattle.tp_glance.specs.Word.{IsFrontOf};
+ghost use Rattle.tp_glance.specs.Word.{IsFrontOf, with_entry};
 
 use crate::accounts::Accounts;
 use crate::passes::{Pass, WorkerPass};
@@ -21,6 +21,9 @@ pub trait Payer<G: Naming> {
 
     /// The front of the pool's history that it knows.
     ghost front: { Self → List Entry };
+
+    /// The tasks that were released in it.
+    ghost released: { Self → List ℕ };
 
     /// The ask is one that the pass may make, and there is room for its receipt.
     ghost ready: { Self → Ask → Type 0 };
@@ -46,26 +49,28 @@ pub trait Payer<G: Naming> {
         entry: Entry,
     )
         requires ready { ready self.old entry.ask }
-        requires before { state_rank before ≡ rank seat.old }
-        requires after { state_rank after ≡ rank (entry ∷ seat.old) }
+        requires before { state_rank before ≡ rank seat.old.entries }
+        requires after { state_rank after ≡ rank (entry ∷ seat.old.entries) }
         ensures total { accounts.new ≡ record accounts.old { total = accounts.old.total + 1 } }
-        ensures noted { seat.new ≡ entry ∷ seat.old }
+        ensures noted { seat.new ≡ with_entry entry seat.old }
         ensures paid { paid self.old entry self.new }
         ensures number { number self.new ≡ number self.old }
-        ensures front { front self.new ≡ seat.new }
-        ensures knew { IsFrontOf (front self.old) seat.old };
+        ensures front { front self.new ≡ seat.new.entries }
+        ensures released { released self.new ≡ seat.new.released }
+        ensures knew { IsFrontOf (front self.old) seat.old.entries };
 
     /// Lets the pass know the whole history.
     fn learn(&mut self, glance: &Glance<G>, seat: &mut BookSeat<G>)
         ensures shown { shown self.old self.new }
         ensures number { number self.new ≡ number self.old }
-        ensures front { front self.new ≡ seat.old }
-        ensures knew { IsFrontOf (front self.old) seat.old }
+        ensures front { front self.new ≡ seat.old.entries }
+        ensures released { released self.new ≡ seat.old.released }
+        ensures knew { IsFrontOf (front self.old) seat.old.entries }
         ensures same { seat.new ≡ seat.old };
 
     /// The law that what the pass knows is a front of the history.
     fn law_is_front(&mut self, glance: &Glance<G>, seat: &mut BookSeat<G>)
-        ensures front { IsFrontOf (front self.old) seat.old }
+        ensures front { IsFrontOf (front self.old) seat.old.entries }
         ensures same { (self.new ≡ self.old) × (seat.new ≡ seat.old) };
 }
 
@@ -76,11 +81,13 @@ impl<G: Naming> Payer<G> for WorkerPass<G> {
 
     ghost front = { λ p. p.front };
 
+    ghost released = { λ p. p.released };
+
     ghost ready = { λ p a. IsOfStaff a };
 
-    ghost paid = { λ old e new. new ≡ record { number = old.number; amount = old.amount + 1; front = new.front } };
+    ghost paid = { λ old e new. new ≡ record { number = old.number; amount = old.amount + 1; front = new.front; released = new.released } };
 
-    ghost shown = { λ old new. new ≡ record old { front = new.front } };
+    ghost shown = { λ old new. new ≡ record old { front = new.front; released = new.released } };
 
     #[inline(always)]
     fn payer(&self) -> u32 {
@@ -119,12 +126,14 @@ impl<G: Naming> Payer<G> for Pass<G> {
 
     ghost front = { λ p. p.front };
 
+    ghost released = { λ p. p.released };
+
     ghost ready = { λ p a. 0 < p.room };
 
-    ghost paid = { λ old e new. (new ≡ record { number = old.number; amount = old.amount + 1; front = new.front; keeps = old.keeps; receipts = receipts_with old (e ∷ []); room = new.room })
+    ghost paid = { λ old e new. (new ≡ record { number = old.number; amount = old.amount + 1; front = new.front; released = new.released; keeps = old.keeps; receipts = receipts_with old (e ∷ []); room = new.room })
         × (old.room ≤ new.room + 1) };
 
-    ghost shown = { λ old new. new ≡ record old { front = new.front } };
+    ghost shown = { λ old new. new ≡ record old { front = new.front; released = new.released } };
 
     #[inline(always)]
     fn payer(&self) -> u32 {

@@ -22,7 +22,7 @@ impl<G: Naming> Model for Sight<G> {
 
     ghost Value = { List Entry };
 
-    ghost view = { λ s. s.seat };
+    ghost view = { λ s. s.seat.entries };
 }
 
 impl<G: Naming> Sight<G> {

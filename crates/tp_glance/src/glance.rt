@@ -1,9 +1,9 @@
 //! The word, the book's seat that raises it, and the seats that look at it.
-ghost use Rattle.std.specs.Prelude.{◌≡◌, ◌≤◌, [], ◌∷◌, IfErr};
+ghost use Rattle.std.specs.Prelude.{◌≡◌, ◌≤◌, [], IfErr};
 ghost use Rattle.tp_types.specs.RunState.{state_rank};
 ghost use Rattle.tp_record.specs.Effects.{reaches};
 ghost use Rattle.tp_record.specs.Fields.{rank};
-ghost use Rattle.tp_glance.specs.Word.{IsFrontOf, book_view};
+ghost use Rattle.tp_glance.specs.Word.{IsPartOf, book_view, no_history, with_entry, with_released};
 
 use crate::view::{Begins, Looks, Notes, Noting, Rises, Tells, View};
 use atomic_table::{Seat, Table};
@@ -12,6 +12,7 @@ use std::marker::{Brand, Model, PhantomData};
 use std::mem;
 use std::sync::ledger::Ledger;
 use tp_record::entries::Entry;
+use tp_types::ids::TaskId;
 use tp_types::refusals::PoolError;
 use tp_types::states::RunState;
 
@@ -41,14 +42,14 @@ pub struct BlankGlance {
 impl Model for BlankGlance {
     ghost use Rattle.std.specs.Prelude.{◌≡◌, []};
     ghost use Rattle.atomic_table.specs.Seated.{TableId};
-    ghost use Rattle.tp_glance.specs.Word.{book_view};
+    ghost use Rattle.tp_glance.specs.Word.{book_view, no_history};
 
     ghost Value = { TableId };
 
     ghost view = { λ b. b.seat.table_id };
 
     ghost invariant = { λ b. (b.table.shared.table_id ≡ b.seat.table_id) × (b.seat.table_id.words ≡ 1)
-        × (b.seat.me ≡ (book_view [] [], [])) };
+        × (b.seat.me ≡ (book_view no_history no_history, [])) };
 }
 
 /// The word of one pool: its run state, which any thread may look at without waiting. It can lie in
@@ -69,8 +70,8 @@ impl<G: Naming> Model for Glance<G> {
     ghost invariant = { λ g. (g.table.shared.table_id ≡ G.table) × (g.table.shared.table_id.words ≡ 1) };
 }
 
-/// The one seat that notes entries and raises the word. It lies under the pool's lock. Contracts see
-/// it as the pool's whole history, the latest entry first, which exists in proofs alone.
+/// The one seat that notes entries and released tasks, and raises the word. It lies under the pool's
+/// lock. Contracts see it as the pool's whole history, the latest first, which exists in proofs alone.
 #[derive(Drop)]
 pub struct BookSeat<G: Naming> {
     seat: Seat<(), View>,
@@ -78,11 +79,11 @@ pub struct BookSeat<G: Naming> {
 }
 
 impl<G: Naming> Model for BookSeat<G> {
-    ghost use Rattle.std.specs.Prelude.{◌≡◌, List, []};
-    ghost use Rattle.tp_record.specs.declared.entries.Entry.{Entry};
+    ghost use Rattle.std.specs.Prelude.{◌≡◌, []};
+    ghost use Rattle.tp_glance.specs.declared.view.History.{History};
     ghost use Rattle.tp_glance.specs.Word.{book_view};
 
-    ghost Value = { List Entry };
+    ghost Value = { History };
 
     ghost view = { λ s. s.seat.me.0.front };
 
@@ -91,7 +92,7 @@ impl<G: Naming> Model for BookSeat<G> {
 }
 
 /// A seat that looks at the word, one for each pass. Contracts see it as the front of the pool's
-/// history that it knows, the latest entry first.
+/// history that it knows, the latest first.
 #[derive(Drop)]
 pub struct PassSeat<G: Naming> {
     seat: Seat<(), View>,
@@ -99,11 +100,11 @@ pub struct PassSeat<G: Naming> {
 }
 
 impl<G: Naming> Model for PassSeat<G> {
-    ghost use Rattle.std.specs.Prelude.{◌≡◌, List, []};
-    ghost use Rattle.tp_record.specs.declared.entries.Entry.{Entry};
+    ghost use Rattle.std.specs.Prelude.{◌≡◌, []};
+    ghost use Rattle.tp_glance.specs.declared.view.History.{History};
     ghost use Rattle.tp_glance.specs.Word.{pass_view};
 
-    ghost Value = { List Entry };
+    ghost Value = { History };
 
     ghost view = { λ s. s.seat.me.0.front };
 
@@ -124,7 +125,7 @@ impl BlankGlance {
     /// The word under the name of its pool, and the book's seat, whose history is empty.
     pub fn open<G: Naming>(self) -> (Glance<G>, BookSeat<G>)
         requires { self ≡ G.table }
-        ensures { result.1 ≡ [] }
+        ensures { result.1 ≡ no_history }
     {
         let BlankGlance { table, seat } = self;
         let glance = Glance {
@@ -143,10 +144,10 @@ impl<G: Naming> Glance<G> {
     /// Notes an entry that leaves the run state as it is, for the owner of a seat. What the seat knew is
     /// a front of the history before, and it knows the history with the entry then.
     pub fn note(&self, book: &mut BookSeat<G>, seat: &mut PassSeat<G>, entry: &Entry)
-        requires { reaches entry.now.did ≤ rank book.old }
-        ensures noted { book.new ≡ entry.now ∷ book.old }
-        ensures seen { seat.new ≡ entry.now ∷ book.old }
-        ensures knew { IsFrontOf seat.old book.old }
+        requires { reaches entry.now.did ≤ rank book.old.entries }
+        ensures noted { book.new ≡ with_entry entry.now book.old }
+        ensures seen { seat.new ≡ with_entry entry.now book.old }
+        ensures knew { IsPartOf seat.old book.old }
     {
         let known = self.split(seat);
         self.note_as::<Brand>(book, known, entry);
@@ -154,10 +155,10 @@ impl<G: Naming> Glance<G> {
     }
 
     fn note_as<N: Noting>(&self, book: &mut BookSeat<G>, known: PassSeat<G>, _entry: &Entry)
-        requires same { N.entry ≡ _entry.now }
-        requires stays { reaches N.entry.did ≤ rank book.old }
-        ensures noted { book.new ≡ N.entry ∷ book.old }
-        ensures knew { IsFrontOf known book.old }
+        requires same { N.next ≡ with_entry _entry.now }
+        requires stays { reaches _entry.now.did ≤ rank book.old.entries }
+        ensures noted { book.new ≡ N.next book.old }
+        ensures knew { IsPartOf known book.old }
     {
         self.tell(&mut book.seat, known);
         self.table.shared.load::<Notes<N>>(&mut book.seat, 0);
@@ -173,11 +174,11 @@ impl<G: Naming> Glance<G> {
         entry: &Entry,
         to: RunState,
     ) -> RunState
-        requires { state_rank to ≡ rank (entry.now ∷ book.old) }
-        ensures noted { book.new ≡ entry.now ∷ book.old }
-        ensures seen { seat.new ≡ entry.now ∷ book.old }
-        ensures knew { IsFrontOf seat.old book.old }
-        ensures before { state_rank result ≡ rank book.old }
+        requires { state_rank to ≡ rank (with_entry entry.now book.old).entries }
+        ensures noted { book.new ≡ with_entry entry.now book.old }
+        ensures seen { seat.new ≡ with_entry entry.now book.old }
+        ensures knew { IsPartOf seat.old book.old }
+        ensures before { state_rank result ≡ rank book.old.entries }
     {
         let known = self.split(seat);
         let before = self.raise_as::<Brand>(book, known, entry, to);
@@ -192,11 +193,11 @@ impl<G: Naming> Glance<G> {
         _entry: &Entry,
         to: RunState,
     ) -> RunState
-        requires same { N.entry ≡ _entry.now }
-        requires after { state_rank to ≡ rank (N.entry ∷ book.old) }
-        ensures noted { book.new ≡ N.entry ∷ book.old }
-        ensures knew { IsFrontOf known book.old }
-        ensures before { state_rank result ≡ rank book.old }
+        requires same { N.next ≡ with_entry _entry.now }
+        requires after { state_rank to ≡ rank (N.next book.old).entries }
+        ensures noted { book.new ≡ N.next book.old }
+        ensures knew { IsPartOf known book.old }
+        ensures before { state_rank result ≡ rank book.old.entries }
     {
         let rank = u64::from(to.rank());
         self.tell(&mut book.seat, known);
@@ -207,12 +208,26 @@ impl<G: Naming> Glance<G> {
         RunState::from_rank(before as u8)
     }
 
+    /// Notes that a task was released, which leaves the run state as it is.
+    pub fn forget(&self, book: &mut BookSeat<G>, t: TaskId)
+        ensures { book.new ≡ with_released t.0 book.old }
+    {
+        self.forget_as::<Brand>(book, t);
+    }
+
+    fn forget_as<N: Noting>(&self, book: &mut BookSeat<G>, _t: TaskId)
+        requires { N.next ≡ with_released _t.0 }
+        ensures { book.new ≡ N.next book.old }
+    {
+        self.table.shared.load::<Notes<N>>(&mut book.seat, 0);
+    }
+
     /// The state that is published now, without waiting, as `isShutdown` and `isTerminated` are
     /// answered. It is that of the pool's history at this moment, which the seat then knows, and
     /// which goes on from what it knew.
     pub fn glance(&self, seat: &mut PassSeat<G>) -> RunState
-        ensures state { state_rank result ≡ rank seat.new }
-        ensures goes_on { IsFrontOf seat.old seat.new }
+        ensures state { state_rank result ≡ rank seat.new.entries }
+        ensures goes_on { IsPartOf seat.old seat.new }
     {
         let found = self.table.shared.load::<Looks>(&mut seat.seat, 0);
         RunState::from_rank(found as u8)
@@ -220,7 +235,7 @@ impl<G: Naming> Glance<G> {
 
     /// The state that is published, as the book's seat reads it: that of its history.
     pub fn published(&self, book: &mut BookSeat<G>) -> RunState
-        ensures known { state_rank result ≡ rank book.old }
+        ensures known { state_rank result ≡ rank book.old.entries }
         ensures same { book.new ≡ book.old }
     {
         let found = self.table.shared.load::<Looks>(&mut book.seat, 0);
@@ -253,7 +268,7 @@ impl<G: Naming> Glance<G> {
     /// lock it has then seen.
     pub fn show(&self, book: &mut BookSeat<G>, seat: &mut PassSeat<G>)
         ensures seen { seat.new ≡ book.old }
-        ensures goes_on { IsFrontOf seat.old book.old }
+        ensures goes_on { IsPartOf seat.old book.old }
         ensures same { book.new ≡ book.old }
     {
         let news = self.split_book(book);
@@ -263,7 +278,7 @@ impl<G: Naming> Glance<G> {
 
     /// The law that what a seat knows is a front of the history.
     pub fn law_is_front(&self, book: &mut BookSeat<G>, seat: &mut PassSeat<G>)
-        ensures front { IsFrontOf seat.old book.old }
+        ensures front { IsPartOf seat.old book.old }
         ensures same { (seat.new ≡ seat.old) × (book.new ≡ book.old) }
     {
         let known = self.split(seat);
@@ -272,7 +287,7 @@ impl<G: Naming> Glance<G> {
 
     // The book's seat is told of what a seat knows, and looks: that is a front of the history.
     fn take_in(&self, book: &mut BookSeat<G>, known: PassSeat<G>)
-        ensures front { IsFrontOf known book.old }
+        ensures front { IsPartOf known book.old }
         ensures same { book.new ≡ book.old }
     {
         self.tell(&mut book.seat, known);

@@ -20,10 +20,12 @@ use Rattle.tp_tasks.specs.declared.tasks.Tasks.{Tasks}
 use Rattle.tp_machine.specs.Stepped.{FitsOutcome}
 use Rattle.tp_machine.specs.Steps.{IsRefusedAt}
 use Rattle.tp_waking.specs.declared.waking.Waking.{Waking}
-use Rattle.tp_book.specs.BookView.{BookView, config, state_of, Advances, Releases, IsDenied, IsUnmoved}
+use Rattle.tp_book.specs.BookView.{BookView, config, released_of, state_of, Advances, SettlesAll, IsDenied, IsUnmoved}
 use Rattle.tp_book.specs.PassView.{PassView, receipts_with}
 use Rattle.tp_book.proofs.Reading.{or_else}
+use Rattle.tp_book.proofs.Settling.{all_config, all_history}
 use Rattle.tp_locked.specs.CoreView.{CoreView}
+use Rattle.tp_locked.specs.Gone.{gone_with}
 use Rattle.tp_locked.specs.Holds.{Holds, Denies}
 use Rattle.tp_locked.specs.Roused.{IsRoused}
 use Rattle.tp_locked.specs.Rosters.{RosterView}
@@ -37,7 +39,7 @@ use Rattle.tp_locked.proofs.Refusals.{fits}
 -- the pass after a step of its own
 abbrev pub Paid : PassView → PassView → Ask → Did → Type 0
 Paid old new a d =
-    new ≡ record { number = old.number; amount = old.amount + 1; front = new.front; keeps = old.keeps; receipts = receipts_with old (entry_of old.number a d ∷ []); room = new.room }
+    new ≡ record { number = old.number; amount = old.amount + 1; front = new.front; released = new.released; keeps = old.keeps; receipts = receipts_with old (entry_of old.number a d ∷ []); room = new.room }
 
 module _ {J : Type 0} (c : Config) where
   -- the history after a step is legal
@@ -45,7 +47,7 @@ module _ {J : Type 0} (c : Config) where
       Makes J c by before a d moves after → Legal c after
   legal_made by before a d moves after made =
       let settings : config made.new ≡ c = made.step.step.config ∙ made.is.settings in
-      let legal = (made.step.step.writes made.old.history made.is.stands.released made.is.stands.stands).legal in
+      let legal = (made.step.step.writes made.old.history (released_of made.old) made.is.stands.stands).legal in
       subst (λ h. Legal c h) (sym (made.shown ∙ made.step.notes)) (subst (λ k. Legal k (record { by = by; ask = a; did = d } ∷ made.old.history)) settings legal)
 
   -- and that at which it was refused
@@ -60,7 +62,7 @@ module _ {J : Type 0} (c : Config) where
       (λ refuses. known_at refused.book c refused.is after (λ s. IsRefusedAt c s a e) refused.shown (subst (λ k. IsRefusedAt k (state_of refused.book) a e) refused.is.settings refuses))
       (λ named. (
         named.0,
-        known_at refused.book c refused.is after (λ s. NamesGone s a) refused.shown (named.1.0, named.1.1, named.1.2.stands.may.each named.1.0 named.1.2.among),
+        known_at refused.book c refused.is after (λ s. NamesGone s a) refused.shown (named.1.0, named.1.1, refused.is.stands.stands.may.each named.1.0 named.1.2),
       ))
       denied.1)
       refused.denied
@@ -89,17 +91,20 @@ denies keeps old book new roster waking is a e denied unmoved =
     subst (λ o. Denies keeps o (record { book = new; roster = roster; waking = waking }) a e) is (record { denied = denied; unmoved = unmoved; asleep = refl; threads = refl })
 
 -- whom a step rouses, it rouses as well where tasks are forgotten after it
-roused_then : {P : Type 0} (keeps : Bool) (mid new : BookView P) → Releases keeps mid new → (waking waking' : Waking) (a : Ask) (d : Did) → IsRoused mid waking waking' a d → IsRoused new waking waking' a d
-roused_then keeps mid new released waking waking' a d roused =
-    let same : state_of new ≡ state_of mid = λ i. state (released.config i) (released.history i) in
+roused_then : {P : Type 0} (keeps : Bool) (mid new : BookView P) (gone : List ℕ) → SettlesAll keeps mid new gone → (waking waking' : Waking) (a : Ask) (d : Did) → IsRoused mid waking waking' a d →
+    IsRoused new waking waking' a d
+roused_then keeps mid new gone settles waking waking' a d roused =
+    let settings = all_config keeps mid new gone settles in
+    let history = all_history keeps mid new gone settles in
+    let same : state_of new ≡ state_of mid = λ i. state (settings i) (history i) in
     record {
       told = roused.told;
       hand = roused.hand;
       leaves =
           λ w first leaves.
           roused.leaves w (ap (λ s. first_slot s.idling) (sym same) ∙ first)
-          (subst (λ h. IsFitting (config mid) (state (config mid) h) (ask.Take w) (did.Take w took.Leave)) released.history
-          (subst (λ k. IsFitting k (state k new.history) (ask.Take w) (did.Take w took.Leave)) released.config leaves));
+          (subst (λ h. IsFitting (config mid) (state (config mid) h) (ask.Take w) (did.Take w took.Leave)) history
+          (subst (λ k. IsFitting k (state k new.history) (ask.Take w) (did.Take w took.Leave)) settings leaves));
       all = roused.all;
       state = roused.state;
       rank = roused.rank ∙ ap (λ s. s.rank) (sym same);
@@ -108,8 +113,9 @@ roused_then keeps mid new released waking waking' a d roused =
 
 -- a step that is made in a hold, after which tasks are forgotten
 pub holds : {J : Type 0} (keeps : Bool) (old : CoreView J) (book mid new : BookView (Task J)) (roster : RosterView) (waking waking' : Waking) → record { book = book; roster = roster; waking = waking } ≡ old →
-    (by : ℕ) (a : Ask) (d : Did) (moves : Tasks (Task J) → Tasks (Task J) → Type 0) → Advances book mid by a d moves → Releases keeps mid new → IsRoused mid waking waking' a d →
+    (by : ℕ) (a : Ask) (d : Did) (moves : Tasks (Task J) → Tasks (Task J) → Type 0) → Advances book mid by a d moves → SettlesAll keeps mid new (gone_with d (state_of book).queue) →
+    IsRoused mid waking waking' a d →
     Holds keeps old (record { book = new; roster = roster; waking = waking' }) by a d moves
-holds keeps old book mid new roster waking waking' is by a d moves made released roused =
+holds keeps old book mid new roster waking waking' is by a d moves made settles roused =
     subst (λ o. Holds keeps o (record { book = new; roster = roster; waking = waking' }) by a d moves) is
-    (record { book = mid; made = made; released = released; roused = roused_then keeps mid new released waking waking' a d roused; threads = refl })
+    (record { book = mid; made = made; settles = settles; roused = roused_then keeps mid new (gone_with d (state_of book).queue) settles waking waking' a d roused; threads = refl })

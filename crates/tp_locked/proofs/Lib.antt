@@ -1,4 +1,5 @@
 pub mod Adding
+pub mod Judging
 pub mod Moments
 pub mod Plain
 pub mod Receipts

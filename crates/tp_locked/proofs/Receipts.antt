@@ -36,25 +36,26 @@ leads_front f g (e ∷ es) leads =
 
 -- a pass that has only looked
 abbrev pub Later : PassView → PassView → Type 0
-Later old new = (new ≡ record old { front = new.front }) × IsFrontOf old.front new.front
+Later old new = (new ≡ record old { front = new.front; released = new.released }) × IsFrontOf old.front new.front
 
 pub later_refl : (p : PassView) → Later p p
 later_refl p = (refl, IsFrontOf_refl p.front)
 
-pub shown_later : (old new : PassView) (h : List Entry) → new ≡ record old { front = h } → IsFrontOf old.front h → Later old new
+pub shown_later : (old new : PassView) (h : List Entry) {rs : List ℕ} → new ≡ record old { front = h; released = rs } → IsFrontOf old.front h → Later old new
 shown_later old new h shown on =
     let front = ap (λ p. p.front) shown in
-    (shown ∙ ap (λ f. record old { front = f }) (sym front), subst (λ f. IsFrontOf old.front f) (sym front) on)
+    let released = ap (λ p. p.released) shown in
+    (shown ∙ (λ i. record old { front = sym front i; released = sym released i }), subst (λ f. IsFrontOf old.front f) (sym front) on)
 
 pub later_looks : (c : Config) (old mid new : PassView) → Later old mid → LooksOnly c mid new → Later old new
 later_looks c old mid new later looks =
-    (looks.0 ∙ ap (λ (p : PassView). record p { front = new.front }) later.0, IsFrontOf_trans later.1 looks.1)
+    (looks.0 ∙ ap (λ (p : PassView). record p { front = new.front; released = new.released }) later.0, IsFrontOf_trans later.1 looks.1)
 
 pub looks_behind : (c : Config) (old mid new : PassView) → Later old mid → LooksOnly c mid new → LooksOnly c old new
 looks_behind c old mid new later looks = let both = later_looks c old mid new later looks in (both.0, both.1, looks.2)
 
 pub later_none : (old new : PassView) → Later old new → AddsNone old new
-later_none old new later = (later.0 ∙ ap (λ room. record old { front = new.front; room = room }) (sym (ap (λ p. p.room) later.0)), later.1)
+later_none old new later = (later.0 ∙ ap (λ room. record old { front = new.front; released = new.released; room = room }) (sym (ap (λ p. p.room) later.0)), later.1)
 
 pub looks_none : (c : Config) (old new : PassView) → LooksOnly c old new → AddsNone old new
 looks_none c old new looks = later_none old new (looks.0, looks.1)
@@ -63,7 +64,8 @@ looks_none c old new looks = later_none old new (looks.0, looks.1)
 pub reserved : (old new : PassView) → new ≡ record old { room = new.room } → AddsNone old new
 reserved old new same =
     let front = ap (λ p. p.front) same in
-    (same ∙ ap (λ f. record old { front = f; room = new.room }) (sym front), subst (λ f. IsFrontOf old.front f) (sym front) (IsFrontOf_refl old.front))
+    let released = ap (λ p. p.released) same in
+    (same ∙ (λ i. record old { front = sym front i; released = sym released i; room = new.room }), subst (λ f. IsFrontOf old.front f) (sym front) (IsFrontOf_refl old.front))
 
 -- nothing has changed
 pub none_added : (old new : PassView) → new ≡ old → AddsNone old new
@@ -71,7 +73,7 @@ none_added old new same = later_none old new (subst (λ p. Later old p) (sym sam
 
 pub none_behind : (old mid new : PassView) → AddsNone old mid → AddsNone mid new → AddsNone old new
 none_behind old mid new first later =
-    (later.0 ∙ ap (λ (p : PassView). record p { front = new.front; room = new.room }) first.0, IsFrontOf_trans first.1 later.1)
+    (later.0 ∙ ap (λ (p : PassView). record p { front = new.front; released = new.released; room = new.room }) first.0, IsFrontOf_trans first.1 later.1)
 
 -- no receipts more
 with_none : (p : PassView) → receipts_with p [] ≡ p.receipts

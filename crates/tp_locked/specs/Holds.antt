@@ -4,18 +4,19 @@ use Rattle.tp_types.specs.declared.refusals.PoolError.{PoolError}
 use Rattle.tp_record.specs.declared.entries.Ask.{Ask}
 use Rattle.tp_record.specs.declared.entries.Did.{Did}
 use Rattle.tp_tasks.specs.declared.tasks.Tasks.{Tasks}
-use Rattle.tp_book.specs.BookView.{BookView, Advances, Releases, IsUnmoved, IsDenied}
+use Rattle.tp_book.specs.BookView.{BookView, Advances, SettlesAll, IsUnmoved, IsDenied, state_of}
 use Rattle.tp_locked.specs.CoreView.{CoreView}
+use Rattle.tp_locked.specs.Gone.{gone_with}
 use Rattle.tp_locked.specs.Roused.{IsRoused}
 use Rattle.tp_locked.specs.declared.tasks.Task.{Task}
 
 module _ {J : Type 0} where
-  -- the book makes this step and then forgets tasks that are gone with it, if it forgets any, and all whom the step concerns are to be
-  -- woken
+  -- the book makes this step, and then forgets the tasks that may be gone with it, each just where it is plain, gone and owes nothing; and all
+  -- whom the step concerns are to be woken
   pub record Holds (keeps : Bool) (old new : CoreView J) (by : ℕ) (a : Ask) (d : Did) (moves : Tasks (Task J) → Tasks (Task J) → Type 0) : Type 0 where
     pub book : BookView (Task J)
     pub made : Advances old.book book by a d moves
-    pub released : Releases keeps book new.book
+    pub settles : SettlesAll keeps book new.book (gone_with d (state_of old.book).queue)
     pub roused : IsRoused new.book old.waking new.waking a d
     pub threads : new.roster ≡ old.roster
 

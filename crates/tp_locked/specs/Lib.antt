@@ -4,6 +4,7 @@ pub mod Codes
 pub mod CoreView
 pub mod Drains
 pub mod Flagged
+pub mod Gone
 pub mod Holds
 pub mod Left
 pub mod Moments

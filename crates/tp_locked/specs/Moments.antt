@@ -4,7 +4,8 @@ use Rattle.tp_types.specs.declared.configs.Config.{Config}
 use Rattle.tp_record.specs.declared.entries.Entry.{Entry}
 use Rattle.tp_record.specs.State.{State, state}
 use Rattle.tp_record.specs.Step.{Legal}
-use Rattle.tp_book.specs.BookView.{BookView, StandsThere, config}
+use Rattle.tp_book.specs.BookView.{BookView, StandsThere, config, released_of}
+use Rattle.tp_book.specs.PassView.{PassView}
 
 -- this history is legal in these settings, and its state is such
 pub record AtFront (c : Config) (history : List Entry) (F : State → Type 0) : Type 0 where
@@ -27,6 +28,14 @@ pub record BookAt (P : Type 0) (c : Config) (history : List Entry) (F : BookView
   pub book : BookView P
   pub is : IsBook P c book
   pub at : book.history ≡ history
+  pub holds : F book
+
+-- the pool's book is such, as this pass knows it: at its front, with the tasks released that it knows of
+pub record BookOf (P : Type 0) (c : Config) (p : PassView) (F : BookView P → Type 0) : Type 0 where
+  pub book : BookView P
+  pub is : IsBook P c book
+  pub at : book.history ≡ p.front
+  pub released : released_of book ≡ p.released
   pub holds : F book
 
 -- at some history it is such, where a call has no pass to say at which

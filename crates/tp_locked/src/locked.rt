@@ -8,7 +8,7 @@ ghost use Rattle.tp_sleepers.specs.Rests.{IsSettled};
 ghost use Rattle.tp_sleepers.specs.declared.sleepers.Rest.TheVariants as rests;
 ghost use Rattle.tp_waking.specs.declared.calls.TheConstants.{NO_WAITERS, NOBODY};
 ghost use Rattle.tp_glance.specs.Word.{IsFrontOf};
-ghost use Rattle.tp_book.specs.BookView.{config};
+ghost use Rattle.tp_book.specs.BookView.{config, released_of};
 ghost use Rattle.tp_locked.specs.Holds.{Holds, Denies};
 ghost use Rattle.tp_locked.specs.Moments.{IsBook};
 ghost use Rattle.tp_locked.specs.Passes.{AddsStep, IsRefusal, LooksOnly, entry_of};
@@ -180,7 +180,7 @@ impl<G: PoolNaming, J: Drop, R: Keeper> Core<G, J, R> {
         };
         rouse(book, waking, &step.ask(), &step.did(&answer));
         mark_flags(book, flags, step.mark(&answer));
-        settle(book, step.gone(&answer));
+        settle(book, step.gone(&answer), glance);
         Ok(answer)
     }
 
@@ -241,8 +241,9 @@ impl<G: PoolNaming, J: Drop, R: Keeper> Core<G, J, R> {
     #[inline(always)]
     pub fn show(&mut self, glance: &Glance<G>, pass: &mut Pass<G>) -> RunState
         ensures state { state_rank result ≡ rank self.old.book.history }
-        ensures shown { pass.new ≡ record pass.old { front = self.old.book.history } }
+        ensures shown { pass.new ≡ record pass.old { front = self.old.book.history; released = released_of self.old.book } }
         ensures goes_on { IsFrontOf pass.old.front self.old.book.history }
+        ensures released { IsFrontOf pass.old.released (released_of self.old.book) }
         ensures same { self.new ≡ self.old }
     {
         self.book.show(glance, pass)

@@ -4,4 +4,5 @@ pub mod Outcomes
 pub mod Prestarts
 pub mod Snapshots
 pub mod Submissions
+pub mod Timed
 pub mod Turns

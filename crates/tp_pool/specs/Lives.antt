@@ -12,7 +12,7 @@ use Rattle.tp_record.specs.Fields.{rank}
 use Rattle.tp_glance.specs.Word.{IsFrontOf}
 use Rattle.tp_book.specs.PassView.{PassView}
 use Rattle.tp_book.specs.declared.reports.Report.{Report}
-use Rattle.tp_locked.specs.Moments.{AtSome, BookAt}
+use Rattle.tp_locked.specs.Moments.{AtSome, BookOf}
 use Rattle.tp_locked.specs.Passes.{LooksOnly}
 use Rattle.tp_locked.specs.Readings.{got, IsFound}
 use Rattle.tp_locked.specs.declared.tasks.Task.{Task}
@@ -25,7 +25,7 @@ use Rattle.tp_pool.specs.Turns.{ThroughBoth}
 module _ (J : Type 0) (c : Config) where
   -- the pass looks, and is told what became of this task; or the refusal of its submission is the answer
   abbrev pub IsTold : Result TaskId PoolError → Result ℤ PoolError → PassView → PassView → Type 0
-  IsTold (Ok t) answer old new = LooksOnly c old new × BookAt (Task J) c new.front (λ b. IsFound b t.0 true None (got answer))
+  IsTold (Ok t) answer old new = LooksOnly c old new × BookOf (Task J) c new (λ b. IsFound b t.0 true None (got answer))
   IsTold (Err e) answer old new = (new ≡ old) × (answer ≡ Err e)
 
   -- so it is told of each of these, one after another
@@ -48,7 +48,7 @@ module _ {J : Type 0} (c : Config) (promised : J → Promise) (urgency : J → �
   -- so does a new pool's first pass, and the pool is closed with it and one other
   pub record IsRun (jobs : List J) (answers : List (Result ℤ PoolError)) (r : Report) : Type 0 where
     pub first : PassView
-    pub opened : first ≡ record { number = 0; amount = 0; front = []; keeps = true; receipts = []; room = first.room }
+    pub opened : first ≡ record { number = 0; amount = 0; front = []; released = []; keeps = true; receipts = []; room = first.room }
     pub new : PassView
     pub other : PassView
     pub answered : AreAnswered jobs answers first new

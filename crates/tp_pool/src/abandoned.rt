@@ -21,8 +21,9 @@ fn forgets_in<G: PoolNaming, J: Drop>(
     glance: &Glance<G>,
     pass: &mut Pass<G>,
 ) -> bool
-    ensures shown { pass.new ≡ record pass.old { front = pass.new.front } }
+    ensures shown { pass.new ≡ record pass.old { front = pass.new.front; released = pass.new.released } }
     ensures goes_on { IsFrontOf pass.old.front pass.new.front }
+    ensures knew { IsFrontOf pass.old.released pass.new.released }
 {
     core.release_task(t, glance, pass) != Err(PoolError::NotThere)
 }
@@ -41,8 +42,9 @@ impl<G: PoolNaming, J: Drop, E: Edge> PoolOf<G, J, E, Tally> {
     /// Releases abandoned tasks that are gone. It looks at so many of them, the longest abandoned first; one that is not gone
     /// is looked at again after the others. It makes no step. The pass knows the record as it is at the last look.
     pub fn forget_abandoned<R: Wait>(&self, rt: &R, looks: usize, pass: &mut Pass<G>)
-        ensures shown { pass.new ≡ record pass.old { front = pass.new.front } }
+        ensures shown { pass.new ≡ record pass.old { front = pass.new.front; released = pass.new.released } }
         ensures goes_on { IsFrontOf pass.old.front pass.new.front }
+        ensures knew { IsFrontOf pass.old.released pass.new.released }
     {
         for _ in 0..looks {
             self.forget_first(rt, pass);
@@ -51,8 +53,9 @@ impl<G: PoolNaming, J: Drop, E: Edge> PoolOf<G, J, E, Tally> {
 
     // Releases the task that was abandoned first, if there is one, or puts it behind the others where it is not gone.
     fn forget_first<R: Wait>(&self, rt: &R, pass: &mut Pass<G>)
-        ensures shown { pass.new ≡ record pass.old { front = pass.new.front } }
+        ensures shown { pass.new ≡ record pass.old { front = pass.new.front; released = pass.new.released } }
         ensures goes_on { IsFrontOf pass.old.front pass.new.front }
+        ensures knew { IsFrontOf pass.old.released pass.new.released }
     {
         let Some(t) = self.first_abandoned(rt) else {
             return;

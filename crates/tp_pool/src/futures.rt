@@ -1,8 +1,9 @@
 //! Waits for futures, for done tasks of a group, and for steps. A waiter begins to wait with the guard of the
 //! hold in which its look failed, so no step falls between the look and the sleep.
 ghost use Rattle.std.specs.Prelude.{◌≡◌, ◌⊎◌, ◌<◌, true, length, IfOk, IfErr, OnErr};
+ghost use Rattle.tp_glance.specs.Word.{IsFrontOf};
 ghost use Rattle.tp_locked.specs.Passes.{AddsStep, AddsNone, LooksOnly, Refuses};
-ghost use Rattle.tp_locked.specs.Moments.{AtFront, BookAt, BookAtSome};
+ghost use Rattle.tp_locked.specs.Moments.{AtFront, BookAtSome, BookOf};
 ghost use Rattle.tp_locked.specs.Readings.{got, IsFound, IsUndoneAt};
 ghost use Rattle.tp_locked.specs.declared.tasks.Task.{Task};
 ghost use Rattle.tp_pool.specs.Admissions.{task_of as task_of_admitted};
@@ -64,8 +65,9 @@ impl<G: PoolNaming, J: Job, E: Edge, K: Keeper> PoolOf<G, J, E, K> {
         deadline: Option<u64>,
         pass: &mut Pass<G>,
     ) -> Result<i64, PoolError>
-        ensures reads { BookAt (Task J) (K.terms G.config) pass.new.front (λ b. IsFound b t.0 K.RECEIPTS deadline (got result)) }
+        ensures reads { BookOf (Task J) (K.terms G.config) pass.new (λ b. IsFound b t.0 K.RECEIPTS deadline (got result)) }
         ensures looks { LooksOnly (K.terms G.config) pass.old pass.new }
+        ensures knew { IsFrontOf pass.old.released pass.new.released }
     {
         let shared = self.shared();
         let mut core = shared.hold(rt);

@@ -27,6 +27,7 @@ pub mod reports;
 mod rescues;
 pub mod snapshots;
 mod submitting;
+pub mod timed;
 
 pub use bodies::{Any, Body};
 pub use callers::{PoolName, Runtime, in_two};

@@ -76,7 +76,7 @@ impl<G: PoolNaming, K: Keeper> PoolOf<G, Boxed, Boxes, K> {
     ) -> Result<(Pool<G, K>, Pass<G>), PoolError>
         requires named { unopened ≡ record { ledger = G.name; parts = G.parts; table = G.table } }
         requires settings { config ≡ G.config }
-        ensures pass { IfOk result (λ r. r.1 ≡ record { number = 0; amount = 0; front = []; keeps = K.RECEIPTS; receipts = []; room = r.1.room }) }
+        ensures pass { IfOk result (λ r. r.1 ≡ record { number = 0; amount = 0; front = []; released = []; keeps = K.RECEIPTS; receipts = []; room = r.1.room }) }
         ensures good { OnOk result (IsConfig config) }
         ensures refused { IfErr result (λ e. (checked config ≡ Err e) ⊎ ((e ≡ PoolError.NoMemory) × IsConfig config)) }
     {
@@ -99,7 +99,7 @@ impl<G: PoolNaming, J: Job, E: Edge, K: Keeper> PoolOf<G, J, E, K> {
     ) -> Result<(PoolOf<G, J, E, K>, Pass<G>), PoolError>
         requires named { unopened ≡ record { ledger = G.name; parts = G.parts; table = G.table } }
         requires settings { config ≡ G.config }
-        ensures pass { IfOk result (λ r. r.1 ≡ record { number = 0; amount = 0; front = []; keeps = K.RECEIPTS; receipts = []; room = r.1.room }) }
+        ensures pass { IfOk result (λ r. r.1 ≡ record { number = 0; amount = 0; front = []; released = []; keeps = K.RECEIPTS; receipts = []; room = r.1.room }) }
         ensures good { OnOk result (IsConfig config) }
         ensures refused { IfErr result (λ e. (checked config ≡ Err e) ⊎ ((e ≡ PoolError.NoMemory) × IsConfig config)) }
     {
@@ -116,7 +116,7 @@ impl<G: PoolNaming, J: Job, E: Edge, K: Keeper> PoolOf<G, J, E, K> {
     /// Callers' and workers' passes are numbered from 0, in the order in which they are made.
     /// BookFull (5) where the next number would be 4,294,967,295. This caller's pass stays as it is.
     pub fn split_pass<R: Wait>(&self, rt: &R, pass: &mut Pass<G>) -> Result<Pass<G>, PoolError>
-        ensures new { IfOk result (λ p. BookAtSome (Task J) (K.terms G.config) (λ b. p ≡ record { number = b.accounts.made; amount = 0; front = pass.old.front; keeps = K.RECEIPTS; receipts = []; room = p.room })) }
+        ensures new { IfOk result (λ p. BookAtSome (Task J) (K.terms G.config) (λ b. p ≡ record { number = b.accounts.made; amount = 0; front = pass.old.front; released = pass.old.released; keeps = K.RECEIPTS; receipts = []; room = p.room })) }
         ensures refused { IfErr result (λ e. (e ≡ PoolError.BookFull) × BookAtSome (Task J) (K.terms G.config) (λ b. 4294967295 ≤ b.accounts.made)) }
         ensures same { pass.new ≡ pass.old }
     {
@@ -132,7 +132,8 @@ impl<G: PoolNaming, J: Job, E: Edge, K: Keeper> PoolOf<G, J, E, K> {
     pub fn glance(&self, pass: &mut Pass<G>) -> RunState
         ensures state { state_rank result ≡ rank pass.new.front }
         ensures goes_on { IsFrontOf pass.old.front pass.new.front }
-        ensures same { pass.new ≡ record pass.old { front = pass.new.front } }
+        ensures knew { IsFrontOf pass.old.released pass.new.released }
+        ensures same { pass.new ≡ record pass.old { front = pass.new.front; released = pass.new.released } }
     {
         pass.glance(&self.shared().around.glance)
     }

@@ -10,7 +10,7 @@ ghost use Rattle.tp_locked.specs.Readings.{known, IsPromiseOf, IsResult};
 ghost use Rattle.tp_glance.specs.Word.{IsFrontOf};
 ghost use Rattle.tp_book.specs.BookView.{OrReleased, state_of};
 ghost use Rattle.tp_locked.specs.Left.{IsStranded};
-ghost use Rattle.tp_locked.specs.Moments.{AtFront, AtSome, BookAt, BookAtSome};
+ghost use Rattle.tp_locked.specs.Moments.{AtFront, AtSome, BookAtSome, BookOf};
 ghost use Rattle.tp_locked.specs.Passes.{LooksOnly};
 ghost use Rattle.tp_locked.specs.declared.tasks.Task.{Task};
 
@@ -178,8 +178,9 @@ impl<G: PoolNaming, J: Job, E: Edge, K: Keeper> PoolOf<G, J, E, K> {
         t: TaskId,
         pass: &mut Pass<G>,
     ) -> Result<Option<i64>, PoolError>
-        ensures reads { BookAt (Task J) (K.terms G.config) pass.new.front (λ b. IsResult b t.0 K.RECEIPTS result) }
+        ensures reads { BookOf (Task J) (K.terms G.config) pass.new (λ b. IsResult b t.0 K.RECEIPTS result) }
         ensures looks { LooksOnly (K.terms G.config) pass.old pass.new }
+        ensures knew { IsFrontOf pass.old.released pass.new.released }
     {
         let shared = self.shared();
         shared.hold(rt).show_result(t, &shared.around.glance, pass)

@@ -1,9 +1,10 @@
 //! Tasks that a pool forgets that keeps no record.
-ghost use Rattle.std.specs.Prelude.{◌≡◌, ◌⊎◌, IfErr, OnOk};
+ghost use Rattle.std.specs.Prelude.{◌≡◌, ◌⊎◌, ◌+◌, length, IfErr, OnErr, OnOk};
 ghost use Rattle.tp_parts.specs.Releases.{IsKept};
 ghost use Rattle.tp_glance.specs.Word.{IsFrontOf};
-ghost use Rattle.tp_book.specs.BookView.{BookView, EachLeft, Forgets};
-ghost use Rattle.tp_locked.specs.Moments.{BookAt};
+ghost use Rattle.tp_book.specs.BookView.{Forgets, left_of, released_of, state_of};
+ghost use Rattle.tp_locked.specs.Moments.{BookAt, BookAtSome, BookOf};
+ghost use Rattle.tp_locked.specs.Readings.{IsRelease};
 ghost use Rattle.tp_locked.specs.declared.tasks.Task.{Task};
 
 use crate::pool::PoolOf;
@@ -18,18 +19,21 @@ use tp_shared::edges::Edge;
 use tp_types::ids::TaskId;
 use tp_types::refusals::PoolError;
 
-// Forgets a task of the value under the lock. The pass then knows the history at which this was so.
+// Forgets a task of the value under the lock, and no other. The pass then knows the history at which this was so.
 fn release_in<G: PoolNaming, J: Job>(
     core: &mut Core<G, J, Tally>,
     t: TaskId,
     glance: &Glance<G>,
     pass: &mut Pass<G>,
 ) -> Result<(), PoolError>
-    ensures released { OnOk result (BookAt (Task J) (⟦<Tally as Recorder>⟧.terms G.config) pass.new.front (λ b. (new : BookView (Task J)) × Forgets b new t.0)) }
-    ensures kept { IfErr result (λ e. BookAt (Task J) (⟦<Tally as Recorder>⟧.terms G.config) pass.new.front (λ b. EachLeft b (λ s. IsKept s t.0 e))) }
+    ensures released { OnOk result (BookAt (Task J) (⟦<Tally as Recorder>⟧.terms G.config) pass.new.front (λ b. IsRelease b t.0 pass.new.released)) }
+    ensures kept { IfErr result (λ e. BookOf (Task J) (⟦<Tally as Recorder>⟧.terms G.config) pass.new (λ b. IsKept (left_of b) t.0 e)) }
     ensures refused { IfErr result (λ e. (e ≡ PoolError.UnknownTask) ⊎ (e ≡ PoolError.NotThere)) }
-    ensures shown { pass.new ≡ record pass.old { front = pass.new.front } }
+    ensures shown { pass.new ≡ record pass.old { front = pass.new.front; released = pass.new.released } }
     ensures goes_on { IsFrontOf pass.old.front pass.new.front }
+    ensures knew { IsFrontOf pass.old.released pass.new.released }
+    ensures forgets { OnOk result (Forgets core.old.book core.new.book t.0) }
+    ensures unchanged { OnErr result (core.new ≡ core.old) }
 {
     core.law_is_book();
     core.release_task(t, glance, pass)
@@ -43,11 +47,12 @@ impl<G: PoolNaming, J: Job, E: Edge> PoolOf<G, J, E, Tally> {
     /// UnknownTask (6) where no submission got this number, or the task was released before; NotThere (8) where it is not gone,
     /// where its submission is still under way, or where it is of a group and no completion service has taken it.
     pub fn release<R: Wait>(&self, rt: &R, t: TaskId, pass: &mut Pass<G>) -> Result<(), PoolError>
-        ensures released { OnOk result (BookAt (Task J) (⟦<Tally as Recorder>⟧.terms G.config) pass.new.front (λ b. (new : BookView (Task J)) × Forgets b new t.0)) }
-        ensures kept { IfErr result (λ e. BookAt (Task J) (⟦<Tally as Recorder>⟧.terms G.config) pass.new.front (λ b. EachLeft b (λ s. IsKept s t.0 e))) }
+        ensures released { OnOk result (BookAt (Task J) (⟦<Tally as Recorder>⟧.terms G.config) pass.new.front (λ b. IsRelease b t.0 pass.new.released)) }
+        ensures kept { IfErr result (λ e. BookOf (Task J) (⟦<Tally as Recorder>⟧.terms G.config) pass.new (λ b. IsKept (left_of b) t.0 e)) }
         ensures refused { IfErr result (λ e. (e ≡ PoolError.UnknownTask) ⊎ (e ≡ PoolError.NotThere)) }
-        ensures shown { pass.new ≡ record pass.old { front = pass.new.front } }
+        ensures shown { pass.new ≡ record pass.old { front = pass.new.front; released = pass.new.released } }
         ensures goes_on { IsFrontOf pass.old.front pass.new.front }
+        ensures knew { IsFrontOf pass.old.released pass.new.released }
     {
         let shared = self.shared();
         let mut held = shared.hold(rt);
@@ -55,7 +60,9 @@ impl<G: PoolNaming, J: Job, E: Edge> PoolOf<G, J, E, Tally> {
     }
 
     /// How many tasks are kept: those that were submitted and not released.
-    pub fn kept<R: Wait>(&self, rt: &R) -> u32 {
+    pub fn kept<R: Wait>(&self, rt: &R) -> u32
+        ensures { BookAtSome (Task J) (⟦<Tally as Recorder>⟧.terms G.config) (λ b. result + length (released_of b) ≡ length (state_of b).tasks) }
+    {
         self.shared().hold(rt).kept()
     }
 }

@@ -5,6 +5,7 @@ mod compare;
 mod dealing;
 mod ends;
 mod faults;
+mod forgets;
 mod futures;
 mod handing;
 mod lives;

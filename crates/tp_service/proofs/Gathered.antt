@@ -1,6 +1,6 @@
 -- What single calls add, in the words of the calls of many.
 use Rattle.std.proofs.Common.{◌<◌, List, length, ap, subst, inl, inr}
-use Rattle.std.specs.Prelude.{ℕ, ℤ, Bool, true, Result, Ok, Err, Any, IfOk, IfErr, OnErr}
+use Rattle.std.specs.Prelude.{ℕ, ℤ, Bool, true, Result, Ok, Err, IfOk, IfErr, OnErr}
 use Rattle.tp_types.specs.declared.configs.Config.{Config}
 use Rattle.tp_types.specs.declared.ids.TaskId.{TaskId}
 use Rattle.tp_types.specs.declared.refusals.PoolError.{PoolError}
@@ -11,8 +11,8 @@ use Rattle.tp_book.specs.PassView.{PassView}
 use Rattle.tp_locked.specs.Passes.{AddsNone, AddsStep, LooksOnly, Refuses}
 use Rattle.tp_locked.specs.declared.tasks.Task.{Task}
 use Rattle.tp_locked.proofs.Receipts.{looks_none, none_behind, step_behind}
-use Rattle.tp_service.specs.Futures.{IsClosed, HasValue, HaveFailed}
-use Rattle.tp_service.specs.Submitted.{AddsSubmissions, AddsCancel, AddsCancels, AreTurnedBack, IsAnyValue, HasNoValue}
+use Rattle.tp_service.specs.Futures.{IsClosed, HaveFailed}
+use Rattle.tp_service.specs.Submitted.{AddsSubmissions, AddsCancel, AreTurnedBack, HasNoValue}
 
 module _ {P : Type 0} (keeps : Bool) (c : Config) (t : TaskId) where
   -- a cancel that was asked for behind a look
@@ -22,7 +22,7 @@ module _ {P : Type 0} (keeps : Bool) (c : Config) (t : TaskId) where
   cancels old mid new looks (Err e) step refused none = inr (none_behind old mid new (looks_none c old mid looks) none, inr (e, subst (λ k. Refuses keeps c (k < 1) new.front (ask.Cancel t true) e) (ap (λ p. p.room) looks.0) refused))
 
   -- none, of a future that is not open
-  pub needs_no_cancel : (old new : PassView) → LooksOnly c old new → IsClosed P keeps c new.front t → AddsCancel P keeps c t old new
+  pub needs_no_cancel : (old new : PassView) → LooksOnly c old new → IsClosed P keeps c new t → AddsCancel P keeps c t old new
   needs_no_cancel old new looks closed = inr (looks_none c old new looks, inl closed)
 
 module _ {J : Type 0} (keeps : Bool) (c : Config) (promised : J → Promise) (urgency : J → ℕ) (jobs : List J) (tasks : List TaskId) (r : Result ℤ PoolError) where

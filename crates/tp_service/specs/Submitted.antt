@@ -1,5 +1,5 @@
 -- What the calls of a service add to their caller's pass.
-use Rattle.std.specs.Prelude.{ℕ, ℤ, Bool, true, ◌≡◌, ◌⊎◌, ◌<◌, List, [], ◌∷◌, ◌++◌, length, Any, Err}
+use Rattle.std.specs.Prelude.{ℕ, ℤ, Bool, true, ◌≡◌, ◌⊎◌, ◌<◌, List, ◌∷◌, ◌++◌, length, Any, Err}
 use Rattle.tp_types.specs.declared.configs.Config.{Config}
 use Rattle.tp_types.specs.declared.ids.TaskId.{TaskId}
 use Rattle.tp_types.specs.declared.refusals.PoolError.{PoolError}
@@ -21,7 +21,7 @@ module _ (P : Type 0) (keeps : Bool) (c : Config) where
   abbrev pub AddsCancel : TaskId → PassView → PassView → Type 0
   AddsCancel t old new =
       ((effective : Bool) × AddsStep c old (ask.Cancel t true) (did.Cancel t true effective) new)
-      ⊎ (AddsNone old new × (IsClosed P keeps c new.front t ⊎ ((e : PoolError) × Refuses keeps c (old.room < 1) new.front (ask.Cancel t true) e)))
+      ⊎ (AddsNone old new × (IsClosed P keeps c new t ⊎ ((e : PoolError) × Refuses keeps c (old.room < 1) new.front (ask.Cancel t true) e)))
 
   -- that of each of these tasks, one after another
   abbrev pub AddsCancels : List TaskId → PassView → PassView → Type 0
@@ -29,7 +29,7 @@ module _ (P : Type 0) (keeps : Bool) (c : Config) where
 
 -- the pass looks, and at its new front one of these is late
 abbrev pub IsOneLate : Type 0 → Config → ℕ → List TaskId → PassView → PassView → Type 0
-IsOneLate P c deadline ts old new = AddsNone old new × Any (IsLate P c deadline new.front) ts
+IsOneLate P c deadline ts old new = AddsNone old new × Any (IsLate P c deadline new) ts
 
 -- c are the pool's settings, and a job promises so and names this priority
 module _ {J : Type 0} (c : Config) (promised : J → Promise) (urgency : J → ℕ) where
@@ -73,7 +73,7 @@ module _ {J : Type 0} (keeps : Bool) (c : Config) (promised : J → Promise) (ur
     pub told : PassView
     pub submits : AddsSubmissions c promised urgency jobs tasks old mid
     pub looks : AddsNone mid told
-    pub value : Any (HasValue (Task J) c v told.front) tasks
+    pub value : Any (HasValue (Task J) c v told) tasks
     pub cancels : AddsCancels (Task J) keeps c tasks told new
 
   -- these jobs are submitted, one at least, and none has a value

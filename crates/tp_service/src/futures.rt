@@ -3,16 +3,18 @@ ghost use Rattle.std.specs.Prelude.{◌≡◌, ◌⊎◌, Some, None, IfOk, IfEr
 ghost use Rattle.tp_types.specs.declared.tasks.Kind.TheVariants.{Future};
 ghost use Rattle.tp_parts.specs.Releases.{IsKept};
 ghost use Rattle.tp_glance.specs.Word.{IsFrontOf};
-ghost use Rattle.tp_book.specs.BookView.{BookView, EachLeft, Forgets};
-ghost use Rattle.tp_locked.specs.Readings.{got, IsFound, IsResult};
-ghost use Rattle.tp_locked.specs.Moments.{BookAt, BookAtSome};
+ghost use Rattle.tp_book.specs.BookView.{left_of};
+ghost use Rattle.tp_locked.specs.Readings.{got, IsFound, IsRelease, IsResult};
+ghost use Rattle.tp_locked.specs.Moments.{BookAt, BookAtSome, BookOf};
 ghost use Rattle.tp_locked.specs.Passes.{LooksOnly};
 ghost use Rattle.tp_locked.specs.declared.tasks.Task.{Task};
+ghost use Rattle.tp_pool.specs.Timed.{IsFoundInTime};
 ghost use Rattle.tp_pool.specs.Admissions.{AtPriority, IsTurnedAway};
 ghost use Rattle.tp_pool.specs.Submissions.{AddsJob};
 
 use std::sync::Wait;
 use std::thread::Threads;
+use std::time::{Clock, Duration};
 use tp_book::passes::Pass;
 use tp_machine::machine::releases::Keeper;
 use tp_pool::answers::Refused;
@@ -94,8 +96,9 @@ pub fn get_with<G: PoolNaming, J: Job, E: Edge, K: Keeper, R: Wait>(
     t: TaskId,
     pass: &mut Pass<G>,
 ) -> Result<i64, PoolError>
-    ensures reads { BookAt (Task J) (K.terms G.config) pass.new.front (λ b. IsFound b t.0 K.RECEIPTS None (got result)) }
+    ensures reads { BookOf (Task J) (K.terms G.config) pass.new (λ b. IsFound b t.0 K.RECEIPTS None (got result)) }
     ensures looks { LooksOnly (K.terms G.config) pass.old pass.new }
+    ensures knew { IsFrontOf pass.old.released pass.new.released }
 {
     pool.await_result_with(rt, t, None, pass)
 }
@@ -108,10 +111,27 @@ pub fn get_until_with<G: PoolNaming, J: Job, E: Edge, K: Keeper, R: Wait>(
     deadline: u64,
     pass: &mut Pass<G>,
 ) -> Result<i64, PoolError>
-    ensures reads { BookAt (Task J) (K.terms G.config) pass.new.front (λ b. IsFound b t.0 K.RECEIPTS (Some deadline) (got result)) }
+    ensures reads { BookOf (Task J) (K.terms G.config) pass.new (λ b. IsFound b t.0 K.RECEIPTS (Some deadline) (got result)) }
     ensures looks { LooksOnly (K.terms G.config) pass.old pass.new }
+    ensures knew { IsFrontOf pass.old.released pass.new.released }
 {
     pool.await_result_with(rt, t, Some(deadline), pass)
+}
+
+/// As `get_with`, but for at most so long by the clock, as `Future.get` with a timeout. It makes no tick. TimedOut (16) where the time
+/// is over, or the clock can't be read, and the future is open.
+pub fn get_for<G: PoolNaming, J: Job, E: Edge, K: Keeper, R: Wait + Clock>(
+    pool: &PoolOf<G, J, E, K>,
+    rt: &R,
+    t: TaskId,
+    most: Duration,
+    pass: &mut Pass<G>,
+) -> Result<i64, PoolError>
+    ensures reads { BookOf (Task J) (K.terms G.config) pass.new (λ b. IsFoundInTime b t.0 K.RECEIPTS (got result)) }
+    ensures looks { LooksOnly (K.terms G.config) pass.old pass.new }
+    ensures knew { IsFrontOf pass.old.released pass.new.released }
+{
+    pool.await_result_for(rt, t, most, pass)
 }
 
 /// As `try_get`, with a pass, as `get_with`.
@@ -121,8 +141,9 @@ pub fn try_get_with<G: PoolNaming, J: Job, E: Edge, K: Keeper, R: Wait>(
     t: TaskId,
     pass: &mut Pass<G>,
 ) -> Result<Option<i64>, PoolError>
-    ensures reads { BookAt (Task J) (K.terms G.config) pass.new.front (λ b. IsResult b t.0 K.RECEIPTS result) }
+    ensures reads { BookOf (Task J) (K.terms G.config) pass.new (λ b. IsResult b t.0 K.RECEIPTS result) }
     ensures looks { LooksOnly (K.terms G.config) pass.old pass.new }
+    ensures knew { IsFrontOf pass.old.released pass.new.released }
 {
     pool.result_with(rt, t, pass)
 }
@@ -139,11 +160,12 @@ pub fn release<G: PoolNaming, J: Job, E: Edge, R: Wait>(
     t: TaskId,
     pass: &mut Pass<G>,
 ) -> Result<(), PoolError>
-    ensures released { OnOk result (BookAt (Task J) (⟦<Tally as Recorder>⟧.terms G.config) pass.new.front (λ b. (new : BookView (Task J)) × Forgets b new t.0)) }
-    ensures kept { IfErr result (λ e. BookAt (Task J) (⟦<Tally as Recorder>⟧.terms G.config) pass.new.front (λ b. EachLeft b (λ s. IsKept s t.0 e))) }
+    ensures released { OnOk result (BookAt (Task J) (⟦<Tally as Recorder>⟧.terms G.config) pass.new.front (λ b. IsRelease b t.0 pass.new.released)) }
+    ensures kept { IfErr result (λ e. BookOf (Task J) (⟦<Tally as Recorder>⟧.terms G.config) pass.new (λ b. IsKept (left_of b) t.0 e)) }
     ensures refused { IfErr result (λ e. (e ≡ PoolError.UnknownTask) ⊎ (e ≡ PoolError.NotThere)) }
-    ensures shown { pass.new ≡ record pass.old { front = pass.new.front } }
+    ensures shown { pass.new ≡ record pass.old { front = pass.new.front; released = pass.new.released } }
     ensures goes_on { IsFrontOf pass.old.front pass.new.front }
+    ensures knew { IsFrontOf pass.old.released pass.new.released }
 {
     pool.release(rt, t, pass)
 }

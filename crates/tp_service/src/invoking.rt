@@ -92,7 +92,7 @@ fn closes_by<G: PoolNaming, J: Job, E: Edge, K: Keeper, R: Wait>(
     pass: &mut Pass<G>,
 ) -> bool
     ensures closed { IsTrue result → Closes (Task J) K.RECEIPTS (K.terms G.config) t pass.old pass.new }
-    ensures late { ¬ IsTrue result → LooksOnly (K.terms G.config) pass.old pass.new × IsLate (Task J) (K.terms G.config) deadline pass.new.front t }
+    ensures late { ¬ IsTrue result → LooksOnly (K.terms G.config) pass.old pass.new × IsLate (Task J) (K.terms G.config) deadline pass.new t }
 {
     pool.await_result_with(rt, t, Some(deadline), pass) != Err(PoolError::TimedOut)
 }
@@ -134,7 +134,7 @@ fn any_of<G: PoolNaming, J: Job, E: Edge, K: Keeper, R: Wait>(
     tasks: &[TaskId],
     pass: &mut Pass<G>,
 ) -> Option<Result<i64, PoolError>>
-    ensures value { IfSome result (λ r. IfOk r (λ v. Any (HasValue (Task J) (K.terms G.config) v pass.new.front) tasks.now)) }
+    ensures value { IfSome result (λ r. IfOk r (λ v. Any (HasValue (Task J) (K.terms G.config) v pass.new) tasks.now)) }
     ensures failed { IfSome result (λ r. IfErr r (λ e. HaveFailed (Task J) K.RECEIPTS (K.terms G.config) tasks.now e pass.old pass.new)) }
     ensures looks { AddsNone pass.old pass.new }
 {
@@ -162,7 +162,7 @@ fn await_any<G: PoolNaming, J: Job, E: Edge, K: Keeper, R: Wait>(
     tasks: &[TaskId],
     pass: &mut Pass<G>,
 ) -> Result<i64, PoolError>
-    ensures value { IfOk result (λ v. Any (HasValue (Task J) (K.terms G.config) v pass.new.front) tasks.now) }
+    ensures value { IfOk result (λ v. Any (HasValue (Task J) (K.terms G.config) v pass.new) tasks.now) }
     ensures failed { IfErr result (λ e. (mid : PassView) × AddsNone pass.old mid × HaveFailed (Task J) K.RECEIPTS (K.terms G.config) tasks.now e mid pass.new) }
     ensures looks { AddsNone pass.old pass.new }
 {

@@ -19,8 +19,9 @@ pub trait Leaving<G: PoolNaming, J: Job, E: Edge, R: Wait>: Keeper {
 
     /// Has the pool forget such tasks that are gone, after so many looks. It makes no step.
     fn forget(pool: &PoolOf<G, J, E, Self>, rt: &R, looks: usize, pass: &mut Pass<G>)
-        ensures shown { pass.new ≡ record pass.old { front = pass.new.front } }
-        ensures goes_on { IsFrontOf pass.old.front pass.new.front };
+        ensures shown { pass.new ≡ record pass.old { front = pass.new.front; released = pass.new.released } }
+        ensures goes_on { IsFrontOf pass.old.front pass.new.front }
+        ensures knew { IsFrontOf pass.old.released pass.new.released };
 }
 
 /// A record names every task: none is forgotten.

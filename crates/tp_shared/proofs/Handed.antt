@@ -34,7 +34,7 @@ module _ {J : Type 0} (keeps : Bool) (c : Config) where
 
 -- a pass whose step was refused has looked
 pub looked : (J : Type 0) (keeps : Bool) (c : Config) {A : Type 0} (old new : PassView) (a : Ask) (r : Result A PoolError) →
-    IfErr r (λ e. Refused J keeps c old.front a e new.front) → OnErr r (new ≡ record old { front = new.front }) → OnErr r (LooksOnly c old new)
+    IfErr r (λ e. Refused J keeps c old.front a e new.front) → OnErr r (new ≡ record old { front = new.front; released = new.released }) → OnErr r (LooksOnly c old new)
 looked J keeps c old new a (Ok x) refused shown = tt
 looked J keeps c old new a (Err e) refused shown =
     (shown, subst (λ h. IsFrontOf old.front h) (sym refused.shown) refused.goes_on, legal_refused c keeps old.front a e new.front refused)

@@ -28,6 +28,7 @@ use Rattle.tp_machine.specs.Answers.{ComesBack, IsJudged, Judges, ruled_of, Retu
 use Rattle.tp_glance.specs.Word.{IsFrontOf}
 use Rattle.tp_glance.proofs.Fronts.{IsFrontOf_refl, IsFrontOf_trans}
 use Rattle.tp_book.specs.PassView.{PassView}
+use Rattle.tp_book.proofs.Settling.{all_history}
 use Rattle.tp_locked.specs.CoreView.{CoreView}
 use Rattle.tp_locked.specs.Holds.{Holds}
 use Rattle.tp_locked.specs.Passes.{KnowsStep}
@@ -39,7 +40,7 @@ use Rattle.tp_shared.specs.Submitting.{TakesOut}
 pub knows : {J A : Type 0} (keeps : Bool) (old new : CoreView J) (before after : PassView) (a : Ask) (did : A → Did) (moves : A → Tasks (Task J) → Tasks (Task J) → Type 0) (says : A → List Entry → Type 0) (r : Result A PoolError) →
     IfOk r (λ x. Holds keeps old new before.number a (did x) (moves x)) → IfOk r (λ x. says x old.book.history) → OnOk r (after.front ≡ new.book.history) × OnErr r (after.front ≡ old.book.history) →
     IfOk r (λ x. KnowsStep before a (did x) (says x) after)
-knows keeps old new before after a did moves says (Ok x) holds said front = (old.book.history, front.0 ∙ holds.released.history ∙ holds.made.notes, said)
+knows keeps old new before after a did moves says (Ok x) holds said front = (old.book.history, front.0 ∙ all_history keeps holds.book new.book _ holds.settles ∙ holds.made.notes, said)
 knows keeps old new before after a did moves says (Err e) holds said front = tt
 
 mine_if : (b : Bool) (f : Follow) → (if b then f else Astray) ≡ Ends Rejected → f ≡ Ends Rejected

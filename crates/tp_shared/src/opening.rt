@@ -33,7 +33,7 @@ impl<G: PoolNaming, J: Job, E: Edge, K: Keeper> Shared<G, J, E, K> {
     ) -> Result<(Arc<Shared<G, J, E, K>>, Pass<G>), PoolError>
         requires named { unopened ≡ record { ledger = G.name; parts = G.parts; table = G.table } }
         requires settings { config ≡ G.config }
-        ensures pass { IfOk result (λ r. r.1 ≡ record { number = 0; amount = 0; front = []; keeps = K.RECEIPTS; receipts = []; room = r.1.room }) }
+        ensures pass { IfOk result (λ r. r.1 ≡ record { number = 0; amount = 0; front = []; released = []; keeps = K.RECEIPTS; receipts = []; room = r.1.room }) }
         ensures good { OnOk result (IsConfig config) }
         ensures refused { IfErr result (λ e. (checked config ≡ Err e) ⊎ ((e ≡ PoolError.NoMemory) × IsConfig config)) }
     {
@@ -56,7 +56,7 @@ fn begin<G: PoolNaming, J: Drop, K: Keeper>(
 ) -> Result<(PoolLock<G, J, K>, Glance<G>, Pass<G>), PoolError>
     requires named { unopened ≡ record { ledger = G.name; parts = G.parts; table = G.table } }
     requires settings { config ≡ G.config }
-    ensures pass { IfOk result (λ r. r.2 ≡ record { number = 0; amount = 0; front = []; keeps = K.RECEIPTS; receipts = []; room = r.2.room }) }
+    ensures pass { IfOk result (λ r. r.2 ≡ record { number = 0; amount = 0; front = []; released = []; keeps = K.RECEIPTS; receipts = []; room = r.2.room }) }
     ensures good { OnOk result (IsConfig config) }
     ensures refused { IfErr result (λ e. (checked config ≡ Err e) ⊎ ((e ≡ PoolError.NoMemory) × IsConfig config)) }
 {

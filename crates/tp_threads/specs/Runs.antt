@@ -85,7 +85,7 @@ pub record IsRun (c : Config) (ks : List Asked) (r : Report) : Type 0 where
 -- receipts or none, submitted such tasks in their order, each to the end of its submission, and then shut the pool down; with it the pool was closed
 pub record IsLife {Report : Type 0} (told : Config → List Entry → Report → Type 0) (keeps : Bool) (settings c : Config) (ks : List Asked) (r : Report) : Type 0 where
   pub first : PassView
-  pub opened : first ≡ record { number = 0; amount = 0; front = []; keeps = keeps; receipts = []; room = first.room }
+  pub opened : first ≡ record { number = 0; amount = 0; front = []; released = []; keeps = keeps; receipts = []; room = first.room }
   pub submitted : PassView
   pub submits : AddsSubmissions c ks first submitted
   pub last : PassView

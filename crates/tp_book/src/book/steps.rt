@@ -3,7 +3,7 @@ ghost use Rattle.std.specs.Prelude.{◌≡◌, ◌<◌, ◌≤◌, ◌+◌, [], 
 ghost use Rattle.tp_machine.specs.Stepped.{IsPaid, did_of};
 ghost use Rattle.tp_glance.specs.Word.{IsFrontOf};
 ghost use Rattle.tp_book.specs.PassView.{receipts_with};
-ghost use Rattle.tp_book.specs.BookView.{config, Advances, IsAdvanced, IsUnmoved, IsDenied};
+ghost use Rattle.tp_book.specs.BookView.{config, released_of, Advances, IsAdvanced, IsUnmoved, IsDenied};
 
 use super::Book;
 use crate::passes::Pass;
@@ -43,6 +43,7 @@ impl<G: Naming, P, R: Keeper> Book<G, P, R> {
         ensures paid { IfOk result (λ x. A.paid pass.old (record { by = A.number pass.old; ask = S.ask step; did = S.did step x }) pass.new) }
         ensures number { A.number pass.new ≡ A.number pass.old }
         ensures front { A.front pass.new ≡ self.new.history }
+        ensures released { A.released pass.new ≡ released_of self.old }
         ensures refused { IfErr result (λ r. IsDenied R.RECEIPTS self.old (S.ask step) r.0) }
         ensures returned { IfErr result (λ r. r.1 ≡ load) }
         ensures unchanged { OnErr result (IsUnmoved self.old self.new) }
@@ -93,6 +94,7 @@ impl<G: Naming, P, R: Keeper> Book<G, P, R> {
           number = pass.old.number;
           amount = pass.old.amount + 1;
           front = self.new.history;
+          released = released_of self.old;
           keeps = pass.old.keeps;
           receipts = receipts_with pass.old (record { by = pass.old.number; ask = ask; did = did_of ask s } ∷ []);
           room = pass.new.room;
@@ -101,7 +103,7 @@ impl<G: Naming, P, R: Keeper> Book<G, P, R> {
         ensures refused { IfErr result (λ r. IsDenied R.RECEIPTS self.old ask r.0) }
         ensures returned { IfErr result (λ r. r.1 ≡ option_map (λ x. x.1) submitted) }
         ensures unchanged { OnErr result (IsUnmoved self.old self.new) }
-        ensures shown { OnErr result (pass.new ≡ record pass.old { front = self.old.history }) }
+        ensures shown { OnErr result (pass.new ≡ record pass.old { front = self.old.history; released = released_of self.old }) }
         ensures knew { IsFrontOf pass.old.front self.old.history }
         ensures goes_on { IsFrontOf pass.old.front self.new.history }
     {

@@ -1,14 +1,22 @@
 //! What an accepted step is to the cancel flags of tasks, and which tasks may be gone with it for good. Most steps are nothing
 //! to either. A step tells both by its answer alone: what follows from that is done here, once for all steps.
 
-ghost use Rattle.tp_book.specs.BookView.{Releases};
+ghost use Rattle.std.specs.Prelude.{◌≡◌, List, map};
+ghost use Rattle.tp_types.specs.declared.configs.Config.{Config};
+ghost use Rattle.tp_record.specs.declared.entries.Entry.{Entry};
+ghost use Rattle.tp_record.specs.Fields.{queue};
+ghost use Rattle.tp_record.specs.State.{State};
+ghost use Rattle.tp_record.specs.Step.{Gives};
+ghost use Rattle.tp_book.specs.BookView.{SettlesAll, config};
+ghost use Rattle.tp_locked.specs.Gone.{gone_ruled, gone_with, named};
 
 use crate::flags::Flags;
 use crate::names::PoolNaming;
 use crate::tasks::Task;
 use tp_book::book::Book;
 use tp_callbacks::flags::CancelFlag;
-use tp_machine::answers::Judged;
+use tp_glance::glance::Glance;
+use tp_machine::answers::{Begun, Judged};
 use tp_machine::machine::releases::Keeper;
 use tp_machine::typed::Step;
 use tp_machine::typed::controllers::{
@@ -17,7 +25,7 @@ use tp_machine::typed::controllers::{
 use tp_machine::typed::settings::{Core, CoreTimeout, Keep, Maximum, Prestart, Tick};
 use tp_machine::typed::submitters::{CallerEnd, Grow, Judge, Look, Offer, Second, Submit};
 use tp_machine::typed::workers::{Begin, End, Fail, Leave, Open, Take};
-use tp_record::entries::{Did, Ruled, Seconded};
+use tp_record::entries::{Did, Failed, Grown, Looked, Offered, Opened, Ruled, Seconded, Took};
 use tp_types::ids::{SlotId, TaskId};
 use tp_types::limits::MAX_WORKERS;
 use tp_types::tasks::Place;
@@ -60,10 +68,9 @@ pub trait Marks<J>: Step<Task<J>> {
     }
 
     /// Which tasks may be gone with it, so answered.
-    #[inline(always)]
-    fn gone<'a>(self, _answer: &'a Self::Answer) -> Gone<'a, J> {
-        Gone::Nobody
-    }
+    fn gone<'a>(self, answer: &'a Self::Answer) -> Gone<'a, J>
+        requires { (c : Config) × (s : State) × Gives c s (Self.ask self) (Self.did self answer.now) }
+        ensures { (c : Config) (h : List Entry) → Self.says self answer.now c h → named result ≡ gone_with (Self.did self answer.now) (queue c h) };
 }
 
 // Sets the flags that the step sets, keeps those of tasks that begin with it, and lets go of those of tasks that are gone.
@@ -113,32 +120,53 @@ fn stop<G: PoolNaming, J, R: Keeper>(book: &Book<G, Task<J>, R>, flags: &Flags) 
 pub(super) fn settle<G: PoolNaming, J: Drop, R: Keeper>(
     book: &mut Book<G, Task<J>, R>,
     gone: Gone<'_, J>,
+    glance: &Glance<G>,
 )
-    ensures { Releases R.RECEIPTS book.old book.new }
+    ensures settles { SettlesAll R.RECEIPTS book.old book.new (named gone.entry) }
+    ensures config { config book.new ≡ config book.old }
+    ensures history { book.new.history ≡ book.old.history }
 {
     match gone {
         Gone::Nobody => {}
-        Gone::One(t) => book.settle(t),
-        Gone::Drained(tasks) => settle_all(book, tasks),
+        Gone::One(t) => book.settle(t, glance),
+        Gone::Drained(tasks) => settle_all(book, tasks, glance),
     }
 }
 
 fn settle_all<G: PoolNaming, J: Drop, R: Keeper>(
     book: &mut Book<G, Task<J>, R>,
     tasks: &[(TaskId, Option<Task<J>>)],
+    glance: &Glance<G>,
 )
-    ensures { Releases R.RECEIPTS book.old book.new }
+    ensures settles { SettlesAll R.RECEIPTS book.old book.new (map (λ x. x.0.0) tasks.now) }
+    ensures config { config book.new ≡ config book.old }
+    ensures history { book.new.history ≡ book.old.history }
 {
     for (t, _) in tasks {
-        book.settle(*t);
+        book.settle(*t, glance);
     }
 }
 
-impl<J: Drop> Marks<J> for Submit {}
+impl<J: Drop> Marks<J> for Submit {
+    #[inline(always)]
+    fn gone<'a>(self, _answer: &'a (TaskId, Looked)) -> Gone<'a, J> {
+        Gone::Nobody
+    }
+}
 
-impl<J> Marks<J> for Look {}
+impl<J> Marks<J> for Look {
+    #[inline(always)]
+    fn gone<'a>(self, _answer: &'a Looked) -> Gone<'a, J> {
+        Gone::Nobody
+    }
+}
 
-impl<J> Marks<J> for Offer {}
+impl<J> Marks<J> for Offer {
+    #[inline(always)]
+    fn gone<'a>(self, _answer: &'a Offered) -> Gone<'a, J> {
+        Gone::Nobody
+    }
+}
 
 impl<J: Drop> Marks<J> for Second {
     // A worker may have run the task before its submitter looked a second time.
@@ -148,7 +176,23 @@ impl<J: Drop> Marks<J> for Second {
     }
 }
 
-impl<J> Marks<J> for Grow {}
+impl<J> Marks<J> for Grow {
+    #[inline(always)]
+    fn gone<'a>(self, _answer: &'a Grown) -> Gone<'a, J> {
+        Gone::Nobody
+    }
+}
+
+// What was rejected, discarded or dropped is gone.
+fn judged<'a, J>(t: TaskId, ruled: Ruled) -> Gone<'a, J>
+    ensures { named result ≡ gone_ruled t.0 ruled }
+{
+    match ruled {
+        Ruled::Rejected | Ruled::Discarded => Gone::One(t),
+        Ruled::RetryDrop(head) => Gone::One(head),
+        Ruled::Caller | Ruled::Skip | Ruled::Retry => Gone::Nobody,
+    }
+}
 
 impl<J: Drop> Marks<J> for Judge {
     // A task that its caller is to run begins.
@@ -162,11 +206,9 @@ impl<J: Drop> Marks<J> for Judge {
         }
     }
 
-    // What was rejected, discarded or dropped is gone.
     fn gone<'a>(self, answer: &'a Judged<Task<J>>) -> Gone<'a, J> {
         match answer.did {
-            Did::Verdict(t, _, Ruled::Rejected | Ruled::Discarded) => Gone::One(t),
-            Did::Verdict(_, _, Ruled::RetryDrop(head)) => Gone::One(head),
+            Did::Verdict(t, _, ruled) => judged(t, ruled),
             _ => Gone::Nobody,
         }
     }
@@ -182,16 +224,41 @@ impl<J: Drop> Marks<J> for CallerEnd {
     }
 }
 
-impl<J> Marks<J> for Open {}
+impl<J> Marks<J> for Open {
+    #[inline(always)]
+    fn gone<'a>(self, _answer: &'a Opened) -> Gone<'a, J> {
+        Gone::Nobody
+    }
+}
 
-impl<J> Marks<J> for Fail {}
+impl<J> Marks<J> for Fail {
+    #[inline(always)]
+    fn gone<'a>(self, _answer: &'a Failed) -> Gone<'a, J> {
+        Gone::Nobody
+    }
+}
 
-impl<J> Marks<J> for Take {}
+impl<J> Marks<J> for Take {
+    #[inline(always)]
+    fn gone<'a>(self, _answer: &'a Took) -> Gone<'a, J> {
+        Gone::Nobody
+    }
+}
 
 // `Core::begin` keeps the pool's hold of the flag.
-impl<J> Marks<J> for Begin {}
+impl<J> Marks<J> for Begin {
+    #[inline(always)]
+    fn gone<'a>(self, _answer: &'a Begun<Task<J>>) -> Gone<'a, J> {
+        Gone::Nobody
+    }
+}
 
-impl<J> Marks<J> for Leave {}
+impl<J> Marks<J> for Leave {
+    #[inline(always)]
+    fn gone<'a>(self, _answer: &'a Option<SlotId>) -> Gone<'a, J> {
+        Gone::Nobody
+    }
+}
 
 impl<J: Drop> Marks<J> for End {
     #[inline(always)]
@@ -205,7 +272,12 @@ impl<J: Drop> Marks<J> for End {
     }
 }
 
-impl<J> Marks<J> for Shutdown {}
+impl<J> Marks<J> for Shutdown {
+    #[inline(always)]
+    fn gone<'a>(self, _answer: &'a ()) -> Gone<'a, J> {
+        Gone::Nobody
+    }
+}
 
 impl<J: Drop> Marks<J> for Stop {
     fn mark<'a>(self, _answer: &'a Vec<(TaskId, Option<Task<J>>)>) -> Mark<'a> {
@@ -218,13 +290,33 @@ impl<J: Drop> Marks<J> for Stop {
     }
 }
 
-impl<J> Marks<J> for Tidy {}
+impl<J> Marks<J> for Tidy {
+    #[inline(always)]
+    fn gone<'a>(self, _answer: &'a ()) -> Gone<'a, J> {
+        Gone::Nobody
+    }
+}
 
-impl<J> Marks<J> for Ended {}
+impl<J> Marks<J> for Ended {
+    #[inline(always)]
+    fn gone<'a>(self, _answer: &'a ()) -> Gone<'a, J> {
+        Gone::Nobody
+    }
+}
 
-impl<J> Marks<J> for Purge {}
+impl<J> Marks<J> for Purge {
+    #[inline(always)]
+    fn gone<'a>(self, _answer: &'a u32) -> Gone<'a, J> {
+        Gone::Nobody
+    }
+}
 
-impl<J> Marks<J> for TakeDone {}
+impl<J> Marks<J> for TakeDone {
+    #[inline(always)]
+    fn gone<'a>(self, _answer: &'a TaskId) -> Gone<'a, J> {
+        Gone::Nobody
+    }
+}
 
 impl<J: Drop> Marks<J> for Remove {
     fn gone<'a>(self, answer: &'a Option<(TaskId, Option<Task<J>>)>) -> Gone<'a, J> {
@@ -244,16 +336,51 @@ impl<J> Marks<J> for Cancel {
             _ => Mark::Nothing,
         }
     }
+
+    // What has a future is its caller's to release.
+    fn gone<'a>(self, _answer: &'a (bool, Option<Task<J>>)) -> Gone<'a, J> {
+        Gone::Nobody
+    }
 }
 
-impl<J> Marks<J> for Core {}
+impl<J> Marks<J> for Core {
+    #[inline(always)]
+    fn gone<'a>(self, _answer: &'a u32) -> Gone<'a, J> {
+        Gone::Nobody
+    }
+}
 
-impl<J> Marks<J> for Maximum {}
+impl<J> Marks<J> for Maximum {
+    #[inline(always)]
+    fn gone<'a>(self, _answer: &'a ()) -> Gone<'a, J> {
+        Gone::Nobody
+    }
+}
 
-impl<J> Marks<J> for Keep {}
+impl<J> Marks<J> for Keep {
+    #[inline(always)]
+    fn gone<'a>(self, _answer: &'a ()) -> Gone<'a, J> {
+        Gone::Nobody
+    }
+}
 
-impl<J> Marks<J> for CoreTimeout {}
+impl<J> Marks<J> for CoreTimeout {
+    #[inline(always)]
+    fn gone<'a>(self, _answer: &'a ()) -> Gone<'a, J> {
+        Gone::Nobody
+    }
+}
 
-impl<J> Marks<J> for Tick {}
+impl<J> Marks<J> for Tick {
+    #[inline(always)]
+    fn gone<'a>(self, _answer: &'a ()) -> Gone<'a, J> {
+        Gone::Nobody
+    }
+}
 
-impl<J> Marks<J> for Prestart {}
+impl<J> Marks<J> for Prestart {
+    #[inline(always)]
+    fn gone<'a>(self, _answer: &'a Option<SlotId>) -> Gone<'a, J> {
+        Gone::Nobody
+    }
+}

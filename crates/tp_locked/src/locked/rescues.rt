@@ -3,7 +3,7 @@ ghost use Rattle.std.specs.Prelude.{◌≡◌, ◌↔◌, ◌⊎◌, ◌+◌, �
 ghost use Rattle.tp_types.specs.RunState.{state_rank};
 ghost use Rattle.tp_record.specs.State.{State};
 ghost use Rattle.tp_record.specs.Step.{slot_count};
-ghost use Rattle.tp_book.specs.BookView.{state_of};
+ghost use Rattle.tp_book.specs.BookView.{released_of, state_of};
 ghost use Rattle.tp_locked.specs.Left.{IsLeft, IsStranded};
 ghost use Rattle.tp_locked.specs.Moments.{AtSome};
 
@@ -71,7 +71,7 @@ impl<G: PoolNaming, J: Drop, R: Keeper> Core<G, J, R> {
     /// A pass of the pool's own, for a thread that does what is left: a worker's, of no slot, which is to be
     /// handed in. NoMemory (4) or BookFull (5).
     pub fn engage(&mut self, glance: &Glance<G>) -> Result<WorkerPass<G>, PoolError>
-        ensures new { IfOk result (λ p. p ≡ record { number = self.old.book.accounts.made; amount = 0; front = self.old.book.history }) }
+        ensures new { IfOk result (λ p. p ≡ record { number = self.old.book.accounts.made; amount = 0; front = self.old.book.history; released = released_of self.old.book }) }
         ensures made { OnOk result (self.new.book ≡ record self.old.book { accounts = record self.old.book.accounts { made = self.old.book.accounts.made + 1 } }) }
         ensures running { OnOk result (self.new.roster.running ≡ self.old.roster.running + 1) }
         ensures others { (self.new.roster.seats ≡ self.old.roster.seats) × (self.new.roster.ended ≡ self.old.roster.ended) }

@@ -75,7 +75,7 @@ pub fn is_rejection(refused: &Refused<Chore>, number: u64) -> bool {
     }
 }
 
-fn is_answer(found: &Result<Admitted, Refused<Chore>>, number: u64, answer: Answer) -> bool {
+pub fn is_answer(found: &Result<Admitted, Refused<Chore>>, number: u64, answer: Answer) -> bool {
     match found {
         Ok(admitted) => is_admission(*admitted, number, answer),
         Err(refused) => matches!(answer, Answer::Rejected) && is_rejection(refused, number),

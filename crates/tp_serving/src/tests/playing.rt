@@ -16,7 +16,7 @@ use tp_pool::pool::PoolOf;
 use tp_pool::snapshots::Busy;
 use tp_service::completions::CompletionService;
 use tp_service::futures::{
-    get, get_until, get_until_with, get_with, submit, try_get, try_get_with,
+    get, get_for, get_until, get_until_with, get_with, submit, try_get, try_get_with,
 };
 use tp_service::invoking::{invoke_all, invoke_all_until, invoke_any};
 use tp_stage::boards::{Board, shared};
@@ -184,9 +184,17 @@ fn goes_on<G: PoolNaming, R: Wait>(rt: &R, pool: &Tested<G>, seen: u64, least: u
     steps > seen && steps >= least
 }
 
-// Asks a future twice, without a pass and with it: both answers are the one that the line says.
-fn gets<G: PoolNaming, R: Wait>(rt: &R, pool: &Tested<G>, step: Step, pass: &mut Pass<G>) -> bool {
+// Asks a future: twice, without a pass and with it, but for a wait by the clock. Each answer is the one that the line says.
+fn gets<G: PoolNaming, R: Wait + Clock>(
+    rt: &R,
+    pool: &Tested<G>,
+    step: Step,
+    pass: &mut Pass<G>,
+) -> bool {
     match step {
+        Step::GetFor(t, micros, answer) => {
+            get_for(pool, rt, TaskId(t), Duration::from_micros(micros), pass) == answer
+        }
         Step::Get(t, answer) => {
             let t = TaskId(t);
             [get(pool, rt, t), get_with(pool, rt, t, pass)] == [answer, answer]
@@ -245,7 +253,12 @@ fn makes<G: PoolNaming + Send + Sync + 'static, R: Threads + Wait + Clock + Copy
 ) -> bool {
     match step {
         Step::Submit(kind, deed, number) => submits(rt, pool, board, (kind, deed, number), pass),
-        Step::Get(..) | Step::GetUntil(..) | Step::TryGet(..) => gets(&rt, pool, step, pass),
+        Step::Get(..) | Step::GetUntil(..) | Step::TryGet(..) | Step::GetFor(..) => {
+            gets(&rt, pool, step, pass)
+        }
+        Step::EndFor(micros, answer) => {
+            pool.await_end_for(&rt, Duration::from_micros(micros), pass) == answer
+        }
         Step::Watch(view) => watches(&rt, alloc, pool, view, pass),
         Step::Many(many) => invokes(rt, alloc, pool, board, many, pass),
         Step::Take(group, answer) => CompletionService::new(group).take(pool, &rt, pass) == answer,

@@ -51,6 +51,9 @@ pub enum Step {
     Get(u32, Result<i64, PoolError>),
     GetUntil(u32, u64, Result<i64, PoolError>),
     TryGet(u32, Result<Option<i64>, PoolError>),
+    // Waits by the clock, for at most so many microseconds.
+    GetFor(u32, u64, Result<i64, PoolError>),
+    EndFor(u64, Result<(), PoolError>),
     Many(Many),
     // A done task of this group.
     Take(u32, Result<TaskId, PoolError>),

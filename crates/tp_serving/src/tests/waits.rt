@@ -113,6 +113,41 @@ fn lost_future_ends_a_get(rt: HostRuntime) -> Result<(), Fail> {
     lives_all(rt, rt.alloc(), &LOST_TO_A_GET)
 }
 
+// Task 0 is held: a wait by the clock ends, and no step is made. Then the task goes on, and so does the pool.
+const BY_THE_CLOCK: [Step; 11] = [
+    FIRST,
+    CAME,
+    Step::Steps(4),
+    Step::GetFor(0, 20_000, Err(PoolError::TimedOut)),
+    Step::GetFor(0, 0, Err(PoolError::TimedOut)),
+    SHUTS_DOWN,
+    Step::EndFor(20_000, Err(PoolError::TimedOut)),
+    Step::Steps(5),
+    OPENS,
+    Step::GetFor(0, 60_000_000, Ok(6)),
+    Step::EndFor(60_000_000, Ok(())),
+];
+
+const KNOWN_AT_ONCE: [Step; 2] = [
+    Step::GetFor(0, 0, Ok(6)),
+    Step::GetFor(9, 0, Err(PoolError::UnknownTask)),
+];
+
+static CLOCKED: [Tale; 1] = [Tale {
+    settings: ONE,
+    holds: true,
+    script: Script {
+        first: &[&BY_THE_CLOCK, &KNOWN_AT_ONCE],
+        beside: &[],
+    },
+    findings: &[Finding::Submitted(1), Finding::Run(1)],
+}];
+
+#[test]
+fn waits_by_the_clock_end(rt: HostRuntime) -> Result<(), Fail> {
+    lives_all(rt, rt.alloc(), &CLOCKED)
+}
+
 const TAKES: [Step; 1] = [Step::Take(3, Err(PoolError::NothingOpen))];
 
 static LOST_TO_A_TAKE: [Tale; 3] = [

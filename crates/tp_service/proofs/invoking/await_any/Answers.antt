@@ -1,4 +1,3 @@
-use Rattle.std.proofs.Common.{refl}
 use Rattle.std.proofs.lemmas.Result.{IfErr-weaker}
 use Rattle.tp_book.specs.PassView.{PassView}
 use Rattle.tp_locked.specs.Passes.{AddsNone}

@@ -12,7 +12,7 @@ returns-then-ne g c =
     let looks = looks_behind config c.args.pass.now c.forget.new.pass c.result_with.new.pass (c.forget.ensures.shown, c.forget.ensures.goes_on) told.looks in
     let on : ¬ (c.result_with.result ≡ Ok None) = search rules in
     needs_no_cancel g.K.Recorder.RECEIPTS config c.args.t c.args.pass.now c.result_with.new.pass looks
-    (closed_read g.K.Recorder.RECEIPTS config c.args.t c.result_with.new.pass.front c.result_with.result told.reads on)
+    (closed_read g.K.Recorder.RECEIPTS config c.args.t c.result_with.new.pass c.result_with.result told.reads on)
 
 pub returns : goal.returns
 returns g c =

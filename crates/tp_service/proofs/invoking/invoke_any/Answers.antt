@@ -38,6 +38,6 @@ returns-clause-value g c =
       submits = c.in-Ok.ensures.submitted;
       looks = none_behind c.submit_all.new.pass c.forget.new.pass c.await_any-answer.new.pass
           (later_none c.submit_all.new.pass c.forget.new.pass (c.forget.ensures.shown, c.forget.ensures.goes_on)) c.await_any-answer.ensures.looks;
-      value = subst (Any (HasValue (Task g.row.J.Denot) (g.K.Recorder.terms g.G.PoolNaming.config) v c.await_any-answer.new.pass.front)) c.as_slice.ensures.value value;
+      value = subst (Any (HasValue (Task g.row.J.Denot) (g.K.Recorder.terms g.G.PoolNaming.config) v c.await_any-answer.new.pass)) c.as_slice.ensures.value value;
       cancels = subst (λ ts. AddsCancels (Task g.row.J.Denot) g.K.Recorder.RECEIPTS (g.K.Recorder.terms g.G.PoolNaming.config) ts c.await_any-answer.new.pass c.cancel_all.new.pass) c.as_slice-3.ensures.value c.cancel_all.ensures;
     }) c.await_any-answer.ensures.value

@@ -17,5 +17,5 @@ returns-clause-told g c =
     let held = c.self.invariant.0 in
     let same = sym c.self.view_is in
     subst (λ b. g.R.Reporter.told (config b) b.history c.report.result) c.self.view_is
-    (c.report.ensures c.self.inside.seat held.released held.stands
+    (c.report.ensures c.self.inside.seat.entries c.self.inside.seat.released held.stands
     (c.steps-steps.ensures ∙ length-reverse c.args.self.history ∙ ap (λ b. length b.history) same) (c.counts-counts.ensures ∙ ap (λ b. counts (state_of b)) same))

@@ -6,12 +6,12 @@ use Rattle.tp_book.proofs.book.Book.step_by.Goals as goal
 
 pub returns-in-Err-clause-refused : goal.returns-in-Err-clause-refused
 returns-in-Err-clause-refused g c =
-    denies g.R.Recorder.tells g.R.Recorder.terms g.R.Recorder.RECEIPTS (record { whole = c.law_forgets_at_will.ensures.whole; any = c.law_forgets_at_will.ensures.any }) c.args.self.now c.self.inside.machine c.self.inside.accounts c.self.inside.seat c.self.invariant.0 c.self.view_is
+    denies g.R.Recorder.tells g.R.Recorder.terms g.R.Recorder.RECEIPTS c.law_forgets_at_will.ensures.whole c.args.self.now c.self.inside.machine c.self.inside.accounts c.self.inside.seat c.self.invariant.0 c.self.view_is
     _ c.in-Err.refused.0 c.in-Err.ensures.refused
 
 pub returns-in-Err-clause-unchanged : goal.returns-in-Err-clause-unchanged
 returns-in-Err-clause-unchanged g c =
-    unmoved g.R.Recorder.tells g.R.Recorder.terms g.R.Recorder.RECEIPTS (record { whole = c.law_forgets_at_will.ensures.whole; any = c.law_forgets_at_will.ensures.any }) c.args.self.now c.self.inside.machine c.self.inside.accounts c.self.inside.seat c.self.invariant.0 c.self.view_is
+    unmoved g.R.Recorder.tells g.R.Recorder.terms g.R.Recorder.RECEIPTS c.law_forgets_at_will.ensures.whole c.args.self.now c.self.inside.machine c.self.inside.accounts c.self.inside.seat c.self.invariant.0 c.self.view_is
     c.make.new.machine _ c.learn.ensures.same c.in-Err.ensures.unchanged
 
 pub pay-requires-clause-before : goal.pay-requires-clause-before
@@ -26,10 +26,10 @@ pay-requires-clause-after g c =
 
 pub returns-clause-step : goal.returns-clause-step
 returns-clause-step g c =
-    advances g.R.Recorder.tells g.R.Recorder.terms g.R.Recorder.RECEIPTS (record { whole = c.law_forgets_at_will.ensures.whole; any = c.law_forgets_at_will.ensures.any }) c.args.self.now c.self.inside.machine c.self.inside.accounts c.self.inside.seat c.self.invariant.0 c.self.view_is
+    advances g.R.Recorder.tells g.R.Recorder.terms g.R.Recorder.RECEIPTS c.law_forgets_at_will.ensures.whole c.args.self.now c.self.inside.machine c.self.inside.accounts c.self.inside.seat c.self.invariant.0 c.self.view_is
     c.make.new.machine
     _ _ c.payer-by.result _ _ c.ask.result _ c.did.result _ c.payer-by.ensures c.ask.ensures c.did.ensures c.in-Ok.ensures.promised
     c.in-Ok.ensures.step c.in-Ok.ensures.moves c.pay.ensures.total c.pay.ensures.noted
 
 pub returns-clause-goes_on : goal.returns-clause-goes_on
-returns-clause-goes_on g c = subst (λ h. IsFrontOf (g.A.Payer.front c.args.pass.now) h) (sym c.pay.ensures.noted) (IsFrontOf_noted _ c.pay.ensures.knew)
+returns-clause-goes_on g c = subst (λ h. IsFrontOf (g.A.Payer.front c.args.pass.now) h.entries) (sym c.pay.ensures.noted) (IsFrontOf_noted _ c.pay.ensures.knew)

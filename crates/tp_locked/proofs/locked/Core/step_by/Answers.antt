@@ -1,4 +1,5 @@
 use Rattle.std.proofs.Common.{subst, ◌∙◌}
+use Rattle.tp_book.specs.BookView.{SettlesAll, config, left_of, released_of}
 use Rattle.tp_locked.specs.Roused.{IsRoused}
 use Rattle.tp_locked.proofs.Adding.{denies, holds}
 use Rattle.tp_locked.proofs.locked.Core.step_by.Goals as goal
@@ -26,5 +27,11 @@ returns-clause-holds g c =
     let roused =
     subst (λ a. IsRoused c.step_by.new.self c.self.inside.waking c.rouse.new.waking a (g.S.Step.did c.args.step c.in-Ok.answer)) c.ask.ensures
     (subst (λ d. IsRoused c.step_by.new.self c.self.inside.waking c.rouse.new.waking c.ask.result d) c.did.ensures c.rouse.ensures.roused) in
+    let settles = subst (λ ts. SettlesAll g.R.Recorder.RECEIPTS c.step_by.new.self c.settle.new.book ts) (c.gone.ensures _ _ c.in-Ok.ensures.says) c.settle.ensures.settles in
     holds g.R.Recorder.RECEIPTS c.args.self.now c.self.inside.book c.step_by.new.self c.settle.new.book c.self.inside.roster c.self.inside.waking c.rouse.new.waking c.self.view_is _ _ _ _
-    c.in-Ok.ensures.step c.settle.ensures roused
+    c.in-Ok.ensures.step settles roused
+
+pub gone-requires : goal.gone-requires
+gone-requires g c =
+    let stands = c.law_is_balanced.ensures.stands.stands in
+    (config c.self.inside.book, left_of c.self.inside.book, c.in-Ok.ensures.step.step.gives c.self.inside.book.history (released_of c.self.inside.book) stands)

@@ -1,7 +1,6 @@
-use Rattle.std.proofs.Common.{inr, subst, ◌∙◌}
+use Rattle.std.proofs.Common.{inr, refl, subst, ◌∙◌}
 use Rattle.tp_record.specs.declared.entries.Ask.TheVariants as ask
 use Rattle.tp_book.specs.BookView.{IsDenied}
-use Rattle.tp_book.proofs.Settling.{releases_none}
 use Rattle.tp_locked.specs.CoreView.{CoreView}
 use Rattle.tp_locked.proofs.Adding.{holds}
 use Rattle.tp_locked.proofs.locked.Core.submit.Goals as goal
@@ -24,4 +23,4 @@ returns-in-Err-step_by-clause-denied g c =
 pub returns-clause-holds : goal.returns-clause-holds
 returns-clause-holds g c =
     holds g.R.Recorder.RECEIPTS c.args.self.now c.self.inside.book c.step_by.new.self c.step_by.new.self c.self.inside.roster c.self.inside.waking c.rouse.new.waking c.self.view_is _ _ _ _
-    c.in-Ok.ensures.step (releases_none g.R.Recorder.RECEIPTS c.step_by.new.self) c.rouse.ensures.roused
+    c.in-Ok.ensures.step refl c.rouse.ensures.roused

@@ -1,0 +1,143 @@
+//! Waits by the clock. They make no tick, and a wait for a future no step at all. A waiter begins to wait with the guard of the hold
+//! in which its look failed, so no step falls between the look and the sleep.
+ghost use Rattle.std.specs.Prelude.{◌≡◌, ◌⊎◌, ◌<◌, ◌≤◌, [], ◌∷◌, IfErr, OnOk};
+ghost use Rattle.tp_record.specs.Fields.{rank};
+ghost use Rattle.tp_glance.specs.Word.{IsFrontOf};
+ghost use Rattle.tp_locked.specs.Moments.{AtFront, BookOf};
+ghost use Rattle.tp_locked.specs.Passes.{Adds, AddsNone, LooksOnly, tidied, ended};
+ghost use Rattle.tp_locked.specs.Readings.{got};
+ghost use Rattle.tp_locked.specs.declared.tasks.Task.{Task};
+ghost use Rattle.tp_shared.specs.Endings.{IsBarred};
+ghost use Rattle.tp_pool.specs.Timed.{IsFoundInTime};
+
+use crate::pool::PoolOf;
+use std::sync::Wait;
+use std::time::{Clock, Duration, Instant};
+use tp_book::passes::Pass;
+use tp_callbacks::jobs::Job;
+use tp_locked::locked::Look;
+use tp_locked::names::PoolNaming;
+use tp_machine::machine::releases::Keeper;
+use tp_record::entries::Ask;
+use tp_shared::edges::Edge;
+use tp_types::ids::TaskId;
+use tp_types::refusals::PoolError;
+
+// A wait by the clock: when it began, None where the clock could not be read, and how long it may last.
+#[derive(Clone, Copy)]
+struct Timer {
+    begun: Option<Instant>,
+    most: Duration,
+}
+
+impl Timer {
+    // A wait begins, of at most so long.
+    fn new<R: Clock>(rt: &R, most: Duration) -> Timer {
+        Timer {
+            begun: Instant::now(rt).ok(),
+            most,
+        }
+    }
+
+    // How much of its time is left: None where none is, or the clock can't be read.
+    fn left<R: Clock>(&self, rt: &R) -> Option<Duration> {
+        let spent = self.begun?.elapsed(rt).ok()?;
+        self.most.checked_sub(spent)
+    }
+}
+
+impl<G: PoolNaming, J: Job, E: Edge, K: Keeper> PoolOf<G, J, E, K> {
+    /// As `await_result_with`, but for at most so long by the clock, as `Future.get` with a timeout. The answer is as it is after the
+    /// record that the pass knows then. The call makes no step and no tick.
+    ///
+    /// TimedOut (16) where the time is over, or the clock can't be read, and the future is open. Else as `result`: UnknownTask (6),
+    /// NotFuture (9), CancelledTask (13), Faulted (14) or Lost (15).
+    pub fn await_result_for<R: Wait + Clock>(
+        &self,
+        rt: &R,
+        t: TaskId,
+        most: Duration,
+        pass: &mut Pass<G>,
+    ) -> Result<i64, PoolError>
+        ensures reads { BookOf (Task J) (K.terms G.config) pass.new (λ b. IsFoundInTime b t.0 K.RECEIPTS (got result)) }
+        ensures looks { LooksOnly (K.terms G.config) pass.old pass.new }
+        ensures knew { IsFrontOf pass.old.released pass.new.released }
+    {
+        let timer = Timer::new(rt, most);
+        let shared = self.shared();
+        let mut core = shared.hold(rt);
+        for _ in rt.forever() {
+            let found = core.show_awaited(t, None, &shared.around.glance, pass);
+            if let Some(answer) = found.transpose() {
+                return answer;
+            }
+            let Some(left) = timer.left(rt) else {
+                return Err(PoolError::TimedOut);
+            };
+            (core, _) = shared
+                .around
+                .conditions
+                .results
+                .wait_timeout(rt, core, left);
+        }
+        unreachable!()
+    }
+
+    /// As `await_termination`, but for at most so long by the clock. It makes no tick.
+    ///
+    /// NoMemory (4) for its receipts, else TimedOut (16) where the time is over, or the clock can't be read, and the pool is not
+    /// terminated: these calls make no step. TornRecord (22) does not come as long as the pool's book is sound.
+    pub fn await_end_for<R: Wait + Clock>(
+        &self,
+        rt: &R,
+        most: Duration,
+        pass: &mut Pass<G>,
+    ) -> Result<(), PoolError>
+        ensures steps { OnOk result (Adds (K.terms G.config) pass.old [] pass.new ⊎ Adds (K.terms G.config) pass.old (tidied pass.old.number ∷ ended pass.old.number ∷ []) pass.new) }
+        ensures seen { OnOk result (rank pass.new.front ≡ 4) }
+        ensures late { IfErr result (λ e. e ≡ PoolError.TimedOut → AtFront (K.terms G.config) pass.new.front (λ s. ¬ (s.rank ≡ 4))) }
+        ensures refused { IfErr result (λ e. ((e ≡ PoolError.NoMemory) × (pass.old.room < 2) × AddsNone pass.old pass.new)
+            ⊎ ((e ≡ PoolError.TimedOut) × Adds (K.terms G.config) pass.old [] pass.new)
+            ⊎ ((e ≡ PoolError.TornRecord) × IsBarred (K.terms G.config) pass.new.front Ask.Ended × Adds (K.terms G.config) pass.old (tidied pass.old.number ∷ []) pass.new)) }
+    {
+        if let Err(error) = pass.reserve(2) {
+            return Err(error);
+        }
+        self.end_in_time(rt, Timer::new(rt, most), pass)
+    }
+
+    // The same with a pass that has room for the receipts.
+    fn end_in_time<R: Wait + Clock>(
+        &self,
+        rt: &R,
+        timer: Timer,
+        pass: &mut Pass<G>,
+    ) -> Result<(), PoolError>
+        requires room { 2 ≤ pass.old.room }
+        ensures steps { OnOk result (Adds (K.terms G.config) pass.old [] pass.new ⊎ Adds (K.terms G.config) pass.old (tidied pass.old.number ∷ ended pass.old.number ∷ []) pass.new) }
+        ensures seen { OnOk result (rank pass.new.front ≡ 4) }
+        ensures late { IfErr result (λ e. e ≡ PoolError.TimedOut → AtFront (K.terms G.config) pass.new.front (λ s. ¬ (s.rank ≡ 4))) }
+        ensures refused { IfErr result (λ e. ((e ≡ PoolError.TimedOut) × Adds (K.terms G.config) pass.old [] pass.new) ⊎ ((e ≡ PoolError.TornRecord) × IsBarred (K.terms G.config) pass.new.front Ask.Ended × Adds (K.terms G.config) pass.old (tidied pass.old.number ∷ []) pass.new)) }
+    {
+        let shared = self.shared();
+        let mut core = shared.hold(rt);
+        for _ in rt.forever() {
+            let left = timer.left(rt);
+            // Once the time is over it is past tick 0, as at each moment: so the look answers that it is late.
+            let deadline = if left.is_none() { Some(0) } else { None };
+            match core.look(deadline, &shared.around.glance, pass) {
+                Look::Terminated => return Ok(()),
+                Look::Late => return Err(PoolError::TimedOut),
+                Look::Tidied => {
+                    shared.release(core);
+                    return shared.terminate(rt, pass);
+                }
+                Look::Waits => {
+                    let left = left.unwrap_or(Duration::ZERO);
+                    (core, _) = shared.around.conditions.end.wait_timeout(rt, core, left);
+                }
+            }
+        }
+        unreachable!()
+    }
+}
