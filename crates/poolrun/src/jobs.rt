@@ -64,17 +64,12 @@ fn run_jobs<H: Files + Threads + Wait + Copy + Send + 'static, W: Write, E: Writ
 
 /// Runs the jobs that a reader of this name gives, as `poolrun threads`, and gives the status of the program. The record goes to the
 /// file at the path too, if there is one. What is wrong with a text that is refused, or which job is, goes to `errors`.
-pub fn run_threads<
-    H: Files + Threads + Wait + Copy + Send + 'static,
-    R: Read + Drop,
-    W: Write,
-    E: Write,
->(
+pub fn run_threads<H: Files + Threads + Wait + Copy + Send + 'static, R: Read, W: Write, E: Write>(
     rt: H,
     alloc: Global,
     record: Option<&str>,
     name: &str,
-    reader: R,
+    reader: &mut WatchedReader<R>,
     out: &mut WatchedWriter<W>,
     errors: &mut E,
     style: Style,
@@ -110,11 +105,11 @@ pub fn run_threads<
 
 /// Runs the jobs that a reader of this name gives, as `poolrun threads --tally`, and gives the status of the program. What is wrong
 /// with a text that is refused goes to `errors`.
-pub fn run_tally<H: Threads + Wait + Copy + Send + 'static, R: Read + Drop, W: Write, E: Write>(
+pub fn run_tally<H: Threads + Wait + Copy + Send + 'static, R: Read, W: Write, E: Write>(
     rt: H,
     alloc: Global,
     name: &str,
-    reader: R,
+    reader: &mut WatchedReader<R>,
     out: &mut WatchedWriter<W>,
     errors: &mut E,
     style: Style,

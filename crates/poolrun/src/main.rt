@@ -12,13 +12,11 @@
 mod jobs;
 mod program;
 
-use program::{program, without_words};
+use program::{program, without_memory, without_words};
 use std::env;
 use std::io::IsTerminal;
 use std::process::ExitCode;
-use tp_commands::statuses::finish;
 use tp_reasons::messages::Style;
-use tp_types::refusals::PoolError;
 
 fn main(rt: HostRuntime) -> ExitCode {
     let alloc = rt.alloc();
@@ -32,7 +30,7 @@ fn main(rt: HostRuntime) -> ExitCode {
     let status = match env::args(&rt) {
         Ok(words) => match words.collect::<Vec<String>>(alloc) {
             Ok(words) => program(&rt, alloc, words.as_slice(), &mut out, &mut errors, style),
-            Err(_) => finish(&mut out, &Err(PoolError::NoMemory)),
+            Err(_) => without_memory(&mut out),
         },
         Err(reason) => without_words(&reason, &mut out, &mut errors),
     };

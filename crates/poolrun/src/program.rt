@@ -14,7 +14,7 @@ use tp_commands::statuses::finish;
 use tp_commands::steps::run_steps;
 use tp_commands::telling::{name_of, tell};
 use tp_reasons::messages::Style;
-use tp_text::watched::WatchedWriter;
+use tp_text::watched::{WatchedReader, WatchedWriter};
 use tp_types::refusals::PoolError;
 
 /// Does what was chosen with what a reader gives, and gives the status.
@@ -33,6 +33,7 @@ fn run_reader<
     style: Style,
 ) -> u8 {
     let name = name_of(choice.path());
+    let reader = &mut WatchedReader::new(reader);
     match choice {
         Choice::Steps(_, playing) => run_steps(alloc, *playing, name, reader, out, errors, style),
         Choice::Threads(_, record) => {
@@ -112,11 +113,16 @@ pub fn program<H: Files + Input + Threads + Wait + Copy + Send + 'static, W: Wri
     status
 }
 
+/// The status where there is no memory for the words of the command line.
+pub fn without_memory<W: Write>(out: &mut W) -> u8 {
+    finish(&mut WatchedWriter::new(out), &Err(PoolError::NoMemory))
+}
+
 /// The status where the words of the command line can't be had: there is no memory for them, or one of
 /// them is no UTF-8 text, which a path has to be.
 pub fn without_words<W: Write, E: Write>(reason: &io::Error, out: &mut W, errors: &mut E) -> u8 {
     if reason.kind() == io::ErrorKind::OutOfMemory {
-        return finish(out, &Err(PoolError::NoMemory));
+        return without_memory(out);
     }
     let _ = writeln!(
         errors,

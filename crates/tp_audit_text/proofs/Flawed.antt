@@ -1,5 +1,5 @@
 -- The first flaw of a record, as more entries are told.
-use Rattle.std.proofs.Common.{◌≡◌, ℕ, suc, ◌+◌, List, [], ◌∷◌, ◌++◌, length, reverse, Option, Some, None, refl, sym, ap, subst, ◌∙◌, arith, append_assoc}
+use Rattle.std.proofs.Common.{◌≡◌, ℕ, suc, List, [], ◌∷◌, ◌++◌, length, reverse, refl, ap, ◌∙◌, arith, append_assoc}
 use Rattle.std.proofs.lemmas.List.{length-reverse}
 use Rattle.tp_types.specs.declared.configs.Config.{Config}
 use Rattle.tp_record.specs.declared.entries.Entry.{Entry}

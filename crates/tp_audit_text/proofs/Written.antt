@@ -1,5 +1,5 @@
 -- What is written of a judgment, and what a refused audit leaves.
-use Rattle.std.proofs.Common.{◌≡◌, false, ◌⊎◌, ◌<◌, ◌≤◌, ℕ, List, [], ◌++◌, length, reverse, Option, Some, None, Err, IfSome, unwrap_or, refl, sym, ◌∙◌, ap, subst, arith, inl, inr}
+use Rattle.std.proofs.Common.{◌≡◌, ◌≢◌, Bool, false, ◌⊎◌, ◌<◌, ◌≤◌, ℕ, List, [], ◌++◌, length, reverse, Option, Some, None, Result, Ok, Err, IfErr, IfOk, IfSome, IsOk, IsOkUnless, unwrap_or, refl, sym, ◌∙◌, ap, subst, arith, inl, inr}
 use Rattle.std.proofs.KnownBytes.{Keeps-refl}
 use Rattle.tp_types.specs.declared.configs.Config.{Config}
 use Rattle.tp_types.specs.declared.refusals.PoolError.{PoolError}
@@ -8,15 +8,26 @@ use Rattle.tp_types.specs.declared.states.Counts.{Counts}
 use Rattle.tp_types.specs.declared.states.RunState.{RunState}
 use Rattle.tp_types.specs.declared.states.RunState.TheVariants.{Running, Shutdown, Stop, Tidying, Terminated}
 use Rattle.tp_types.specs.RunState.{state_rank}
-use Rattle.tp_types.specs.Config.{checked}
 use Rattle.tp_record.specs.declared.entries.Entry.{Entry}
 use Rattle.tp_record.specs.Fields.{rank}
 use Rattle.tp_audit.specs.declared.summary.Summary.{Summary}
 use Rattle.tp_audit.specs.Audit.{IsSummary}
 use Rattle.tp_text.specs.EndLines.{counts_line, state_at, state_line}
 use Rattle.tp_text.proofs.Outputs.{known_or}
-use Rattle.tp_text.proofs.Refusals.{checked_inner, is_outer, outer_err, same_outer}
-use Rattle.tp_audit_text.specs.AuditText.{IsAudit, IsRefusedText, legal_line, legal_lines}
+use Rattle.tp_text.proofs.Refusals.{is_outer, outer_err}
+use Rattle.tp_text.specs.declared.watched.WatchedReader.{WatchedReader}
+use Rattle.tp_text.specs.Watching.{TellsReader}
+use Rattle.tp_text.proofs.Watchings.{not_read, not_written, read_refused}
+use Rattle.tp_record_text.specs.declared.reading.Body.{Body}
+use Rattle.tp_record_text.specs.declared.versions.Version.{Version}
+use Rattle.tp_record_text.specs.ReadRecord.{IsRefusedText}
+use Rattle.tp_record_text.specs.Reading.{IsTaken, OfReader}
+use Rattle.tp_record_text.proofs.LinesRead.{refused_inner}
+use Rattle.tp_auditor.specs.Audited.{settings}
+use Rattle.tp_audit_text.specs.declared.judging.Judging.{Judging}
+use Rattle.tp_audit_text.specs.declared.judgments.Judgment.{Judgment}
+use Rattle.tp_audit_text.specs.AuditText.{IsAudit, IsJudged, JudgesFrom, JudgesText, legal_line, legal_lines}
+use Rattle.tp_audit_text.specs.Judging.{IsToldBy}
 
 state_back : (s : RunState) → state_at (state_rank s) ≡ s
 state_back Running = refl
@@ -48,12 +59,62 @@ pub not_long : (input : Option (List ℕ)) (text : List ℕ) (P : Type 0) → If
 not_long None text P known short = tt
 not_long (Some xs) text P known short = λ long. absurd (omega (arith, ap length known))
 
--- a text is refused otherwise than a reader or a writer is
-pub refused_inner : (A : Type 0) (text : List ℕ) (e : PoolError) → IsRefusedText text e → outer_err {A = A} (Err e) ≡ false
-refused_inner A text e (inl memory) = ap is_outer memory
-refused_inner A text e (inr (inl pool)) = same_outer (Err e) (checked pool.config) (sym pool.refused) ∙ checked_inner pool.config
-refused_inner A text e (inr (inr wrong)) = ap is_outer wrong.1
-
 -- an audit whose judgment was not written
 pub unwritten : (input old new : Option (List ℕ)) (e : PoolError) → e ≡ WriteFailed → IsAudit input old new (Err e)
 unwritten input old new e is = subst (λ x. IsAudit input old new (Err x)) (sym is) tt
+
+-- what a text is judged from the entries that were taken from it
+
+abbrev pub about_pool : Judging → Version → Config → Type 0
+about_pool j v c = settings j.auditor ≡ c
+
+abbrev pub told : Judging → List Entry → Type 0
+told j es = IsToldBy j.auditor j.flaw es
+
+-- what is judged of all entries
+abbrev pub JudgesAll : Body Judging → Result Judgment PoolError → Type 0
+JudgesAll b r = IfOk r (λ j. (es : List Entry) → IsToldBy b.taker.auditor b.taker.flaw es → b.entries ≡ length es → IsJudged (settings b.taker.auditor) es j.legal j.lines.items)
+
+pub judged_text : (text : List ℕ) (b : Body Judging) (r : Result Judgment PoolError) → IsTaken about_pool told b text → JudgesAll b r → IsOkUnless r NoMemory → JudgesText text r
+judged_text text b (Ok j) is judged memory = record {
+  version = b.version;
+  config = is.config;
+  entries = is.entries;
+  has_text = is.has_text;
+  accepted = is.accepted;
+  is_text = is.is_text;
+  judged = subst (λ x. IsJudged x is.entries j.legal j.lines.items) is.about_pool (judged is.entries is.taken is.counted);
+}
+judged_text text b (Err e) is judged memory = inl memory
+
+-- what is judged of a text is judged of what each reader gives that gave it
+pub judged_from : (input : Option (List ℕ)) (text : List ℕ) (r : Result Judgment PoolError) → IfSome input (λ xs. text ≡ xs) → JudgesText text r → JudgesFrom input r
+judged_from input text (Ok j) known is = (text, known, is)
+judged_from input text (Err e) known is = inr (text, known, is)
+
+pub judged_stream : (input : Option (List ℕ)) (b : Body Judging) (r : Result Judgment PoolError) → OfReader input (IsTaken about_pool told b) → JudgesAll b r → IsOkUnless r NoMemory → JudgesFrom input r
+judged_stream input b r of judged memory = judged_from input of.0 r of.1 (judged_text of.0 b r of.2 judged memory)
+
+-- a judgment brings no refusal of a reader or a writer
+pub judged_inner : (r : Result Judgment PoolError) → IsOkUnless r NoMemory → outer_err r ≡ false
+judged_inner (Ok j) memory = refl
+judged_inner (Err e) memory = ap is_outer memory
+
+-- an audit of what was refused, or not read
+pub refused_from : (input old : Option (List ℕ)) (e : PoolError) → (e ≡ ReadFailed) ⊎ OfReader input (λ text. IsRefusedText text e) → IsAudit input old old (Err e)
+refused_from input old e (inl is) = subst (λ x. IsAudit input old old (Err x)) (sym is) (Keeps-refl old)
+refused_from input old e (inr of) = refused input old of.0 e of.1 of.2
+
+pub refused_unwritten : (A : Type 0) (input : Option (List ℕ)) (e : PoolError) → (e ≡ ReadFailed) ⊎ OfReader input (λ text. IsRefusedText text e) → ◌≢◌ {A = Result A PoolError} (Err e) (Err WriteFailed)
+refused_unwritten A input e (inl is) same = let f : ◌≡◌ {A = Result A PoolError} (Err ReadFailed) (Err WriteFailed) = ap (λ x. Err x) (sym is) ∙ same in cc
+refused_unwritten A input e (inr of) same = not_written {A = A} (Err e) (refused_inner A of.0 e of.2) same
+
+-- a whole text is judged, and what comes of it is no failure to read
+pub judged_read : (text : List ℕ) (j : Result Judgment PoolError) (r : Result Bool PoolError) → JudgesText text j → IfErr j (λ e. r ≡ Err e) → (IsOk j → r ≢ Err ReadFailed) → r ≢ Err ReadFailed
+judged_read text (Ok j) r is stays reads same = reads refl same
+judged_read text (Err e) r is stays reads same = not_read {A = Bool} (Err e) (refused_inner Bool text e is) (sym stays ∙ same)
+
+-- what a stream tells of its reader, told of what came of its judgment
+pub judged_tells : {R : Type 0} (old new : WatchedReader R) (j : Result Judgment PoolError) (r : Result Bool PoolError) → TellsReader old j new → IfErr j (λ e. r ≡ Err e) → (IsOk j → r ≢ Err ReadFailed) → TellsReader old r new
+judged_tells old new (Ok j) r tells stays reads = (λ is. absurd (reads refl is), λ other. tells.1 (λ is. cc))
+judged_tells old new (Err e) r tells stays reads = subst (λ x. TellsReader old x new) (sym stays) (read_refused {A = Judgment} {B = Bool} old new e tells)

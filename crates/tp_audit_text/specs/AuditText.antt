@@ -4,7 +4,7 @@ use Rattle.std.specs.Fmt.{decimal}
 use Rattle.std.specs.Io.KnownBytes.{Appends, Keeps}
 use Rattle.tp_types.specs.declared.configs.Config.{Config}
 use Rattle.tp_types.specs.declared.refusals.PoolError.{PoolError}
-use Rattle.tp_types.specs.declared.refusals.PoolError.TheVariants.{NoMemory, ReadFailed, WriteFailed}
+use Rattle.tp_types.specs.declared.refusals.PoolError.TheVariants.{ReadFailed, WriteFailed}
 use Rattle.tp_types.specs.Config.{checked}
 use Rattle.tp_record.specs.declared.entries.Entry.{Entry}
 use Rattle.tp_record.specs.Fields.{rank}
@@ -14,7 +14,8 @@ use Rattle.tp_audit.specs.Audit.{IsFirstFlaw}
 use Rattle.tp_text.specs.EntryLine.{line}
 use Rattle.tp_text.specs.EndLines.{counts_line, state_at, state_line}
 use Rattle.tp_record_text.specs.declared.versions.Version.{Version}
-use Rattle.tp_record_text.specs.ReadRecord.{HasRefusedPool, IsWrongAt}
+use Rattle.tp_record_text.specs.ReadRecord.{IsRefusedText}
+use Rattle.tp_record_text.specs.Reading.{OfReader}
 use Rattle.tp_record_text.specs.RecordText.{HasText, record_text}
 use Rattle.tp_audit_text.specs.declared.judgments.Judgment.{Judgment}
 
@@ -43,13 +44,14 @@ pub record IsJudgedText (text : List ℕ) (legal : Bool) (out : List ℕ) : Type
   pub is_text : text ≡ record_text version config entries
   pub judged : IsJudged config entries legal out
 
--- a text is refused so: there was no memory, or the configuration is refused, or a line is the first wrong one
-abbrev pub IsRefusedText : List ℕ → PoolError → Type 0
-IsRefusedText text e = (e ≡ NoMemory) ⊎ (HasRefusedPool text e ⊎ IsWrongAt text e)
-
 abbrev pub JudgesText : List ℕ → Result Judgment PoolError → Type 0
 JudgesText text (Ok j) = IsJudgedText text j.legal j.lines.items
 JudgesText text (Err e) = IsRefusedText text e
+
+-- a reader with these bytes, where they are known, gave a text that is judged so, or refused so; or it was not read
+abbrev pub JudgesFrom : Option (List ℕ) → Result Judgment PoolError → Type 0
+JudgesFrom input (Ok j) = OfReader input (λ text. IsJudgedText text j.legal j.lines.items)
+JudgesFrom input (Err e) = (e ≡ ReadFailed) ⊎ OfReader input (λ text. IsRefusedText text e)
 
 -- an audit from a reader with these bytes, where they are known, to a writer: what it wrote is the judgment of a text,
 -- which is that of the reader; a refusal has written nothing, but where the writer failed
@@ -58,4 +60,4 @@ IsAudit input old new (Ok legal) =
     (text : List ℕ) × (out : List ℕ) × IfSome input (λ xs. text ≡ xs) × IsJudgedText text legal out × Appends old new out
 IsAudit input old new (Err ReadFailed) = Keeps old new
 IsAudit input old new (Err WriteFailed) = Unit {0}
-IsAudit input old new (Err e) = ((text : List ℕ) × IfSome input (λ xs. text ≡ xs) × IsRefusedText text e) × Keeps old new
+IsAudit input old new (Err e) = OfReader input (λ text. IsRefusedText text e) × Keeps old new

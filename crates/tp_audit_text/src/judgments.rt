@@ -3,15 +3,18 @@ ghost use Rattle.std.specs.Prelude.{◌≡◌, ◌≤◌, ◌++◌, List, length
 ghost use Rattle.tp_record.specs.declared.entries.Entry.{Entry as Told};
 ghost use Rattle.tp_auditor.specs.Audited.{settings, Judged};
 ghost use Rattle.tp_text.specs.EndLines.{counts_line, state_line};
-ghost use Rattle.tp_audit_text.specs.AuditText.{IsJudged, JudgesText, flaw_line, legal_line};
+ghost use Rattle.tp_text.specs.Watching.{TellsReader, source};
+ghost use Rattle.tp_audit_text.specs.AuditText.{IsJudged, JudgesFrom, JudgesText, flaw_line, legal_line};
 ghost use Rattle.tp_audit_text.specs.Judging.{IsToldBy};
 
 use crate::judging::Judging;
 use std::alloc::{AllocError, Global};
+use std::io::Read;
 use tp_audit::summary::Summary;
 use tp_auditor::auditor::Auditor;
-use tp_record_text::records::{read_entries, read_head};
+use tp_record_text::reading::{RefusedLine, read_stream, read_whole};
 use tp_text::ends::{write_counts, write_state};
+use tp_text::watched::WatchedReader;
 use tp_types::refusals::PoolError;
 
 /// What is said of a record.
@@ -21,6 +24,8 @@ pub struct Judgment {
     pub legal: bool,
     /// The lines that say so, each with its line feed.
     pub lines: Vec<u8>,
+    /// Why the first entry that is none is a flaw, where there was memory to say so.
+    pub why: Option<String>,
 }
 
 fn legal_text(alloc: Global, entries: usize, summary: &Summary) -> Result<String, AllocError>
@@ -69,21 +74,23 @@ fn legal_judgment(alloc: Global, auditor: &Auditor, entries: u32) -> Result<Judg
         Ok(summary) => Ok(Judgment {
             legal: true,
             lines: legal(alloc, entries as usize, &summary)?,
+            why: None,
         }),
         Err(_) => Err(PoolError::NoMemory),
     }
 }
 
 /// The judgment of a record of so many entries, which were told.
-pub fn judge(alloc: Global, judging: &Judging, entries: u32) -> Result<Judgment, PoolError>
-    ensures judged { IfOk result (λ j. (es : List Told) → IsToldBy judging.now.auditor judging.now.flaw es → entries ≡ length es
-        → IsJudged (settings judging.now.auditor) es j.legal j.lines.items) }
+fn judge(alloc: Global, judging: Judging, entries: u32) -> Result<Judgment, PoolError>
+    ensures judged { IfOk result (λ j. (es : List Told) → IsToldBy judging.auditor judging.flaw es → entries ≡ length es
+        → IsJudged (settings judging.auditor) es j.legal j.lines.items) }
     ensures only_memory { IsOkUnless result PoolError.NoMemory }
 {
     match judging.flaw {
         Some(entry) => Ok(Judgment {
             legal: false,
             lines: flawed(alloc, entry)?,
+            why: judging.why,
         }),
         None => legal_judgment(alloc, &judging.auditor, entries),
     }
@@ -95,14 +102,25 @@ pub fn judge_text(alloc: Global, text: &[u8]) -> Result<Judgment, PoolError>
     requires { length text.now ≤ 1048576 }
     ensures { JudgesText text.now result }
 {
-    let (version, config, body) = read_head(text)?;
-    if let Err(refusal) = config.check() {
-        return Err(refusal);
+    match read_whole::<Judging>(alloc, text) {
+        Ok(body) => judge(alloc, body.taker, body.entries),
+        Err(refusal) => Err(refusal),
     }
-    let mut judging = Judging::new(alloc, &config)?;
-    let entries = match read_entries(version, body, &mut judging) {
-        Ok(entries) => entries,
-        Err(refusal) => return Err(refusal),
-    };
-    judge(alloc, &judging, entries)
+}
+
+/// The judgment of the record that a stream is the text of, line by line, so that it may have any length. Else its refusal, as that
+/// of a text, with the line of which it speaks, where there is memory for it. 25 `ReadFailed` comes just where the reader fails now,
+/// which keeps why, or gives more lines than have numbers.
+pub fn judge_stream<R: Read>(
+    alloc: Global,
+    reader: &mut WatchedReader<R>,
+    refused: &mut Option<RefusedLine>,
+) -> Result<Judgment, PoolError>
+    ensures judges { JudgesFrom (R.remaining (source reader.old)) result }
+    ensures tells_reader { TellsReader reader.old result reader.new }
+{
+    match read_stream::<R, Judging>(alloc, reader, refused) {
+        Ok(read) => judge(alloc, read.taker, read.entries),
+        Err(refusal) => Err(refusal),
+    }
 }

@@ -7,6 +7,7 @@ use tp_record::entries::Ask;
 use tp_types::configs::Config;
 use tp_types::ids::{SlotId, TaskId};
 use tp_types::refusals::PoolError;
+use tp_types::states::RunState;
 use tp_types::tasks::Place;
 
 /// Why a pool refuses an ask, in words: a part of a sentence, such as `slots: w0`.
@@ -50,19 +51,8 @@ pub fn asked_slot(ask: Ask) -> Option<SlotId> {
     }
 }
 
-/// The name of the run state of this rank.
-fn state_name(rank: u8) -> &'static str {
-    match rank {
-        0 => "running",
-        1 => "shutdown",
-        2 => "stop",
-        3 => "tidying",
-        _ => "terminated",
-    }
-}
-
 impl Cause<'_> {
-    /// Where the task is that a step does not fit.
+    /// Why the step does not fit the task: where the task is.
     fn write_task<W: fmt::Write>(&self, f: &mut fmt::Formatter<W>, task: TaskId) -> fmt::Result {
         let TaskId(t) = task;
         let shown = ShownTask {
@@ -83,12 +73,12 @@ impl Cause<'_> {
         }
     }
 
-    /// What the pool is like that a step does not fit.
+    /// Why the step does not fit the pool: what the pool is like.
     fn write_pool<W: fmt::Write>(&self, f: &mut fmt::Formatter<W>) -> fmt::Result {
         match self.ask {
             Ask::TakeDone(group) => write!(f, "group {group} has no done task that is not taken"),
             _ => {
-                let state = state_name(self.tables.rank);
+                let state = RunState::from_rank(self.tables.rank.min(4)).name();
                 let slots = self.tables.slots.count();
                 let queued = self.tables.queue.len();
                 write!(
@@ -114,7 +104,7 @@ impl Cause<'_> {
         }
     }
 
-    /// What a setting would be beside.
+    /// The range in which the setting has to be, by the other settings.
     fn write_setting<W: fmt::Write>(&self, f: &mut fmt::Formatter<W>) -> fmt::Result {
         let core = self.tables.core;
         let maximum = self.tables.maximum;

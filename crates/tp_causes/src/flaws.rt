@@ -1,4 +1,4 @@
-//! What the step gives in place of an entry that is a flaw, and why.
+//! Why an entry is a flaw, and which entry the step gives in its place.
 
 ghost use Rattle.std.specs.Prelude.{ℕ, List, IfOk, IfErr};
 ghost use Rattle.tp_record.specs.declared.entries.Entry.{Entry as Told};
@@ -36,7 +36,7 @@ fn free_number(tables: &Tables, did: Did) -> SlotId {
     SlotId(count)
 }
 
-/// What the step gives for the ask of an entry, after the entries that the auditor was told; else its refusal.
+/// The step's answer to the ask of an entry, after the entries that the auditor was told.
 pub fn given_instead(auditor: &Auditor, entry: &Entry) -> Result<Did, PoolError>
     ensures given { IfOk result (λ did. (h : List Told) → Judged auditor.now h
         → steps.Gives (settings auditor.now) (states.state (settings auditor.now) h) entry.now.ask did) }
@@ -46,7 +46,7 @@ pub fn given_instead(auditor: &Auditor, entry: &Entry) -> Result<Did, PoolError>
     auditor.answer(entry.ask, free_number(auditor.tables(), entry.did))
 }
 
-/// What a pool is like that is asked, in words.
+/// A pool in words, as far as it matters to an ask.
 #[derive(Clone, Copy)]
 struct Situation<'a> {
     tables: &'a Tables,
@@ -98,7 +98,7 @@ impl fmt::Display for Situation<'_> {
     }
 }
 
-/// Why an entry of this number is a flaw, where it stands in a line of that number: what the step gives there, and why.
+/// Why the entry of this number is a flaw: its line, its ask, and what the step answers there.
 pub fn flaw_text(
     alloc: Global,
     auditor: &Auditor,

@@ -1,4 +1,4 @@
-//! Why a step is refused, and what the step gives in place of an entry that is a flaw: told from an auditor's tables.
+//! Why a step is refused, and why an entry is a flaw. Both are told from an auditor's tables.
 #![tactic(auto)]
 
 pub mod asks;

@@ -1,10 +1,10 @@
 //! The command `steps`: a scenario is played.
 
-ghost use Rattle.std.specs.Prelude.{◌≡◌, ◌≤◌, false, length, true, Ok, IfOk, OnOk, Some};
-ghost use Rattle.tp_text.specs.Watching.{sink};
-ghost use Rattle.tp_replay.specs.Plays.{IsPlayIn, refusals_in};
-ghost use Rattle.tp_scenario.specs.Played.{IsRun};
-ghost use Rattle.tp_commands.specs.Steps.{HasNoRefusal, OfText, PrintsRecord};
+ghost use Rattle.std.specs.Prelude.{◌≡◌, ◌≢◌, ◌≤◌, ◌==◌, false, length, true, Err, Ok, IfErr, IfOk, IsOkUnless, Some};
+ghost use Rattle.tp_text.specs.Watching.{TellsWriter, sink};
+ghost use Rattle.tp_replay.specs.Plays.{IsPlayIn, RefusesPlay, refusals_in};
+ghost use Rattle.tp_commands.specs.Status.{Ends};
+ghost use Rattle.tp_commands.specs.Steps.{IsPassed, IsRecordRun, Plays, RunsSteps};
 
 use crate::statuses::finish;
 use crate::telling::tell_refusal;
@@ -16,12 +16,13 @@ use tp_reasons::messages::Style;
 use tp_reasons::mistakes::Kind;
 use tp_replay::plays::{Play, play_text};
 use tp_scenario::run::run_text;
-use tp_text::watched::WatchedWriter;
+use tp_text::watched::{WatchedReader, WatchedWriter};
 use tp_types::refusals::PoolError;
 
 /// Whether a play lets the program end well.
 fn passes(playing: Playing, play: &Play) -> bool
-    ensures { playing.is_strict ≡ true → result ≡ true → refusals_in play.now.answers.items ≡ 0 }
+    ensures each { playing.is_strict ≡ false → result ≡ true }
+    ensures strict { playing.is_strict ≡ true → result ≡ (refusals_in play.now.answers.items == 0) }
 {
     !playing.is_strict || play.refused() == 0
 }
@@ -34,15 +35,16 @@ fn play_told<E: Write>(
     errors: &mut E,
 ) -> Result<Play, PoolError>
     requires { length text.now ≤ 1048576 }
-    ensures { IfOk result (IsPlayIn text.now) }
+    ensures plays { IfOk result (IsPlayIn text.now) }
+    ensures refuses { IfErr result (RefusesPlay text.now) }
 {
     let play = match play_text(alloc, text) {
         Ok(play) => play,
         Err(refusal) => return Err(refusal),
     };
     if playing.explains {
-        if let Err(refusal) = play.explain(alloc, text, errors) {
-            return Err(refusal);
+        if play.explain(alloc, text, errors).is_err() {
+            return Err(PoolError::NoMemory);
         }
     }
     Ok(play)
@@ -57,8 +59,10 @@ fn play_for_record<W: Write, E: Write>(
     errors: &mut E,
 ) -> Result<bool, PoolError>
     requires { length text.now ≤ 1048576 }
-    ensures record { OnOk result (PrintsRecord text.now (W.contents (sink out.old)) (W.contents (sink out.new))) }
-    ensures strict { playing.is_strict ≡ true → result ≡ Ok true → HasNoRefusal text.now }
+    ensures record { IsRecordRun (Some text.now) (W.contents (sink out.old)) (W.contents (sink out.new)) result }
+    ensures passed { IfOk result (IsPassed playing.is_strict text.now) }
+    ensures reads { result ≢ Err PoolError.ReadFailed }
+    ensures tells_writer { TellsWriter out.old result out.new }
 {
     let play = match play_told(alloc, playing, text, errors) {
         Ok(play) => play,
@@ -73,7 +77,8 @@ fn play_for_record<W: Write, E: Write>(
     }
 }
 
-/// Plays a scenario once more after its run, where a flag asks for it. The answer says whether a refused step is let pass.
+/// Plays a scenario once more after its run, where a flag asks for it. The answer says whether a refused step is let pass; want of
+/// memory is NoMemory (4).
 fn play_again<E: Write>(
     alloc: Global,
     playing: Playing,
@@ -81,14 +86,16 @@ fn play_again<E: Write>(
     errors: &mut E,
 ) -> Result<bool, PoolError>
     requires { length text.now ≤ 1048576 }
-    ensures strict { playing.is_strict ≡ true → result ≡ Ok true → HasNoRefusal text.now }
+    ensures passed { IfOk result (IsPassed playing.is_strict text.now) }
+    ensures only_memory { IsOkUnless result PoolError.NoMemory }
 {
     if !playing.explains && !playing.is_strict {
         return Ok(true);
     }
     match play_told(alloc, playing, text, errors) {
         Ok(play) => Ok(passes(playing, &play)),
-        Err(refusal) => Err(refusal),
+        // The run went to its end, so that nothing but memory can be wanting now.
+        Err(_) => Err(PoolError::NoMemory),
     }
 }
 
@@ -102,9 +109,8 @@ pub fn play<W: Write, E: Write>(
     errors: &mut E,
 ) -> Result<bool, PoolError>
     requires { length text.now ≤ 1048576 }
-    ensures run { playing.prints_record ≡ false → OnOk result (IsRun (Some text.now) (W.contents (sink out.old)) (W.contents (sink out.new)) (Ok tt)) }
-    ensures record { playing.prints_record ≡ true → OnOk result (PrintsRecord text.now (W.contents (sink out.old)) (W.contents (sink out.new))) }
-    ensures strict { playing.is_strict ≡ true → result ≡ Ok true → HasNoRefusal text.now }
+    ensures plays { Plays W.contents playing (Some text.now) out.old result out.new }
+    ensures reads { result ≢ Err PoolError.ReadFailed }
 {
     if playing.prints_record {
         return play_for_record(alloc, playing, text, out, errors);
@@ -119,20 +125,17 @@ pub fn play<W: Write, E: Write>(
 
 /// Plays the scenario that a reader of this name gives, as `poolrun steps`, and gives the status of the program. What is wrong with
 /// a text that is refused goes to `errors`.
-pub fn run_steps<R: Read + Drop, W: Write, E: Write>(
+pub fn run_steps<R: Read, W: Write, E: Write>(
     alloc: Global,
     playing: Playing,
     name: &str,
-    reader: R,
+    reader: &mut WatchedReader<R>,
     out: &mut WatchedWriter<W>,
     errors: &mut E,
     style: Style,
 ) -> u8
     ensures few { result ≤ 1 }
-    ensures run { playing.prints_record ≡ false → result ≡ 0 → IsRun (R.remaining reader) (W.contents (sink out.old)) (W.contents (sink out.new)) (Ok tt) }
-    ensures record { playing.prints_record ≡ true → result ≡ 0
-        → OfText (R.remaining reader) (λ text. PrintsRecord text (W.contents (sink out.old)) (W.contents (sink out.new))) }
-    ensures strict { playing.is_strict ≡ true → result ≡ 0 → OfText (R.remaining reader) HasNoRefusal }
+    ensures runs { Ends W.contents (RunsSteps R.remaining W.contents playing reader.old reader.new out.old) result out.new }
 {
     let text = match whole_text(alloc, Kind::Scenario, name, reader, errors) {
         Ok(text) => text,

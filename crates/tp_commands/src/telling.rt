@@ -2,12 +2,11 @@
 
 use std::alloc::Global;
 use std::io::{self, Write};
-use tp_long::audits::{Refused, audit_lines};
-use tp_long::judging::Judgment;
 use tp_reasons::lines::Line;
 use tp_reasons::messages::{Style, write_message};
 use tp_reasons::mistakes::{Finding, Kind};
 use tp_reasons::reasons::{reason, reason_of_line};
+use tp_record_text::reading::RefusedLine;
 use tp_text::watched::WatchedReader;
 use tp_types::refusals::PoolError;
 
@@ -72,21 +71,22 @@ pub fn tell_flaw<E: Write>(errors: &mut E, name: &str, why: &str) {
     let _ = writeln!(errors, "poolrun: {name}: {why}");
 }
 
-/// Tells why the record of a text has a flaw.
-pub fn tell_flaw_in<E: Write>(alloc: Global, errors: &mut E, name: &str, text: &[u8]) {
-    let mut reader = text;
-    if let Ok(Judgment::Flawed(_, why)) = audit_lines(alloc, &mut reader) {
-        tell_flaw(errors, name, why.as_str());
-    }
-}
-
-/// What is wrong with a record that was read line by line, if its refusal speaks of a line that is left of it.
-pub fn finding_in(alloc: Global, refused: &Refused) -> Option<Finding<'_>> {
-    let line = refused.line.as_ref()?;
+/// What is wrong with a record that was read line by line, and refused so at this line, where there is one.
+pub fn finding_in(
+    alloc: Global,
+    line: &Option<RefusedLine>,
+    refusal: PoolError,
+) -> Option<Finding<'_>> {
+    let line = line.as_ref()?;
+    let number = match refusal {
+        PoolError::BadEntry(number) => number,
+        // The other refusals of a record are those of its pool line.
+        _ => 2,
+    };
     let shown = Line {
-        number: line.number,
+        number,
         bytes: line.bytes.as_slice(),
         is_ended: line.is_ended,
     };
-    reason_of_line(alloc, shown, line.is_behind_end, refused.refusal).unwrap_or(None)
+    reason_of_line(alloc, shown, line.is_behind_end, refusal).unwrap_or(None)
 }

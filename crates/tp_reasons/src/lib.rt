@@ -1,5 +1,5 @@
 //! Why a text is refused: which line, at which column, what stands there and what was expected, told in the form of a compiler's
-//! message. Which line it is says the reader that refused the text; here it is only looked up.
+//! message. The refusal says which line it is.
 #![tactic(auto)]
 
 pub mod faults;

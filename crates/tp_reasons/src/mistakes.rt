@@ -133,7 +133,7 @@ fn count_spaces(bytes: &[u8], start: usize) -> usize {
     count
 }
 
-/// How many bytes a fault takes that begins so many bytes behind the line's beginning.
+/// The width of a fault that begins at this byte of the line.
 fn width_of_fault(line: Line<'_>, start: usize, fault: Fault) -> usize {
     match fault {
         Fault::ByteOrderMark => 3,

@@ -75,7 +75,7 @@ fn behind_letter(word: &str) -> Option<&str> {
     None
 }
 
-/// What is wrong with a number that begins with a minus, behind which this stands.
+/// What is wrong with a number of which this stands behind its minus.
 fn misspelled_behind_minus<'a>(digits: &str) -> Misspelling<'a> {
     if !is_decimal(digits) {
         NO_NUMBER

@@ -31,8 +31,8 @@ fn guessed(alloc: Global, found: Option<Finding<'_>>) -> Result<Option<Finding<'
     }))
 }
 
-/// What is wrong with a text of this kind, for which its reader refused it so; None for a refusal that speaks of no line. The line is
-/// the one that the refusal names, or the pool line where its settings are refused.
+/// What is wrong with a text that was refused so. The line is the one that the refusal names, or the pool line where the settings
+/// are refused. None where the refusal speaks of no line.
 pub fn reason(
     alloc: Global,
     kind: Kind,
@@ -48,8 +48,8 @@ pub fn reason(
     guessed(alloc, found)
 }
 
-/// What is wrong with a record's text that was read line by line, and of which this line alone is left: the one that the refusal
-/// names, or the pool line where its settings are refused. It may stand behind the line that ends the record.
+/// What is wrong with this line of a record, for which the text was refused so. A stream keeps no other line. The flag says that
+/// the record ends before it.
 pub fn reason_of_line<'a>(
     alloc: Global,
     line: Line<'a>,

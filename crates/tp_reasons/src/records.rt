@@ -5,7 +5,7 @@ use crate::lines::{Line, line_at};
 use crate::looks::{Look, look_of};
 use crate::mistakes::{Finding, Kind, Mistake, of_bytes, of_line, of_word, of_words};
 use crate::words::count;
-use tp_text::lines::clean_text;
+use tp_text::lines::{clean_text, is_skipped};
 use tp_text::numbers::number as number_of;
 use tp_text::pools::pool_of;
 use tp_text::words::{behind, first_word};
@@ -36,8 +36,8 @@ fn in_pool_line<'a>(line: Line<'a>, text: &'a str) -> Finding<'a> {
     }
 }
 
-/// What is wrong with the priority that an entry says, behind so many bytes, if it says one: it is 0, or the record is of the
-/// first form.
+/// What is wrong with an entry's priority, if it has one: it is 0, or the record is of the first form. The words begin at this
+/// byte.
 fn in_priority<'a>(line: Line<'a>, before: usize, text: &'a str) -> Option<Finding<'a>> {
     let (words, rest) = text.split_once(" prio ")?;
     let (width, mistake) = if first_word(rest).0 == "0" {
@@ -53,7 +53,7 @@ fn in_priority<'a>(line: Line<'a>, before: usize, text: &'a str) -> Option<Findi
     })
 }
 
-/// What is wrong with an entry's words, the first of which stands behind so many bytes.
+/// What is wrong with an entry's words, which begin at this byte.
 fn in_words<'a>(line: Line<'a>, before: usize, text: &'a str) -> Finding<'a> {
     let finding = of_words(line, before, ENTRY_FORMS, text);
     match finding.mistake {
@@ -70,7 +70,7 @@ fn has_digit_first(text: &str) -> bool {
     }
 }
 
-/// What is wrong with an entry behind its number, which has so many bytes with the space behind it.
+/// What is wrong with an entry's words, which begin at this byte, behind the number.
 fn in_entry<'a>(line: Line<'a>, before: usize, text: &'a str) -> Finding<'a> {
     let (word, rest) = first_word(text);
     if word == "p0" {
@@ -134,7 +134,7 @@ fn ends_record(text: &[u8], number: u32) -> bool {
     number >= 3 && behind(words, "end").is_some()
 }
 
-/// What a record's text lacks that ends before the line of this number.
+/// What a record lacks whose text ends before the line of this number.
 fn missing<'a>(number: u32) -> Mistake<'a> {
     match number {
         1 => Mistake::NoVersion,
@@ -147,7 +147,7 @@ fn missing<'a>(number: u32) -> Mistake<'a> {
 fn in_text<'a>(line: Line<'a>, text: &'a str) -> Finding<'a> {
     match line.number {
         1 => in_version(line, text),
-        _ if text.is_empty() || text.starts_with('#') => of_line(line, Mistake::Skipped),
+        _ if is_skipped(line.bytes) => of_line(line, Mistake::Skipped),
         2 => in_pool_line(line, text),
         number => in_body(line, number.saturating_sub(3), text),
     }

@@ -6,13 +6,12 @@ use crate::looks::{Look, look_of};
 use crate::mistakes::{Finding, Kind, Mistake, of_bytes, of_line, of_word, of_words};
 use crate::settings::refused_setting;
 use crate::words::word_at;
-use tp_text::lines::{clean_text, next_line};
+use tp_text::lines::{clean_text, is_skipped, next_line};
 use tp_text::pools::pool_of;
 use tp_text::words::first_word;
 use tp_types::refusals::PoolError;
 
-/// The number of the line before which so many lines stand that are neither empty nor comments, and which is neither; that of the
-/// line after the last where there is none.
+/// The number of the line that says something behind so many others; past the end if there is none.
 fn line_behind(text: &[u8], lines: usize) -> u32 {
     let mut rest = text;
     let mut before = lines;
@@ -20,7 +19,7 @@ fn line_behind(text: &[u8], lines: usize) -> u32 {
         let Some((line, behind)) = next_line(rest) else {
             return number;
         };
-        if !line.is_empty() && !line.starts_with(b"#") {
+        if !is_skipped(line) {
             if before == 0 {
                 return number;
             }

@@ -7,8 +7,8 @@ use crate::tellings::{Telling, Value, plain};
 use crate::words::{count, word_at};
 use std::fmt;
 
-/// A line's words beside some forms, none of which it has: as many of its first words as fit to any of them, fit. The forms to which
-/// these fit have the same beginning, so they stand side by side.
+/// A line's words beside some forms, of which it has none. Its first words fit to some of the forms, which have the same beginning
+/// and so stand side by side.
 #[derive(Clone, Copy)]
 pub struct Wording<'a> {
     /// The forms to which they fit.
@@ -125,7 +125,7 @@ impl<'a> Wording<'a> {
         }
     }
 
-    /// Whether a form is told of the line: one that ends in a priority is not where the line breaks off before that.
+    /// Whether a form is told of the line. One that ends in a priority is not told of a line that ends before it.
     pub fn tells(&self, form: &str) -> bool {
         match form.strip_suffix(" prio N") {
             None => true,
@@ -133,8 +133,8 @@ impl<'a> Wording<'a> {
         }
     }
 
-    /// The sign of the number that is wanted in place of the word: the last that begins as the word does, and else the first; None
-    /// where other words are wanted too, and this one is no numeral.
+    /// The sign of the number that is wanted in place of the word. It is the last sign that begins as the word does, or else the
+    /// first. None where other words are wanted too and the word is no numeral.
     fn number_wanted(&self) -> Option<&'static Sign> {
         let is_numeral = is_numeral(self.found);
         let mut found = None;

@@ -44,7 +44,7 @@ same_number n m e f x y step other same =
     decimal_injective n m (omega (arith, x)) (omega (arith, y)) digits
 
 end_pieces : (k : ℕ) → Fits32 k → Pieces (codes "end" ∷ decimal k ∷ [])
-end_pieces k fits = (code (codes "end") refl refl, (number_piece k (omega (arith, fits)), tt))
+end_pieces k fits = (code (codes "end") refl refl refl, (number_piece k (omega (arith, fits)), tt))
 
 no_digits : (n : ℕ) → n < 2 ^ 64 → decimal n ≢ codes "end"
 no_digits n small same =

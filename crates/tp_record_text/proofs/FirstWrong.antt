@@ -1,29 +1,33 @@
 -- Where a text is that of no record.
-use Rattle.std.proofs.Common.{◌≡◌, ◌≢◌, ◌⊎◌, ℕ, zero, suc, ◌+◌, ◌<◌, ◌≤◌, ◌^◌, List, [], ◌∷◌, ◌++◌, length, false, Ok, refl, sym, ◌∙◌, ap, subst, arith, append_assoc, append-nil, length-append, inl, inr}
+use Rattle.std.proofs.Common.{◌≡◌, ◌≢◌, ◌⊎◌, ℕ, suc, ◌+◌, ◌<◌, ◌≤◌, ◌^◌, List, [], ◌∷◌, ◌++◌, length, Bool, true, false, Ok, refl, sym, ◌∙◌, ap, subst, arith, append_assoc, append-nil, length-append, inl, inr}
 use Rattle.std.specs.List.{AllByRecursion, flat_map}
-use Rattle.std.proofs.lemmas.Bool.{cases_eq}
+use Rattle.std.proofs.lemmas.List.{append_cancel_left}
 use Rattle.std.proofs.lemmas.List.Concat.{flat_map-append}
 use Rattle.tp_types.specs.declared.configs.Config.{Config}
 use Rattle.tp_types.specs.declared.configs.Policy.TheVariants.{Abort}
 use Rattle.tp_types.specs.declared.configs.QueueKind.TheVariants.{Unbounded}
 use Rattle.tp_types.specs.declared.refusals.PoolError.{PoolError}
-use Rattle.tp_types.specs.declared.refusals.PoolError.TheVariants.{NoMemory}
+use Rattle.tp_types.specs.declared.refusals.PoolError.TheVariants.{ReadFailed}
 use Rattle.tp_types.specs.Config.{checked}
 use Rattle.tp_record.specs.declared.entries.Entry.{Entry}
 use Rattle.tp_text.specs.Fits.{Fits32}
 use Rattle.tp_text.specs.Lines.{HasNoLineFeed, IsLines, ended}
 use Rattle.tp_text.specs.RunText.{IsFront}
 use Rattle.tp_text.proofs.LineSplits.{front_line, no_cut, same_cut, same_lines}
+use Rattle.tp_record_text.specs.declared.reading.Reading.{Reading}
+use Rattle.tp_record_text.specs.declared.reading.Reading.TheVariants as reading
 use Rattle.tp_record_text.specs.declared.records.BodyLine.{BodyLine}
 use Rattle.tp_record_text.specs.declared.records.BodyLine.TheVariants as body
 use Rattle.tp_record_text.specs.declared.versions.Version.{Version}
 use Rattle.tp_record_text.specs.declared.versions.Version.TheVariants as version
 use Rattle.tp_record_text.specs.EntryFits.{IsStep}
-use Rattle.tp_record_text.specs.ReadRecord.{Begins, FitsBody, HasRefusedPool, IsBody, IsFirstWrong, IsNoBody, IsWrongAt, body_text, head}
+use Rattle.tp_record_text.specs.ReadRecord.{Begins, FitsBody, IsFirstWrong, IsRefusedText, body_text, head}
+use Rattle.tp_record_text.specs.Reading.{AreFine, AreTooMany, IsRead, RefusesLine, lines_to}
 use Rattle.tp_record_text.specs.RecordText.{FitsConfig, HasText, end_line, entry_text, entry_texts, header, pool_line, record_lines, record_text}
 use Rattle.tp_record_text.proofs.BodyLines.{no_end}
 use Rattle.tp_record_text.proofs.PoolTexts.{pool_line-injective}
 use Rattle.tp_record_text.proofs.RecordLines.{header-injective, header-plain, pool_line-plain, record_lines-single}
+use Rattle.tp_record_text.proofs.Short.{header-short, pool_line-short, record_lines-short}
 
 -- a line, its line feed and what stands behind it
 pub record Cut (text line behind : List ℕ) : Type 0 where
@@ -49,12 +53,12 @@ front_of (l ∷ ls) (m ∷ ms) x a b e =
     let q = front_of ls ms x a.1 b.1 p.1 in
     (q.0, ap (λ v. m ∷ v) q.1 ∙ ap (λ v. v ∷ (ls ++ q.0)) (sym p.0))
 
-pushed : (ls : List (List ℕ)) (l : List ℕ) → Single ls → HasNoLineFeed l → Single (ls ++ l ∷ [])
+pub pushed : (ls : List (List ℕ)) (l : List ℕ) → Single ls → HasNoLineFeed l → Single (ls ++ l ∷ [])
 pushed [] l a x = (x, tt)
 pushed (m ∷ ls) l a x = (a.0, pushed ls l a.1 x)
 
 -- one more line
-line_on : (text behind line rest : List ℕ) (before : List (List ℕ)) → text ≡ flat_map ended before ++ behind → behind ≡ line ++ 10 ∷ rest → text ≡ flat_map ended (before ++ line ∷ []) ++ rest
+pub line_on : (text behind line rest : List ℕ) (before : List (List ℕ)) → text ≡ flat_map ended before ++ behind → behind ≡ line ++ 10 ∷ rest → text ≡ flat_map ended (before ++ line ∷ []) ++ rest
 line_on text behind line rest before parts goes =
     parts ∙ ap (λ v. flat_map ended before ++ v) (goes ∙ sym (append_assoc line (10 ∷ []) rest) ∙ ap (λ v. v ++ rest) (sym (append-nil (ended line))))
     ∙ sym (append_assoc (flat_map ended before) (flat_map ended (line ∷ [])) rest) ∙ ap (λ v. v ++ rest) (sym (flat_map-append ended before (line ∷ [])))
@@ -138,29 +142,6 @@ begins_none = record { version = version.Two; config = some_config; entries = []
 begins_header : (v : Version) → Begins (header v ∷ [])
 begins_header v = record { version = v; config = some_config; entries = []; has_text = some_text v; more = pool_line some_config ∷ end_line 0 ∷ []; whole = refl }
 
--- the first line
-
-front_cut : (text line rest : List ℕ) → Cut text line rest → (v : Version) (c : Config) → IsFront (head v c) text → line ≡ header v
-front_cut text line rest cut v c front =
-    (same_cut line (header v) rest (pool_line c ++ 10 ∷ front.0) cut.single (header-plain v).single (sym cut.whole ∙ front.1 ∙ head_on v c front.0)).0
-
-pub bad_header : (text line rest : List ℕ) → Cut text line rest → ((v : Version) → line ≢ header v) → IsFirstWrong text 1
-bad_header text line rest cut other =
-    let so_far : Sofar text [] text = record { each = tt; parts = refl; begins = begins_none; accepted = λ v c fits front. absurd (other v (front_cut text line rest cut v c front)) } in
-    wrong_line text [] text line rest 1 so_far cut (λ begins. other begins.version (sym (heads (header begins.version) line _ _ begins.whole))) refl
-
-pub no_header : (text : List ℕ) → HasNoLineFeed text → IsFirstWrong text 1
-no_header text single =
-    let so_far : Sofar text [] text = record { each = tt; parts = refl; begins = begins_none; accepted = λ v c fits front. absurd (no_cut text (header v) _ single (front.1 ∙ head_on v c front.0)) } in
-    missing_line text [] text 1 so_far single (λ v c es has same empty. cc) refl
-
--- the second line
-
--- a text that begins with the header of one form and with the two lines of the other has both in one form
-behind_header : (v w : Version) (text rest : List ℕ) → text ≡ header v ++ 10 ∷ rest → (c : Config) (front : IsFront (head w c) text) → (v ≡ w) × (rest ≡ pool_line c ++ 10 ∷ front.0)
-behind_header v w text rest whole c front =
-    let p = same_cut (header v) (header w) rest (pool_line c ++ 10 ∷ front.0) (header-plain v).single (header-plain w).single (sym whole ∙ front.1 ∙ head_on w c front.0) in (header-injective v w p.0, p.1)
-
 -- what a form has a pool line for, it has in the form that is the same
 in_form : (v w : Version) (c : Config) → v ≡ w → FitsConfig w c → FitsConfig v c
 in_form v w c same fits = subst (λ x. FitsConfig x c) (sym same) fits
@@ -173,78 +154,11 @@ form_of v ls begins = sym (header-injective begins.version v (heads (header begi
 behind_form : (v : Version) (ls : List (List ℕ)) (begins : Begins (header v ∷ ls)) → pool_line begins.config ∷ (entry_texts 1 begins.entries ++ end_line (length begins.entries) ∷ []) ≡ ls ++ begins.more
 behind_form v ls begins = tails (header begins.version) (header v) _ _ begins.whole
 
-pub bad_pool : (v : Version) (text rest line body : List ℕ) → text ≡ header v ++ 10 ∷ rest → Cut rest line body → ((c : Config) → FitsConfig v c → line ≢ pool_line c) → IsFirstWrong text 2
-bad_pool v text rest line body whole cut none =
-    let so_far : Sofar text (header v ∷ []) rest = record {
-      each = ((header-plain v).single, tt);
-      parts = whole ∙ sym (front_line (header v) [] rest);
-      begins = begins_header v;
-      accepted = λ w c fits front.
-          let p = behind_header v w text rest whole c front in
-          absurd (none c (in_form v w c p.0 fits) (same_cut line (pool_line c) body front.0 cut.single (pool_line-plain c fits.0).single (sym cut.whole ∙ p.1)).0);
-    } in
-    wrong_line text (header v ∷ []) rest line body 2 so_far cut
-    (λ begins.
-    none begins.config (in_form v begins.version begins.config (form_of v (line ∷ []) begins) begins.has_text.config)
-    (sym (heads (pool_line begins.config) line _ _ (behind_form v (line ∷ []) begins)))) refl
-
-pub no_pool : (v : Version) (text rest : List ℕ) → text ≡ header v ++ 10 ∷ rest → HasNoLineFeed rest → IsFirstWrong text 2
-no_pool v text rest whole single =
-    let so_far : Sofar text (header v ∷ []) rest = record {
-      each = ((header-plain v).single, tt);
-      parts = whole ∙ sym (front_line (header v) [] rest);
-      begins = begins_header v;
-      accepted = λ w c fits front. absurd (no_cut rest (pool_line c) front.0 single (behind_header v w text rest whole c front).1);
-    } in
-    missing_line text (header v ∷ []) rest 2 so_far single (λ w c es has same empty. let more = tails (header v) (header w) _ _ same in cc) refl
-
--- the lines behind the pool line
-
--- what is read of the entries' lines
-pub record Body (v : Version) (c : Config) (body : List ℕ) (es : List Entry) (rest : List ℕ) : Type 0 where
-  pub config : FitsConfig v c
-  pub accepted : checked c ≡ Ok tt
-  pub steps : AllByRecursion (IsStep v) es
-  pub count : length es + 1 < 2 ^ 32
-  pub parts : body ≡ flat_map ended (entry_texts 1 es) ++ rest
-
-text_of : (v : Version) (c : Config) (body : List ℕ) (es : List Entry) (rest : List ℕ) → Body v c body es rest → HasText v c es
-text_of v c body es rest is = record { config = is.config; count = omega (arith, is.count); steps = is.steps }
-
-single_front : (xs ys : List (List ℕ)) → Single (xs ++ ys) → Single xs
-single_front [] ys x = tt
-single_front (l ∷ xs) ys x = (x.0, single_front xs ys x.1)
+-- lines that were read
 
 length-entry_texts : (n : ℕ) (es : List Entry) → length (entry_texts n es) ≡ length es
 length-entry_texts n [] = refl
 length-entry_texts n (e ∷ es) = ap suc (length-entry_texts (suc n) es)
-
-body_parts : (v : Version) (c : Config) (body : List ℕ) (ls : List (List ℕ)) (rest : List ℕ) → body ≡ flat_map ended ls ++ rest → head v c ++ body ≡ flat_map ended (header v ∷ pool_line c ∷ ls) ++ rest
-body_parts v c body ls rest parts =
-    head_on v c body ∙ ap (λ x. header v ++ 10 ∷ (pool_line c ++ 10 ∷ x)) parts
-    ∙ sym (front_line (header v) (pool_line c ∷ ls) rest ∙ ap (λ x. header v ++ 10 ∷ x) (front_line (pool_line c) ls rest))
-
-one_pool : (v : Version) (c : Config) (body : List ℕ) → FitsConfig v c → checked c ≡ Ok tt → (w : Version) (d : Config) → FitsConfig w d → IsFront (head w d) (head v c ++ body) → checked d ≡ Ok tt
-one_pool v c body fits ok w d other front =
-    let rest = (behind_header v w (head v c ++ body) (pool_line c ++ 10 ∷ body) (head_on v c body) d front).1 in
-    let same = (same_cut (pool_line c) (pool_line d) body front.0 (pool_line-plain c fits.0).single (pool_line-plain d other.0).single rest).0 in
-    subst (λ (x : Config). checked x ≡ Ok tt) (pool_line-injective c d fits.0 other.0 same) ok
-
-sofar_body : (v : Version) (c : Config) (body : List ℕ) (es : List Entry) (rest : List ℕ) → Body v c body es rest → Sofar (head v c ++ body) (header v ∷ pool_line c ∷ entry_texts 1 es) rest
-sofar_body v c body es rest is = record {
-  each = single_front (header v ∷ pool_line c ∷ entry_texts 1 es) (end_line (length es) ∷ []) (record_lines-single v c es (text_of v c body es rest is));
-  parts = body_parts v c body (entry_texts 1 es) rest is.parts;
-  begins = record { version = v; config = c; entries = es; has_text = text_of v c body es rest is; more = end_line (length es) ∷ []; whole = refl };
-  accepted = one_pool v c body is.config is.accepted;
-}
-
-sofar_ended : (v : Version) (c : Config) (body : List ℕ) (es : List Entry) (rest behind : List ℕ) → Body v c body es rest → rest ≡ end_line (length es) ++ 10 ∷ behind → Sofar (head v c ++ body) (record_lines v c es) behind
-sofar_ended v c body es rest behind is ends = record {
-  each = record_lines-single v c es (text_of v c body es rest is);
-  parts = line_on (head v c ++ body) rest (end_line (length es)) behind (header v ∷ pool_line c ∷ entry_texts 1 es) (sofar_body v c body es rest is).parts ends;
-  begins = record { version = v; config = c; entries = es; has_text = text_of v c body es rest is; more = []; whole = sym (append-nil (record_lines v c es)) };
-  accepted = one_pool v c body is.config is.accepted;
-}
 
 not_empty : (xs : List (List ℕ)) (y : List ℕ) (ys : List (List ℕ)) → [] ≡ xs ++ y ∷ ys → ⊥
 not_empty [] y ys e = cc
@@ -281,74 +195,6 @@ no_whole v n m (d ∷ es) (f ∷ fs) steps small fits e =
     no_whole v (suc n) m es fs steps.1 (omega (arith, small)) fits
     (tails (entry_text (suc n) d) (entry_text (suc n) f) (entry_texts (suc (suc n)) es) (entry_texts (suc (suc n)) fs ++ end_line m ∷ []) e)
 
--- a line behind these entries that is neither an entry nor the end
-pub wrong_entry : (v : Version) (c : Config) (body : List ℕ) (es : List Entry) (rest line behind : List ℕ) (k : ℕ) → Body v c body es rest → Cut rest line behind → ((x : BodyLine) → FitsBody v x → line ≢ body_text (length es) x) → k ≡ length es + 3 → IsFirstWrong (head v c ++ body) k
-wrong_entry v c body es rest line behind k is cut none number =
-    wrong_line (head v c ++ body) (header v ∷ pool_line c ∷ entry_texts 1 es) rest line behind k (sofar_body v c body es rest is) cut
-    (λ begins.
-    let its = tails (pool_line begins.config) (pool_line c) _ _ (behind_form v (pool_line c ∷ (entry_texts 1 es ++ line ∷ [])) begins) in
-    let form = form_of v (pool_line c ∷ (entry_texts 1 es ++ line ∷ [])) begins in
-    let steps = subst (λ x. AllByRecursion (IsStep x) begins.entries) (sym form) begins.has_text.steps in
-    let found = at_place v 0 (length begins.entries) (length es) es begins.entries line begins.more steps (omega arith) (omega arith) (its ∙ append_assoc (entry_texts 1 es) (line ∷ []) begins.more) in
-    none found.0 found.1 found.2)
-    (omega (arith, number, length-entry_texts 1 es))
-
--- entries behind which a line is missing or has no end
-pub missing_entry : (v : Version) (c : Config) (body : List ℕ) (es : List Entry) (rest : List ℕ) (k : ℕ) → Body v c body es rest → HasNoLineFeed rest → k ≡ length es + 3 → IsFirstWrong (head v c ++ body) k
-missing_entry v c body es rest k is single number =
-    missing_line (head v c ++ body) (header v ∷ pool_line c ∷ entry_texts 1 es) rest k (sofar_body v c body es rest is) single
-    (λ w d fs has same empty.
-    no_whole v 0 (length fs) es fs is.steps (omega (arith, is.count)) has.count (tails (pool_line c) (pool_line d) _ _ (tails (header v) (header w) _ _ same)))
-    (omega (arith, number, length-entry_texts 1 es))
-
--- a text has a line feed or it has none
-cut_or_single : (text : List ℕ) → ((line : List ℕ) × (rest : List ℕ) × Cut text line rest) ⊎ HasNoLineFeed text
-cut_or_single [] = inr (λ i within. absurd (omega arith))
-cut_or_single (b ∷ bs) =
-    elim (cases_eq b 10) [ inl is ↦ inl ([], bs, record { whole = ap (λ x. x ∷ bs) is; single = λ i within. absurd (omega arith) }) | inr other ↦ longer b bs other (cut_or_single bs) ]
-  where
-    before_byte : (b : ℕ) (bs : List ℕ) → b ≢ 10 → HasNoLineFeed bs → HasNoLineFeed (b ∷ bs)
-    before_byte b bs other none zero within = other
-    before_byte b bs other none (suc i) within = none i (omega arith)
-
-    longer : (b : ℕ) (bs : List ℕ) → b ≢ 10 → ((line : List ℕ) × (rest : List ℕ) × Cut bs line rest) ⊎ HasNoLineFeed bs → ((line : List ℕ) × (rest : List ℕ) × Cut (b ∷ bs) line rest) ⊎ HasNoLineFeed (b ∷ bs)
-    longer b bs other (inl p) = inl (b ∷ p.0, p.1, record { whole = ap (λ x. b ∷ x) p.2.whole; single = before_byte b p.0 other p.2.single })
-    longer b bs other (inr none) = inr (before_byte b bs other none)
-
--- something stands behind the end
-pub after_end : (v : Version) (c : Config) (body : List ℕ) (es : List Entry) (rest behind : List ℕ) (k : ℕ) → Body v c body es rest → rest ≡ end_line (length es) ++ 10 ∷ behind → behind ≢ [] → k ≡ length es + 4 → IsFirstWrong (head v c ++ body) k
-after_end v c body es rest behind k is ends some number =
-    let so_far = sofar_ended v c body es rest behind is ends in
-    let counted : k ≡ suc (length (record_lines v c es)) = omega (arith, number, length-entry_texts 1 es, length-append (entry_texts 1 es) (end_line (length es) ∷ [])) in
-    elim (cut_or_single behind) [
-      | inl p ↦
-          wrong_line (head v c ++ body) (record_lines v c es) behind p.0 p.1 k so_far p.2
-          (λ begins.
-          let its = tails (pool_line begins.config) (pool_line c) _ _ (behind_form v (pool_line c ∷ (entry_texts 1 es ++ end_line (length es) ∷ []) ++ p.0 ∷ []) begins) in
-          at_end begins.version 0 (length begins.entries) (length es) es begins.entries p.0 begins.more begins.has_text.steps (omega (arith, begins.has_text.count)) (omega (arith, is.count))
-          (its ∙ append_assoc (entry_texts 1 es ++ end_line (length es) ∷ []) (p.0 ∷ []) begins.more ∙ append_assoc (entry_texts 1 es) (end_line (length es) ∷ []) (p.0 ∷ begins.more)))
-          counted
-      | inr single ↦ missing_line (head v c ++ body) (record_lines v c es) behind k so_far single (λ w d fs has same empty. some empty) counted
-    ]
-
--- nothing stands behind the end
-pub whole_body : (v : Version) (c : Config) (body : List ℕ) (es : List Entry) (rest behind : List ℕ) → Body v c body es rest → rest ≡ end_line (length es) ++ 10 ∷ behind → behind ≡ [] → IsBody v c body es
-whole_body v c body es rest behind is ends none =
-    (text_of v c body es rest is, (sofar_ended v c body es rest behind is ends).parts ∙ ap (λ x. record_text v c es ++ x) none ∙ append-nil (record_text v c es))
-
--- how far the lines behind the pool line are read
-pub record Reading (v : Version) (body rest : List ℕ) (es : List Entry) (count : ℕ) : Type 0 where
-  pub counted : count ≡ length es
-  pub short : count + length rest ≤ 1048576
-  pub steps : AllByRecursion (IsStep v) es
-  pub parts : body ≡ flat_map ended (entry_texts 1 es) ++ rest
-
-length-cut : (text line behind : List ℕ) → text ≡ line ++ 10 ∷ behind → suc (length behind) ≤ length text
-length-cut text line behind whole = omega (arith, ap length whole, length-append line (10 ∷ behind))
-
-pub of_reading : (v : Version) (c : Config) (body rest : List ℕ) (es : List Entry) (count : ℕ) → Reading v body rest es count → FitsConfig v c → checked c ≡ Ok tt → Body v c body es rest
-of_reading v c body rest es count so_far fits ok = record { config = fits; accepted = ok; steps = so_far.steps; count = omega (arith, so_far.counted, so_far.short); parts = so_far.parts }
-
 pub entry_texts-push : (n : ℕ) (es : List Entry) (e : Entry) → entry_texts (suc n) (es ++ e ∷ []) ≡ entry_texts (suc n) es ++ entry_text (suc (n + length es)) e ∷ []
 entry_texts-push n [] e = let same : suc n ≡ suc (n + 0) = omega arith in ap (λ k. entry_text k e ∷ []) same
 entry_texts-push n (d ∷ es) e =
@@ -359,20 +205,182 @@ steps_push : (v : Version) (es : List Entry) (e : Entry) → AllByRecursion (IsS
 steps_push v [] e steps step = (step, tt)
 steps_push v (d ∷ es) e steps step = (steps.0, steps_push v es e steps.1 step)
 
--- one more entry is read
-pub one_more : (v : Version) (body rest line behind : List ℕ) (es : List Entry) (e : Entry) (count next : ℕ) → Reading v body rest es count → rest ≡ line ++ 10 ∷ behind → IsStep v e → line ≡ entry_text (suc count) e → next ≡ count + 1 → Reading v body behind (es ++ e ∷ []) next
-one_more v body rest line behind es e count next so_far whole step is goes = record {
-  counted = omega (arith, goes, so_far.counted, length-append es (e ∷ []));
-  short = omega (arith, goes, so_far.short, length-cut rest line behind whole);
-  steps = steps_push v es e so_far.steps step;
-  parts =
-      let same : suc count ≡ suc (0 + length es) = omega (arith, so_far.counted) in
-      line_on body rest line behind (entry_texts 1 es) so_far.parts whole
-      ∙ ap (λ v. flat_map ended (entry_texts 1 es ++ v ∷ []) ++ behind) (is ∙ ap (λ k. entry_text k e) same)
-      ∙ ap (λ v. flat_map ended v ++ behind) (sym (entry_texts-push 0 es e));
+begins_pool : (v : Version) (c : Config) → FitsConfig v c → Begins (header v ∷ pool_line c ∷ [])
+begins_pool v c fits = record { version = v; config = c; entries = []; has_text = record { config = fits; count = omega arith; steps = tt }; more = end_line 0 ∷ []; whole = refl }
+
+-- two lines behind which the others stand are a pool's of which nothing is refused
+one_pool : (v w : Version) (c d : Config) (x y : List (List ℕ)) → FitsConfig v c → FitsConfig w d → checked c ≡ Ok tt → header v ∷ pool_line c ∷ x ≡ header w ∷ pool_line d ∷ y → checked d ≡ Ok tt
+one_pool v w c d x y fits other ok same =
+    let lines = heads (pool_line c) (pool_line d) x y (tails (header v) (header w) (pool_line c ∷ x) (pool_line d ∷ y) same) in
+    subst (λ (z : Config). checked z ≡ Ok tt) (pool_line-injective c d fits.0 other.0 lines) ok
+
+fine_none : AreFine []
+fine_none = record { begins = begins_none; accepted = λ v c more fits same. cc }
+
+fine_header : (v : Version) → AreFine (header v ∷ [])
+fine_header v = record { begins = begins_header v; accepted = λ w c more fits same. let none = tails (header v) (header w) [] (pool_line c ∷ more) same in cc }
+
+fine_body : (v : Version) (c : Config) (es : List Entry) (over : Bool) → HasText v c es → checked c ≡ Ok tt → AreFine (lines_to v c es over)
+fine_body v c es false has ok = record {
+  begins = record { version = v; config = c; entries = es; has_text = has; more = end_line (length es) ∷ []; whole = refl };
+  accepted = λ w d more fits same. one_pool v w c d (entry_texts 1 es) more has.config fits ok same;
+}
+fine_body v c es true has ok = record {
+  begins = record { version = v; config = c; entries = es; has_text = has; more = []; whole = sym (append-nil (record_lines v c es)) };
+  accepted = λ w d more fits same. one_pool v w c d (entry_texts 1 es ++ end_line (length es) ∷ []) more has.config fits ok same;
 }
 
--- what is wrong behind the pool line is wrong in the text
-pub no_record : (v : Version) (text : List ℕ) (c : Config) (body : List ℕ) (e : PoolError) → text ≡ head v c ++ body → IsNoBody v c body e → (e ≡ NoMemory) ⊎ (HasRefusedPool text e ⊎ IsWrongAt text e)
-no_record v text c body e whole (inl none) = inl none
-no_record v text c body e whole (inr wrong) = inr (inr (subst (λ x. IsWrongAt x e) (sym whole) wrong))
+-- what stands behind these lines does not begin with the first lines of a record
+abbrev IsNoHead : List (List ℕ) → List ℕ → Type 0
+IsNoHead lines behind = (v : Version) (c : Config) (x : List ℕ) → FitsConfig v c → (lines ≡ [] → behind ≡ header v ++ 10 ∷ x → ⊥) × (lines ≡ header v ∷ [] → behind ≡ pool_line c ++ 10 ∷ x → ⊥)
+
+-- then no pool line of the text is refused
+accepted_front : (text : List ℕ) (lines : List (List ℕ)) (behind : List ℕ) → AreFine lines → Single lines → text ≡ flat_map ended lines ++ behind → IsNoHead lines behind → (v : Version) (c : Config) → FitsConfig v c → IsFront (head v c) text → checked c ≡ Ok tt
+accepted_front text [] behind fine each parts others v c fits front = absurd ((others v c (pool_line c ++ 10 ∷ front.0) fits).0 refl (sym parts ∙ front.1 ∙ head_on v c front.0))
+accepted_front text (h ∷ []) behind fine each parts others v c fits front =
+    let first = same_cut h (header v) behind (pool_line c ++ 10 ∷ front.0) each.0 (header-plain v).single (sym (parts ∙ front_line h [] behind) ∙ front.1 ∙ head_on v c front.0) in
+    absurd ((others v c front.0 fits).1 (ap (λ x. x ∷ []) first.0) first.1)
+accepted_front text (h ∷ p ∷ lines) behind fine each parts others v c fits front =
+    let first = same_cut h (header v) (flat_map ended (p ∷ lines) ++ behind) (pool_line c ++ 10 ∷ front.0) each.0 (header-plain v).single (sym (parts ∙ front_line h (p ∷ lines) behind) ∙ front.1 ∙ head_on v c front.0) in
+    let second = (same_cut p (pool_line c) (flat_map ended lines ++ behind) front.0 each.1.0 (pool_line-plain c fits.0).single (sym (front_line p lines behind) ∙ first.1)).0 in
+    fine.accepted v c lines fits (ap (λ x. x ∷ p ∷ lines) first.0 ∙ ap (λ x. header v ∷ x ∷ lines) second)
+
+so_far : (text : List ℕ) (lines : List (List ℕ)) (behind : List ℕ) → AreFine lines → Single lines → text ≡ flat_map ended lines ++ behind → IsNoHead lines behind → Sofar text lines behind
+so_far text lines behind fine each parts others = record { each = each; parts = parts; begins = fine.begins; accepted = accepted_front text lines behind fine each parts others }
+
+-- a line with which no record goes on
+wrong_behind : (text : List ℕ) (lines : List (List ℕ)) (behind line rest : List ℕ) → AreFine lines → Single lines → text ≡ flat_map ended lines ++ behind → Cut behind line rest → (Begins (lines ++ line ∷ []) → ⊥) → IsFirstWrong text (suc (length lines))
+wrong_behind text lines behind line rest fine each parts cut none =
+    let no : IsNoHead lines behind = λ v c x fits. (
+      λ is goes.
+          let same = (same_cut line (header v) rest x cut.single (header-plain v).single (sym cut.whole ∙ goes)).0 in
+          none (subst (λ ls. Begins (ls ++ line ∷ [])) (sym is) (subst (λ l. Begins (l ∷ [])) (sym same) (begins_header v))),
+      λ is goes.
+          let same = (same_cut line (pool_line c) rest x cut.single (pool_line-plain c fits.0).single (sym cut.whole ∙ goes)).0 in
+          none (subst (λ ls. Begins (ls ++ line ∷ [])) (sym is) (subst (λ l. Begins (header v ∷ l ∷ [])) (sym same) (begins_pool v c fits))),
+    ) in
+    wrong_line text lines behind line rest (suc (length lines)) (so_far text lines behind fine each parts no) cut none refl
+
+-- why a line is refused is why the text is
+pub refused_at : (text : List ℕ) (lines : List (List ℕ)) (behind line rest : List ℕ) (e : PoolError) → AreFine lines → Single lines → text ≡ flat_map ended lines ++ behind → Cut behind line rest → RefusesLine lines line e
+    → ((e ≡ ReadFailed) × AreTooMany lines) ⊎ IsRefusedText text e
+refused_at text lines behind line rest e fine each parts cut (inl memory) = inr (inl memory)
+refused_at text lines behind line rest e fine each parts cut (inr (inl many)) = inl many
+refused_at text lines behind line rest e fine each parts cut (inr (inr (inl pool))) =
+    let v : Version = pool.0 in
+    let c : Config = pool.1 in
+    let goes : behind ≡ pool_line c ++ 10 ∷ rest = cut.whole ∙ ap (λ x. x ++ 10 ∷ rest) pool.4 in
+    let whole : text ≡ head v c ++ rest = parts ∙ ap (λ ls. flat_map ended ls ++ behind) pool.2 ∙ front_line (header v) [] behind ∙ ap (λ x. header v ++ 10 ∷ x) goes ∙ sym (head_on v c rest) in
+    inr (inr (inl record { version = v; config = c; fits = pool.3; begins = (rest, whole); refused = pool.5 }))
+refused_at text lines behind line rest e fine each parts cut (inr (inr (inr wrong))) =
+    inr (inr (inr (suc (length lines), wrong.0, wrong_behind text lines behind line rest fine each parts cut wrong.1)))
+
+-- a text that ends where a line is missing, or has no end
+pub missing_behind : (text : List ℕ) (lines : List (List ℕ)) (left : List ℕ) → AreFine lines → IsLines text lines left → ((v : Version) (c : Config) (es : List Entry) → HasText v c es → lines ≡ record_lines v c es → left ≡ [] → ⊥) → IsFirstWrong text (suc (length lines))
+missing_behind text lines left fine are none =
+    let no : IsNoHead lines left = λ v c x fits. (λ is goes. no_cut left (header v) x are.last goes, λ is goes. no_cut left (pool_line c) x are.last goes) in
+    missing_line text lines left (suc (length lines)) (so_far text lines left fine are.each are.whole no) are.last none refl
+
+-- a line that has no end so far, and is longer than any of a record
+
+not_within : (line rest later more : List ℕ) → HasNoLineFeed rest → length line < length rest → rest ++ later ≡ line ++ 10 ∷ more → ⊥
+not_within [] [] later more none long same = omega (arith, long)
+not_within [] (b ∷ rest) later more none long same = none 0 (omega arith) cc
+not_within (a ∷ line) [] later more none long same = absurd (omega (arith, long))
+not_within (a ∷ line) (b ∷ rest) later more none long same = not_within line rest later more (λ i within. none (suc i) (omega (arith, within))) (omega (arith, long)) cc
+
+all_at : (P : List ℕ → Type 0) (xs : List (List ℕ)) (y : List ℕ) (ys : List (List ℕ)) → AllByRecursion P (xs ++ y ∷ ys) → P y
+all_at P [] y ys all = all.0
+all_at P (x ∷ xs) y ys all = all_at P xs y ys all.1
+
+next_short : (lines : List (List ℕ)) (line : List ℕ) → Begins (lines ++ line ∷ []) → length line ≤ 256
+next_short lines line begins =
+    let short = record_lines-short begins.version begins.config begins.entries begins.has_text in
+    all_at (λ l. length l ≤ 256) lines line begins.more (subst (λ ls. AllByRecursion (λ l. length l ≤ 256) ls) (begins.whole ∙ append_assoc lines (line ∷ []) begins.more) short)
+
+long_text : (lines : List (List ℕ)) (left later : List ℕ) (text : List ℕ) (v : Version) (c : Config) (es : List Entry) (more : List (List ℕ)) → HasNoLineFeed left → 256 < length left → text ≡ flat_map ended lines ++ (left ++ later) → HasText v c es → record_lines v c es ≡ lines ++ more → text ≡ record_text v c es → ⊥
+long_text lines left later text v c es more single long parts has are same =
+    let rest : left ++ later ≡ flat_map ended more =
+    append_cancel_left (flat_map ended lines) (left ++ later) (flat_map ended more) (sym parts ∙ same ∙ ap (flat_map ended) are ∙ flat_map-append ended lines more) in
+    goes_on more rest (subst (λ ls. AllByRecursion (λ l. length l ≤ 256) ls) are (record_lines-short v c es has))
+  where
+    goes_on : (more : List (List ℕ)) → left ++ later ≡ flat_map ended more → AllByRecursion (λ l. length l ≤ 256) (lines ++ more) → ⊥
+    goes_on [] rest short = absurd (omega (arith, long, ap length rest, length-append left later))
+    goes_on (m ∷ ms) rest short = not_within m left later (flat_map ended ms) single (omega (arith, long, all_at (λ l. length l ≤ 256) lines m ms short)) (rest ∙ first_line m ms)
+
+pub long_behind : (lines : List (List ℕ)) (left later bytes : List ℕ) → AreFine lines → IsLines bytes lines left → 256 < length left → IsFirstWrong (bytes ++ later) (suc (length lines))
+long_behind lines left later bytes fine are long =
+    let parts : bytes ++ later ≡ flat_map ended lines ++ (left ++ later) = ap (λ x. x ++ later) are.whole ∙ append_assoc (flat_map ended lines) left later in
+    let no : IsNoHead lines (left ++ later) = λ v c x fits. (
+      λ is goes. not_within (header v) left later x are.last (omega (arith, long, header-short v)) goes,
+      λ is goes. not_within (pool_line c) left later x are.last (omega (arith, long, pool_line-short c fits.0)) goes,
+    ) in record {
+      before = lines;
+      behind = left ++ later;
+      each = are.each;
+      parts = parts;
+      number = refl;
+      begins = fine.begins;
+      wrong = λ line rest single goes begins. not_within line left later rest are.last (omega (arith, long, next_short lines line begins)) goes;
+      no_text = λ v c es has same.
+          let front = front_of lines (record_lines v c es) (left ++ later) are.each (record_lines-single v c es has) (sym parts ∙ same) in
+          long_text lines left later (bytes ++ later) v c es front.0 are.last long parts has front.1 same;
+      accepted = accepted_front (bytes ++ later) lines (left ++ later) fine are.each parts no;
+    }
+
+-- the lines behind which something is wrong
+
+-- no header
+pub no_header : (line : List ℕ) → ((v : Version) → line ≢ header v) → Begins (line ∷ []) → ⊥
+no_header line other begins = other begins.version (sym (heads (header begins.version) line _ _ begins.whole))
+
+-- no pool line
+pub no_pool : (v : Version) (line : List ℕ) → ((c : Config) → FitsConfig v c → line ≢ pool_line c) → Begins (header v ∷ line ∷ []) → ⊥
+no_pool v line none begins =
+    none begins.config (in_form v begins.version begins.config (form_of v (line ∷ []) begins) begins.has_text.config) (sym (heads (pool_line begins.config) line _ _ (behind_form v (line ∷ []) begins)))
+
+-- neither an entry nor the end
+pub no_entry : (v : Version) (c : Config) (es : List Entry) (line : List ℕ) → ((x : BodyLine) → FitsBody v x → line ≢ body_text (length es) x) → Begins (lines_to v c es false ++ line ∷ []) → ⊥
+no_entry v c es line none begins =
+    let its = tails (pool_line begins.config) (pool_line c) _ _ (behind_form v (pool_line c ∷ (entry_texts 1 es ++ line ∷ [])) begins) in
+    let form = form_of v (pool_line c ∷ (entry_texts 1 es ++ line ∷ [])) begins in
+    let steps = subst (λ x. AllByRecursion (IsStep x) begins.entries) (sym form) begins.has_text.steps in
+    let found = at_place v 0 (length begins.entries) (length es) es begins.entries line begins.more steps (omega arith) (omega arith) (its ∙ append_assoc (entry_texts 1 es) (line ∷ []) begins.more) in
+    none found.0 found.1 found.2
+
+-- something behind the end
+pub no_more : (v : Version) (c : Config) (es : List Entry) (line : List ℕ) → Fits32 (length es) → Begins (lines_to v c es true ++ line ∷ []) → ⊥
+no_more v c es line fits begins =
+    let its = tails (pool_line begins.config) (pool_line c) _ _ (behind_form v (pool_line c ∷ (entry_texts 1 es ++ end_line (length es) ∷ []) ++ line ∷ []) begins) in
+    at_end begins.version 0 (length begins.entries) (length es) es begins.entries line begins.more begins.has_text.steps (omega (arith, begins.has_text.count)) fits
+    (its ∙ append_assoc (entry_texts 1 es ++ end_line (length es) ∷ []) (line ∷ []) begins.more ∙ append_assoc (entry_texts 1 es) (end_line (length es) ∷ []) (line ∷ begins.more))
+
+-- no end
+pub not_whole : (v w : Version) (c d : Config) (es fs : List Entry) → HasText v c es → HasText w d fs → lines_to v c es false ≡ record_lines w d fs → ⊥
+not_whole v w c d es fs has other same =
+    no_whole v 0 (length fs) es fs has.steps (omega (arith, has.count)) other.count (tails (pool_line c) (pool_line d) _ _ (tails (header v) (header w) _ _ same))
+
+-- one more entry
+pub one_more : (v : Version) (c : Config) (es : List Entry) (e : Entry) (line : List ℕ) → line ≡ entry_text (suc (length es)) e → lines_to v c es false ++ line ∷ [] ≡ lines_to v c (es ++ e ∷ []) false
+one_more v c es e line is =
+    let same : length es ≡ 0 + length es = omega arith in
+    ap (λ ls. header v ∷ pool_line c ∷ ls) (ap (λ l. entry_texts 1 es ++ l ∷ []) (is ∙ ap (λ k. entry_text (suc k) e) same) ∙ sym (entry_texts-push 0 es e))
+
+pub has_more : (v : Version) (c : Config) (es : List Entry) (e : Entry) → HasText v c es → IsStep v e → length es + 1 < 2 ^ 32 → HasText v c (es ++ e ∷ [])
+has_more v c es e has step small = record { config = has.config; count = omega (arith, small, length-append es (e ∷ [])); steps = steps_push v es e has.steps step }
+
+-- as many lines and more
+pub many_lines : (v : Version) (c : Config) (es : List Entry) (over : Bool) → length es + 2 ≤ length (lines_to v c es over)
+many_lines v c es false = omega (arith, length-entry_texts 1 es)
+many_lines v c es true = omega (arith, length-entry_texts 1 es, length-append (entry_texts 1 es) (end_line (length es) ∷ []))
+
+pub length-lines_to : (v : Version) (c : Config) (es : List Entry) (over : Bool) (n : ℕ) → (over ≡ false → n ≡ length es + 3) → (over ≡ true → n ≡ length es + 4) → n ≡ suc (length (lines_to v c es over))
+length-lines_to v c es false n still ended = omega (arith, still refl, length-entry_texts 1 es)
+length-lines_to v c es true n still ended = omega (arith, ended refl, length-entry_texts 1 es, length-append (entry_texts 1 es) (end_line (length es) ∷ []))
+
+-- what was read are lines with which a record begins
+module _ {T : Type 0} (about : T → Version → Config → Type 0) (took : T → List Entry → Type 0) where
+  pub fine_read : (r : Reading T) (lines : List (List ℕ)) → IsRead about took r lines → AreFine lines
+  fine_read reading.Start lines is = subst AreFine (sym is) fine_none
+  fine_read (reading.Formed v) lines is = subst AreFine (sym is) (fine_header v)
+  fine_read (reading.Opened b) lines is = subst AreFine (sym is.lines_read) (fine_body b.version is.config is.entries b.is_over is.has_text is.accepted)

@@ -7,7 +7,9 @@ pub mod EntryLaws
 pub mod PoolTexts
 pub mod RecordLines
 pub mod BodyLines
+pub mod Short
 pub mod FirstWrong
+pub mod LinesRead
 pub mod WrittenText
 mod TellDid
 mod OneText

@@ -1,12 +1,12 @@
 -- The words of each entry are ASCII and have neither a space nor a line feed.
-use Rattle.std.proofs.Common.{◌≡◌, ◌≢◌, ℕ, zero, suc, ◌<◌, ◌^◌, List, [], ◌∷◌, ◌++◌, length, get_or, Bool, true, false, not, ◌&&◌, ◌==◌, Option, Some, None, Ok, Err, refl, ◌∙◌, ap, arith, codes, inl, inr}
+use Rattle.std.proofs.Common.{◌≡◌, ◌≢◌, ℕ, zero, suc, ◌<◌, ◌≤◌, ◌^◌, List, [], ◌∷◌, ◌++◌, length, get_or, Bool, true, false, not, ◌&&◌, ◌==◌, Option, Some, None, Ok, Err, refl, ◌∙◌, ap, arith, codes, inl, inr}
 use Rattle.std.specs.Prelude.{ℤ, pos, negsuc, nat_lt}
 use Rattle.std.specs.Fmt.{decimal, signed_decimal}
 use Rattle.std.specs.List.{All, list_all}
 use Rattle.std.specs.Str.{IsAscii}
 use Rattle.std.proofs.lemmas.Bool.{ltb-true}
 use Rattle.std.proofs.lemmas.Bool.Decides.{eqb_tells}
-use Rattle.std.proofs.lemmas.Fmt.{IsAscii-decimal}
+use Rattle.std.proofs.lemmas.Fmt.{IsAscii-decimal, length-decimal-le}
 use Rattle.std.proofs.lemmas.List.Splits.{slice_split_none, slice_split_at}
 use Rattle.std.proofs.lemmas.List.Elements.{All-from_get_or}
 use Rattle.std.proofs.lemmas.Str.{IsAscii-append}
@@ -63,6 +63,7 @@ pub record IsPiece (w : List ℕ) : Type 0 where
   pub is_word : IsWord w
   pub ascii : IsAscii w
   pub single : HasNoLineFeed w
+  pub short : length w ≤ 21
 
 abbrev pub Pieces : List (List ℕ) → Type 0
 Pieces [] = Unit {0}
@@ -92,15 +93,19 @@ no_spaces (b ∷ w) test =
     let there = no_spaces w (and_right (not (b == 32) && nat_lt b 128) (list_all (λ x. not (x == 32) && nat_lt x 128) w) test) in
     ap (λ x. x && list_all (λ y. not (y == 32)) w) here ∙ there
 
-pub code : (w : List ℕ) → list_all (λ b. not (b == 32) && nat_lt b 128) w ≡ true → list_all (λ b. not (b == 10)) w ≡ true → IsPiece w
-code w test feeds = record {
+pub code : (w : List ℕ) → list_all (λ b. not (b == 32) && nat_lt b 128) w ≡ true → list_all (λ b. not (b == 10)) w ≡ true → nat_lt (length w) 22 ≡ true → IsPiece w
+code w test feeds few = record {
   is_word = word_from_test w (no_spaces w test);
   ascii = IsAscii-from_all w (All-from_get_or (λ b. b < 128) w 0 (all_ascii w test));
   single = single_from_test w feeds;
+  short = let below = ltb-true (length w) 22 few in omega (arith, below);
 }
 
+short_number : (n : ℕ) → n < 2 ^ 64 → length (decimal n) ≤ 20
+short_number n small = length-decimal-le 20 n (omega arith) (omega (arith, small)) small
+
 pub number_piece : (n : ℕ) → n < 2 ^ 64 → IsPiece (decimal n)
-number_piece n small = record { is_word = word_decimal n small; ascii = IsAscii-decimal n small; single = single_decimal n small }
+number_piece n small = record { is_word = word_decimal n small; ascii = IsAscii-decimal n small; single = single_decimal n small; short = omega (arith, short_number n small) }
 
 longer_word : (b : ℕ) (w : List ℕ) → b ≢ 32 → IsWord w → IsWord (b ∷ w)
 longer_word b w other is zero within = other
@@ -112,135 +117,136 @@ marked_piece b n other mark small = record {
   is_word = longer_word b (decimal n) other (word_decimal n small);
   ascii = IsAscii-append (b ∷ []) (decimal n) mark.ascii (IsAscii-decimal n small);
   single = single-append (b ∷ []) (decimal n) mark.single (single_decimal n small);
+  short = omega (arith, short_number n small);
 }
 
 task_piece : (t : TaskId) → FitsTask t → IsPiece (task_name t)
-task_piece t fits = marked_piece 116 t.0 (λ e. absurd (omega arith)) (code (codes "t") refl refl) (omega (arith, fits))
+task_piece t fits = marked_piece 116 t.0 (λ e. absurd (omega arith)) (code (codes "t") refl refl refl) (omega (arith, fits))
 
 slot_piece : (w : SlotId) → FitsSlot w → IsPiece (slot_name w)
-slot_piece w fits = marked_piece 119 w.0 (λ e. absurd (omega arith)) (code (codes "w") refl refl) fits
+slot_piece w fits = marked_piece 119 w.0 (λ e. absurd (omega arith)) (code (codes "w") refl refl refl) fits
 
 pass_piece : (by : ℕ) → Fits32 by → IsPiece (pass_name by)
-pass_piece by fits = marked_piece 112 by (λ e. absurd (omega arith)) (code (codes "p") refl refl) (omega (arith, fits))
+pass_piece by fits = marked_piece 112 by (λ e. absurd (omega arith)) (code (codes "p") refl refl refl) (omega (arith, fits))
 
 value_piece : (v : ℤ) → FitsValue v → IsPiece (signed_decimal v)
 value_piece (pos n) fits = number_piece n (omega arith)
-value_piece (negsuc n) fits = marked_piece 45 (suc n) (λ e. absurd (omega arith)) (code (codes "-") refl refl) (omega arith)
+value_piece (negsuc n) fits = marked_piece 45 (suc n) (λ e. absurd (omega arith)) (code (codes "-") refl refl refl) (omega arith)
 
 effect_piece : (b : Bool) → IsPiece (effect_word b)
-effect_piece true = code (codes "yes") refl refl
-effect_piece false = code (codes "no") refl refl
+effect_piece true = code (codes "yes") refl refl refl
+effect_piece false = code (codes "no") refl refl refl
 
 switch_piece : (b : Bool) → IsPiece (switch_word b)
-switch_piece true = code (codes "on") refl refl
-switch_piece false = code (codes "off") refl refl
+switch_piece true = code (codes "on") refl refl refl
+switch_piece false = code (codes "off") refl refl refl
 
 verdict_piece : (v : Verdict) → IsPiece (verdict_name v)
-verdict_piece verdict.Abort = code (codes "abort") refl refl
-verdict_piece verdict.CallerRuns = code (codes "callerruns") refl refl
-verdict_piece verdict.Discard = code (codes "discard") refl refl
-verdict_piece verdict.DiscardOldest = code (codes "discardoldest") refl refl
+verdict_piece verdict.Abort = code (codes "abort") refl refl refl
+verdict_piece verdict.CallerRuns = code (codes "callerruns") refl refl refl
+verdict_piece verdict.Discard = code (codes "discard") refl refl refl
+verdict_piece verdict.DiscardOldest = code (codes "discardoldest") refl refl refl
 
 kind_pieces : (k : Kind) → FitsKind k → Pieces (kind_words k)
-kind_pieces kinds.Plain fits = (code (codes "plain") refl refl, tt)
-kind_pieces kinds.Future fits = (code (codes "future") refl refl, tt)
-kind_pieces (kinds.Group g) fits = (code (codes "group") refl refl, (number_piece g (omega (arith, fits)), tt))
+kind_pieces kinds.Plain fits = (code (codes "plain") refl refl refl, tt)
+kind_pieces kinds.Future fits = (code (codes "future") refl refl refl, tt)
+kind_pieces (kinds.Group g) fits = (code (codes "group") refl refl refl, (number_piece g (omega (arith, fits)), tt))
 
 outcome_pieces : (o : Outcome) → FitsOutcome o → Pieces (outcome_words o)
-outcome_pieces (Ok v) fits = (code (codes "value") refl refl, (value_piece v fits, tt))
-outcome_pieces (Err n) fits = (code (codes "fault") refl refl, (number_piece n (omega (arith, fits)), tt))
+outcome_pieces (Ok v) fits = (code (codes "value") refl refl refl, (value_piece v fits, tt))
+outcome_pieces (Err n) fits = (code (codes "fault") refl refl refl, (number_piece n (omega (arith, fits)), tt))
 
 reserved_pieces : (o : Option SlotId) → FitsReserved o → Pieces (reserved_words o)
 reserved_pieces None fits = tt
-reserved_pieces (Some w) fits = (code (codes "reserve") refl refl, (slot_piece w fits, tt))
+reserved_pieces (Some w) fits = (code (codes "reserve") refl refl refl, (slot_piece w fits, tt))
 
 prestart_pieces : (o : Option SlotId) → FitsReserved o → Pieces (prestart_words o)
-prestart_pieces None fits = (code (codes "none") refl refl, tt)
-prestart_pieces (Some w) fits = (code (codes "reserve") refl refl, (slot_piece w fits, tt))
+prestart_pieces None fits = (code (codes "none") refl refl refl, tt)
+prestart_pieces (Some w) fits = (code (codes "reserve") refl refl refl, (slot_piece w fits, tt))
 
 flag_pieces : (flag effect : Bool) → Pieces (flag_words flag effect)
-flag_pieces true effect = (code (codes "flag") refl refl, (effect_piece effect, tt))
+flag_pieces true effect = (code (codes "flag") refl refl refl, (effect_piece effect, tt))
 flag_pieces false effect = (effect_piece effect, tt)
 
 looked_pieces : (x : Looked) → FitsLooked x → Pieces (looked_words x)
-looked_pieces (looked.Reserve w) fits = (code (codes "reserve") refl refl, (slot_piece w fits, tt))
-looked_pieces looked.Queue fits = (code (codes "queue") refl refl, tt)
-looked_pieces looked.Refuse fits = (code (codes "refuse") refl refl, tt)
+looked_pieces (looked.Reserve w) fits = (code (codes "reserve") refl refl refl, (slot_piece w fits, tt))
+looked_pieces looked.Queue fits = (code (codes "queue") refl refl refl, tt)
+looked_pieces looked.Refuse fits = (code (codes "refuse") refl refl refl, tt)
 
 offered_pieces : (x : Offered) → FitsOffered x → Pieces (offered_words x)
-offered_pieces offered.Queued fits = (code (codes "queued") refl refl, tt)
-offered_pieces (offered.Hand w) fits = (code (codes "hand") refl refl, (slot_piece w fits, tt))
-offered_pieces offered.Full fits = (code (codes "full") refl refl, tt)
+offered_pieces offered.Queued fits = (code (codes "queued") refl refl refl, tt)
+offered_pieces (offered.Hand w) fits = (code (codes "hand") refl refl refl, (slot_piece w fits, tt))
+offered_pieces offered.Full fits = (code (codes "full") refl refl refl, tt)
 
 seconded_pieces : (x : Seconded) → FitsSeconded x → Pieces (seconded_words x)
-seconded_pieces seconded.Stay fits = (code (codes "stay") refl refl, tt)
-seconded_pieces (seconded.StayReserve w) fits = (code (codes "stay") refl refl, (code (codes "reserve") refl refl, (slot_piece w fits, tt)))
-seconded_pieces seconded.Back fits = (code (codes "back") refl refl, tt)
+seconded_pieces seconded.Stay fits = (code (codes "stay") refl refl refl, tt)
+seconded_pieces (seconded.StayReserve w) fits = (code (codes "stay") refl refl refl, (code (codes "reserve") refl refl refl, (slot_piece w fits, tt)))
+seconded_pieces seconded.Back fits = (code (codes "back") refl refl refl, tt)
 
 grown_pieces : (x : Grown) → FitsGrown x → Pieces (grown_words x)
-grown_pieces (grown.Reserve w) fits = (code (codes "reserve") refl refl, (slot_piece w fits, tt))
-grown_pieces grown.Refuse fits = (code (codes "refuse") refl refl, tt)
+grown_pieces (grown.Reserve w) fits = (code (codes "reserve") refl refl refl, (slot_piece w fits, tt))
+grown_pieces grown.Refuse fits = (code (codes "refuse") refl refl refl, tt)
 
 ruled_pieces : (x : Ruled) → FitsRuled x → Pieces (ruled_words x)
-ruled_pieces ruled.Rejected fits = (code (codes "rejected") refl refl, tt)
-ruled_pieces ruled.Caller fits = (code (codes "caller") refl refl, tt)
-ruled_pieces ruled.Skip fits = (code (codes "skip") refl refl, tt)
-ruled_pieces ruled.Discarded fits = (code (codes "discarded") refl refl, tt)
-ruled_pieces ruled.Retry fits = (code (codes "retry") refl refl, tt)
-ruled_pieces (ruled.RetryDrop t) fits = (code (codes "retry") refl refl, (code (codes "drop") refl refl, (task_piece t fits, tt)))
+ruled_pieces ruled.Rejected fits = (code (codes "rejected") refl refl refl, tt)
+ruled_pieces ruled.Caller fits = (code (codes "caller") refl refl refl, tt)
+ruled_pieces ruled.Skip fits = (code (codes "skip") refl refl refl, tt)
+ruled_pieces ruled.Discarded fits = (code (codes "discarded") refl refl refl, tt)
+ruled_pieces ruled.Retry fits = (code (codes "retry") refl refl refl, tt)
+ruled_pieces (ruled.RetryDrop t) fits = (code (codes "retry") refl refl refl, (code (codes "drop") refl refl refl, (task_piece t fits, tt)))
 
 opened_pieces : (x : Opened) → FitsOpened x → Pieces (opened_words x)
-opened_pieces opened.Live fits = (code (codes "live") refl refl, tt)
-opened_pieces opened.GivenUp fits = (code (codes "givenup") refl refl, tt)
-opened_pieces (opened.GivenUpRefuse t) fits = (code (codes "givenup") refl refl, (task_piece t fits, (code (codes "refuse") refl refl, tt)))
+opened_pieces opened.Live fits = (code (codes "live") refl refl refl, tt)
+opened_pieces opened.GivenUp fits = (code (codes "givenup") refl refl refl, tt)
+opened_pieces (opened.GivenUpRefuse t) fits = (code (codes "givenup") refl refl refl, (task_piece t fits, (code (codes "refuse") refl refl refl, tt)))
 
 failed_pieces : (x : Failed) → FitsFailed x → Pieces (failed_words x)
-failed_pieces failed.Nothing fits = (code (codes "none") refl refl, tt)
-failed_pieces (failed.Offer t) fits = (task_piece t fits, (code (codes "offer") refl refl, tt))
-failed_pieces (failed.Refuse t) fits = (task_piece t fits, (code (codes "refuse") refl refl, tt))
+failed_pieces failed.Nothing fits = (code (codes "none") refl refl refl, tt)
+failed_pieces (failed.Offer t) fits = (task_piece t fits, (code (codes "offer") refl refl refl, tt))
+failed_pieces (failed.Refuse t) fits = (task_piece t fits, (code (codes "refuse") refl refl refl, tt))
 
 took_pieces : (x : Took) → FitsTook x → Pieces (took_words x)
-took_pieces (took.Held t) fits = (code (codes "held") refl refl, (task_piece t fits, tt))
-took_pieces (took.Head t) fits = (code (codes "head") refl refl, (task_piece t fits, tt))
-took_pieces took.Leave fits = (code (codes "leave") refl refl, tt)
-took_pieces took.Idle fits = (code (codes "idle") refl refl, tt)
+took_pieces (took.Held t) fits = (code (codes "held") refl refl refl, (task_piece t fits, tt))
+took_pieces (took.Head t) fits = (code (codes "head") refl refl refl, (task_piece t fits, tt))
+took_pieces took.Leave fits = (code (codes "leave") refl refl refl, tt)
+took_pieces took.Idle fits = (code (codes "idle") refl refl refl, tt)
 
 started_pieces : (x : Started) → FitsStarted x → Pieces (started_words x)
 started_pieces (started.Run t) fits = (task_piece t fits, tt)
-started_pieces (started.Skip t) fits = (code (codes "skip") refl refl, (task_piece t fits, tt))
+started_pieces (started.Skip t) fits = (code (codes "skip") refl refl refl, (task_piece t fits, tt))
 
 command_piece : (c : Command) → IsPiece (command_word c)
-command_piece command.Submit = code (codes "submit") refl refl
-command_piece command.Verdict = code (codes "verdict") refl refl
-command_piece command.Cancel = code (codes "cancel") refl refl
-command_piece command.CoreTimeout = code (codes "coretimeout") refl refl
-command_piece (command.OfTask task.Look) = code (codes "look") refl refl
-command_piece (command.OfTask task.Offer) = code (codes "offer") refl refl
-command_piece (command.OfTask task.Second) = code (codes "second") refl refl
-command_piece (command.OfTask task.Grow) = code (codes "grow") refl refl
-command_piece (command.OfTask task.CallerEnd) = code (codes "callerend") refl refl
-command_piece (command.OfTask task.Remove) = code (codes "remove") refl refl
-command_piece (command.OfSlot slot.Open) = code (codes "open") refl refl
-command_piece (command.OfSlot slot.Fail) = code (codes "fail") refl refl
-command_piece (command.OfSlot slot.Take) = code (codes "take") refl refl
-command_piece (command.OfSlot slot.Begin) = code (codes "begin") refl refl
-command_piece (command.OfSlot slot.End) = code (codes "end") refl refl
-command_piece (command.OfSlot slot.Leave) = code (codes "leave") refl refl
-command_piece (command.OfPool pool.Shutdown) = code (codes "shutdown") refl refl
-command_piece (command.OfPool pool.Stop) = code (codes "stop") refl refl
-command_piece (command.OfPool pool.Tidy) = code (codes "tidy") refl refl
-command_piece (command.OfPool pool.Ended) = code (codes "ended") refl refl
-command_piece (command.OfPool pool.Purge) = code (codes "purge") refl refl
-command_piece (command.OfPool pool.Prestart) = code (codes "prestart") refl refl
-command_piece (command.OfSize size.TakeDone) = code (codes "takedone") refl refl
-command_piece (command.OfSize size.Core) = code (codes "core") refl refl
-command_piece (command.OfSize size.Maximum) = code (codes "max") refl refl
-command_piece (command.OfTicks ticks.Keep) = code (codes "keep") refl refl
-command_piece (command.OfTicks ticks.Tick) = code (codes "tick") refl refl
+command_piece command.Submit = code (codes "submit") refl refl refl
+command_piece command.Verdict = code (codes "verdict") refl refl refl
+command_piece command.Cancel = code (codes "cancel") refl refl refl
+command_piece command.CoreTimeout = code (codes "coretimeout") refl refl refl
+command_piece (command.OfTask task.Look) = code (codes "look") refl refl refl
+command_piece (command.OfTask task.Offer) = code (codes "offer") refl refl refl
+command_piece (command.OfTask task.Second) = code (codes "second") refl refl refl
+command_piece (command.OfTask task.Grow) = code (codes "grow") refl refl refl
+command_piece (command.OfTask task.CallerEnd) = code (codes "callerend") refl refl refl
+command_piece (command.OfTask task.Remove) = code (codes "remove") refl refl refl
+command_piece (command.OfSlot slot.Open) = code (codes "open") refl refl refl
+command_piece (command.OfSlot slot.Fail) = code (codes "fail") refl refl refl
+command_piece (command.OfSlot slot.Take) = code (codes "take") refl refl refl
+command_piece (command.OfSlot slot.Begin) = code (codes "begin") refl refl refl
+command_piece (command.OfSlot slot.End) = code (codes "end") refl refl refl
+command_piece (command.OfSlot slot.Leave) = code (codes "leave") refl refl refl
+command_piece (command.OfPool pool.Shutdown) = code (codes "shutdown") refl refl refl
+command_piece (command.OfPool pool.Stop) = code (codes "stop") refl refl refl
+command_piece (command.OfPool pool.Tidy) = code (codes "tidy") refl refl refl
+command_piece (command.OfPool pool.Ended) = code (codes "ended") refl refl refl
+command_piece (command.OfPool pool.Purge) = code (codes "purge") refl refl refl
+command_piece (command.OfPool pool.Prestart) = code (codes "prestart") refl refl refl
+command_piece (command.OfSize size.TakeDone) = code (codes "takedone") refl refl refl
+command_piece (command.OfSize size.Core) = code (codes "core") refl refl refl
+command_piece (command.OfSize size.Maximum) = code (codes "max") refl refl refl
+command_piece (command.OfTicks ticks.Keep) = code (codes "keep") refl refl refl
+command_piece (command.OfTicks ticks.Tick) = code (codes "tick") refl refl refl
 
 priority_pieces : (p : ℕ) (b : Bool) → (p == 0) ≡ b → Fits32 p → Pieces (priority_words p)
 priority_pieces p true is fits = rw is tt
-priority_pieces p false is fits = rw is (code (codes "prio") refl refl, (number_piece p (omega (arith, fits)), tt))
+priority_pieces p false is fits = rw is (code (codes "prio") refl refl refl, (number_piece p (omega (arith, fits)), tt))
 
 argument_pieces : (d : Did) → FitsDid d → Pieces (argument_words d)
 argument_pieces (did.Submit t k p l) fits =
@@ -261,12 +267,12 @@ argument_pieces (did.End w t o) fits = (slot_piece w fits.0, (task_piece t fits.
 argument_pieces did.Shutdown fits = tt
 argument_pieces did.Tidy fits = tt
 argument_pieces did.Ended fits = tt
-argument_pieces (did.Stop n) fits = (code (codes "drained") refl refl, (number_piece n (omega (arith, fits)), tt))
+argument_pieces (did.Stop n) fits = (code (codes "drained") refl refl refl, (number_piece n (omega (arith, fits)), tt))
 argument_pieces (did.Remove t e) fits = (task_piece t fits, (effect_piece e, tt))
 argument_pieces (did.Purge n) fits = (number_piece n (omega (arith, fits)), tt)
 argument_pieces (did.Cancel t flag e) fits = (task_piece t fits, flag_pieces flag e)
 argument_pieces (did.TakeDone g t) fits = (number_piece g (omega (arith, fits.0)), (task_piece t fits.1, tt))
-argument_pieces (did.Core n k) fits = (number_piece n (omega (arith, fits.0)), (code (codes "add") refl refl, (number_piece k (omega (arith, fits.1)), tt)))
+argument_pieces (did.Core n k) fits = (number_piece n (omega (arith, fits.0)), (code (codes "add") refl refl refl, (number_piece k (omega (arith, fits.1)), tt)))
 argument_pieces (did.Maximum n) fits = (number_piece n (omega (arith, fits)), tt)
 argument_pieces (did.Keep n) fits = (number_piece n fits, tt)
 argument_pieces (did.Tick n) fits = (number_piece n fits, tt)

@@ -49,43 +49,43 @@ spaced_plain v w x y = joined v (32 ∷ w) x (behind_space w y)
 number_plain : (n : ℕ) → n < 2 ^ 64 → IsPlainLine (decimal n)
 number_plain n small = of_piece (decimal n) (number_piece n small)
 
-word_plain : (w : List ℕ) → list_all (λ b. not (b == 32) && nat_lt b 128) w ≡ true → list_all (λ b. not (b == 10)) w ≡ true → IsPlainLine w
-word_plain w test feeds = of_piece w (code w test feeds)
+word_plain : (w : List ℕ) → list_all (λ b. not (b == 32) && nat_lt b 128) w ≡ true → list_all (λ b. not (b == 10)) w ≡ true → nat_lt (length w) 22 ≡ true → IsPlainLine w
+word_plain w test feeds few = of_piece w (code w test feeds few)
 
 -- pool lines
 
 policy_plain : (p : Policy) → IsPlainLine (policy_name p)
-policy_plain policy.Abort = word_plain (codes "abort") refl refl
-policy_plain policy.CallerRuns = word_plain (codes "callerruns") refl refl
-policy_plain policy.Discard = word_plain (codes "discard") refl refl
-policy_plain policy.DiscardOldest = word_plain (codes "discardoldest") refl refl
-policy_plain policy.Own = word_plain (codes "own") refl refl
+policy_plain policy.Abort = word_plain (codes "abort") refl refl refl
+policy_plain policy.CallerRuns = word_plain (codes "callerruns") refl refl refl
+policy_plain policy.Discard = word_plain (codes "discard") refl refl refl
+policy_plain policy.DiscardOldest = word_plain (codes "discardoldest") refl refl refl
+policy_plain policy.Own = word_plain (codes "own") refl refl refl
 
 limit_plain : (n : ℕ) → Fits32 n → IsPlainLine (spaced (codes "limit") (decimal n))
-limit_plain n fits = spaced_plain (codes "limit") (decimal n) (word_plain (codes "limit") refl refl) (number_plain n (omega (arith, fits)))
+limit_plain n fits = spaced_plain (codes "limit") (decimal n) (word_plain (codes "limit") refl refl refl) (number_plain n (omega (arith, fits)))
 
 options_plain : (o : Options) (w : List ℕ) → FitsOptions o → IsPlainLine w → IsPlainLine (followed w (options_text o))
 options_plain (false, None) w fits x = x
-options_plain (true, None) w fits x = spaced_plain w (codes "coretimeout") x (word_plain (codes "coretimeout") refl refl)
+options_plain (true, None) w fits x = spaced_plain w (codes "coretimeout") x (word_plain (codes "coretimeout") refl refl refl)
 options_plain (false, Some n) w fits x = spaced_plain w (spaced (codes "limit") (decimal n)) x (limit_plain n fits)
 options_plain (true, Some n) w fits x =
     spaced_plain w (spaced (codes "coretimeout") (spaced (codes "limit") (decimal n))) x
-    (spaced_plain (codes "coretimeout") (spaced (codes "limit") (decimal n)) (word_plain (codes "coretimeout") refl refl) (limit_plain n fits))
+    (spaced_plain (codes "coretimeout") (spaced (codes "limit") (decimal n)) (word_plain (codes "coretimeout") refl refl refl) (limit_plain n fits))
 
 queue_plain : (q : QueueKind) → FitsQueue q → IsPlainLine (queue_text q)
-queue_plain Handoff fits = word_plain (codes "handoff") refl refl
-queue_plain Unbounded fits = word_plain (codes "unbounded") refl refl
-queue_plain Priority fits = word_plain (codes "priority") refl refl
-queue_plain (Bounded n) fits = spaced_plain (codes "bounded") (decimal n) (word_plain (codes "bounded") refl refl) (number_plain n (omega (arith, fits)))
+queue_plain Handoff fits = word_plain (codes "handoff") refl refl refl
+queue_plain Unbounded fits = word_plain (codes "unbounded") refl refl refl
+queue_plain Priority fits = word_plain (codes "priority") refl refl refl
+queue_plain (Bounded n) fits = spaced_plain (codes "bounded") (decimal n) (word_plain (codes "bounded") refl refl refl) (number_plain n (omega (arith, fits)))
 
 pool_plain : (p : PoolLine) → FitsPool p → IsPlainLine (pool_text p)
 pool_plain p fits =
     let s = said p in
     let policy = options_plain s.1.1.1.1.1 (policy_name s.1.1.1.1.0) fits.4 (policy_plain s.1.1.1.1.0) in
-    let keep = spaced_plain (codes "keep") (spaced (decimal s.1.1.1.0) (policy_text s.1.1.1.1)) (word_plain (codes "keep") refl refl) (spaced_plain (decimal s.1.1.1.0) (policy_text s.1.1.1.1) (number_plain s.1.1.1.0 fits.3) policy) in
+    let keep = spaced_plain (codes "keep") (spaced (decimal s.1.1.1.0) (policy_text s.1.1.1.1)) (word_plain (codes "keep") refl refl refl) (spaced_plain (decimal s.1.1.1.0) (policy_text s.1.1.1.1) (number_plain s.1.1.1.0 fits.3) policy) in
     let waiting = spaced_plain (queue_text s.1.1.0) (keep_text s.1.1.1) (queue_plain s.1.1.0 fits.2) keep in
     let sizes = spaced_plain (decimal s.0) (spaced (decimal s.1.0) (waiting_text s.1.1)) (number_plain s.0 (omega (arith, fits.0))) (spaced_plain (decimal s.1.0) (waiting_text s.1.1) (number_plain s.1.0 (omega (arith, fits.1))) waiting) in
-    spaced_plain (codes "pool") (sizes_text s) (word_plain (codes "pool") refl refl) sizes
+    spaced_plain (codes "pool") (sizes_text s) (word_plain (codes "pool") refl refl refl) sizes
 
 pub pool_line-plain : (c : Config) → HasPoolLine c → IsPlainLine (pool_line c)
 pool_line-plain c fits = pool_plain (written c) fits.0
@@ -93,8 +93,8 @@ pool_line-plain c fits = pool_plain (written c) fits.0
 -- the other lines
 
 pub header-plain : (v : Version) → IsPlainLine (header v)
-header-plain version.One = spaced_plain (codes "tprecord") (codes "1") (word_plain (codes "tprecord") refl refl) (word_plain (codes "1") refl refl)
-header-plain version.Two = spaced_plain (codes "tprecord") (codes "2") (word_plain (codes "tprecord") refl refl) (word_plain (codes "2") refl refl)
+header-plain version.One = spaced_plain (codes "tprecord") (codes "1") (word_plain (codes "tprecord") refl refl refl) (word_plain (codes "1") refl refl refl)
+header-plain version.Two = spaced_plain (codes "tprecord") (codes "2") (word_plain (codes "tprecord") refl refl refl) (word_plain (codes "2") refl refl refl)
 
 -- no line begins a text of both forms
 pub header-injective : (v w : Version) → header v ≡ header w → v ≡ w
@@ -104,7 +104,7 @@ header-injective version.Two version.One same = absurd (differ (codes "tprecord 
 header-injective version.Two version.Two same = refl
 
 pub end_line-plain : (n : ℕ) → Fits32 n → IsPlainLine (end_line n)
-end_line-plain n fits = spaced_plain (codes "end") (decimal n) (word_plain (codes "end") refl refl) (number_plain n (omega (arith, fits)))
+end_line-plain n fits = spaced_plain (codes "end") (decimal n) (word_plain (codes "end") refl refl refl) (number_plain n (omega (arith, fits)))
 
 words_single : (w : List ℕ) (ws : List (List ℕ)) → Pieces (w ∷ ws) → HasNoLineFeed (words (w ∷ ws))
 words_single w [] are = are.0.single

@@ -2,3 +2,4 @@ pub mod Rests
 pub mod EntryFits
 pub mod RecordText
 pub mod ReadRecord
+pub mod Reading

@@ -63,17 +63,12 @@ pub record HasRefusedPool (text : List ℕ) (e : PoolError) : Type 0 where
 abbrev pub IsWrongAt : List ℕ → PoolError → Type 0
 IsWrongAt text e = (k : ℕ) × (e ≡ BadEntry k) × IsFirstWrong text k
 
--- a text is read as a record just where it is that record's text in the form that it says; else the refusal is that of its pool line, or it tells
--- the first wrong line, or there was no memory
+-- a text is refused so: there was no memory, or its pool line is refused, or a line is the first wrong one
+abbrev pub IsRefusedText : List ℕ → PoolError → Type 0
+IsRefusedText text e = (e ≡ NoMemory) ⊎ (HasRefusedPool text e ⊎ IsWrongAt text e)
+
+-- a text is read as a record just where it is that record's text in the form that it says, and else it is refused
 abbrev pub ReadsRecord : List ℕ → Result Record PoolError → Type 0
 ReadsRecord text (Ok r) =
     HasText r.version r.config r.entries.items × (checked r.config ≡ Ok tt) × (text ≡ record_text r.version r.config r.entries.items)
-ReadsRecord text (Err e) = (e ≡ NoMemory) ⊎ (HasRefusedPool text e ⊎ IsWrongAt text e)
-
--- the text behind the two lines that say the pool is that of these entries
-abbrev pub IsBody : Version → Config → List ℕ → List Entry → Type 0
-IsBody v c text es = HasText v c es × (head v c ++ text ≡ record_text v c es)
-
--- it has a first wrong line, or there was no memory
-abbrev pub IsNoBody : Version → Config → List ℕ → PoolError → Type 0
-IsNoBody v c text e = (e ≡ NoMemory) ⊎ IsWrongAt (head v c ++ text) e
+ReadsRecord text (Err e) = IsRefusedText text e

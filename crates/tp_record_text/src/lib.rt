@@ -6,6 +6,7 @@ mod dids;
 pub mod entries;
 mod heads;
 pub mod laws;
+pub mod reading;
 pub mod records;
 mod steps;
 pub mod versions;

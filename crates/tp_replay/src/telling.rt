@@ -8,7 +8,7 @@ use tp_auditor::auditor::Auditor;
 use tp_causes::causes::Cause;
 use tp_record::entries::Entry;
 use tp_scenario::step::Refusal;
-use tp_text::lines::next_line;
+use tp_text::lines::{is_skipped, next_line};
 use tp_types::refusals::PoolError;
 
 /// The lines of a text that say something, with their numbers.
@@ -20,13 +20,13 @@ struct Lines<'a> {
 }
 
 impl<'a> Lines<'a> {
-    /// The next line that is neither empty nor a comment, which is then the line of this number.
+    /// The next line that says something. It has this number then.
     fn next_said(&mut self) -> Option<&'a [u8]> {
         for _ in 0..u64::MAX {
             let (line, behind) = next_line(self.rest)?;
             self.number = self.number.saturating_add(1);
             self.rest = behind;
-            if !line.is_empty() && !line.starts_with(b"#") {
+            if !is_skipped(line) {
                 return Some(line);
             }
         }
@@ -52,9 +52,8 @@ fn note(auditor: &mut Auditor, entry: &Entry) -> Result<(), PoolError> {
 }
 
 impl Play {
-    /// Tells `out` why each step was refused that was, by the scenario's text: a line for each, as
-    /// `line 3: take 3: refused 7 UnknownSlot (slots: w0)`. Settings that no pool can have are refused (1, 2, 3, 11), and want of
-    /// memory is NoMemory (4).
+    /// Tells `out` of each refused step why it was refused, as `line 3: take 3: refused 7 UnknownSlot (slots: w0)`. Settings that no
+    /// pool can have are refused (1, 2, 3, 11), and want of memory is NoMemory (4).
     pub fn explain<W: Write>(
         &self,
         alloc: Global,

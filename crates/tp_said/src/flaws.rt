@@ -5,10 +5,10 @@ use std::alloc::Global;
 use std::io::Read;
 use std::process::Abort;
 use std::test::Fail;
-use tp_audit_text::audits::audit_text;
-use tp_long::audits::audit_lines;
-use tp_long::judging::Judgment;
-use tp_text::watched::{WatchedReader, WatchedWriter};
+use tp_audit_text::judgments::{Judgment, judge_stream, judge_text};
+use tp_text::watched::WatchedReader;
+use tp_types::limits::MAX_TEXT_BYTES;
+use tp_types::refusals::PoolError;
 
 const HEAD: &str = "tprecord 1
 pool 1 2 bounded 1 keep 0 abort
@@ -66,12 +66,30 @@ static FLAWS: [(&str, usize, &str); 9] = [
     ),
 ];
 
-/// The number of a text's flaw, and why it is one; none where it is judged otherwise.
-fn flaw_of(alloc: Global, text: &[u8]) -> Option<(usize, String)> {
-    let mut reader = text;
-    match audit_lines(alloc, &mut reader) {
-        Ok(Judgment::Flawed(flaw, told)) => Some((flaw, told)),
-        _ => None,
+/// What is judged of a text that is read whole, as far as such a text goes.
+fn whole(alloc: Global, text: &[u8]) -> Result<Judgment, PoolError> {
+    if text.len() > MAX_TEXT_BYTES {
+        return Err(PoolError::ReadFailed);
+    }
+    judge_text(alloc, text)
+}
+
+/// What is judged of a stream.
+fn streamed<R: Read + Drop>(alloc: Global, reader: R) -> Result<Judgment, PoolError> {
+    judge_stream(alloc, &mut WatchedReader::new(reader), &mut None)
+}
+
+/// Whether a judgment has this flaw, and tells why so.
+fn tells(judged: &Result<Judgment, PoolError>, line: &str, why: &str) -> bool {
+    match judged {
+        Ok(
+            Judgment {
+                legal: false,
+                lines,
+                why: Some(told),
+            },
+        ) => lines.as_slice() == line.as_bytes() && told.as_str() == why,
+        _ => false,
     }
 }
 
@@ -84,9 +102,9 @@ fn is_flawed_so(
     why: &str,
 ) -> Result<(), Fail> {
     let text = format!(in alloc; "{HEAD}{rest}")?;
-    let flaw = flaw_of(alloc, text.as_bytes());
-    let told = flaw.as_ref().map(|(number, why)| (*number, why.as_str()));
-    same(rt, number, &told, &Some((number, why)));
+    let line = format!(in alloc; "flaw {number}\n")?;
+    let judged = whole(alloc, text.as_bytes());
+    same(rt, number, &tells(&judged, line.as_str(), why), &true);
     Ok(())
 }
 
@@ -118,35 +136,29 @@ impl Read for Drops {
 const RECORD: &[u8] =
     b"tprecord 1\npool 1 2 bounded 1 keep 0 abort\n1 submit t0 plain reserve w0\n2 open w0 live\n3 take w0 held t0\n4 begin w0 t0\n5 end w0 t0 value 7\nend 5\n";
 
-/// What both audits say of a text: by lines, and whole.
+/// Whether a text is judged the same as a whole and as a stream.
 fn are_same(alloc: Global, text: &[u8]) -> bool {
-    let mut by_lines = text;
-    let mut whole = WatchedReader::new(text);
-    let mut out = Vec::new(alloc);
-    let judged = audit_text(alloc, &mut whole, &mut WatchedWriter::new(&mut out));
-    match (audit_lines(alloc, &mut by_lines), judged) {
-        (Ok(Judgment::Legal(lines)), Ok(true)) => lines.as_bytes() == out.as_slice(),
-        (Ok(Judgment::Flawed(_, _)), Ok(false)) => true,
-        (Err(refused), Err(other)) => refused.refusal == other,
-        _ => false,
-    }
+    whole(alloc, text) == streamed(alloc, text)
 }
 
 /// Whether the record is legal where a reader gives it byte by byte.
 fn is_legal_by_bytes(alloc: Global) -> bool {
-    let mut drops = Drops { rest: RECORD };
-    match audit_lines(alloc, &mut drops) {
-        Ok(Judgment::Legal(lines)) => lines
-            .as_str()
-            .starts_with("legal 5\nstate running\ncounts submitted=1 run=1 "),
-        _ => false,
+    match streamed(alloc, Drops { rest: RECORD }) {
+        Ok(judged) => {
+            judged.legal
+                && judged
+                    .lines
+                    .as_slice()
+                    .starts_with(b"legal 5\nstate running\ncounts submitted=1 run=1 ")
+        }
+        Err(_) => false,
     }
 }
 
 /// What one byte is changed to.
 const OTHERS: [u8; 6] = [b' ', b'\n', b'9', b'x', 0, 200];
 
-/// Whether both audits say the same of the record with one byte changed.
+/// Whether the record with one byte changed is judged the same as a whole and as a stream.
 fn are_same_with(alloc: Global, place: usize, other: u8) -> Result<bool, Fail> {
     let mut text = Vec::new(alloc);
     text.extend_from_slice(RECORD)?;
@@ -156,7 +168,7 @@ fn are_same_with(alloc: Global, place: usize, other: u8) -> Result<bool, Fail> {
     Ok(are_same(alloc, text.as_slice()))
 }
 
-/// Both audits say the same of each text that is cut.
+/// Each text that is cut is judged the same as a whole and as a stream.
 fn cut_texts_are_same(rt: &impl Abort, alloc: Global) {
     for end in 0..RECORD.len() {
         same(rt, end, &are_same(alloc, &RECORD[..end]), &true);

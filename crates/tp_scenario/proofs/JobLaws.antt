@@ -14,7 +14,8 @@ use Rattle.tp_scenario.specs.declared.jobs.JobLine.{JobLine}
 use Rattle.tp_scenario.specs.declared.jobs.Jobs.{Jobs}
 use Rattle.tp_scenario.specs.Lines.{Given, given_text}
 use Rattle.tp_scenario.specs.Jobs.{FitsJob, IsJobsText, IsRead, JobsSaid, ReadsJobs, answer_behind, answer_of, answer_to, job_text, job_word}
-use Rattle.tp_scenario.specs.PoolText.{IsSkipped, LinesSaid}
+use Rattle.tp_text.specs.Lines.{IsSkipped}
+use Rattle.tp_scenario.specs.PoolText.{LinesSaid}
 use Rattle.tp_scenario.proofs.OneReading.{given_text-injective}
 use Rattle.tp_scenario.proofs.OneText.{followed_first, letter_not_skipped, one_said}
 

@@ -12,7 +12,7 @@ use Rattle.tp_text.specs.declared.commands.Command.TheVariants as command
 use Rattle.tp_text.specs.Commands.{command_word}
 use Rattle.tp_scenario.specs.declared.lines.ScenarioLine.{ScenarioLine}
 use Rattle.tp_scenario.specs.Lines.{FitsLine, arguments, command_of, line_text}
-use Rattle.tp_scenario.specs.PoolText.{IsSkipped}
+use Rattle.tp_text.specs.Lines.{IsSkipped}
 use Rattle.tp_scenario.specs.Scenario.{IsScenario, Said}
 use Rattle.tp_scenario.proofs.OneReading.{line_text-injective}
 use Rattle.tp_scenario.proofs.OneText.{followed_first, letter_not_skipped, one_said}

@@ -7,7 +7,8 @@ use Rattle.tp_scenario.specs.declared.forms.LineRead.TheVariants as read
 use Rattle.tp_scenario.specs.declared.forms.PoolRead.{PoolRead}
 use Rattle.tp_scenario.specs.declared.forms.PoolRead.TheVariants as head
 use Rattle.tp_text.specs.Pools.{pool_text}
-use Rattle.tp_scenario.specs.PoolText.{Before, BeforePool, IsPoolText, IsSkipped, LinesSaid, LinesSay, ReadsLine, ReadsPoolLine, TextSaid, TextSays}
+use Rattle.tp_text.specs.Lines.{IsSkipped}
+use Rattle.tp_scenario.specs.PoolText.{Before, BeforePool, IsPoolText, LinesSaid, LinesSay, ReadsLine, ReadsPoolLine, TextSaid, TextSays}
 use Rattle.tp_text.proofs.LineSplits.{same_lines}
 use Rattle.tp_text.proofs.PoolReading.{pool_text-injective}
 

@@ -1,16 +1,12 @@
 -- What a text says that begins with a pool line: its pool, what the lines behind it say, and the first bad line, if there is one.
-use Rattle.std.specs.Prelude.{◌≡◌, ◌≢◌, ◌⊎◌, ℕ, suc, List, [], ◌∷◌, slice_index, Option, Some, None, Result, Ok, Err}
+use Rattle.std.specs.Prelude.{◌≡◌, ◌≢◌, ℕ, suc, List, [], ◌∷◌, Option, Some, None, Result, Ok, Err}
 use Rattle.tp_text.specs.declared.pools.PoolLine.{PoolLine}
 use Rattle.tp_scenario.specs.declared.forms.LineRead.{LineRead}
 use Rattle.tp_scenario.specs.declared.forms.LineRead.TheVariants as read
 use Rattle.tp_scenario.specs.declared.forms.PoolRead.{PoolRead}
 use Rattle.tp_scenario.specs.declared.forms.PoolRead.TheVariants as head
-use Rattle.tp_text.specs.Lines.{IsClean, IsLines}
+use Rattle.tp_text.specs.Lines.{IsClean, IsLines, IsSkipped}
 use Rattle.tp_text.specs.Pools.{FitsPool, pool_text}
-
--- an empty line, or a comment
-abbrev pub IsSkipped : List ℕ → Type 0
-IsSkipped bytes = (bytes ≡ []) ⊎ (IsClean bytes × (slice_index bytes 0 ≡ 35))
 
 -- what a line is, up to the pool line
 abbrev pub ReadsPoolLine : List ℕ → PoolRead → Type 0

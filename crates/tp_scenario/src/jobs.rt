@@ -1,4 +1,4 @@
-//! Files of jobs: a pool, and the jobs that are submitted to it in order.
+//! Files of jobs: a pool, and the jobs that it gets in order.
 
 ghost use Rattle.std.specs.Prelude.{◌≡◌, ◌⊎◌, ◌≤◌, ◌<◌, ℕ, List, length, Err, IfSome};
 ghost use Rattle.tp_text.specs.Reads.{ReadsAs};
@@ -97,10 +97,12 @@ fn jobs_of(alloc: Global, text: &[u8]) -> Result<Jobs, PoolError>
 /// Reads a file of jobs whole: a pool line, and behind it a line `execute V` or `submit V` for each
 /// job, which may end in ` prio N`, in their order. Empty lines and comments are skipped, and counted.
 ///
-/// The first of these that holds is the answer: a reader that fails now, which keeps why, or gives more
-/// than 1,048,576 bytes is 25 `ReadFailed`, which comes of nothing else; a bad line up to the pool line is 23 `BadLine`, and
-/// where there is no pool line it is the line after the last; settings that no pool can have are 1, 2, 3 or 11; a bad line
-/// behind the pool line is 23, the first of them. 4 `NoMemory` where the text or the jobs find no room.
+/// The first of these refusals that applies is answered:
+/// 25 `ReadFailed`, just where the reader fails now, which keeps why, or gives more than 1,048,576 bytes;
+/// 23 `BadLine`, for a bad line up to the pool line, or for the line after the last where no pool line stands;
+/// 1, 2, 3 or 11, for settings that no pool can have;
+/// 23 `BadLine`, for the first bad line behind the pool line;
+/// 4 `NoMemory`, where the text or the jobs find no room.
 pub fn read_jobs<R: Read>(alloc: Global, reader: &mut WatchedReader<R>) -> Result<Jobs, PoolError>
     ensures reads { IsRead (R.remaining (source reader.old)) result }
     ensures long { IfSome (R.remaining (source reader.old)) (λ text. 1048576 < length text

@@ -44,7 +44,7 @@ fn without_payloads(
     Ok(tasks)
 }
 
-/// Plays a line behind so many accepted steps, and writes what comes of it.
+/// Plays a line, and writes what comes of it. So many steps were accepted before.
 #[inline(always)]
 fn play_line(
     alloc: Global,
@@ -74,8 +74,8 @@ fn play_line(
     }
 }
 
-/// Plays the lines of a text behind its pool line, the first of which has the number `first`, and writes a line for each answer.
-/// It tells whether there was memory for all of them, and the number of the first bad line, where there is one.
+/// Plays the lines behind a pool line, and writes a line for each answer. The first has the number `first`. The answer says whether
+/// there was memory for all of them, and the number of the first bad line, if there is one.
 fn play_lines(
     alloc: Global,
     runner: &mut Runner,
@@ -139,7 +139,7 @@ fn write_ends(runner: &Runner, output: &mut Output) -> Result<(), PoolError>
     output.counts(&runner.counts())
 }
 
-/// Plays the lines of a text behind this pool line, the first of which has the number `first`.
+/// Plays the lines behind this pool line. The first has the number `first`.
 fn play_pool(
     alloc: Global,
     pool: &PoolLine,

@@ -12,8 +12,8 @@ use tp_text::watched::{WatchedReader, WatchedWriter};
 use tp_text::writing::write_text;
 use tp_types::refusals::PoolError;
 
-/// Plays the scenario of a text, and writes what comes of it. What the run ends with is the answer: 23 at the first bad line, the
-/// refusal of a pool's configuration, or 4 for want of memory of the runner's own. 26 comes just where the writer fails now, which
+/// Plays the scenario of a text, and writes what comes of it. The run ends at its end, with 23 at the first bad line, with the refusal
+/// of a pool's configuration, or with 4 where the runner itself finds no memory. 26 comes just where the writer fails now, which
 /// keeps why.
 pub fn run_text<W: Write>(
     alloc: Global,
@@ -32,10 +32,8 @@ pub fn run_text<W: Write>(
     played.ending
 }
 
-/// Reads a scenario whole, plays it, and writes what comes of it. What the run ends with is the
-/// answer: 23 at the first bad line, the refusal of a pool's configuration, or 4 for want of memory
-/// of the runner's own. 25 comes just where the reader fails now, which keeps why, or gives more than
-/// 1,048,576 bytes, and nothing is written then; 26 just where the writer fails now, which keeps why.
+/// Reads a scenario whole and plays it, as `run_text`. 25 comes just where the reader fails now, which keeps why, or gives more than
+/// 1,048,576 bytes, and nothing is written then.
 pub fn run<R: Read, W: Write>(
     alloc: Global,
     reader: &mut WatchedReader<R>,

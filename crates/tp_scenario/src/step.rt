@@ -75,7 +75,7 @@ impl Model for Runner {
     ghost invariant = { λ r. ArePromised r.machine r.outcomes.items };
 }
 
-/// What a job promises that ends with this outcome.
+/// The promise of a job whose outcome is known.
 fn promise_of(outcome: Outcome) -> Promise
     ensures { result ≡ promise_of outcome }
 {
@@ -264,7 +264,7 @@ impl Runner {
         }
     }
 
-    /// Makes a submission, whose task ends so. An error is want of memory for its outcome, and changes nothing.
+    /// Makes a submission. Its task ends so. An error is want of memory for the outcome, and changes nothing.
     #[inline(always)]
     fn submit(&mut self, kind: Kind, priority: u32, outcome: Outcome) -> Result<Told, AllocError>
         ensures tells { IfOk result (λ x. (p : Playing) → IsAt self.old p → Tells p (ask.Submit kind priority) (Some outcome) x self.new) }
@@ -297,8 +297,8 @@ impl Runner {
         }
     }
 
-    /// Plays one line: the pool answers what the line asks. An error is want of memory for the runner
-    /// itself, where the line submits, and changes nothing.
+    /// Plays one line: the pool answers what the line asks. An error is want of memory for a task's outcome, and changes
+    /// nothing.
     #[inline(always)]
     pub fn step(&mut self, line: &ScenarioLine) -> Result<Told, AllocError>
         ensures tells { IfOk result (λ x. (p : Playing) → IsAt self.old p → TellsLine p line.now x self.new) }

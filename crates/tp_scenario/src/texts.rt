@@ -8,7 +8,7 @@ ghost use Rattle.tp_scenario.specs.Read.{said_by};
 
 use crate::forms::{LineForm, LineRead, PoolRead};
 use std::alloc::{AllocError, Global};
-use tp_text::lines::{clean_text, next_line};
+use tp_text::lines::{clean_text, is_skipped, next_line};
 use tp_text::pools::{PoolLine, pool_of};
 
 /// A pool, and what the lines behind its line say.
@@ -27,15 +27,12 @@ pub struct PoolText<L> {
 pub fn read_line<L: LineForm>(line: &[u8]) -> LineRead<L>
     ensures { ReadsLine L.text_of L.fits line.now result }
 {
-    if line.is_empty() {
+    if is_skipped(line) {
         return LineRead::Skipped;
     }
     let Some(text) = clean_text(line) else {
         return LineRead::Bad;
     };
-    if text.starts_with('#') {
-        return LineRead::Skipped;
-    }
     match L::of_text(text) {
         Some(line) => LineRead::Says(line),
         None => LineRead::Bad,
@@ -46,15 +43,12 @@ pub fn read_line<L: LineForm>(line: &[u8]) -> LineRead<L>
 pub fn read_pool_line(line: &[u8]) -> PoolRead
     ensures { ReadsPoolLine line.now result }
 {
-    if line.is_empty() {
+    if is_skipped(line) {
         return PoolRead::Skipped;
     }
     let Some(text) = clean_text(line) else {
         return PoolRead::Bad;
     };
-    if text.starts_with('#') {
-        return PoolRead::Skipped;
-    }
     match pool_of(text) {
         Some(pool) => PoolRead::Pool(pool),
         None => PoolRead::Bad,

@@ -1,5 +1,5 @@
 -- The lines of a text.
-use Rattle.std.specs.Prelude.{◌≡◌, ◌≢◌, ◌<◌, ◌≤◌, ℕ, List, [], ◌∷◌, ◌++◌, length, slice_index, codes}
+use Rattle.std.specs.Prelude.{◌≡◌, ◌≢◌, ◌⊎◌, ◌<◌, ◌≤◌, ℕ, List, [], ◌∷◌, ◌++◌, length, slice_index, codes}
 use Rattle.std.specs.List.{flat_map, AllByRecursion}
 use Rattle.std.specs.Str.{IsAscii}
 use Rattle.std.specs.Str.Iter.{HasSubslice}
@@ -16,6 +16,10 @@ pub record IsClean (bytes : List ℕ) : Type 0 where
   pub ascii : IsAscii bytes
   pub returns : (i : ℕ) → i < length bytes → slice_index bytes i ≢ 13
   pub spaces : IsWellSpaced bytes
+
+-- an empty line, or a comment
+abbrev pub IsSkipped : List ℕ → Type 0
+IsSkipped bytes = (bytes ≡ []) ⊎ (IsClean bytes × (slice_index bytes 0 ≡ 35))
 
 -- lines, each ended by a line feed
 

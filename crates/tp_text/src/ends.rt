@@ -4,12 +4,15 @@ ghost use Rattle.tp_text.specs.EntryLine.{behind};
 ghost use Rattle.tp_text.specs.EndLines.{refused_place, refusal_line, back_line, fate_word, fate_line, state_line, ran_counters, lost_counters, worker_counters, counts_line};
 
 use crate::pieces::{numbered, text};
+use arrayvec::ArrayString;
+use itoa::Buffer;
 use std::alloc::AllocError;
 use tp_types::ids::TaskId;
 use tp_types::refusals::PoolError;
 use tp_types::states::{Counts, RunState};
 use tp_types::tasks::Fate;
 
+/// The line of a text that a refusal speaks of.
 fn refused_place(refusal: PoolError) -> Option<u32>
     ensures { result ≡ refused_place refusal }
 {
@@ -19,20 +22,29 @@ fn refused_place(refusal: PoolError) -> Option<u32>
     }
 }
 
-/// Writes the line of a refusal, as `refused 8 NotThere`, with the line of a text that it speaks of,
-/// as `refused 23 BadLine 10`.
+/// The line of a refusal, as `refused 8 NotThere`, with the line of a text that it speaks of, as `refused 23 BadLine 10`. It
+/// takes no memory, since want of it is a refusal too.
+pub fn refusal_line(refusal: PoolError) -> ArrayString<40>
+    ensures { result.bytes ≡ refusal_line refusal }
+{
+    let mut line = ArrayString::new();
+    line.push_str("refused ");
+    line.push_str(Buffer::new().format(refusal.number()));
+    line.push_str(" ");
+    line.push_str(refusal.name());
+    if let Some(place) = refused_place(refusal) {
+        line.push_str(" ");
+        line.push_str(Buffer::new().format(place));
+    }
+    line.push_str("\n");
+    line
+}
+
+/// Writes the line of a refusal.
 pub fn write_refusal(line: &mut String, refusal: PoolError) -> Result<(), AllocError>
     ensures { OnOk result (string_bytes line.new ≡ string_bytes line.old ++ refusal_line refusal) }
 {
-    let number = refusal.number();
-    let name = refusal.name();
-    numbered(line, "refused ", number)?;
-    text(line, " ")?;
-    text(line, name)?;
-    if let Some(place) = refused_place(refusal) {
-        numbered(line, " ", place)?;
-    }
-    text(line, "\n")
+    text(line, refusal_line(refusal).as_str())
 }
 
 /// Writes the line of tasks that a stop handed back, in the queue's order, as `back t1 t2`.

@@ -1,7 +1,7 @@
 //! The lines of a text.
 
 ghost use Rattle.std.specs.Prelude.{◌≡◌, ◌↔◌, ◌++◌, ◌∷◌, IsTrue, MatchOption};
-ghost use Rattle.tp_text.specs.Lines.{HasNoLineFeed, IsClean};
+ghost use Rattle.tp_text.specs.Lines.{HasNoLineFeed, IsClean, IsSkipped};
 
 use tp_types::limits::MAX_LINE_BYTES;
 
@@ -40,6 +40,17 @@ fn is_clean(line: &[u8]) -> bool
         before = byte;
     }
     line.is_empty() || before != b' '
+}
+
+/// Whether a line of a scenario or of a file of jobs says nothing: it is empty, or a comment. It is counted, and nothing else.
+#[inline(always)]
+pub fn is_skipped(line: &[u8]) -> bool
+    ensures { IsTrue result ↔ IsSkipped line.now }
+{
+    if line.is_empty() {
+        return true;
+    }
+    line[0] == b'#' && is_clean(line)
 }
 
 /// The text of a line that is what each line must be.

@@ -8,7 +8,7 @@ use tp_commands::audits::run_audit;
 use tp_commands::steps::run_steps;
 use tp_commands::telling::name_of;
 use tp_reasons::messages::Style;
-use tp_text::watched::WatchedWriter;
+use tp_text::watched::{WatchedReader, WatchedWriter};
 
 /// What a call gave.
 #[derive(Debug, Drop)]
@@ -58,12 +58,13 @@ fn status_of<R: Read + Drop>(
 ) -> u8 {
     let name = name_of(choice.path());
     let plain = Style::Plain;
-    let mut out = WatchedWriter::new(out);
+    let reader = &mut WatchedReader::new(reader);
+    let out = &mut WatchedWriter::new(out);
     match choice {
         Choice::Steps(_path, playing) => {
-            run_steps(alloc, *playing, name, reader, &mut out, errors, plain)
+            run_steps(alloc, *playing, name, reader, out, errors, plain)
         }
-        Choice::Audit(_path, any) => run_audit(alloc, *any, name, reader, &mut out, errors, plain),
+        Choice::Audit(_path, any) => run_audit(alloc, *any, name, reader, out, errors, plain),
         Choice::Threads(_path, _record) => 99,
         Choice::Tally(_path) => 99,
     }

@@ -1,7 +1,7 @@
-use Rattle.std.proofs.Common.{Bool, subst}
-use Rattle.tp_text.proofs.Watchings.{none_written, not_unread, not_unwritten, not_written, read_refused, read_unwritten, read_well, write_refused}
-use Rattle.tp_audit_text.specs.AuditText.{IsRefusedText}
-use Rattle.tp_audit_text.proofs.Written.{not_long, refused, refused_inner, unread, unwritten}
+use Rattle.std.proofs.Common.{◌≡◌, sym, subst}
+use Rattle.std.specs.Prelude.{IfSome}
+use Rattle.tp_text.proofs.Watchings.{none_written, not_unwritten, read_refused}
+use Rattle.tp_audit_text.proofs.Written.{judged_from, not_long, unread}
 use Rattle.tp_audit_text.proofs.audits.audit_text.Goals as goal
 
 pub returns-in-Err-clause-audits : goal.returns-in-Err-clause-audits
@@ -13,31 +13,17 @@ returns-in-Err-clause-tells_reader g c = read_refused c.args.reader.now c.read_t
 pub returns-in-Err-clause-tells_writer : goal.returns-in-Err-clause-tells_writer
 returns-in-Err-clause-tells_writer g c = none_written c.args.writer.now _ (not_unwritten c.in-Err.refusal c.in-Err.ensures.refused)
 
-pub returns-in-Err-judge_text-clause-audits : goal.returns-in-Err-judge_text-clause-audits
-returns-in-Err-judge_text-clause-audits g c =
-    refused (g.R.Read.remaining c.args.reader.now.inner) (g.W.Write.contents c.args.writer.now.inner) c.in-Ok.text.items c.in-Err-judge_text.refusal c.in-Ok.ensures.whole
-    (subst (λ x. IsRefusedText x c.in-Err-judge_text.refusal) c.as_slice.ensures.value c.in-Err-judge_text.ensures)
+pub returns-clause-long : goal.returns-clause-long
+returns-clause-long g c = not_long (g.R.Read.remaining c.args.reader.now.inner) c.in-Ok.text.items _ c.in-Ok.ensures.whole c.in-Ok.ensures.short
 
-pub returns-in-Err-judge_text-clause-long : goal.returns-in-Err-judge_text-clause-long
-returns-in-Err-judge_text-clause-long g c = not_long (g.R.Read.remaining c.args.reader.now.inner) c.in-Ok.text.items _ c.in-Ok.ensures.whole c.in-Ok.ensures.short
+pub returns-clause-audits : goal.returns-clause-audits
+returns-clause-audits g c =
+    let input = g.R.Read.remaining c.args.reader.now.inner in
+    let known = subst (λ text. IfSome input (λ xs. text ≡ xs)) (sym c.as_slice.ensures.value) c.in-Ok.ensures.whole in
+    c.write_judgment.ensures.audits input (judged_from input c.as_slice.result.now c.judge_text.result known c.judge_text.ensures)
 
-pub returns-in-Err-judge_text-clause-tells_reader : goal.returns-in-Err-judge_text-clause-tells_reader
-returns-in-Err-judge_text-clause-tells_reader g c =
-    read_well c.args.reader.now c.read_text.new.reader c.in-Ok.text _ c.in-Ok.ensures.unread (refused_inner Bool c.as_slice.result.now c.in-Err-judge_text.refusal c.in-Err-judge_text.ensures)
-
-pub returns-in-Err-judge_text-clause-tells_writer : goal.returns-in-Err-judge_text-clause-tells_writer
-returns-in-Err-judge_text-clause-tells_writer g c =
-    none_written c.args.writer.now _ (not_written _ (refused_inner Bool c.as_slice.result.now c.in-Err-judge_text.refusal c.in-Err-judge_text.ensures))
-
-pub returns-in-Err-write_text-clause-audits : goal.returns-in-Err-write_text-clause-audits
-returns-in-Err-write_text-clause-audits g c = unwritten _ _ _ c.in-Err-write_text.refusal c.in-Err-write_text.ensures.only_writing
-
-pub returns-in-Err-write_text-clause-long : goal.returns-in-Err-write_text-clause-long
-returns-in-Err-write_text-clause-long g c = not_long (g.R.Read.remaining c.args.reader.now.inner) c.in-Ok.text.items _ c.in-Ok.ensures.whole c.in-Ok.ensures.short
-
-pub returns-in-Err-write_text-clause-tells_reader : goal.returns-in-Err-write_text-clause-tells_reader
-returns-in-Err-write_text-clause-tells_reader g c =
-    read_unwritten c.args.reader.now c.read_text.new.reader c.in-Ok.text _ c.in-Ok.ensures.unread (not_unread c.in-Err-write_text.refusal c.in-Err-write_text.ensures.only_writing)
-
-pub returns-in-Err-write_text-clause-tells_writer : goal.returns-in-Err-write_text-clause-tells_writer
-returns-in-Err-write_text-clause-tells_writer g c = write_refused c.args.writer.now c.write_text.new.writer c.in-Err-write_text.refusal c.in-Err-write_text.ensures.unwritten
+pub returns-clause-tells_writer : goal.returns-clause-tells_writer
+returns-clause-tells_writer g c =
+    let input = g.R.Read.remaining c.args.reader.now.inner in
+    let known = subst (λ text. IfSome input (λ xs. text ≡ xs)) (sym c.as_slice.ensures.value) c.in-Ok.ensures.whole in
+    c.write_judgment.ensures.tells_writer input (judged_from input c.as_slice.result.now c.judge_text.result known c.judge_text.ensures)

@@ -1,10 +1,6 @@
-use Rattle.std.proofs.Common.{◌≡◌, true}
+use Rattle.tp_commands.proofs.Runs.{passes_so}
 use Rattle.tp_commands.proofs.steps.play_again.Goals as goal
 
-pub returns-in-Ok : goal.returns-in-Ok
-returns-in-Ok g c =
-    record {
-      strict = λ strict passed.
-          let yes : c.passes.result ≡ true = cc in
-          (c.in-Ok.play, c.in-Ok.ensures, c.passes.ensures strict yes);
-    }
+pub returns-in-Ok-clause-passed : goal.returns-in-Ok-clause-passed
+returns-in-Ok-clause-passed g c =
+    passes_so c.args.text.now c.args.playing.is_strict c.passes.result c.in-Ok.play c.in-Ok.ensures.plays c.passes.ensures.each c.passes.ensures.strict

@@ -1,18 +1,40 @@
-use Rattle.std.proofs.Common.{◌≡◌, refl, sym, subst, ◌∙◌}
-use Rattle.std.specs.Prelude.{IfSome, OnOk, IsOk}
-use Rattle.tp_commands.specs.Steps.{PrintsRecord}
-use Rattle.tp_commands.proofs.Ends.{ends_well}
+use Rattle.std.proofs.Common.{◌≡◌, Err, refl, sym, subst}
+use Rattle.std.specs.Prelude.{IfSome}
+use Rattle.tp_text.proofs.Watchings.{read_refused, read_unwritten}
+use Rattle.tp_commands.proofs.Ends.{not_long, not_read_long}
+use Rattle.tp_commands.proofs.Runs.{plays_from, plays_unread}
 use Rattle.tp_commands.proofs.steps.run_steps.Goals as goal
 
-pub returns-clause-record : goal.returns-clause-record
-returns-clause-record g c =
-    λ prints zero.
+pub returns-in-Err-clause-runs : goal.returns-in-Err-clause-runs
+returns-in-Err-clause-runs g c =
+    let input = g.R.Read.remaining c.args.reader.now.inner in
+    let e = c.in-Err.refusal in (
+      Err e,
+      c.args.out.now,
+      record {
+        plays = plays_unread g.W.Write.contents c.args.playing input c.args.out.now e c.in-Err.ensures.refused;
+        long = not_read_long input e c.in-Err.ensures.refused;
+        unread = λ is. refl;
+        tells_reader = read_refused c.args.reader.now c.whole_text.new.reader e c.in-Err.ensures.unread;
+      },
+      c.finish.ensures.status,
+      c.finish.ensures.finished,
+    )
+
+pub returns-clause-runs : goal.returns-clause-runs
+returns-clause-runs g c =
+    let input = g.R.Read.remaining c.args.reader.now.inner in
     let text = c.as_slice-text.result.now in
-    let well = ends_well c.play-outcome.result (sym c.finish-status.ensures.status ∙ zero) in
-    let old = g.W.Write.contents c.args.out.now.inner in
-    let printed = subst (λ r. OnOk r (PrintsRecord text old (g.W.Write.contents c.play-outcome.new.out.inner))) well (c.play-outcome.ensures.record prints) in
-    let silent = c.finish-status.ensures.silent (subst (λ r. IsOk r) (sym well) refl) in (
-      text,
-      subst (λ t. IfSome (g.R.Read.remaining c.args.reader) (λ xs. t ≡ xs)) (sym c.as_slice-text.ensures.value) c.in-Ok.ensures.whole,
-      subst (λ o. PrintsRecord text old (g.W.Write.contents o.inner)) (sym silent) printed,
+    let known = subst (λ t. IfSome input (λ xs. t ≡ xs)) (sym c.as_slice-text.ensures.value) c.in-Ok.ensures.whole in
+    let played = c.play-outcome in (
+      played.result,
+      played.new.out,
+      record {
+        plays = plays_from g.W.Write.contents c.args.playing input text c.args.out.now played.new.out played.result known played.ensures.plays;
+        long = not_long input c.in-Ok.text.items _ c.in-Ok.ensures.whole c.in-Ok.ensures.short;
+        unread = λ is. absurd (played.ensures.reads is);
+        tells_reader = read_unwritten c.args.reader.now c.whole_text.new.reader c.in-Ok.text played.result c.in-Ok.ensures.unread played.ensures.reads;
+      },
+      c.finish-status.ensures.status,
+      c.finish-status.ensures.finished,
     )
