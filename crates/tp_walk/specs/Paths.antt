@@ -4,6 +4,7 @@ use Rattle.std.specs.List.{AllZip, flat_map}
 use Rattle.tp_walk.specs.declared.counts.Count.{Count}
 use Rattle.tp_walk.specs.declared.counts.Count.TheVariants.{Exactly, Over}
 use Rattle.tp_walk.specs.declared.counts.Spot.{Spot}
+use Rattle.tp_walk.specs.declared.trails.Leg.{Leg}
 use Rattle.tp_walk.specs.Moves.{IsAt}
 
 -- the state itself where it has no move, else the ends of the paths through its moves
@@ -61,3 +62,8 @@ AreSpotsFrom rank k _ _ = ⊥
 
 abbrev pub AreSpots : {A : Type 0} → (A → ℕ) → List A → List Spot → Type 0
 AreSpots rank xs ps = AreSpotsFrom rank 0 xs ps
+
+-- the legs lead from one place to the other: each is a move of the state that the one before it leads to
+abbrev pub LeadsTo : List (List ℕ) → ℕ → List Leg → ℕ → Type 0
+LeadsTo rows a [] b = a ≡ b
+LeadsTo rows a (leg ∷ legs) b = (leg.from ≡ a) × ((j : ℕ) × IsAt (row_of rows a) leg.choice j × LeadsTo rows j legs b)

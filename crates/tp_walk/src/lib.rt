@@ -4,3 +4,4 @@
 pub mod counts;
 pub mod graphs;
 pub mod systems;
+pub mod trails;

@@ -1,0 +1,4 @@
+pub mod Bare
+pub mod Lists
+pub mod Lowering
+pub mod Starting
