@@ -1,11 +1,12 @@
 -- The story of a task or of a slot.
-use Rattle.std.specs.Prelude.{suc, ◌≡◌, ◌++◌, ◌∷◌, List, [], Option, Some, None, count_by, is_some, length, option_to_list, if◌then◌else◌}
+use Rattle.std.specs.Prelude.{ℕ, suc, ◌≡◌, ◌++◌, ◌∷◌, List, [], Option, Some, None, count_by, is_some, length, option_to_list, nat_lt, Bool, if◌then◌else◌}
 use Rattle.tp_types.specs.declared.configs.Config.{Config}
 use Rattle.tp_types.specs.declared.tasks.Fate.{Fate}
 use Rattle.tp_record.specs.declared.entries.Entry.{Entry}
 use Rattle.tp_record.specs.Fields.{is_live}
 use Rattle.tp_record.specs.State.{State, state, task_at, fate_of}
 use Rattle.tp_auditor.specs.Audited.{Judge, Judged, settings}
+use Rattle.tp_auditor.specs.declared.tables.Tables.{Tables}
 use Rattle.tp_story.specs.declared.scenes.Scene.{Scene}
 use Rattle.tp_story.specs.declared.events.Event.{Event}
 use Rattle.tp_story.specs.declared.subjects.Subject.{Subject}
@@ -39,12 +40,31 @@ abbrev pub fate_in : State → Subject → Option Fate
 fate_in s (subject.Task t) = fate_of (task_at s t.0)
 fate_in s (subject.Slot w) = None
 
+-- the entry that gave a fate, where the entry n may have given it
+abbrev pub fated_after : Option ℕ → Option Fate → ℕ → Option ℕ
+fated_after None (Some f) n = Some n
+fated_after o f n = o
+
+-- the first entry of a history after which x has a fate
+abbrev pub fated_at : Config → Subject → List Entry → Option ℕ
+fated_at c x [] = None
+fated_at c x (e ∷ h) = fated_after (fated_at c x h) (fate_in (state c (e ∷ h)) x) (suc (length h))
+
 -- what a contract sees of a story that is told entry by entry
 pub record Telling : Type 0 where
   pub judge : Judge
   pub subject : Subject
   pub events : List Event
+  pub fated : Option ℕ
 
--- it was told this history, which is legal, and its events are the story of its subject
+-- it was told this history, which is legal; its events are the story of its subject, and its fate came with that entry
 abbrev pub Tells : Telling → List Entry → Type 0
-Tells s h = Judged s.judge h × (s.events ≡ story (settings s.judge) s.subject h)
+Tells s h = Judged s.judge h × (s.events ≡ story (settings s.judge) s.subject h) × (s.fated ≡ fated_at (settings s.judge) s.subject h)
+
+-- the record knows x: the task was submitted, or some entry tells of the slot
+abbrev pub is_known : Telling → Bool
+is_known s = known_in s.judge.tables s.events s.subject
+  where
+    known_in : Tables → List Event → Subject → Bool
+    known_in t es (subject.Task u) = nat_lt u.0 (length t.tasks.items)
+    known_in t es (subject.Slot w) = nat_lt 0 (length es)

@@ -6,6 +6,7 @@ ghost use Rattle.tp_record.specs.declared.entries.Entry.{Entry as Told};
 ghost use Rattle.tp_record.specs.State as states;
 ghost use Rattle.tp_record.specs.Step as steps;
 ghost use Rattle.tp_auditor.specs.Tables.{shown};
+ghost use Rattle.tp_story.specs.Stories as stories;
 
 use crate::events::{Event, event_after};
 use crate::subjects::Subject;
@@ -26,6 +27,7 @@ pub struct Story {
     auditor: Auditor,
     subject: Subject,
     events: Vec<Event>,
+    fated: Option<u64>,
 }
 
 impl Model for Story {
@@ -37,12 +39,12 @@ impl Model for Story {
 
     ghost coded = { Prim.hlevel (codes, kept.the_row.coded) };
 
-    ghost view = { λ s. record { judge = s.auditor; subject = s.subject; events = s.events.items } };
+    ghost view = { λ s. record { judge = s.auditor; subject = s.subject; events = s.events.items; fated = s.fated } };
 }
 
 impl Story {
     ghost use Rattle.tp_auditor.specs.Audited.{settings, Judged};
-    ghost use Rattle.tp_story.specs.Stories.{Tells, story, fate_in};
+    ghost use Rattle.tp_story.specs.Stories.{Tells, story, fate_in, fated_at, is_known};
 
     /// A story of a subject in the record of a pool that is made with `config`, before the first entry. Want of memory is
     /// NoMemory (4).
@@ -58,6 +60,7 @@ impl Story {
                 auditor,
                 subject,
                 events: Vec::new(alloc),
+                fated: None,
             }),
             Err(flaw) => Err(flaw),
         }
@@ -85,6 +88,7 @@ impl Story {
         if let Some(event) = event {
             self.events.push_reserved(event);
         }
+        self.fated = fated_after(self.fated, self.auditor.tables(), self.subject);
         Ok(())
     }
 
@@ -107,9 +111,24 @@ impl Story {
     pub fn fate(&self) -> Option<Fate>
         ensures { (h : List Told) → Tells self.now h → result ≡ fate_in (states.state (settings self.now.judge) h) self.now.subject }
     {
+        fate_in(self.auditor.tables(), self.subject)
+    }
+
+    /// The number of the entry that gave the task its fate.
+    pub fn fated(&self) -> Option<u64>
+        ensures fated { result ≡ self.now.fated }
+        ensures first { (h : List Told) → Tells self.now h → result ≡ fated_at (settings self.now.judge) self.now.subject h }
+    {
+        self.fated
+    }
+
+    /// Whether the record knows the subject: the task was submitted, or some entry tells of the slot.
+    pub fn is_known(&self) -> bool
+        ensures { result ≡ is_known self.now }
+    {
         match self.subject {
-            Subject::Task(task) => fate_at(self.auditor.tables(), task),
-            Subject::Slot(_) => None,
+            Subject::Task(task) => (task.0 as usize) < self.tables().tasks.len(),
+            Subject::Slot(_) => !self.events.is_empty(),
         }
     }
 
@@ -128,5 +147,25 @@ fn fate_at(tables: &Tables, task: TaskId) -> Option<Fate>
     match tables.tasks.get(task.0 as usize) {
         Some(row) => row.fate(),
         None => None,
+    }
+}
+
+/// The fate of the subject, if it has one.
+fn fate_in(tables: &Tables, subject: Subject) -> Option<Fate>
+    ensures { result ≡ stories.fate_in (shown tables.now) subject }
+{
+    match subject {
+        Subject::Task(task) => fate_at(tables, task),
+        Subject::Slot(_) => None,
+    }
+}
+
+/// The entry that gave the subject its fate, after the latest one.
+fn fated_after(fated: Option<u64>, tables: &Tables, subject: Subject) -> Option<u64>
+    ensures { result ≡ stories.fated_after fated (stories.fate_in (shown tables.now) subject) tables.now.steps }
+{
+    match (fated, fate_in(tables, subject)) {
+        (None, Some(_)) => Some(u64::from(tables.steps)),
+        _ => fated,
     }
 }

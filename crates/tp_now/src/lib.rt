@@ -1,0 +1,4 @@
+//! The pool after an entry of its record.
+#![tactic(auto)]
+
+pub mod fronts;
