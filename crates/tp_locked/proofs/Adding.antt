@@ -1,26 +1,27 @@
 -- What a step in a hold is to the pass that it was made with.
-use Rattle.std.proofs.Common.{◌≡◌, ℕ, Bool, ◌+◌, List, [], ◌∷◌, refl, ap, sym, ◌∙◌, subst, ⊎_elim}
-use Rattle.std.specs.Prelude.{Result, Ok, Err, IfOk}
+use Rattle.std.proofs.Common.{◌≡◌, ℕ, Bool, true, ◌+◌, List, [], ◌∷◌, None, inl, inr, refl, ap, sym, ◌∙◌, subst}
+use Rattle.std.specs.Prelude.{Result, Ok, Err, IfOk, IfErr, OnErr}
 use Rattle.std.proofs.lemmas.List.Elements.{All-nil, All-cons}
 use Rattle.tp_types.specs.declared.configs.Config.{Config}
 use Rattle.tp_types.specs.declared.refusals.PoolError.{PoolError}
-use Rattle.tp_types.specs.declared.refusals.PoolError.TheVariants.{TornRecord}
+use Rattle.tp_types.specs.declared.refusals.PoolError.TheVariants.{UnknownTask}
 use Rattle.tp_record.specs.declared.entries.Entry.{Entry}
 use Rattle.tp_record.specs.declared.entries.Ask.{Ask}
 use Rattle.tp_record.specs.declared.entries.Did.{Did}
 use Rattle.tp_record.specs.declared.entries.Ask.TheVariants as ask
 use Rattle.tp_record.specs.declared.entries.Did.TheVariants as did
 use Rattle.tp_record.specs.declared.entries.Took.TheVariants as took
+use Rattle.tp_record.specs.Left.{MayRelease, asked}
+use Rattle.tp_record.specs.Lists.{is_among}
 use Rattle.tp_record.specs.State.{state, counts}
 use Rattle.tp_record.specs.Step.{Legal}
 use Rattle.tp_slots.specs.Table.{first_slot}
 use Rattle.tp_parts.specs.Steps.{IsFitting}
 use Rattle.tp_waking.specs.Heard.{IsHeard}
 use Rattle.tp_tasks.specs.declared.tasks.Tasks.{Tasks}
-use Rattle.tp_machine.specs.Stepped.{FitsOutcome}
 use Rattle.tp_machine.specs.Steps.{IsRefusedAt}
 use Rattle.tp_waking.specs.declared.waking.Waking.{Waking}
-use Rattle.tp_book.specs.BookView.{BookView, config, released_of, state_of, Advances, SettlesAll, IsDenied, IsUnmoved}
+use Rattle.tp_book.specs.BookView.{BookView, config, released_of, state_of, Advances, SettlesAll, IsDenied, IsReleased, IsUnmoved, NamesReleased, OrReleased}
 use Rattle.tp_book.specs.PassView.{PassView, receipts_with}
 use Rattle.tp_book.proofs.Reading.{or_else}
 use Rattle.tp_book.proofs.Settling.{all_config, all_history}
@@ -29,12 +30,13 @@ use Rattle.tp_locked.specs.Gone.{gone_with}
 use Rattle.tp_locked.specs.Holds.{Holds, Denies}
 use Rattle.tp_locked.specs.Roused.{IsRoused}
 use Rattle.tp_locked.specs.Rosters.{RosterView}
-use Rattle.tp_locked.specs.Passes.{AddsStep, IsRefusal, NamesGone, entry_of}
+use Rattle.tp_locked.specs.Moments.{AtFront, IsBook}
+use Rattle.tp_locked.specs.Passes.{AddsStep, IsRefusal, entry_of}
 use Rattle.tp_locked.specs.Steps.{Makes, Refused}
 use Rattle.tp_locked.specs.Waits.{HasNoOutcome}
 use Rattle.tp_locked.specs.declared.tasks.Task.{Task}
 use Rattle.tp_locked.proofs.Moments.{legal_at, known_at}
-use Rattle.tp_locked.proofs.Refusals.{fits}
+use Rattle.tp_locked.proofs.Refusals.{fits, unreleased}
 
 -- the pass after a step of its own
 abbrev pub Paid : PassView → PassView → Ask → Did → Type 0
@@ -54,18 +56,42 @@ module _ {J : Type 0} (c : Config) where
   pub legal_refused : (keeps : Bool) (before : List Entry) (a : Ask) (e : PoolError) (after : List Entry) → Refused J keeps c before a e after → Legal c after
   legal_refused keeps before a e after refused = subst (λ h. Legal c h) (sym refused.shown) (legal_at refused.book c refused.is)
 
-  -- a refusal of an ask with which no outcome comes is Step's
-  pub refusal : (keeps : Bool) (before : List Entry) (a : Ask) (e : PoolError) (after : List Entry) → Refused J keeps c before a e after → HasNoOutcome a → IsRefusal keeps c after a e
-  refusal keeps before a e after refused none =
-      ⊎_elim (λ (torn : (e ≡ TornRecord) × ¬ FitsOutcome refused.book.machine a). absurd (torn.1 (fits refused.book.machine a none)))
-      (λ denied. or_else keeps
-      (λ refuses. known_at refused.book c refused.is after (λ s. IsRefusedAt c s a e) refused.shown (subst (λ k. IsRefusedAt k (state_of refused.book) a e) refused.is.settings refuses))
+  -- a refusal of an ask with which no outcome comes is the machine's
+  refusal_of : (keeps : Bool) (b : BookView (Task J)) (a : Ask) (e : PoolError) → IsDenied keeps b a e → HasNoOutcome a →
+      OrReleased keeps (IsRefusedAt (config b) (state_of b) a e) ((e ≡ UnknownTask) × NamesReleased b a)
+  refusal_of keeps b a e (inl torn) none = absurd (torn.1 (fits b.machine a none))
+  refusal_of keeps b a e (inr denied) none = denied.1
+
+  -- so it is Step's, at the history at which it is refused
+  own_at : (b : BookView (Task J)) → IsBook (Task J) c b → (h : List Entry) → h ≡ b.history → (a : Ask) (e : PoolError) → IsRefusedAt (config b) (state_of b) a e → AtFront c h (λ s. IsRefusedAt c s a e)
+  own_at b is h shown a e refuses = known_at b c is h (λ s. IsRefusedAt c s a e) shown (subst (λ k. IsRefusedAt k (state_of b) a e) is.settings refuses)
+
+  -- or else its task was released, as a pass knows that knows the book's history
+  pub refusal : (keeps : Bool) (b : BookView (Task J)) → IsBook (Task J) c b → (p : PassView) → p.front ≡ b.history → p.released ≡ released_of b → (a : Ask) (e : PoolError) → IsDenied keeps b a e →
+      HasNoOutcome a → IsRefusal keeps c p a e
+  refusal keeps b is p shown released a e denied none =
+      or_else keeps (own_at b is p.front shown a e)
       (λ named. (
         named.0,
-        known_at refused.book c refused.is after (λ s. NamesGone s a) refused.shown (named.1.0, named.1.1, refused.is.stands.stands.may.each named.1.0 named.1.2),
+        (
+          named.1.0,
+          named.1.1,
+          (subst (λ rs. is_among named.1.0 rs ≡ true) (sym released) named.1.2, known_at b c is p.front (λ s. MayRelease s named.1.0) shown (is.stands.stands.may.each named.1.0 named.1.2)),
+        ),
       ))
-      denied.1)
-      refused.denied
+      (refusal_of keeps b a e denied none)
+
+  -- but no task that the ask names, where it names none
+  pub own_refusal : (keeps : Bool) (before : List Entry) (a : Ask) (e : PoolError) (after : List Entry) → asked a ≡ None → HasNoOutcome a → Refused J keeps c before a e after →
+      AtFront c after (λ s. IsRefusedAt c s a e)
+  own_refusal keeps before a e after unnamed none refused =
+      own_at refused.book refused.is after refused.shown a e (unreleased keeps (λ t. IsReleased refused.book t) a e unnamed (refusal_of keeps refused.book a e refused.denied none))
+
+  -- so it is with the answer of a step, whose pass then knows the history
+  pub refusals : {A : Type 0} (keeps : Bool) (old new : CoreView J) → IsBook (Task J) c old.book → (p : PassView) (a : Ask) (r : Result A PoolError) → IfErr r (Denies keeps old new a) →
+      OnErr r (p.front ≡ old.book.history) → p.released ≡ released_of old.book → IfErr r (λ e. HasNoOutcome a → IsRefusal keeps c p a e)
+  refusals keeps old new is p a (Ok x) denies shown released = tt
+  refusals keeps old new is p a (Err e) denies shown released = λ none. refusal keeps old.book is p shown released a e denies.denied none
 
   module _ (old new : PassView) (a : Ask) where
     pub adds_step : (d : Did) (moves : Tasks (Task J) → Tasks (Task J) → Type 0) → Makes J c old.number old.front a d moves new.front → Paid old new a d → AddsStep c old a d new

@@ -166,6 +166,7 @@ impl<G: PoolNaming, J: Drop, R: Keeper> Core<G, J, R> {
         ensures number { A.number pass.new ≡ A.number pass.old }
         ensures goes_on { IsFrontOf (A.front pass.old) self.old.book.history }
         ensures front { (OnOk result (A.front pass.new ≡ self.new.book.history)) × (OnErr result (A.front pass.new ≡ self.old.book.history)) }
+        ensures released { A.released pass.new ≡ released_of self.old.book }
     {
         let Core {
             book,
@@ -205,6 +206,7 @@ impl<G: PoolNaming, J: Drop, R: Keeper> Core<G, J, R> {
         ensures number { A.number pass.new ≡ A.number pass.old }
         ensures goes_on { IsFrontOf (A.front pass.old) self.old.book.history }
         ensures front { (OnOk result (A.front pass.new ≡ self.new.book.history)) × (OnErr result (A.front pass.new ≡ self.old.book.history)) }
+        ensures released { A.released pass.new ≡ released_of self.old.book }
     {
         match self.step_by(step, (), glance, pass) {
             Ok(answer) => Ok(answer),
@@ -229,11 +231,12 @@ impl<G: PoolNaming, J: Drop, R: Keeper> Core<G, J, R> {
         ensures step { IfOk result (λ x. AddsStep (R.terms G.config) pass.old (S.ask step) (S.did step x) pass.new) }
         ensures left { OnOk result (pass.old.room ≤ pass.new.room + 1) }
         ensures denies { IfErr result (λ e. Denies R.RECEIPTS self.old self.new (S.ask step) e) }
-        ensures refused { IfErr result (λ e. HasNoOutcome (S.ask step) → IsRefusal R.RECEIPTS (R.terms G.config) pass.new.front (S.ask step) e) }
+        ensures refused { IfErr result (λ e. HasNoOutcome (S.ask step) → IsRefusal R.RECEIPTS (R.terms G.config) pass.new (S.ask step) e) }
         ensures unchanged { OnErr result (LooksOnly (R.terms G.config) pass.old pass.new) }
         ensures legal { Legal (R.terms G.config) pass.new.front }
         ensures front { (OnOk result (pass.new.front ≡ self.new.book.history)) × (OnErr result (pass.new.front ≡ self.old.book.history)) }
     {
+        self.law_is_book();
         self.step(step, glance, pass)
     }
 

@@ -45,7 +45,7 @@ module _ (c : Config) (old new : PassView) where
   over_legal (Err e) steps refused = refused.2.legal
 
   -- a shutdown that was asked for has shut the pool down, or is refused
-  pub shut_by : (r : Result (Unit {0}) PoolError) → IfOk r (λ _. AddsStep c old ask.Shutdown did.Shutdown new) → IfErr r (λ e. IsRefusal true c new.front ask.Shutdown e) → IsShut c new.front
+  pub shut_by : (r : Result (Unit {0}) PoolError) → IfOk r (λ _. AddsStep c old ask.Shutdown did.Shutdown new) → IfErr r (λ e. IsRefusal true c new ask.Shutdown e) → IsShut c new.front
   shut_by (Ok x) step refused = inl (reached c old new _ [] step)
   shut_by (Err e) step refused = inr (new.front, IsFrontOf_refl new.front, (e, refused))
 

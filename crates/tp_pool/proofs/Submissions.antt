@@ -51,7 +51,7 @@ module _ (c : Config) where
     is_front = is.is_front;
     awaits = is.awaits;
     asks = is.asks;
-    adds = ⊎_elim (λ (x : Adds c mid is.front new × (IsUndone keeps c t is.deed new.front ⊎ (512 ≤ length is.front))). inl (adds_behind c old mid new is.front none x.0, x.1))
+    adds = ⊎_elim (λ (x : Adds c mid is.front new × (IsUndone keeps c t is.deed new ⊎ (512 ≤ length is.front))). inl (adds_behind c old mid new is.front none x.0, x.1))
         (λ (x : (e : Entry) × (goes t.0 (follow_of t.0 is.deed) e.did ≡ Astray) × Adds c mid (is.front ++ e ∷ []) new). inr (x.0, x.1, adds_behind c old mid new (is.front ++ x.0 ∷ []) none x.2)) is.adds;
   }
 
@@ -103,7 +103,7 @@ module _ (c : Config) where
         inl (y.0, y.1, path_behind kind priority y.0 Rejected old mid new none y.2, got_behind y.0.0 old mid new none y.3, y.4, out_behind y.0.0 x.job old mid new none y.5))
         (⊎_elim (λ (y : (t : TaskId) × (x.error ≡ error.TornRecord) × AddsFront keeps c kind priority t mid new × GotJob c kind priority job promise mid.number t.0 mid.front new.front).
         inr (inl (y.0, y.1, front_behind keeps kind priority y.0 old mid new none y.2, got_behind y.0.0 old mid new none y.3)))
-        (λ (y : Refuses true c ⊤ new.front (ask.Submit kind priority) x.error × (x.job ≡ Some job) × AddsNone mid new). inr (inr (y.0, y.1, none_behind old mid new none y.2))))
+        (λ (y : Refuses true c ⊤ new (ask.Submit kind priority) x.error × (x.job ≡ Some job) × AddsNone mid new). inr (inr (y.0, y.1, none_behind old mid new none y.2))))
         is
 
     pub refuses_behind : (keeps : Bool) (old mid new : PassView) (r : Result Admitted (Refused J)) → AddsNone old mid →
@@ -121,5 +121,5 @@ plain_returned keeps c p job promise old new x is whole =
     let spared = submitted_plain c e got.makes.old.history new.front on y.2.3.legal got.number p got.look refl in
     y.4 ∙ ap (λ t. not (is_cancelled new.front t)) (sym got.is_task) ∙ ap not spared)
     (⊎_elim (λ (y : (t : TaskId) × (x.error ≡ error.TornRecord) × AddsFront keeps c kinds.Plain p t old new × GotJob c kinds.Plain p job promise old.number t.0 old.front new.front). absurd (whole y.1))
-    (λ (y : Refuses true c ⊤ new.front (ask.Submit kinds.Plain p) x.error × (x.job ≡ Some job) × AddsNone old new). subst (λ o. IsSome o) (sym y.1) refl))
+    (λ (y : Refuses true c ⊤ new (ask.Submit kinds.Plain p) x.error × (x.job ≡ Some job) × AddsNone old new). subst (λ o. IsSome o) (sym y.1) refl))
     is

@@ -73,11 +73,11 @@ asks_on kind priority [] fs asks = absurd asks
 asks_on kind priority (e ∷ es) fs asks = asks
 
 -- an opening that the pool refuses leaves the deed undone
-pub unopened : (keeps : Bool) (c : Config) (t : TaskId) (w : SlotId) (staffed : Bool) (h : List Entry) (r : Result Did PoolError) (o : Option Did) → o ≡ result_ok r → IfErr r (IsRefusal true c h (opening w staffed)) →
-    IfNone o (Awaits (follow_of t.0 (next.Staff w)) → IsUndone keeps c t (next.Staff w) h)
-unopened keeps c t w staffed h (Ok d) None is refused = absurd (cc)
-unopened keeps c t w staffed h (Err e) None is refused = λ on. inl (opening w staffed, (staffed, refl), (e, refuses_ever keeps c h (opening w staffed) e refused))
-unopened keeps c t w staffed h r (Some d) is refused = tt
+pub unopened : (keeps : Bool) (c : Config) (t : TaskId) (w : SlotId) (staffed : Bool) (p : PassView) (r : Result Did PoolError) (o : Option Did) → o ≡ result_ok r → IfErr r (IsRefusal true c p (opening w staffed)) →
+    IfNone o (Awaits (follow_of t.0 (next.Staff w)) → IsUndone keeps c t (next.Staff w) p)
+unopened keeps c t w staffed p (Ok d) None is refused = absurd (cc)
+unopened keeps c t w staffed p (Err e) None is refused = λ on. inl (opening w staffed, (staffed, refl), (e, refuses_ever keeps c p (opening w staffed) e refused))
+unopened keeps c t w staffed p r (Some d) is refused = tt
 
 -- a pass that stays as it is, or looks
 module _ (c : Config) where
@@ -181,7 +181,7 @@ module _ {J : Type 0} (c : Config) (kind : Kind) (priority : ℕ) (job : J) (pro
 
   -- torn off where the next step is not taken
   pub torn_off : (keeps : Bool) (t : TaskId) (old mid new : PassView) (n : Next) (steps : ℕ) → Walk t.0 old (follow_of t.0 n) steps mid → ((end : Ending) → ¬ (n ≡ next.End end)) →
-      (new ≡ mid) ⊎ LooksOnly c mid new → (Awaits (follow_of t.0 n) → IsUndone keeps c t n new.front ⊎ (512 ≤ steps)) → (x : Refused J) → x.error ≡ error.TornRecord → IsTurnedAway keeps c kind priority job promise old new x
+      (new ≡ mid) ⊎ LooksOnly c mid new → (Awaits (follow_of t.0 n) → IsUndone keeps c t n new ⊎ (512 ≤ steps)) → (x : Refused J) → x.error ≡ error.TornRecord → IsTurnedAway keeps c kind priority job promise old new x
   torn_off keeps t old mid new n steps walk goes_on moved undone x torn =
       let got = got_on c kind priority job promise old.number t.0 old.front mid.front new.front walk.got (moved_on c mid new moved) in
       let awaited : Awaits (follow_of t.0 n) → AddsFront keeps c kind priority t old new = λ on. record {
@@ -190,7 +190,7 @@ module _ {J : Type 0} (c : Config) (kind : Kind) (priority : ℕ) (job : J) (pro
         is_front = walk.is_front;
         awaits = on;
         asks = walk.asks;
-        adds = inl (adds_moved c old mid new walk.front walk.adds moved, subst (λ k. IsUndone keeps c t n new.front ⊎ (512 ≤ k)) (sym walk.count) (undone on));
+        adds = inl (adds_moved c old mid new walk.front walk.adds moved, subst (λ k. IsUndone keeps c t n new ⊎ (512 ≤ k)) (sym walk.count) (undone on));
       } in
       let strayed : n ≡ next.Astray → AddsFront keeps c kind priority t old new = λ is.
       let strays = walk.torn (ap (λ n. follow_of t.0 n) is) in record {

@@ -83,9 +83,9 @@ IsAskOf c t next.Judge a = (v : Verdict) × (a ≡ ask.Verdict t v) × (allows c
 IsAskOf c t (next.Staff w) a = (staffed : Bool) × (a ≡ opening w staffed)
 IsAskOf c t _ a = ⊥
 
--- the deed is left undone: at this history the pool refuses what it asks, or it was to tell how the submitter's own run ended
-abbrev pub IsUndone : Bool → Config → TaskId → Next → List Entry → Type 0
-IsUndone keeps c t n history = ((a : Ask) × IsAskOf c t n a × IsHalted keeps c history a) ⊎ (n ≡ next.RunHere)
+-- the deed is left undone: as this pass knows it the pool refuses what it asks, or it was to tell how the submitter's own run ended
+abbrev pub IsUndone : Bool → Config → TaskId → Next → PassView → Type 0
+IsUndone keeps c t n p = ((a : Ask) × IsAskOf c t n a × IsHalted keeps c p a) ⊎ (n ≡ next.RunHere)
 
 -- the pass has the receipts of a front of the path of this task, which is of this kind and priority, behind which this deed was to follow
 pub record AddsFront (keeps : Bool) (c : Config) (kind : Kind) (priority : ℕ) (t : TaskId) (old new : PassView) : Type 0 where
@@ -95,7 +95,7 @@ pub record AddsFront (keeps : Bool) (c : Config) (kind : Kind) (priority : ℕ) 
   pub awaits : Awaits (follow_of t.0 deed)
   pub asks : AsksFor kind priority front
   -- it has no more: the deed is left undone, or no submission makes as many steps; or it has one more, which was not to follow there
-  pub adds : (Adds c old front new × (IsUndone keeps c t deed new.front ⊎ (512 ≤ length front)))
+  pub adds : (Adds c old front new × (IsUndone keeps c t deed new ⊎ (512 ≤ length front)))
       ⊎ ((e : Entry) × (goes t.0 (follow_of t.0 deed) e.did ≡ Astray) × Adds c old (front ++ e ∷ []) new)
 
 module _ {J : Type 0} (c : Config) (kind : Kind) (priority : ℕ) (job : J) (promise : Promise) (old new : PassView) where
@@ -110,7 +110,7 @@ module _ {J : Type 0} (keeps : Bool) (c : Config) (kind : Kind) (priority : ℕ)
   IsTurnedAway refused =
       ((t : TaskId) × (refused.error ≡ error.Rejected t) × AddsPath c kind priority t Rejected old new × GotJob c kind priority job promise old.number t.0 old.front new.front × ComesBack t.0 refused.job new.front × IsJobOut c old.number t.0 refused.job old.front new.front)
       ⊎ ((t : TaskId) × (refused.error ≡ error.TornRecord) × AddsFront keeps c kind priority t old new × GotJob c kind priority job promise old.number t.0 old.front new.front)
-      ⊎ (Refuses true c ⊤ new.front (ask.Submit kind priority) refused.error × (refused.job ≡ Some job) × AddsNone old new)
+      ⊎ (Refuses true c ⊤ new (ask.Submit kind priority) refused.error × (refused.job ≡ Some job) × AddsNone old new)
 
 -- where a submission of this kind answers an admission, it is one of this job, at the priority that the job is asked for
 abbrev pub Admits : {J : Type 0} → Config → Kind → ℕ → J → Promise → PassView → PassView → Result Admitted (Refused J) → Type 0

@@ -9,7 +9,6 @@ ghost use Rattle.tp_locked.specs.Steps.{Removes, removal_of};
 use crate::pool::PoolOf;
 use std::sync::Wait;
 use tp_book::passes::Pass;
-use tp_callbacks::jobs::Job;
 use tp_locked::answers::Removal;
 use tp_locked::names::PoolNaming;
 use tp_locked::tasks::Task;
@@ -31,7 +30,7 @@ fn removal_from<J>(handed: Option<(TaskId, Option<Task<J>>)>) -> Removal<J>
     }
 }
 
-impl<G: PoolNaming, J: Job, E: Edge, K: Keeper> PoolOf<G, J, E, K> {
+impl<G: PoolNaming, J: Drop, E: Edge, K: Keeper> PoolOf<G, J, E, K> {
     /// Sets the maximum size, in workers, as `setMaximumPoolSize`. NoMemory (4) for its receipt, else
     /// BadSizes (1) for 0, above 1,024 or below the core size, else BookFull (5), or NoMemory (4) for the
     /// places of more slots, where this is above the pool's maximum size.
@@ -42,7 +41,7 @@ impl<G: PoolNaming, J: Job, E: Edge, K: Keeper> PoolOf<G, J, E, K> {
         pass: &mut Pass<G>,
     ) -> Result<(), PoolError>
         ensures step { OnOk result (AddsStep (K.terms G.config) pass.old (Ask.Maximum maximum) (Did.Maximum maximum) pass.new) }
-        ensures refused { IfErr result (Refuses true (K.terms G.config) (pass.old.room < 1) pass.new.front (Ask.Maximum maximum)) }
+        ensures refused { IfErr result (Refuses true (K.terms G.config) (pass.old.room < 1) pass.new (Ask.Maximum maximum)) }
         ensures unchanged { OnErr result (AddsNone pass.old pass.new) }
     {
         self.shared().control(rt, Maximum(maximum), pass)
@@ -52,7 +51,7 @@ impl<G: PoolNaming, J: Job, E: Edge, K: Keeper> PoolOf<G, J, E, K> {
     /// for 0 while core workers time out, else BookFull (5).
     pub fn set_keep<R: Wait>(&self, rt: &R, keep: u64, pass: &mut Pass<G>) -> Result<(), PoolError>
         ensures step { OnOk result (AddsStep (K.terms G.config) pass.old (Ask.Keep keep) (Did.Keep keep) pass.new) }
-        ensures refused { IfErr result (Refuses true (K.terms G.config) (pass.old.room < 1) pass.new.front (Ask.Keep keep)) }
+        ensures refused { IfErr result (Refuses true (K.terms G.config) (pass.old.room < 1) pass.new (Ask.Keep keep)) }
         ensures unchanged { OnErr result (AddsNone pass.old pass.new) }
     {
         self.shared().control(rt, Keep(keep), pass)
@@ -67,7 +66,7 @@ impl<G: PoolNaming, J: Job, E: Edge, K: Keeper> PoolOf<G, J, E, K> {
         pass: &mut Pass<G>,
     ) -> Result<(), PoolError>
         ensures step { OnOk result (AddsStep (K.terms G.config) pass.old (Ask.CoreTimeout on) (Did.CoreTimeout on) pass.new) }
-        ensures refused { IfErr result (Refuses true (K.terms G.config) (pass.old.room < 1) pass.new.front (Ask.CoreTimeout on)) }
+        ensures refused { IfErr result (Refuses true (K.terms G.config) (pass.old.room < 1) pass.new (Ask.CoreTimeout on)) }
         ensures unchanged { OnErr result (AddsNone pass.old pass.new) }
     {
         self.shared().control(rt, CoreTimeout(on), pass)
@@ -77,7 +76,7 @@ impl<G: PoolNaming, J: Job, E: Edge, K: Keeper> PoolOf<G, J, E, K> {
     /// by it. NoMemory (4) for its receipt, else ClockBack (10) for a moment below now, else BookFull (5).
     pub fn tick<R: Wait>(&self, rt: &R, now: u64, pass: &mut Pass<G>) -> Result<(), PoolError>
         ensures step { OnOk result (AddsStep (K.terms G.config) pass.old (Ask.Tick now) (Did.Tick now) pass.new) }
-        ensures refused { IfErr result (Refuses true (K.terms G.config) (pass.old.room < 1) pass.new.front (Ask.Tick now)) }
+        ensures refused { IfErr result (Refuses true (K.terms G.config) (pass.old.room < 1) pass.new (Ask.Tick now)) }
         ensures unchanged { OnErr result (AddsNone pass.old pass.new) }
     {
         self.shared().control(rt, Tick(now), pass)
@@ -88,7 +87,7 @@ impl<G: PoolNaming, J: Job, E: Edge, K: Keeper> PoolOf<G, J, E, K> {
     /// NoMemory (4) for its receipt, else BookFull (5).
     pub fn purge<R: Wait>(&self, rt: &R, pass: &mut Pass<G>) -> Result<u32, PoolError>
         ensures step { IfOk result (λ n. AddsStep (K.terms G.config) pass.old Ask.Purge (Did.Purge n) pass.new) }
-        ensures refused { IfErr result (Refuses true (K.terms G.config) (pass.old.room < 1) pass.new.front Ask.Purge) }
+        ensures refused { IfErr result (Refuses true (K.terms G.config) (pass.old.room < 1) pass.new Ask.Purge) }
         ensures unchanged { OnErr result (AddsNone pass.old pass.new) }
     {
         self.shared().control_and_end(rt, Purge, pass)
@@ -106,7 +105,7 @@ impl<G: PoolNaming, J: Job, E: Edge, K: Keeper> PoolOf<G, J, E, K> {
     ) -> Result<Removal<J>, PoolError>
         ensures job { IfOk result (λ r. Removes J (K.terms G.config) pass.old.number pass.old.front t r pass.new.front) }
         ensures step { IfOk result (λ r. AddsStep (K.terms G.config) pass.old (Ask.Remove t) (Did.Remove t (is_removed r)) pass.new) }
-        ensures refused { IfErr result (Refuses K.RECEIPTS (K.terms G.config) (pass.old.room < 1) pass.new.front (Ask.Remove t)) }
+        ensures refused { IfErr result (Refuses K.RECEIPTS (K.terms G.config) (pass.old.room < 1) pass.new (Ask.Remove t)) }
         ensures unchanged { OnErr result (AddsNone pass.old pass.new) }
     {
         match self.shared().control_and_end(rt, Remove(t), pass) {
@@ -127,7 +126,7 @@ impl<G: PoolNaming, J: Job, E: Edge, K: Keeper> PoolOf<G, J, E, K> {
         pass: &mut Pass<G>,
     ) -> Result<bool, PoolError>
         ensures step { IfOk result (λ effective. AddsStep (K.terms G.config) pass.old (Ask.Cancel t flag) (Did.Cancel t flag effective) pass.new) }
-        ensures refused { IfErr result (Refuses K.RECEIPTS (K.terms G.config) (pass.old.room < 1) pass.new.front (Ask.Cancel t flag)) }
+        ensures refused { IfErr result (Refuses K.RECEIPTS (K.terms G.config) (pass.old.room < 1) pass.new (Ask.Cancel t flag)) }
         ensures unchanged { OnErr result (AddsNone pass.old pass.new) }
     {
         match self.shared().control(rt, Cancel(t, flag), pass) {

@@ -10,6 +10,7 @@ ghost use Rattle.tp_locked.specs.Readings.{has_come};
 ghost use Rattle.tp_locked.specs.Steps.{Stops};
 ghost use Rattle.tp_shared.specs.Endings.{AddsAndEnds, IsBarred};
 
+use crate::orders::{Order, rescue_tasks_by};
 use crate::pool::PoolOf;
 use std::sync::Wait;
 use std::thread::Threads;
@@ -56,7 +57,25 @@ impl<
     ) -> Result<(), PoolError>
         ensures steps { OnOk result (AddsAndEnds (K.terms G.config) pass.old Ask.Shutdown Did.Shutdown pass.new) }
         ensures seen { OnOk result (1 ≤ rank pass.new.front) }
-        ensures refused { IfErr result (Refuses true (K.terms G.config) (pass.old.room < 3) pass.new.front Ask.Shutdown) }
+        ensures refused { IfErr result (Refuses true (K.terms G.config) (pass.old.room < 3) pass.new Ask.Shutdown) }
+        ensures unchanged { OnErr result (AddsNone pass.old pass.new) }
+    {
+        self.shutdown_by(rt, &|order| self.obey(*rt, order), pass)
+    }
+}
+
+impl<G: PoolNaming, J: Drop, E: Edge, K: Keeper> PoolOf<G, J, E, K> {
+    /// As `shutdown`, for a caller whose workers are made so.
+    pub fn shutdown_by<R: Wait, F: Fn(Order) -> bool>(
+        &self,
+        rt: &R,
+        make: &F,
+        pass: &mut Pass<G>,
+    ) -> Result<(), PoolError>
+        requires make { F.IsAlwaysCallable make.now }
+        ensures steps { OnOk result (AddsAndEnds (K.terms G.config) pass.old Ask.Shutdown Did.Shutdown pass.new) }
+        ensures seen { OnOk result (1 ≤ rank pass.new.front) }
+        ensures refused { IfErr result (Refuses true (K.terms G.config) (pass.old.room < 3) pass.new Ask.Shutdown) }
         ensures unchanged { OnErr result (AddsNone pass.old pass.new) }
     {
         if let Err(error) = pass.reserve(3) {
@@ -67,15 +86,13 @@ impl<
         match shut {
             Ok(()) => {
                 shared.try_end(rt, pass);
-                self.rescue_tasks(*rt, remains);
+                rescue_tasks_by(make, remains);
                 Ok(())
             }
             Err(error) => Err(error),
         }
     }
-}
 
-impl<G: PoolNaming, J: Job, E: Edge, K: Keeper> PoolOf<G, J, E, K> {
     /// Stops the pool, as `shutdownNow`: the tasks in its queue are handed back in their order and never
     /// begin. The cancel flags of tasks in slots are set, and a job that runs goes on. Where the pool can end
     /// at once, this call ends it. The pass has then seen the stop.
@@ -91,7 +108,7 @@ impl<G: PoolNaming, J: Job, E: Edge, K: Keeper> PoolOf<G, J, E, K> {
         ensures handed { IfOk result (λ drained. (mid : List Entry) × Stops J (K.terms G.config) pass.old.number pass.old.front drained.items mid × IsFrontOf mid pass.new.front) }
         ensures steps { IfOk result (λ drained. AddsAndEnds (K.terms G.config) pass.old Ask.Stop (Did.Stop (length drained.items)) pass.new) }
         ensures seen { OnOk result (2 ≤ rank pass.new.front) }
-        ensures refused { IfErr result (Refuses true (K.terms G.config) ((pass.old.room < 3) ⊎ AtFront (K.terms G.config) pass.new.front (λ s. 0 < length s.queue)) pass.new.front Ask.Stop) }
+        ensures refused { IfErr result (Refuses true (K.terms G.config) ((pass.old.room < 3) ⊎ AtFront (K.terms G.config) pass.new.front (λ s. 0 < length s.queue)) pass.new Ask.Stop) }
         ensures unchanged { OnErr result (AddsNone pass.old pass.new) }
     {
         if let Err(error) = pass.reserve(3) {

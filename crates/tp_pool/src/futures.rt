@@ -11,7 +11,6 @@ ghost use Rattle.tp_pool.specs.Admissions.{task_of as task_of_admitted};
 use crate::pool::PoolOf;
 use std::sync::Wait;
 use tp_book::passes::Pass;
-use tp_callbacks::jobs::Job;
 use tp_locked::answers::Admitted;
 use tp_locked::names::PoolNaming;
 use tp_machine::machine::releases::Keeper;
@@ -30,7 +29,7 @@ pub fn task_of(admitted: Admitted) -> TaskId
     }
 }
 
-impl<G: PoolNaming, J: Job, E: Edge, K: Keeper> PoolOf<G, J, E, K> {
+impl<G: PoolNaming, J: Drop, E: Edge, K: Keeper> PoolOf<G, J, E, K> {
     /// Waits until the task's future is not open any more, and answers its value, as `Future.get`. An outcome
     /// is as the job promised. The call makes no step.
     ///
@@ -91,7 +90,7 @@ impl<G: PoolNaming, J: Job, E: Edge, K: Keeper> PoolOf<G, J, E, K> {
         pass: &mut Pass<G>,
     ) -> Result<TaskId, PoolError>
         ensures step { IfOk result (λ t. AddsStep (K.terms G.config) pass.old (Ask.TakeDone group) (Did.TakeDone group t) pass.new) }
-        ensures refused { IfErr result (Refuses true (K.terms G.config) (pass.old.room < 1) pass.new.front (Ask.TakeDone group)) }
+        ensures refused { IfErr result (Refuses true (K.terms G.config) (pass.old.room < 1) pass.new (Ask.TakeDone group)) }
         ensures unchanged { OnErr result (AddsNone pass.old pass.new) }
     {
         self.shared().control(rt, TakeDone(group), pass)

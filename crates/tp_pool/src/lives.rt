@@ -1,5 +1,5 @@
 //! Jobs on a pool of their own, in one call: the pool is opened, runs them, is shut down, waited for and closed.
-ghost use Rattle.std.specs.Prelude.{◌≡◌, ◌⊎◌, ◌≤◌, true, [], ◌∷◌, IsTrue, IfOk, IfErr, OnOk};
+ghost use Rattle.std.specs.Prelude.{◌≡◌, ◌⊎◌, ◌≤◌, true, [], ◌∷◌, IfOk, IfErr};
 ghost use Rattle.tp_record.specs.Fields.{rank};
 ghost use Rattle.tp_record.specs.Step.{Legal};
 ghost use Rattle.tp_book.specs.PassView.{PassView};
@@ -8,25 +8,21 @@ ghost use Rattle.tp_pool.specs.Lives.{AreAnswered, AreSubmitted, AreTold, IsCut,
 ghost use Rattle.tp_pool.specs.Submissions.{Submits};
 
 use crate::callers::{PoolName, Runtime};
-use crate::closing::{CloseFault, Report, sole};
+use crate::closing::{CloseFault, Report};
 use crate::futures::task_of;
-use crate::pool::{Hold, PoolOf};
+use crate::pool::PoolOf;
 use std::alloc::Global;
 use std::marker::Brand;
 use std::sync::Wait;
-use std::thread;
 use tp_book::opening::Unopened;
 use tp_book::passes::Pass;
 use tp_book::sights::Sight;
 use tp_callbacks::jobs::Job;
 use tp_locked::names::PoolNaming;
-use tp_machine::typed::controllers::Shutdown;
 use tp_shared::edges::Edge;
-use tp_turns::rescues::Remains;
 use tp_types::configs::Config;
 use tp_types::ids::TaskId;
 use tp_types::refusals::PoolError;
-use tp_types::states::RunState;
 use tp_types::tasks::Kind;
 
 /// What became of a job: its value, or why it has none, as `Future.get` tells it.
@@ -300,88 +296,4 @@ fn both<G: PoolName>(alloc: Global, pass: Pass<G>, last: Pass<G>) -> Result<Vec<
     passes.push(pass)?;
     passes.push(last)?;
     Ok(passes)
-}
-
-impl<
-    G: PoolNaming + Send + Sync + 'static,
-    J: Job + 'static,
-    E: Edge + Send + Sync + 'static,
-> PoolOf<G, J, E> {
-    // Shuts the pool down, where it runs still, and stops it where no worker could be made for its tasks.
-    fn shut<R: Runtime>(&self, rt: &R, pass: &mut Pass<G>)
-        requires room { 4 ≤ pass.old.room }
-        ensures room { 2 ≤ pass.new.room }
-        ensures shut { IsShut G.config pass.new.front }
-    {
-        self.shut_down(rt, pass);
-        self.stop_stranded(rt, pass);
-    }
-
-    // Shuts the pool down, where it runs still, and has a worker made where one is wanted for that.
-    fn shut_down<R: Runtime>(&self, rt: &R, pass: &mut Pass<G>)
-        requires room { 4 ≤ pass.old.room }
-        ensures room { 3 ≤ pass.new.room }
-        ensures shut { IsShut G.config pass.new.front }
-    {
-        if self.glance(pass) != RunState::Running {
-            return;
-        }
-        let (_, remains) = self.shared().ask_left(rt, Shutdown, pass);
-        if remains != Remains::End {
-            self.rescue(*rt, remains);
-        }
-    }
-
-    // Stops a pool that is shut down, where tasks are stranded. Where there is no memory for the answer of the stop, it tries
-    // again: other threads may give some back.
-    fn stop_stranded<R: Runtime>(&self, rt: &R, pass: &mut Pass<G>)
-        requires shut { IsShut G.config pass.old.front }
-        ensures room { 2 ≤ pass.new.room }
-        ensures shut { IsShut G.config pass.new.front }
-    {
-        for _ in rt.forever() {
-            if self.none_stranded(rt, pass) {
-                return;
-            }
-            thread::yield_now();
-        }
-        unreachable!()
-    }
-
-    // Whether no task is stranded, once the pool is stopped where one was. False for want of memory.
-    fn none_stranded<R: Runtime>(&self, rt: &R, pass: &mut Pass<G>) -> bool
-        requires shut { IsShut G.config pass.old.front }
-        ensures room { IsTrue result → 2 ≤ pass.new.room }
-        ensures shut { IsShut G.config pass.new.front }
-    {
-        if pass.reserve(3).is_err() {
-            return false;
-        }
-        if !self.is_stranded(rt) {
-            return true;
-        }
-        self.shared().stop(rt, pass).is_ok()
-    }
-
-    // Waits for the end of a pool that is shut down.
-    fn await_shut<R: Runtime>(&self, rt: &R, pass: &mut Pass<G>) -> Result<(), PoolError>
-        requires room { 2 ≤ pass.old.room }
-        requires shut { IsShut G.config pass.old.front }
-        ensures seen { 3 ≤ rank pass.new.front }
-        ensures legal { Legal G.config pass.new.front }
-        ensures ended { OnOk result (rank pass.new.front ≡ 4) }
-        ensures torn { IfErr result (λ e. e ≡ PoolError.TornRecord) }
-    {
-        self.shared().await_end(rt, None, pass)
-    }
-
-    // Lets the pool go, once no thread has it any more.
-    fn leave<R: Wait>(self, rt: &R) {
-        self.shared().await_workers(rt);
-        let PoolOf { hold } = self;
-        match hold {
-            Hold::Many(shared) => drop(sole(rt, shared)),
-            Hold::One(shared) => drop(shared),
-        }
-    }
 }

@@ -111,7 +111,9 @@ impl<G: PoolNaming, J: Job, E: Edge, K: Keeper> PoolOf<G, J, E, K> {
             Err(error) => Err(error),
         }
     }
+}
 
+impl<G: PoolNaming, J: Drop, E: Edge, K: Keeper> PoolOf<G, J, E, K> {
     /// Makes a pass for one more caller, which knows what this caller's pass knows; Java's callers need none.
     /// Callers' and workers' passes are numbered from 0, in the order in which they are made.
     /// BookFull (5) where the next number would be 4,294,967,295. This caller's pass stays as it is.

@@ -48,7 +48,7 @@ impl<
         pass: &mut Pass<G>,
     ) -> Result<(), PoolError>
         ensures steps { OnOk result ((added most live : ℕ) × (most ≤ added) × (most < added → most < core → 1024 ≤ most) × AddsStarts (K.terms G.config) (IsServed (K.terms G.config)) most (entry_of pass.old.number (Ask.Core core) (Did.Core core added) ∷ []) pass.old live pass.new) }
-        ensures refused { IfErr result (Refuses true (K.terms G.config) ((pass.old.room < 1 + 2 * core) × (pass.old.room < 2049)) pass.new.front (Ask.Core core)) }
+        ensures refused { IfErr result (Refuses true (K.terms G.config) ((pass.old.room < 1 + 2 * core) × (pass.old.room < 2049)) pass.new (Ask.Core core)) }
         ensures unchanged { OnErr result (AddsNone pass.old pass.new) }
     {
         let most = core.min(MAX_WORKERS);
@@ -99,7 +99,7 @@ impl<
         pass: &mut Pass<G>,
     ) -> Result<bool, PoolError>
         ensures steps { IfOk result (λ live. AddsPrestart (K.terms G.config) pass.old live pass.new) }
-        ensures refused { IfErr result (Refuses true (K.terms G.config) (pass.old.room < 2) pass.new.front Ask.Prestart) }
+        ensures refused { IfErr result (Refuses true (K.terms G.config) (pass.old.room < 2) pass.new Ask.Prestart) }
         ensures unchanged { OnErr result (AddsNone pass.old pass.new) }
     {
         if let Err(error) = pass.reserve(2) {
@@ -121,7 +121,7 @@ impl<
     ) -> Result<u32, PoolError>
         ensures steps { IfOk result (λ live. AddsStarts (K.terms G.config) (IsRefusedMore (K.terms G.config)) 1024 [] pass.old live pass.new) }
         ensures asked { OnOk result (pass.old.amount < pass.new.amount) }
-        ensures refused { IfErr result (Refuses true (K.terms G.config) (pass.old.room < 2048) pass.new.front Ask.Prestart) }
+        ensures refused { IfErr result (Refuses true (K.terms G.config) (pass.old.room < 2048) pass.new Ask.Prestart) }
         ensures unchanged { OnErr result (AddsNone pass.old pass.new) }
     {
         if let Err(error) = pass.reserve(2 * MAX_WORKERS as usize) {
@@ -148,7 +148,7 @@ impl<
         requires room { 2 ≤ pass.old.room }
         ensures steps { IfOk result (λ live. AddsPrestart (K.terms G.config) pass.old live pass.new) }
         ensures left { OnOk result (pass.old.room ≤ pass.new.room + 2) }
-        ensures refused { IfErr result (IsRefusal true (K.terms G.config) pass.new.front Ask.Prestart) }
+        ensures refused { IfErr result (IsRefusal true (K.terms G.config) pass.new Ask.Prestart) }
         ensures unchanged { OnErr result (LooksOnly (K.terms G.config) pass.old pass.new) }
     {
         let w = match self.shared().ask(&rt, Prestart, pass) {

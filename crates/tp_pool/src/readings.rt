@@ -18,7 +18,6 @@ use crate::pool::PoolOf;
 use std::sync::Wait;
 use tp_book::passes::Pass;
 use tp_book::sights::Sight;
-use tp_callbacks::jobs::Job;
 use tp_locked::locked::Core;
 use tp_locked::names::PoolNaming;
 use tp_machine::machine::releases::Keeper;
@@ -42,7 +41,7 @@ pub struct Reading {
 }
 
 // What is read of the value under the lock, which shows this run state.
-fn reading_of<G: PoolNaming, J: Job, K: Keeper>(core: &Core<G, J, K>, state: RunState) -> Reading
+fn reading_of<G: PoolNaming, J: Drop, K: Keeper>(core: &Core<G, J, K>, state: RunState) -> Reading
     ensures state { result.state ≡ state }
     ensures counts { result.counts ≡ counts_of (state_of core.now.book) }
     ensures now { result.now ≡ (state_of core.now.book).now }
@@ -56,7 +55,7 @@ fn reading_of<G: PoolNaming, J: Job, K: Keeper>(core: &Core<G, J, K>, state: Run
     }
 }
 
-impl<G: PoolNaming, J: Job, E: Edge, K: Keeper> PoolOf<G, J, E, K> {
+impl<G: PoolNaming, J: Drop, E: Edge, K: Keeper> PoolOf<G, J, E, K> {
     /// The run state, the counters, the moment and the record's length, as they are after the record that the
     /// pass knows then. That record goes on from the one that it knew; the call makes no step.
     pub fn look<R: Wait>(&self, rt: &R, pass: &mut Pass<G>) -> Reading

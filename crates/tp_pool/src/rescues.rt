@@ -1,5 +1,6 @@
 //! What a call of a pool that is shut down does for it, where the call's steps leave the pool to nobody.
 
+use crate::orders::Order;
 use crate::pool::{Hold, PoolOf};
 use std::sync::Wait;
 use std::thread::Threads;
@@ -32,14 +33,14 @@ impl<
         }
     }
 
-    /// As `rescue`, where a worker is left to make: the end is asked for by the caller.
-    pub(crate) fn rescue_tasks<R: Threads + Wait + Copy + Send + 'static>(
-        &self,
-        rt: R,
-        remains: Remains,
-    ) {
-        if let Remains::Worker(_) = remains {
-            self.rescue(rt, remains);
+    /// Does what a call asks for, in this thread, and tells whether a worker was made.
+    pub fn obey<R: Threads + Wait + Copy + Send + 'static>(&self, rt: R, order: Order) -> bool {
+        match order {
+            Order::Worker(w) => self.staffed(rt, w),
+            Order::Rescue(remains) => {
+                self.rescue(rt, remains);
+                false
+            }
         }
     }
 }

@@ -12,6 +12,7 @@ ghost use Rattle.tp_pool.specs.Admissions.{task_of, end_of, Admits, AtPriority, 
 ghost use Rattle.tp_shared.specs.Submitting.{IsHalted, TakesOut};
 
 use crate::boxes::{Boxed, Boxes};
+use crate::orders::{Order, rescue_by, staffed_by};
 use crate::pool::{Hold, PoolOf};
 use std::sync::Wait;
 use std::thread::Threads;
@@ -73,11 +74,11 @@ fn answer<J: Drop>(t: TaskId, ending: Ending, held: Option<Task<J>>) -> Result<A
     }
 }
 
-// Runs a task's job on its submitter's thread, None where no task was handed out.
-fn run_here<J: Job>(held: Option<Task<J>>) -> Option<Outcome> {
-    let Task { job, flags } = held?;
+// Runs a task's job on its submitter's thread.
+fn run_here<J: Job>(task: Task<J>) -> Outcome {
+    let Task { job, flags } = task;
     let mut job = job;
-    Some(job.call(&flags.lent))
+    job.call(&flags.lent)
 }
 
 impl<
@@ -123,8 +124,65 @@ impl<
         ensures admitted { IfOk result (IsAdmitted (K.terms G.config) kind priority job (J.promised job) pass.old pass.new) }
         ensures refused { IfErr result (IsTurnedAway K.RECEIPTS (K.terms G.config) kind priority job (J.promised job) pass.old pass.new) }
     {
+        let promise = job.promise();
+        let step = Submit {
+            kind,
+            priority,
+            promise,
+        };
+        let make = |order| self.obey(*rt, order);
+        self.execute_by(rt, step, job, &make, &|task| run_here(task), pass)
+    }
+
+    // Tells whether a worker was made for this slot, and does what that leaves to do.
+    pub(crate) fn open<R: Threads + Wait + Copy + Send + 'static>(
+        &self,
+        rt: R,
+        w: SlotId,
+        staffed: bool,
+        pass: &mut Pass<G>,
+    ) -> Result<Did, PoolError>
+        requires room { 0 < pass.old.room }
+        ensures step { IfOk result (λ d. AddsStep (K.terms G.config) pass.old (opening w staffed) d pass.new) }
+        ensures left { OnOk result (pass.old.room ≤ pass.new.room + 1) }
+        ensures refused { IfErr result (IsRefusal true (K.terms G.config) pass.new (opening w staffed)) }
+        ensures unchanged { OnErr result (LooksOnly (K.terms G.config) pass.old pass.new) }
+    {
+        self.open_by(&rt, w, staffed, &|order| self.obey(rt, order), pass)
+    }
+
+    // Has a worker made for this slot, and tells whether one was.
+    pub(crate) fn staffed<R: Threads + Wait + Copy + Send + 'static>(
+        &self,
+        rt: R,
+        w: SlotId,
+    ) -> bool {
+        match &self.hold {
+            Hold::Many(shared) => staff(rt, shared, w),
+            Hold::One(_) => false,
+        }
+    }
+}
+
+impl<G: PoolNaming, J: Drop, E: Edge, K: Keeper> PoolOf<G, J, E, K> {
+    /// As `execute_at`, for a job that promises what the step says, of a caller that knows how workers are made, and how a job
+    /// is run in its own thread.
+    pub fn execute_by<R: Wait, F: Fn(Order) -> bool, H: Fn(Task<J>) -> Outcome>(
+        &self,
+        rt: &R,
+        step: Submit,
+        job: J,
+        make: &F,
+        run: &H,
+        pass: &mut Pass<G>,
+    ) -> Result<Admitted, Refused<J>>
+        requires make { F.IsAlwaysCallable make.now }
+        requires run { H.IsAlwaysCallable run.now }
+        ensures admitted { IfOk result (IsAdmitted (K.terms G.config) step.kind step.priority job step.promise pass.old pass.new) }
+        ensures refused { IfErr result (IsTurnedAway K.RECEIPTS (K.terms G.config) step.kind step.priority job step.promise pass.old pass.new) }
+    {
         match reserve(pass) {
-            Ok(()) => self.submit(*rt, kind, priority, job, pass),
+            Ok(()) => self.submit(rt, step, job, make, run, pass),
             Err(error) => Err(Refused {
                 error,
                 job: Some(job),
@@ -133,25 +191,22 @@ impl<
     }
 
     // The steps of a submission: the first, and then each that the answer before it asks for.
-    fn submit<R: Threads + Wait + Copy + Send + 'static>(
+    fn submit<R: Wait, F: Fn(Order) -> bool, H: Fn(Task<J>) -> Outcome>(
         &self,
-        rt: R,
-        kind: Kind,
-        priority: u32,
+        rt: &R,
+        step: Submit,
         job: J,
+        make: &F,
+        run: &H,
         pass: &mut Pass<G>,
     ) -> Result<Admitted, Refused<J>>
         requires room { 512 ≤ pass.old.room }
-        ensures admitted { IfOk result (IsAdmitted (K.terms G.config) kind priority job (J.promised job) pass.old pass.new) }
-        ensures refused { IfErr result (IsTurnedAway K.RECEIPTS (K.terms G.config) kind priority job (J.promised job) pass.old pass.new) }
+        requires make { F.IsAlwaysCallable make.now }
+        requires run { H.IsAlwaysCallable run.now }
+        ensures admitted { IfOk result (IsAdmitted (K.terms G.config) step.kind step.priority job step.promise pass.old pass.new) }
+        ensures refused { IfErr result (IsTurnedAway K.RECEIPTS (K.terms G.config) step.kind step.priority job step.promise pass.old pass.new) }
     {
-        let promise = job.promise();
-        let step = Submit {
-            kind,
-            priority,
-            promise,
-        };
-        let (t, look) = match self.shared().submit(&rt, step, job, pass) {
+        let (t, look) = match self.shared().submit(rt, step, job, pass) {
             Ok(submitted) => submitted,
             Err((error, job)) => {
                 return Err(Refused {
@@ -161,13 +216,13 @@ impl<
             }
         };
         law_fronts_are_paths();
-        let mut next = follows(t, &Did::Submit(t, kind, priority, look));
+        let mut next = follows(t, &Did::Submit(t, step.kind, step.priority, look));
         let mut held = None;
         for _ in 1..MOST_STEPS {
             if let Next::End(ending) = next {
                 return answer(t, ending, held);
             }
-            let Some(did) = self.advance(rt, t, next, &mut held, pass) else {
+            let Some(did) = self.advance(rt, t, next, make, run, &mut held, pass) else {
                 return Err(torn());
             };
             next = next.after(t, &did);
@@ -182,51 +237,57 @@ impl<
     // run and the worker's thread made before the hold of the step, with no lock held. Where the step rejects
     // the task, its job is held unless the task was cancelled.
     #[inline(always)]
-    fn advance<R: Threads + Wait + Copy + Send + 'static>(
+    fn advance<R: Wait, F: Fn(Order) -> bool, H: Fn(Task<J>) -> Outcome>(
         &self,
-        rt: R,
+        rt: &R,
         t: TaskId,
         next: Next,
+        make: &F,
+        run: &H,
         held: &mut Option<Task<J>>,
         pass: &mut Pass<G>,
     ) -> Option<Did>
         requires room { 0 < pass.old.room }
+        requires make { F.IsAlwaysCallable make.now }
+        requires run { H.IsAlwaysCallable run.now }
         ensures step { IfSome result (λ d. (ask : AskOf) × AddsStep (K.terms G.config) pass.old ask d pass.new) }
         ensures left { OnSome result (pass.old.room ≤ pass.new.room + 1) }
         ensures on_path { OnSome result (Awaits (follow_of t.0 next)) }
-        ensures undone { IfNone result (Awaits (follow_of t.0 next) → IsUndone K.RECEIPTS (K.terms G.config) t next pass.new.front) }
+        ensures undone { IfNone result (Awaits (follow_of t.0 next) → IsUndone K.RECEIPTS (K.terms G.config) t next pass.new) }
         ensures returned { IfSome result (λ d. goes t.0 (follow_of t.0 next) d ≡ Ends Rejected → ComesBack t.0 held.new pass.new.front × TakesOut (K.terms G.config) pass.old.number t.0 held.new pass.old.front pass.new.front) }
         ensures unchanged { IfNone result ((pass.new ≡ pass.old) ⊎ LooksOnly (K.terms G.config) pass.old pass.new) }
     {
         let shared = self.shared();
         match next {
-            Next::Offer => shared.further(&rt, Offer(t), pass),
-            Next::Second => self.second(rt, t, pass),
-            Next::Look => shared.further(&rt, Look(t), pass),
-            Next::Grow => shared.further(&rt, Grow(t), pass),
-            Next::Judge => self.judge(rt, t, self.verdict(&rt, t), held, pass),
-            Next::RunHere => shared.further(&rt, CallerEnd(t, run_here(held.take())?), pass),
-            Next::Staff(w) => self.open(rt, w, self.staffed(rt, w), pass).ok(),
+            Next::Offer => shared.further(rt, Offer(t), pass),
+            Next::Second => self.second(rt, t, make, pass),
+            Next::Look => shared.further(rt, Look(t), pass),
+            Next::Grow => shared.further(rt, Grow(t), pass),
+            Next::Judge => self.judge(rt, t, self.verdict(rt, t), make, held, pass),
+            Next::RunHere => shared.further(rt, CallerEnd(t, run(held.take()?)), pass),
+            Next::Staff(w) => self.open_by(rt, w, staffed_by(make, w), make, pass).ok(),
             Next::End(_) | Next::Astray => None,
         }
     }
 
     // The step `second`: what it did. A task that comes back may leave the pool to nobody.
     #[inline(always)]
-    fn second<R: Threads + Wait + Copy + Send + 'static>(
+    fn second<R: Wait, F: Fn(Order) -> bool>(
         &self,
-        rt: R,
+        rt: &R,
         t: TaskId,
+        make: &F,
         pass: &mut Pass<G>,
     ) -> Option<Did>
         requires room { 0 < pass.old.room }
+        requires make { F.IsAlwaysCallable make.now }
         ensures step { IfSome result (λ d. AddsStep (K.terms G.config) pass.old (Ask.Second t) d pass.new) }
         ensures left { OnSome result (pass.old.room ≤ pass.new.room + 1) }
-        ensures refused { IfNone result (IsHalted K.RECEIPTS (K.terms G.config) pass.new.front (Ask.Second t)) }
+        ensures refused { IfNone result (IsHalted K.RECEIPTS (K.terms G.config) pass.new (Ask.Second t)) }
         ensures unchanged { IfNone result (LooksOnly (K.terms G.config) pass.old pass.new) }
     {
-        let (did, remains) = self.shared().second(&rt, t, pass);
-        self.rescue(rt, remains);
+        let (did, remains) = self.shared().second(rt, t, pass);
+        rescue_by(make, remains);
         did
     }
 
@@ -234,43 +295,47 @@ impl<
     // it was cancelled.
     #[cold]
     #[inline(never)]
-    fn judge<R: Threads + Wait + Copy + Send + 'static>(
+    fn judge<R: Wait, F: Fn(Order) -> bool>(
         &self,
-        rt: R,
+        rt: &R,
         t: TaskId,
         verdict: Verdict,
+        make: &F,
         held: &mut Option<Task<J>>,
         pass: &mut Pass<G>,
     ) -> Option<Did>
         requires room { 0 < pass.old.room }
+        requires make { F.IsAlwaysCallable make.now }
         ensures step { IfSome result (λ d. AddsStep (K.terms G.config) pass.old (Ask.Verdict t verdict) d pass.new) }
         ensures left { OnSome result (pass.old.room ≤ pass.new.room + 1) }
-        ensures refused { IfNone result (IsHalted K.RECEIPTS (K.terms G.config) pass.new.front (Ask.Verdict t verdict)) }
+        ensures refused { IfNone result (IsHalted K.RECEIPTS (K.terms G.config) pass.new (Ask.Verdict t verdict)) }
         ensures returned { IfSome result (λ d. what_follows t.0 d ≡ Ends Rejected → ComesBack t.0 held.new pass.new.front × TakesOut (K.terms G.config) pass.old.number t.0 held.new pass.old.front pass.new.front) }
         ensures unchanged { IfNone result (LooksOnly (K.terms G.config) pass.old pass.new) }
     {
-        let (did, remains) = self.shared().judge(&rt, t, verdict, held, pass);
-        self.rescue(rt, remains);
+        let (did, remains) = self.shared().judge(rt, t, verdict, held, pass);
+        rescue_by(make, remains);
         did
     }
 
-    // Tells whether a worker was made for this slot, and does what that leaves to do.
+    // Tells whether a worker was made for this slot, and has done what that leaves to do.
     #[inline(never)]
-    pub(crate) fn open<R: Threads + Wait + Copy + Send + 'static>(
+    fn open_by<R: Wait, F: Fn(Order) -> bool>(
         &self,
-        rt: R,
+        rt: &R,
         w: SlotId,
         staffed: bool,
+        make: &F,
         pass: &mut Pass<G>,
     ) -> Result<Did, PoolError>
         requires room { 0 < pass.old.room }
+        requires make { F.IsAlwaysCallable make.now }
         ensures step { IfOk result (λ d. AddsStep (K.terms G.config) pass.old (opening w staffed) d pass.new) }
         ensures left { OnOk result (pass.old.room ≤ pass.new.room + 1) }
-        ensures refused { IfErr result (IsRefusal true (K.terms G.config) pass.new.front (opening w staffed)) }
+        ensures refused { IfErr result (IsRefusal true (K.terms G.config) pass.new (opening w staffed)) }
         ensures unchanged { OnErr result (LooksOnly (K.terms G.config) pass.old pass.new) }
     {
-        let (opened, remains) = self.shared().hand_over(&rt, w, staffed, pass);
-        self.rescue(rt, remains);
+        let (opened, remains) = self.shared().hand_over(rt, w, staffed, pass);
+        rescue_by(make, remains);
         opened
     }
 
@@ -285,18 +350,6 @@ impl<
                 let state = shared.hold(rt).state();
                 shared.around.edge.verdict(rt, t, state)
             }
-        }
-    }
-
-    // Has a worker made for this slot, and tells whether one was.
-    pub(crate) fn staffed<R: Threads + Wait + Copy + Send + 'static>(
-        &self,
-        rt: R,
-        w: SlotId,
-    ) -> bool {
-        match &self.hold {
-            Hold::Many(shared) => staff(rt, shared, w),
-            Hold::One(_) => false,
         }
     }
 }

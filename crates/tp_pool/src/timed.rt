@@ -14,7 +14,6 @@ use crate::pool::PoolOf;
 use std::sync::Wait;
 use std::time::{Clock, Duration, Instant};
 use tp_book::passes::Pass;
-use tp_callbacks::jobs::Job;
 use tp_locked::locked::Look;
 use tp_locked::names::PoolNaming;
 use tp_machine::machine::releases::Keeper;
@@ -46,7 +45,7 @@ impl Timer {
     }
 }
 
-impl<G: PoolNaming, J: Job, E: Edge, K: Keeper> PoolOf<G, J, E, K> {
+impl<G: PoolNaming, J: Drop, E: Edge, K: Keeper> PoolOf<G, J, E, K> {
     /// As `await_result_with`, but for at most so long by the clock, as `Future.get` with a timeout. The answer is as it is after the
     /// record that the pass knows then. The call makes no step and no tick.
     ///

@@ -17,9 +17,9 @@ use Rattle.tp_service.specs.Submitted.{AddsSubmissions, AddsCancel, AreTurnedBac
 module _ {P : Type 0} (keeps : Bool) (c : Config) (t : TaskId) where
   -- a cancel that was asked for behind a look
   pub cancels : (old mid new : PassView) → LooksOnly c old mid → (r : Result Bool PoolError) → IfOk r (λ effective. AddsStep c mid (ask.Cancel t true) (did.Cancel t true effective) new)
-      → IfErr r (Refuses keeps c (mid.room < 1) new.front (ask.Cancel t true)) → OnErr r (AddsNone mid new) → AddsCancel P keeps c t old new
+      → IfErr r (Refuses keeps c (mid.room < 1) new (ask.Cancel t true)) → OnErr r (AddsNone mid new) → AddsCancel P keeps c t old new
   cancels old mid new looks (Ok effective) step refused none = inl (effective, step_behind c old mid new (ask.Cancel t true) (did.Cancel t true effective) (looks_none c old mid looks) step)
-  cancels old mid new looks (Err e) step refused none = inr (none_behind old mid new (looks_none c old mid looks) none, inr (e, subst (λ k. Refuses keeps c (k < 1) new.front (ask.Cancel t true) e) (ap (λ p. p.room) looks.0) refused))
+  cancels old mid new looks (Err e) step refused none = inr (none_behind old mid new (looks_none c old mid looks) none, inr (e, subst (λ k. Refuses keeps c (k < 1) new (ask.Cancel t true) e) (ap (λ p. p.room) looks.0) refused))
 
   -- none, of a future that is not open
   pub needs_no_cancel : (old new : PassView) → LooksOnly c old new → IsClosed P keeps c new t → AddsCancel P keeps c t old new

@@ -21,7 +21,7 @@ module _ (P : Type 0) (keeps : Bool) (c : Config) where
   abbrev pub AddsCancel : TaskId → PassView → PassView → Type 0
   AddsCancel t old new =
       ((effective : Bool) × AddsStep c old (ask.Cancel t true) (did.Cancel t true effective) new)
-      ⊎ (AddsNone old new × (IsClosed P keeps c new t ⊎ ((e : PoolError) × Refuses keeps c (old.room < 1) new.front (ask.Cancel t true) e)))
+      ⊎ (AddsNone old new × (IsClosed P keeps c new t ⊎ ((e : PoolError) × Refuses keeps c (old.room < 1) new (ask.Cancel t true) e)))
 
   -- that of each of these tasks, one after another
   abbrev pub AddsCancels : List TaskId → PassView → PassView → Type 0

@@ -90,8 +90,8 @@ impl CompletionService {
         pass: &mut Pass<G>,
     ) -> Result<Option<TaskId>, PoolError>
         ensures step { IfOk result (λ o. IfSome o (λ t. AddsStep (K.terms G.config) pass.old (Ask.TakeDone self.now.group) (Did.TakeDone self.now.group t) pass.new)) }
-        ensures none { IfOk result (λ o. IfNone o (IsRefusal true (K.terms G.config) pass.new.front (Ask.TakeDone self.now.group) PoolError.NotThere × AddsNone pass.old pass.new)) }
-        ensures refused { IfErr result (λ e. (e ≢ PoolError.NotThere) × Refuses true (K.terms G.config) (pass.old.room < 1) pass.new.front (Ask.TakeDone self.now.group) e) }
+        ensures none { IfOk result (λ o. IfNone o (IsRefusal true (K.terms G.config) pass.new (Ask.TakeDone self.now.group) PoolError.NotThere × AddsNone pass.old pass.new)) }
+        ensures refused { IfErr result (λ e. (e ≢ PoolError.NotThere) × Refuses true (K.terms G.config) (pass.old.room < 1) pass.new (Ask.TakeDone self.now.group) e) }
         ensures unchanged { OnErr result (AddsNone pass.old pass.new) }
     {
         match pool.take_done(rt, self.group, pass) {

@@ -7,13 +7,14 @@ use Rattle.tp_types.specs.declared.refusals.PoolError.{PoolError}
 use Rattle.tp_record.specs.declared.entries.Ask.{Ask}
 use Rattle.tp_record.specs.declared.entries.Entry.{Entry}
 use Rattle.tp_record.specs.Left.{asked}
+use Rattle.tp_machine.specs.Steps.{IsRefusedAt}
 use Rattle.tp_glance.specs.Word.{IsFrontOf}
 use Rattle.tp_book.specs.PassView.{PassView}
-use Rattle.tp_locked.specs.Passes.{IsRefusal, LooksOnly, opening}
+use Rattle.tp_locked.specs.Moments.{AtFront}
+use Rattle.tp_locked.specs.Passes.{LooksOnly, opening}
 use Rattle.tp_locked.specs.Steps.{Refused}
 use Rattle.tp_locked.specs.Waits.{HasNoOutcome}
-use Rattle.tp_locked.proofs.Adding.{legal_refused, refusal}
-use Rattle.tp_locked.proofs.Refusals.{unnamed}
+use Rattle.tp_locked.proofs.Adding.{legal_refused, own_refusal}
 
 -- it names no task, and no outcome comes with it
 names_none : (w : SlotId) (staffed : Bool) → asked (opening w staffed) ≡ None
@@ -27,10 +28,8 @@ has_no_outcome w false = tt
 module _ {J : Type 0} (keeps : Bool) (c : Config) where
   -- so its refusal is Step's own
   pub opening_refused : (before : List Entry) (w : SlotId) (staffed : Bool) (e : PoolError) (after : List Entry) →
-      Refused J keeps c before (opening w staffed) e after → IsRefusal true c after (opening w staffed) e
-  opening_refused before w staffed e after refused =
-      let a = opening w staffed in
-      unnamed keeps c after a e (names_none w staffed) (refusal c keeps before a e after refused (has_no_outcome w staffed))
+      Refused J keeps c before (opening w staffed) e after → AtFront c after (λ s. IsRefusedAt c s (opening w staffed) e)
+  opening_refused before w staffed e after refused = own_refusal c keeps before (opening w staffed) e after (names_none w staffed) (has_no_outcome w staffed) refused
 
 -- a pass whose step was refused has looked
 pub looked : (J : Type 0) (keeps : Bool) (c : Config) {A : Type 0} (old new : PassView) (a : Ask) (r : Result A PoolError) →

@@ -12,13 +12,14 @@ use Rattle.tp_record.specs.declared.entries.Ruled.TheVariants as ruled
 use Rattle.tp_parts.specs.Payloads.{HandsOut}
 use Rattle.tp_machine.specs.Answers.{ruled_of}
 use Rattle.tp_glance.specs.Word.{IsFrontOf}
+use Rattle.tp_book.specs.PassView.{PassView}
 use Rattle.tp_locked.specs.Passes.{IsRefusal}
 use Rattle.tp_locked.specs.Steps.{Makes}
 use Rattle.tp_locked.specs.declared.tasks.Task.{Task}
 
--- at this history a pool with these settings refuses this ask, of whose task it may know nothing any more
-abbrev pub IsHalted : Bool → Config → List Entry → Ask → Type 0
-IsHalted keeps c history a = (e : PoolError) × IsRefusal keeps c history a e
+-- as this pass knows it a pool with these settings refuses this ask, whose task it may have released
+abbrev pub IsHalted : Bool → Config → PassView → Ask → Type 0
+IsHalted keeps c p a = (e : PoolError) × IsRefusal keeps c p a e
 
 -- a verdict of the pass rejected task t, and took this out of the pool's book, where it lay for t: at a history between the two
 pub record TakesOut {J : Type 0} (c : Config) (by t : ℕ) (payload : Option (Task J)) (before after : List Entry) : Type 0 where

@@ -207,7 +207,7 @@ impl<G: PoolNaming, J: Drop, E: Edge, K: Keeper> Shared<G, J, E, K> {
         ensures makes { IfOk result (λ x. Makes J (K.terms G.config) pass.old.number pass.old.front (S.ask step) (S.did step x) (S.moves step tt x) pass.new.front) }
         ensures step { IfOk result (λ x. AddsStep (K.terms G.config) pass.old (S.ask step) (S.did step x) pass.new) }
         ensures left { OnOk result (pass.old.room ≤ pass.new.room + 1) }
-        ensures refused { IfErr result (λ e. HasNoOutcome (S.ask step) → IsRefusal (none_forgotten K.RECEIPTS (S.ask step)) (K.terms G.config) pass.new.front (S.ask step) e) }
+        ensures refused { IfErr result (λ e. HasNoOutcome (S.ask step) → IsRefusal (none_forgotten K.RECEIPTS (S.ask step)) (K.terms G.config) pass.new (S.ask step) e) }
         ensures unchanged { OnErr result (LooksOnly (K.terms G.config) pass.old pass.new) }
     {
         let mut core = self.hold(rt);
@@ -231,7 +231,7 @@ impl<G: PoolNaming, J: Drop, E: Edge, K: Keeper> Shared<G, J, E, K> {
         ensures step { IfOk result.0 (λ x. AddsStep (K.terms G.config) pass.old (S.ask step) (S.did step x) pass.new) }
         ensures known { IfOk result.0 (λ x. KnowsStep pass.old (S.ask step) (S.did step x) (S.says step x (K.terms G.config)) pass.new) }
         ensures left { OnOk result.0 (pass.old.room ≤ pass.new.room + 1) }
-        ensures refused { IfErr result.0 (λ e. HasNoOutcome (S.ask step) → IsRefusal (none_forgotten K.RECEIPTS (S.ask step)) (K.terms G.config) pass.new.front (S.ask step) e) }
+        ensures refused { IfErr result.0 (λ e. HasNoOutcome (S.ask step) → IsRefusal (none_forgotten K.RECEIPTS (S.ask step)) (K.terms G.config) pass.new (S.ask step) e) }
         ensures unchanged { OnErr result.0 (LooksOnly (K.terms G.config) pass.old pass.new) }
         ensures remains { IsLeft (state (K.terms G.config) pass.new.front) result.1 }
     {
@@ -255,7 +255,7 @@ impl<G: PoolNaming, J: Drop, E: Edge, K: Keeper> Shared<G, J, E, K> {
         ensures answers { IfOk result (λ x. S.answers step x) }
         ensures makes { IfOk result (λ x. Makes J (K.terms G.config) pass.old.number pass.old.front (S.ask step) (S.did step x) (S.moves step tt x) pass.new.front) }
         ensures step { IfOk result (λ x. AddsStep (K.terms G.config) pass.old (S.ask step) (S.did step x) pass.new) }
-        ensures refused { IfErr result (Refuses (none_forgotten K.RECEIPTS (S.ask step)) (K.terms G.config) (pass.old.room < 1) pass.new.front (S.ask step)) }
+        ensures refused { IfErr result (Refuses (none_forgotten K.RECEIPTS (S.ask step)) (K.terms G.config) (pass.old.room < 1) pass.new (S.ask step)) }
         ensures unchanged { OnErr result (AddsNone pass.old pass.new) }
     {
         if let Err(error) = pass.reserve(1) {
@@ -278,7 +278,7 @@ impl<G: PoolNaming, J: Drop, E: Edge, K: Keeper> Shared<G, J, E, K> {
         ensures makes { IfOk result (λ x. Makes J (K.terms G.config) pass.old.number pass.old.front (S.ask step) (S.did step x) (S.moves step tt x) pass.new.front) }
         ensures step { IfOk result (λ x. AddsStep (K.terms G.config) pass.old (S.ask step) (S.did step x) pass.new) }
         ensures known { IfOk result (λ x. KnowsStep pass.old (S.ask step) (S.did step x) (S.says step x (K.terms G.config)) pass.new) }
-        ensures refused { IfErr result (Refuses (none_forgotten K.RECEIPTS (S.ask step)) (K.terms G.config) (pass.old.room < 1) pass.new.front (S.ask step)) }
+        ensures refused { IfErr result (Refuses (none_forgotten K.RECEIPTS (S.ask step)) (K.terms G.config) (pass.old.room < 1) pass.new (S.ask step)) }
         ensures unchanged { OnErr result (AddsNone pass.old pass.new) }
     {
         if let Err(error) = pass.reserve(1) {
@@ -301,7 +301,7 @@ impl<G: PoolNaming, J: Drop, E: Edge, K: Keeper> Shared<G, J, E, K> {
         ensures stops { IfOk result (λ drained. Stops J (K.terms G.config) pass.old.number pass.old.front drained.items pass.new.front) }
         ensures step { IfOk result (λ drained. AddsStep (K.terms G.config) pass.old Ask.Stop (Did.Stop (length drained.items)) pass.new) }
         ensures left { OnOk result (pass.old.room ≤ pass.new.room + 1) }
-        ensures refused { IfErr result (Refuses true (K.terms G.config) (AtFront (K.terms G.config) pass.new.front (λ s. 0 < length s.queue)) pass.new.front Ask.Stop) }
+        ensures refused { IfErr result (Refuses true (K.terms G.config) (AtFront (K.terms G.config) pass.new.front (λ s. 0 < length s.queue)) pass.new Ask.Stop) }
         ensures unchanged { OnErr result (AddsNone pass.old pass.new) }
     {
         let mut core = self.hold(rt);

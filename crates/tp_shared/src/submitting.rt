@@ -16,7 +16,6 @@ use crate::shared::{Shared, left_in};
 use std::sync::{MutexGuard, Wait};
 use tp_book::passes::Pass;
 use tp_callbacks::flags::FlagPair;
-use tp_callbacks::jobs::Job;
 use tp_locked::locked::{Core, Marks};
 use tp_locked::names::PoolNaming;
 use tp_locked::tasks::Task;
@@ -44,7 +43,7 @@ fn left_by_second<G: PoolNaming, J: Drop, K: Keeper>(
     }
 }
 
-impl<G: PoolNaming, J: Job, E: Edge, K: Keeper> Shared<G, J, E, K> {
+impl<G: PoolNaming, J: Drop, E: Edge, K: Keeper> Shared<G, J, E, K> {
     /// The first step of a submission, in a hold of its own. NoMemory (4) or BookFull (5), with the job.
     #[inline(always)]
     pub fn submit<R: Wait>(
@@ -58,7 +57,7 @@ impl<G: PoolNaming, J: Job, E: Edge, K: Keeper> Shared<G, J, E, K> {
         ensures makes { IfOk result (λ x. (task : TaskOf J) × (task.job ≡ job) × Makes J (K.terms G.config) pass.old.number pass.old.front (Ask.Submit step.kind step.priority) (Did.Submit x.0 step.kind step.priority x.1) (λ old new. PutsIn old new x.0.0 step.promise task) pass.new.front) }
         ensures step { IfOk result (λ x. AddsStep (K.terms G.config) pass.old (Ask.Submit step.kind step.priority) (Did.Submit x.0 step.kind step.priority x.1) pass.new) }
         ensures left { OnOk result (pass.old.room ≤ pass.new.room + 1) }
-        ensures refused { IfErr result (λ r. Refuses true (K.terms G.config) ⊤ pass.new.front (Ask.Submit step.kind step.priority) r.0) }
+        ensures refused { IfErr result (λ r. Refuses true (K.terms G.config) ⊤ pass.new (Ask.Submit step.kind step.priority) r.0) }
         ensures returned { IfErr result (λ r. r.1 ≡ job) }
         ensures unchanged { OnErr result (AddsNone pass.old pass.new) }
     {
@@ -124,7 +123,7 @@ impl<G: PoolNaming, J: Job, E: Edge, K: Keeper> Shared<G, J, E, K> {
         requires room { 0 < pass.old.room }
         ensures step { IfSome result (λ d. AddsStep (K.terms G.config) pass.old (S.ask step) d pass.new) }
         ensures left { OnSome result (pass.old.room ≤ pass.new.room + 1) }
-        ensures refused { IfNone result (HasNoOutcome (S.ask step) → IsHalted K.RECEIPTS (K.terms G.config) pass.new.front (S.ask step)) }
+        ensures refused { IfNone result (HasNoOutcome (S.ask step) → IsHalted K.RECEIPTS (K.terms G.config) pass.new (S.ask step)) }
         ensures unchanged { IfNone result (LooksOnly (K.terms G.config) pass.old pass.new) }
     {
         match self.ask(rt, step, pass) {
@@ -139,7 +138,7 @@ impl<G: PoolNaming, J: Job, E: Edge, K: Keeper> Shared<G, J, E, K> {
         requires room { 0 < pass.old.room }
         ensures step { IfSome result.0 (λ d. AddsStep (K.terms G.config) pass.old (Ask.Second t) d pass.new) }
         ensures left { OnSome result.0 (pass.old.room ≤ pass.new.room + 1) }
-        ensures refused { IfNone result.0 (IsHalted K.RECEIPTS (K.terms G.config) pass.new.front (Ask.Second t)) }
+        ensures refused { IfNone result.0 (IsHalted K.RECEIPTS (K.terms G.config) pass.new (Ask.Second t)) }
         ensures unchanged { IfNone result.0 (LooksOnly (K.terms G.config) pass.old pass.new) }
         ensures remains { result.0 ≡ Some (Did.Second t Seconded.Back) → IsLeft (state (K.terms G.config) pass.new.front) result.1 }
     {
@@ -166,7 +165,7 @@ impl<G: PoolNaming, J: Job, E: Edge, K: Keeper> Shared<G, J, E, K> {
         requires room { 0 < pass.old.room }
         ensures step { IfSome result.0 (λ d. AddsStep (K.terms G.config) pass.old (Ask.Verdict t verdict) d pass.new) }
         ensures left { OnSome result.0 (pass.old.room ≤ pass.new.room + 1) }
-        ensures refused { IfNone result.0 (IsHalted K.RECEIPTS (K.terms G.config) pass.new.front (Ask.Verdict t verdict)) }
+        ensures refused { IfNone result.0 (IsHalted K.RECEIPTS (K.terms G.config) pass.new (Ask.Verdict t verdict)) }
         ensures returned { IfSome result.0 (λ d. what_follows t.0 d ≡ Ends Rejected → ComesBack t.0 held.new pass.new.front × TakesOut (K.terms G.config) pass.old.number t.0 held.new pass.old.front pass.new.front) }
         ensures unchanged { IfNone result.0 (LooksOnly (K.terms G.config) pass.old pass.new) }
         ensures remains { IsLeft (state (K.terms G.config) pass.new.front) result.1 }

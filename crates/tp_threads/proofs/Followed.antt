@@ -58,8 +58,8 @@ module _ {J : Type 0} (keeps : Bool) (c : Config) (kind : Kind) (priority : ℕ)
   turned_whole old mid new x t rejected none is =
       ⊎_elim (λ (y : (t : TaskId) × (x.error ≡ error.Rejected t) × AddsPath c kind priority t Rejected mid new × GotJob c kind priority job promise mid.number t.0 mid.front new.front × ComesBack t.0 x.job new.front × IsJobOut c mid.number t.0 x.job mid.front new.front). one_submission c (kind, priority) y.0 Rejected old mid new none y.2)
       (⊎_elim (λ (y : (t : TaskId) × (x.error ≡ error.TornRecord) × AddsFront keeps c kind priority t mid new × GotJob c kind priority job promise mid.number t.0 mid.front new.front). let torn = y.1 in absurd (grind arith))
-      (λ (y : Refuses true c ⊤ new.front (ask.Submit kind priority) x.error × (x.job ≡ Some job) × AddsNone mid new).
-      ⊎_elim (λ (e : x.error ≡ error.NoMemory). absurd (grind arith)) (λ (e : x.error ≡ error.BookFull). absurd (grind arith)) (before_first c new.front kind priority x.error y.0)))
+      (λ (y : Refuses true c ⊤ new (ask.Submit kind priority) x.error × (x.job ≡ Some job) × AddsNone mid new).
+      ⊎_elim (λ (e : x.error ≡ error.NoMemory). absurd (grind arith)) (λ (e : x.error ≡ error.BookFull). absurd (grind arith)) (before_first c new kind priority x.error y.0)))
       is
 
   -- one that was turned away otherwise
@@ -68,7 +68,7 @@ module _ {J : Type 0} (keeps : Bool) (c : Config) (kind : Kind) (priority : ℕ)
   turned_torn old mid new x other none is =
       ⊎_elim (λ (y : (t : TaskId) × (x.error ≡ error.Rejected t) × AddsPath c kind priority t Rejected mid new × GotJob c kind priority job promise mid.number t.0 mid.front new.front × ComesBack t.0 x.job new.front × IsJobOut c mid.number t.0 x.job mid.front new.front). absurd (other y.0 y.1))
       (⊎_elim (λ (y : (t : TaskId) × (x.error ≡ error.TornRecord) × AddsFront keeps c kind priority t mid new × GotJob c kind priority job promise mid.number t.0 mid.front new.front). inr (y.1, (y.0, front_behind c keeps kind priority y.0 old mid new none y.2)))
-      (λ (y : Refuses true c ⊤ new.front (ask.Submit kind priority) x.error × (x.job ≡ Some job) × AddsNone mid new). inl (before_first c new.front kind priority x.error y.0, none_behind old mid new none y.2)))
+      (λ (y : Refuses true c ⊤ new (ask.Submit kind priority) x.error × (x.job ≡ Some job) × AddsNone mid new). inl (before_first c new kind priority x.error y.0, none_behind old mid new none y.2)))
       is
 
 pub breaks_off : (keeps : Bool) (c : Config) (old mid new : PassView) (jobs : List JobLine) (n : ℕ) (d : JobLine) (e : PoolError) → n < length jobs → AddsSubmissions c (take n (asked jobs)) old mid →

@@ -1,4 +1,4 @@
-//! Which steps wake who waits for a pool's end: its lines of the table in `docs/WAKING.md`.
+//! Which steps wake who waits for a pool's end: its lines of the table in `docs/inside/WAKING.md`.
 ghost use Rattle.std.specs.Prelude.{◌↔◌, IsTrue};
 ghost use Rattle.tp_waking.specs.Ends.{ChangesEnd};
 

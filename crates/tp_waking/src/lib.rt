@@ -1,4 +1,4 @@
-//! Who is woken by which step of a pool: the table of `docs/WAKING.md`.
+//! Who is woken by which step of a pool: the table of `docs/inside/WAKING.md`.
 #![tactic(auto)]
 
 pub mod calls;

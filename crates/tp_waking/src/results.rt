@@ -1,4 +1,4 @@
-//! Which steps wake who waits for a future: its line of the table in `docs/WAKING.md`.
+//! Which steps wake who waits for a future: its line of the table in `docs/inside/WAKING.md`.
 ghost use Rattle.std.specs.Prelude.{◌↔◌, IsTrue};
 ghost use Rattle.tp_waking.specs.Results.{ChangesResults};
 

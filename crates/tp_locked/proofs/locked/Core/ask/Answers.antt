@@ -1,6 +1,5 @@
 use Rattle.std.proofs.Common.{◌+◌, ◌≤◌}
-use Rattle.std.proofs.lemmas.Result.{IfErr-weaker}
-use Rattle.tp_locked.proofs.Adding.{added, refusal}
+use Rattle.tp_locked.proofs.Adding.{added, refusals}
 use Rattle.tp_locked.proofs.locked.Core.ask.Goals as goal
 
 pub returns-clause-step : goal.returns-clause-step
@@ -12,4 +11,5 @@ returns-clause-step g c =
 
 pub returns-clause-refused : goal.returns-clause-refused
 returns-clause-refused g c =
-    IfErr-weaker c.step.result _ _ (λ e is. refusal (g.R.Recorder.terms g.G.PoolNaming.config) g.R.Recorder.RECEIPTS c.args.pass.now.front (g.S.Step.ask c.args.step) e c.step.new.pass.front is) c.step.ensures.refused
+    refusals (g.R.Recorder.terms g.G.PoolNaming.config) g.R.Recorder.RECEIPTS c.args.self.now c.step.new.self c.law_is_book.ensures c.step.new.pass (g.S.Step.ask c.args.step) c.step.result c.step.ensures.denies
+    c.step.ensures.front.1 c.step.ensures.released

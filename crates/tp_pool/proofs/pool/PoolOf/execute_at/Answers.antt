@@ -1,10 +1,14 @@
-use Rattle.tp_pool.proofs.Submissions.{admits_behind, refuses_behind}
+use Rattle.std.proofs.Common.{subst}
+use Rattle.std.specs.Prelude.{IfOk, IfErr}
+use Rattle.tp_pool.specs.Admissions.{IsAdmitted, IsTurnedAway}
 use Rattle.tp_pool.proofs.pool.PoolOf.execute_at.Goals as goal
 
-pub returns-in-Ok-clause-admitted : goal.returns-in-Ok-clause-admitted
-returns-in-Ok-clause-admitted g c =
-    admits_behind (g.K.Recorder.terms g.G.PoolNaming.config) c.args.kind c.args.priority c.args.job (g.J.Job.promised c.args.job) c.args.pass.now c.reserve.new.pass c.submit.new.pass c.submit.result c.reserve.ensures.same c.submit.ensures.admitted
+pub returns-clause-admitted : goal.returns-clause-admitted
+returns-clause-admitted g c =
+    let terms = g.K.Recorder.terms g.G.PoolNaming.config in
+    subst (λ p. IfOk c.execute_by.result (IsAdmitted terms c.args.kind c.args.priority c.args.job p c.args.pass.now c.execute_by.new.pass)) c.promise-promise.ensures c.execute_by.ensures.admitted
 
-pub returns-in-Ok-clause-refused : goal.returns-in-Ok-clause-refused
-returns-in-Ok-clause-refused g c =
-    refuses_behind (g.K.Recorder.terms g.G.PoolNaming.config) c.args.kind c.args.priority c.args.job (g.J.Job.promised c.args.job) g.K.Recorder.RECEIPTS c.args.pass.now c.reserve.new.pass c.submit.new.pass c.submit.result c.reserve.ensures.same c.submit.ensures.refused
+pub returns-clause-refused : goal.returns-clause-refused
+returns-clause-refused g c =
+    let terms = g.K.Recorder.terms g.G.PoolNaming.config in
+    subst (λ p. IfErr c.execute_by.result (IsTurnedAway g.K.Recorder.RECEIPTS terms c.args.kind c.args.priority c.args.job p c.args.pass.now c.execute_by.new.pass)) c.promise-promise.ensures c.execute_by.ensures.refused

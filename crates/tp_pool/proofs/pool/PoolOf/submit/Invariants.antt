@@ -8,5 +8,5 @@ use Rattle.tp_pool.proofs.pool.PoolOf.submit.Given as goal
 
 abbrev pub invariant-loop : goal.invariant-loop
 invariant-loop g l =
-    Walk (g.K.Recorder.terms g.G.PoolNaming.config) l.fn.kind l.fn.priority l.fn.job (g.J.Job.promised l.fn.job) l.t.0 l.fn.pass (follow_of l.t.0 l.next) l.counter l.pass
+    Walk (g.K.Recorder.terms g.G.PoolNaming.config) l.fn.step.kind l.fn.step.priority l.fn.job l.fn.step.promise l.t.0 l.fn.pass (follow_of l.t.0 l.next) l.counter l.pass
     × (follow_of l.t.0 l.next ≡ Ends Rejected → ComesBack l.t.0 l.held l.pass.front × TakesOut (g.K.Recorder.terms g.G.PoolNaming.config) l.fn.pass.number l.t.0 l.held l.fn.pass.front l.pass.front)

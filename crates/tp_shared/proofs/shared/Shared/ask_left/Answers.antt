@@ -20,4 +20,4 @@ pub returns-clause-refused : goal.returns-clause-refused
 returns-clause-refused g c =
     let hold = c.ask-answer in
     IfErr-weaker hold.result _ _
-    (λ e is. λ none. certain g.K.Recorder.RECEIPTS (g.K.Recorder.terms g.G.PoolNaming.config) hold.new.pass.front (g.S.Step.ask c.args.step) e (is none)) hold.ensures.refused
+    (λ e is. λ none. certain g.K.Recorder.RECEIPTS (g.K.Recorder.terms g.G.PoolNaming.config) hold.new.pass (g.S.Step.ask c.args.step) e (is none)) hold.ensures.refused

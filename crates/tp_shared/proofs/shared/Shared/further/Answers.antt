@@ -10,5 +10,5 @@ returns-in-Ok-clause-step g c =
 pub returns-in-Err-clause-refused : goal.returns-in-Err-clause-refused
 returns-in-Err-clause-refused g c no_outcome = (
   c.in-Err.field-0,
-  uncertain g.K.Recorder.RECEIPTS (g.K.Recorder.terms g.G.PoolNaming.config) c.ask.new.pass.front (g.S.Step.ask c.args.step) c.in-Err.field-0 (c.in-Err.ensures.refused no_outcome),
+  uncertain g.K.Recorder.RECEIPTS (g.K.Recorder.terms g.G.PoolNaming.config) c.ask.new.pass (g.S.Step.ask c.args.step) c.in-Err.field-0 (c.in-Err.ensures.refused no_outcome),
 )

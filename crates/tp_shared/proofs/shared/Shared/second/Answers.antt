@@ -17,5 +17,5 @@ returns-in-Ok-clause-remains g c = λ back.
 
 pub returns-in-Err-clause-refused : goal.returns-in-Err-clause-refused
 returns-in-Err-clause-refused g c =
-    let refuses = IsRefusal g.K.Recorder.RECEIPTS (g.K.Recorder.terms g.G.PoolNaming.config) c.ask-answer.new.pass.front (ask.Second c.args.t) in
+    let refuses = IsRefusal g.K.Recorder.RECEIPTS (g.K.Recorder.terms g.G.PoolNaming.config) c.ask-answer.new.pass (ask.Second c.args.t) in
     (c.in-Err.field-0, subst (λ r. IfErr r (λ e. HasNoOutcome (ask.Second c.args.t) → refuses e)) c.in-Err.is c.ask-answer.ensures.refused tt)

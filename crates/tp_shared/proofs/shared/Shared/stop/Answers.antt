@@ -8,6 +8,6 @@ use Rattle.tp_shared.proofs.shared.Shared.stop.Goals as goal
 pub returns-clause-refused : goal.returns-clause-refused
 returns-clause-refused g c =
     let settings = g.K.Recorder.terms g.G.PoolNaming.config in
-    let front = c.stop-drained.new.pass.front in
+    let new = c.stop-drained.new.pass in
     IfErr-weaker c.stop-drained.result _ _
-    (λ e is. certainly g.K.Recorder.RECEIPTS settings (AtFront settings front (λ s. 0 < length s.queue)) front ask.Stop e is) c.stop-drained.ensures.refused
+    (λ e is. certainly g.K.Recorder.RECEIPTS settings (AtFront settings new.front (λ s. 0 < length s.queue)) new ask.Stop e is) c.stop-drained.ensures.refused

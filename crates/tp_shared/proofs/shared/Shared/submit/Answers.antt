@@ -2,8 +2,7 @@ use Rattle.std.proofs.Common.{inl, inr, refl}
 use Rattle.tp_record.specs.declared.entries.Ask.TheVariants as ask
 use Rattle.tp_record.specs.declared.entries.Did.TheVariants as did
 use Rattle.tp_parts.specs.Payloads.{PutsIn}
-use Rattle.tp_locked.proofs.Adding.{adds_step, refusal}
-use Rattle.tp_locked.proofs.Refusals.{unnamed}
+use Rattle.tp_locked.proofs.Adding.{adds_step, own_refusal}
 use Rattle.tp_locked.specs.declared.tasks.Task.{Task}
 use Rattle.tp_shared.proofs.shared.Shared.submit.Goals as goal
 
@@ -21,6 +20,6 @@ returns-in-Ok-submitted-clause-step g c =
 pub returns-in-Err-submitted-clause-refused : goal.returns-in-Err-submitted-clause-refused
 returns-in-Err-submitted-clause-refused g c = elim c.in-Err-submitted.ensures.refused [
   | inl want ↦ inl (want, tt)
-  | inr refused ↦ inr (unnamed g.K.Recorder.RECEIPTS (g.K.Recorder.terms g.G.PoolNaming.config) c.submit-submitted.new.pass.front (ask.Submit c.args.step.kind c.args.step.priority) _ refl
-      (refusal (g.K.Recorder.terms g.G.PoolNaming.config) g.K.Recorder.RECEIPTS c.args.pass.now.front (ask.Submit c.args.step.kind c.args.step.priority) _ c.submit-submitted.new.pass.front refused tt))
+  | inr refused ↦ inr (own_refusal (g.K.Recorder.terms g.G.PoolNaming.config) g.K.Recorder.RECEIPTS c.args.pass.now.front (ask.Submit c.args.step.kind c.args.step.priority) _ c.submit-submitted.new.pass.front
+      refl tt refused)
 ]

@@ -4,7 +4,7 @@ use Rattle.tp_parts.specs.Payloads.{Keeps}
 use Rattle.tp_locked.specs.Passes.{opening}
 use Rattle.tp_locked.proofs.Adding.{added}
 use Rattle.tp_shared.proofs.Handed.{looked, opening_refused}
-use Rattle.tp_pool.proofs.pool.PoolOf.open.Goals as goal
+use Rattle.tp_pool.proofs.pool.PoolOf.open_by.Goals as goal
 
 pub returns-clause-step : goal.returns-clause-step
 returns-clause-step g c =

@@ -7,7 +7,7 @@ use Rattle.tp_record.specs.declared.entries.Did.TheVariants as did
 use Rattle.tp_locked.specs.Passes.{AddsStep}
 use Rattle.tp_locked.proofs.Receipts.{reserved}
 use Rattle.tp_shared.proofs.Ends.{reached, step_and_end}
-use Rattle.tp_pool.proofs.pool.PoolOf.shutdown.Goals as goal
+use Rattle.tp_pool.proofs.pool.PoolOf.shutdown_by.Goals as goal
 
 pub returns-in-Ok-clause-steps : goal.returns-in-Ok-clause-steps
 returns-in-Ok-clause-steps g c =
