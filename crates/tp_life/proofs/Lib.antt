@@ -1,1 +1,4 @@
+pub mod Answered
+pub mod Parts
 pub mod Told
+pub mod Untold

@@ -1,1 +1,3 @@
+pub mod Futures
+pub mod Lived
 pub mod Ran

@@ -1,19 +1,31 @@
-//! A pool's whole life in one call, with jobs that answer values of any type.
+//! A pool's whole life in one call, for who has no need of its type: callers over a trait of a pool's calls, and jobs that answer
+//! values of any type.
 #![tactic(auto)]
 
+pub mod calls;
+mod desk;
+pub mod lives;
 pub mod running;
+mod seats;
 
 /// What a first program names: `use tp_life::prelude::*;`.
 pub mod prelude {
+    pub use crate::calls::{Calls, Life, Ticket};
+    pub use crate::lives::{with_pool, with_tally};
     pub use crate::running::{Told, run_tasks};
+    pub use std::thread::sleep;
+    pub use std::time::Duration;
     pub use tp_advice::reasons::Reason;
     pub use tp_advice::sizes::for_jobs;
-    pub use tp_book::reports::Report;
+    pub use tp_book::reports::{Report, TallyReport};
     pub use tp_callbacks::flags::CancelFlag;
+    pub use tp_locked::answers::{Admitted, Drained, Refused};
     pub use tp_shared::defaults::Defaults;
     pub use tp_shared::edges::Edge;
-    pub use tp_types::configs::{Config, Policy, QueueKind};
+    pub use tp_types::configs::{Config, Policy, QueueKind, Verdict};
+    pub use tp_types::ids::{SlotId, TaskId};
     pub use tp_types::refusals::PoolError;
+    pub use tp_types::states::{Counts, RunState};
     pub use tp_types::tasks::Fate;
     pub use tp_values::oneshot::{Receiver, Sender, oneshot};
     pub use tp_values::tasks::{Call, Closure, Task, job};

@@ -98,16 +98,26 @@ fn told<W: Task, R: Wait>(
     Ok(values)
 }
 
-// What is told of a task, by its job's answer: its value, where the job ran and it is found there.
+// What is told of a task, by its job's answer.
 fn value<W: Task, R: Wait>(rt: &R, answer: Answer, find: Option<Find<W>>) -> Told<W::Output>
     ensures { IsTold W.gives answer result }
 {
+    match find {
+        Some(find) => found(rt, answer, &find),
+        None => match answer {
+            Ok(_) => Err(PoolError::NotThere),
+            Err(error) => Err(error),
+        },
+    }
+}
+
+/// What is told of a task, by its job's answer: its value, where the job ran and it is found there.
+pub fn found<W: Task, R: Wait>(rt: &R, answer: Answer, find: &Find<W>) -> Told<W::Output>
+    ensures { IsTold W.gives answer result }
+{
     match answer {
-        Ok(_) => match find {
-            Some(find) => match find.take(rt) {
-                Some(value) => Ok(value),
-                None => Err(PoolError::NotThere),
-            },
+        Ok(_) => match find.take(rt) {
+            Some(value) => Ok(value),
             None => Err(PoolError::NotThere),
         },
         Err(error) => Err(error),

@@ -25,7 +25,7 @@ pub fn oneshot<T: Drop>(alloc: Global) -> Result<(Sender<T>, Receiver<T>), Alloc
     Ok((Sender { cell: theirs }, Receiver { cell: ours }))
 }
 
-impl<T: Send + Drop> Sender<T> {
+impl<T: Drop> Sender<T> {
     /// Sends the value, without a wait. A value that was sent before stays, and this one comes back.
     pub fn send(&self, value: T) -> Result<(), T> {
         match self.cell.try_set(Mutex::new(Some(value))) {
@@ -38,7 +38,7 @@ impl<T: Send + Drop> Sender<T> {
     }
 }
 
-impl<T: Send + Drop> Receiver<T> {
+impl<T: Drop> Receiver<T> {
     /// Takes the value, where it was sent, and not taken yet.
     pub fn take<R: Wait>(&self, rt: &R) -> Option<T> {
         self.cell.get()?.lock(rt).take()

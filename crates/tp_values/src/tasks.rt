@@ -3,13 +3,12 @@ ghost use Rattle.std.specs.Prelude.{◌≡◌, IfOk, IfErr, IfSome};
 ghost use Rattle.tp_types.specs.Promise.{FitsPromise};
 ghost use Rattle.tp_values.specs.declared.tasks.TheConstants.{VOID};
 
+use crate::oneshot::{Receiver, Sender, oneshot};
 use std::alloc::Global;
 use std::marker::Model;
-use std::sync::{Arc, Mutex, OnceLock, Wait};
+use std::sync::Wait;
 use tp_callbacks::flags::CancelFlag;
 use tp_callbacks::jobs::Job;
-use tp_types::ids::TaskId;
-use tp_types::refusals::PoolError;
 use tp_types::tasks::{Outcome, Promise};
 
 /// A body that answers a value of its own type, as a `Callable<V>`. It is run at most once.
@@ -73,9 +72,6 @@ struct Given<W: Task> {
     ghost given: { ∥ ((w : W) × W.gives w value) ∥₁ },
 }
 
-// Where the value of a task is put, once and without a wait, and taken.
-type Place<W> = Arc<OnceLock<Mutex<Option<Given<W>>>>>;
-
 /// What the pool is told of a task's outcome: 0 for its value, or its fault.
 pub const VOID: Promise = Promise {
     low: 0,
@@ -83,11 +79,11 @@ pub const VOID: Promise = Promise {
     may_fault: true,
 };
 
-/// A task as its pool holds it, with the place of its value where one is wanted.
+/// A task as its pool holds it. Its value is sent to whoever finds it.
 #[derive(Drop)]
 pub struct Held<W: Task> {
     task: W,
-    place: Option<Place<W>>,
+    value: Sender<Given<W>>,
 }
 
 /// A contract sees the task.
@@ -98,53 +94,32 @@ impl<W: Task> Model for Held<W> {
 }
 
 impl<W: Task> Held<W> {
-    /// A task whose value nobody asks for.
-    pub fn plain(task: W) -> Held<W>
-        ensures { result ≡ task }
-    {
-        Held { task, place: None }
-    }
-
     /// A task, and where its value is found. NoMemory (4), with the task.
     pub fn placed(alloc: Global, task: W) -> Result<(Held<W>, Find<W>), W>
         ensures held { IfOk result (λ r. r.0 ≡ task) }
         ensures back { IfErr result (λ t. t ≡ task) }
     {
-        let Ok(ours) = Arc::new(alloc, OnceLock::new()) else {
-            return Err(task);
-        };
-        let Ok(theirs) = Arc::try_clone(&ours) else {
-            return Err(task);
-        };
-        let held = Held {
-            task,
-            place: Some(theirs),
-        };
-        Ok((held, Find { place: ours }))
-    }
-
-    /// The task.
-    pub fn into_task(self) -> W
-        ensures { result ≡ self }
-    {
-        let Held { task, place: _ } = self;
-        task
-    }
-
-    // Puts a value where its caller finds it.
-    fn put(&self, given: Given<W>) {
-        if let Some(place) = &self.place {
-            let _ = place.try_set(Mutex::new(Some(given)));
+        match oneshot(alloc) {
+            Ok((value, found)) => Ok((Held { task, value }, Find { value: found })),
+            Err(_) => Err(task),
         }
     }
 
-    /// Runs the task, and puts its value where its caller finds it.
+    /// The task, as a refusal or a stop hands it back.
+    pub fn into_task(self) -> W
+        ensures { result ≡ self }
+    {
+        let Held { task, value: _ } = self;
+        task
+    }
+
+    /// Runs the task, and sends its value to whoever finds it.
     pub fn run(&mut self, cancel: &CancelFlag) -> Outcome
         ensures { FitsPromise VOID result }
     {
         match self.task.run(cancel) {
             Ok(value) => {
-                self.put(Given { value });
+                let _ = self.value.send(Given { value });
                 Ok(0)
             }
             Err(code) => Err(code),
@@ -175,7 +150,7 @@ impl<T: Send + Drop, W: Task<Output = T> + Send> Job for Held<W> {
 /// Where a task's value is found, once it has run.
 #[derive(Drop)]
 pub struct Find<W: Task> {
-    place: Place<W>,
+    value: Receiver<Given<W>>,
 }
 
 impl<W: Task> Find<W> {
@@ -183,17 +158,7 @@ impl<W: Task> Find<W> {
     pub fn take<R: Wait>(&self, rt: &R) -> Option<W::Output>
         ensures { IfSome result (λ v. ∥ ((w : W) × W.gives w v) ∥₁) }
     {
-        let mut place = self.place.get()?.lock(rt);
-        let Given { value } = place.take()?;
+        let Given { value } = self.value.take(rt)?;
         Some(value)
     }
-}
-
-/// The future of a task, as a `Future<V>`: its number, and where its value is found.
-#[derive(Drop)]
-pub struct Ticket<W: Task> {
-    /// The task's number.
-    pub task: TaskId,
-    /// Where its value is found.
-    pub value: Find<W>,
 }

@@ -1,0 +1,383 @@
+//! A pool for the time of one call: it is opened, its callers live, it is shut down, waited for and closed.
+ghost use Rattle.std.specs.Prelude.{ℕ, ◌≡◌, ◌⊎◌, ◌<◌, ◌≤◌, List, [], length, suc, true, false, slice_index_or, vec_len, vec_capacity, IfOk, IfErr, OnOk, IsSome};
+ghost use Rattle.tp_record.specs.Terms.{without_end};
+ghost use Rattle.tp_book.specs.Reports.{TellsCount, TellsRecord};
+ghost use Rattle.tp_book.specs.PassView.{PassView};
+ghost use Rattle.tp_shared.specs.Closing.{Closes};
+ghost use Rattle.tp_life.specs.Lived.{IsLived, IsUnlived, IsUntold};
+
+use crate::calls::Life;
+use crate::desk::{Desk, starter};
+use crate::seats::Seat;
+use std::alloc::Global;
+use std::marker::Brand;
+use std::sync::{Arc, Wait};
+use std::thread::{self, JoinHandle};
+use std::time::Clock;
+use tp_book::opening::Unopened;
+use tp_book::passes::Pass;
+use tp_book::reports::{Report, Reporter, TallyReport};
+use tp_callbacks::jobs::Job;
+use tp_locked::names::PoolNaming;
+use tp_machine::machine::releases::Keeper;
+use tp_pool::closing::sole;
+use tp_pool::{CloseFault, PoolOf, Runtime};
+use tp_record::recorders::{Full, Tally};
+use tp_shared::edges::Edge;
+use tp_types::configs::Config;
+use tp_types::refusals::PoolError;
+use tp_values::tasks::{Held, Task};
+
+/// Opens a pool with these settings and objects, has so many callers live with it, each in a thread of its own, and ends it: it is
+/// shut down where no caller did so, it is waited for, and it is closed. So each job that it accepted has run, or was handed back
+/// where a caller stopped the pool. This is so whatever the callers come to, as of Java's `try (var pool = ..)` since Java 19. One
+/// caller lives in this thread. It answers what came of each life, in the order of the callers' numbers, and the report of the
+/// closed pool.
+///
+/// Callers may wait for one another. Where the system makes no thread for one of them, it lives in another one's thread, after it.
+/// Workers' threads are made by a thread of the pool's own.
+///
+/// BadSizes (1), BadCapacity (2), BadLimit (3) or KeepZero (11) where no pool has these settings; NoMemory (4) where there is none
+/// for the pool, its passes or its own thread, or BookFull (5) where there is no number for a pass: then nobody has lived. Else
+/// MissingPass (21) or TornRecord (22), which do not come as long as the pool's book is sound.
+pub fn with_pool<
+    V: Send + Drop + 'static,
+    W: Task<Output = V> + Send + 'static,
+    L: Life<Task = W> + Sync,
+    E: Edge + Send + Sync + 'static,
+    R: Runtime + Clock,
+>(
+    rt: &R,
+    alloc: Global,
+    settings: Config,
+    edge: E,
+    callers: u32,
+    life: &L,
+) -> Result<(Vec<L::Out>, Report), PoolError>
+    ensures outs { IfOk result (λ r. vec_len r.0 ≡ callers) }
+    ensures lived { IfOk result (λ r. IsLived TellsRecord true settings settings callers r.1) }
+    ensures refused { IfErr result (IsUnlived settings settings) }
+{
+    let unopened = match Unopened::new(alloc) {
+        Ok(unopened) => unopened,
+        Err(error) => return Err(error),
+    };
+    opened::<Brand, V, W, L, E, Full, R>(rt, alloc, unopened, settings, edge, callers, life)
+}
+
+/// As `with_pool`, with a pool that keeps no record, and forgets its plain tasks: it answers how many steps were made, the counters,
+/// and how many tasks have no fate.
+pub fn with_tally<
+    V: Send + Drop + 'static,
+    W: Task<Output = V> + Send + 'static,
+    L: Life<Task = W> + Sync,
+    E: Edge + Send + Sync + 'static,
+    R: Runtime + Clock,
+>(
+    rt: &R,
+    alloc: Global,
+    settings: Config,
+    edge: E,
+    callers: u32,
+    life: &L,
+) -> Result<(Vec<L::Out>, TallyReport), PoolError>
+    ensures outs { IfOk result (λ r. vec_len r.0 ≡ callers) }
+    ensures lived { IfOk result (λ r. IsLived TellsCount false settings (without_end settings) callers r.1) }
+    ensures refused { IfErr result (IsUnlived settings (without_end settings)) }
+{
+    let unopened = match Unopened::new(alloc) {
+        Ok(unopened) => unopened,
+        Err(error) => return Err(error),
+    };
+    opened::<Brand, V, W, L, E, Tally, R>(rt, alloc, unopened, settings, edge, callers, life)
+}
+
+// The same under a name of the pool's own.
+fn opened<
+    G: PoolNaming + Send + Sync + 'static,
+    V: Send + Drop + 'static,
+    W: Task<Output = V> + Send + 'static,
+    L: Life<Task = W> + Sync,
+    E: Edge + Send + Sync + 'static,
+    K: Reporter + Send + 'static,
+    R: Runtime + Clock,
+>(
+    rt: &R,
+    alloc: Global,
+    unopened: Unopened,
+    settings: Config,
+    edge: E,
+    callers: u32,
+    life: &L,
+) -> Result<(Vec<L::Out>, K::Report), PoolError>
+    requires named { unopened ≡ record { ledger = G.name; parts = G.parts; table = G.table } }
+    requires settings { settings ≡ G.config }
+    ensures outs { IfOk result (λ r. vec_len r.0 ≡ callers) }
+    ensures lived { IfOk result (λ r. IsLived K.told K.RECEIPTS settings (K.terms settings) callers r.1) }
+    ensures refused { IfErr result (IsUnlived settings (K.terms settings)) }
+{
+    let rooms = match make_rooms(alloc, callers) {
+        Ok(rooms) => rooms,
+        Err(error) => return Err(error),
+    };
+    match PoolOf::<G, Held<W>, E, K>::over(alloc, unopened, settings, edge) {
+        Ok((pool, pass)) => lived(rt, alloc, pool, pass, callers, rooms, life),
+        Err(error) => Err(error),
+    }
+}
+
+// What a life wants beside its pool: lists with room for what comes of its callers and for all passes, and the desk. The memory for it
+// is taken before the pool is made.
+#[derive(Drop)]
+struct Rooms<G: PoolNaming, O> {
+    outs: Vec<O>,
+    passes: Vec<Pass<G>>,
+    desk: Arc<Desk>,
+}
+
+// The rooms for so many callers. NoMemory (4).
+fn make_rooms<G: PoolNaming, O: Drop>(alloc: Global, callers: u32) -> Result<Rooms<G, O>, PoolError>
+    ensures outs { IfOk result (λ r. (r.outs.items ≡ []) × (callers ≤ vec_capacity r.outs)) }
+    ensures passes { IfOk result (λ r. (r.passes.items ≡ []) × (suc callers ≤ vec_capacity r.passes)) }
+    ensures refused { IfErr result (λ e. e ≡ PoolError.NoMemory) }
+{
+    let most = callers as usize;
+    Ok(Rooms {
+        outs: Vec::with_capacity(alloc, most)?,
+        passes: Vec::with_capacity(alloc, most + 1)?,
+        desk: Arc::new(alloc, Desk::new())?,
+    })
+}
+
+// A caller: its number, its seat, and what came of its life.
+#[derive(Drop)]
+struct Caller<G: PoolNaming, W: Task, H, E, K: Keeper, O> {
+    who: u32,
+    seat: Seat<G, W, H, E, K>,
+    out: Option<O>,
+}
+
+// The lives with a new pool, each with a pass that is split from its first one, by which it is ended.
+fn lived<
+    G: PoolNaming + Send + Sync + 'static,
+    V: Send + Drop + 'static,
+    W: Task<Output = V> + Send + 'static,
+    L: Life<Task = W> + Sync,
+    E: Edge + Send + Sync + 'static,
+    K: Reporter + Send + 'static,
+    R: Runtime + Clock,
+>(
+    rt: &R,
+    alloc: Global,
+    pool: PoolOf<G, Held<W>, E, K>,
+    pass: Pass<G>,
+    callers: u32,
+    rooms: Rooms<G, L::Out>,
+    life: &L,
+) -> Result<(Vec<L::Out>, K::Report), PoolError>
+    requires outs { (rooms.outs.items ≡ []) × (callers ≤ vec_capacity rooms.outs) }
+    requires passes { (rooms.passes.items ≡ []) × (suc callers ≤ vec_capacity rooms.passes) }
+    ensures outs { IfOk result (λ r. vec_len r.0 ≡ callers) }
+    ensures lived { IfOk result (λ r. IsLived K.told K.RECEIPTS G.config (K.terms G.config) callers r.1) }
+    ensures refused { IfErr result (IsUnlived G.config (K.terms G.config)) }
+{
+    let Rooms { outs, passes, desk } = rooms;
+    let mut last = pass;
+    let Ok(pool) = Arc::new(alloc, pool) else {
+        return Err(PoolError::NoMemory);
+    };
+    let seated = match seats(rt, alloc, &pool, &desk, &mut last, callers) {
+        Ok(seated) => seated,
+        Err(error) => return Err(error),
+    };
+    let Some(starter) = staff(rt, &pool, &desk) else {
+        return Err(PoolError::NoMemory);
+    };
+    let (outs, passes) = gathered(rt, life, seated, outs, passes);
+    desk.close(rt);
+    starter.join(rt);
+    match end(rt, sole(rt, pool), passes, last) {
+        Ok(report) => Ok((outs, report)),
+        Err(error) => Err(error),
+    }
+}
+
+// A seat for each caller, with a pass that is split from this one, which then has room for all receipts of the pool's end. NoMemory (4)
+// or BookFull (5).
+fn seats<G: PoolNaming, W: Task, H: Wait + Copy, E: Edge, K: Keeper, O: Drop>(
+    rt: &H,
+    alloc: Global,
+    pool: &Arc<PoolOf<G, Held<W>, E, K>>,
+    desk: &Arc<Desk>,
+    first: &mut Pass<G>,
+    callers: u32,
+) -> Result<Vec<Caller<G, W, H, E, K, O>>, PoolError>
+    ensures callers { IfOk result (λ v. vec_len v ≡ callers) }
+    ensures room { OnOk result (4 ≤ first.new.room) }
+    ensures refused { IfErr result (λ e. (e ≡ PoolError.NoMemory) ⊎ (e ≡ PoolError.BookFull)) }
+{
+    if first.reserve(4).is_err() {
+        return Err(PoolError::NoMemory);
+    }
+    let mut seated = Vec::new(alloc);
+    for who in 0..callers {
+        let pass = match pool.split_pass(rt, first) {
+            Ok(pass) => pass,
+            Err(error) => return Err(error),
+        };
+        let (Ok(theirs), Ok(at)) = (Arc::try_clone(pool), Arc::try_clone(desk)) else {
+            return Err(PoolError::NoMemory);
+        };
+        let seat = Seat {
+            pass,
+            pool: theirs,
+            desk: at,
+            host: *rt,
+            alloc,
+        };
+        seated.push(Caller {
+            who,
+            seat,
+            out: None,
+        })?;
+    }
+    Ok(seated)
+}
+
+// Starts the pool's own thread, which makes its workers' threads. None where there is no memory or no thread.
+fn staff<
+    G: PoolNaming + Send + Sync + 'static,
+    J: Job + 'static,
+    E: Edge + Send + Sync + 'static,
+    K: Keeper + Send + 'static,
+    R: Runtime,
+>(rt: &R, pool: &Arc<PoolOf<G, J, E, K>>, desk: &Arc<Desk>) -> Option<JoinHandle<()>> {
+    let theirs = Arc::try_clone(pool).ok()?;
+    let at = Arc::try_clone(desk).ok()?;
+    let host = *rt;
+    let work = move || starter(host, &*theirs, &*at);
+    thread::Builder::new().spawn(rt, work).ok()
+}
+
+// What comes of the callers' lives, and their passes, in these lists, which have room for them.
+fn gathered<
+    G: PoolNaming + Send + Sync + 'static,
+    V: Send + Drop + 'static,
+    W: Task<Output = V> + Send + 'static,
+    L: Life<Task = W> + Sync,
+    E: Edge + Send + Sync + 'static,
+    K: Reporter + Send + 'static,
+    R: Runtime + Clock,
+>(
+    rt: &R,
+    life: &L,
+    callers: Vec<Caller<G, W, R, E, K, L::Out>>,
+    outs: Vec<L::Out>,
+    passes: Vec<Pass<G>>,
+) -> (Vec<L::Out>, Vec<Pass<G>>)
+    requires outs { (outs.items ≡ []) × (vec_len callers ≤ vec_capacity outs) }
+    requires passes { (passes.items ≡ []) × (vec_len callers ≤ vec_capacity passes) }
+    ensures outs { vec_len result.0 ≡ vec_len callers }
+    ensures callers { vec_len result.1 ≡ vec_len callers }
+    ensures room { vec_capacity result.1 ≡ vec_capacity passes }
+{
+    let mut callers = callers;
+    live_all(rt, life, callers.as_mut_slice());
+    parted(callers, outs, passes)
+}
+
+// Has each caller live, in a thread of its own where one can be made.
+fn live_all<
+    G: PoolNaming + Send + Sync + 'static,
+    V: Send + Drop + 'static,
+    W: Task<Output = V> + Send + 'static,
+    L: Life<Task = W> + Sync,
+    E: Edge + Send + Sync + 'static,
+    K: Reporter + Send + 'static,
+    R: Runtime + Clock,
+>(rt: &R, life: &L, callers: &mut [Caller<G, W, R, E, K, L::Out>])
+    ensures many { length callers.new ≡ length callers.old }
+    ensures lived { (i : ℕ) (d : _) → i < length callers.new → IsSome (slice_index_or callers.new i d).out }
+{
+    let threads = callers.len().max(1);
+    let live = |_: usize, caller: &mut Caller<G, W, R, E, K, L::Out>|
+        ensures { IsSome caller.exit.now.out }
+    {
+        caller.out = Some(life.live(&mut caller.seat, caller.who));
+    };
+    thread::for_each_mut(rt, callers, threads, &live);
+}
+
+// Keeps what came of a life, in a list that has room for it.
+fn keep<O: Drop>(outs: &mut Vec<O>, out: Option<O>)
+    requires { vec_len outs.old < vec_capacity outs.old }
+    ensures kept { IsSome out → vec_len outs.new ≡ suc (vec_len outs.old) }
+    ensures room { vec_capacity outs.new ≡ vec_capacity outs.old }
+{
+    if let Some(out) = out {
+        outs.push_reserved(out);
+    }
+}
+
+// What came of callers who have lived, and their passes, in these lists, which have room for them.
+fn parted<G: PoolNaming, W: Task, H: Wait + Copy, E: Edge, K: Keeper, O: Drop>(
+    callers: Vec<Caller<G, W, H, E, K, O>>,
+    outs: Vec<O>,
+    passes: Vec<Pass<G>>,
+) -> (Vec<O>, Vec<Pass<G>>)
+    requires outs { (outs.items ≡ []) × (vec_len callers ≤ vec_capacity outs) }
+    requires passes { (passes.items ≡ []) × (vec_len callers ≤ vec_capacity passes) }
+    requires lived { (i : ℕ) (d : _) → i < length callers.items → IsSome (slice_index_or callers.items i d).out }
+    ensures outs { vec_len result.0 ≡ vec_len callers }
+    ensures callers { vec_len result.1 ≡ vec_len callers }
+    ensures room { vec_capacity result.1 ≡ vec_capacity passes }
+{
+    let mut outs = outs;
+    let mut passes = passes;
+    for caller in callers {
+        let Caller { who: _, seat, out } = caller;
+        keep(&mut outs, out);
+        passes.push_reserved(seat.into_pass());
+    }
+    (outs, passes)
+}
+
+// Ends the pool with this pass, and closes it with this and the callers' passes.
+fn end<
+    G: PoolNaming + Send + Sync + 'static,
+    J: Job + 'static,
+    E: Edge + Send + Sync + 'static,
+    K: Reporter + Send + 'static,
+    R: Runtime,
+>(
+    rt: &R,
+    pool: PoolOf<G, J, E, K>,
+    passes: Vec<Pass<G>>,
+    last: Pass<G>,
+) -> Result<K::Report, PoolError>
+    requires room { 4 ≤ last.room }
+    requires place { vec_len passes < vec_capacity passes }
+    ensures report { IfOk result (λ r. (ps : List PassView) × (length ps ≡ suc (length passes.items)) × Closes K.told K.RECEIPTS G.config (K.terms G.config) ps r) }
+    ensures untold { IfErr result (IsUntold (K.terms G.config)) }
+{
+    let mut last = last;
+    let mut passes = passes;
+    pool.shut(rt, &mut last);
+    if let Err(error) = pool.await_shut(rt, &mut last) {
+        pool.leave(rt);
+        return Err(error);
+    }
+    passes.push_reserved(last);
+    match pool.close(rt, passes) {
+        Ok(report) => Ok(report),
+        Err(fault) => {
+            let CloseFault {
+                error,
+                pool,
+                passes: _,
+            } = fault;
+            pool.leave(rt);
+            Err(error)
+        }
+    }
+}
