@@ -1,5 +1,5 @@
 -- What is written of a judgment, and what a refused audit leaves.
-use Rattle.std.proofs.Common.{◌≡◌, ◌≢◌, Bool, false, ◌⊎◌, ◌<◌, ◌≤◌, ℕ, List, [], ◌++◌, length, reverse, Option, Some, None, Result, Ok, Err, IfErr, IfOk, IfSome, IsOk, IsOkUnless, unwrap_or, refl, sym, ◌∙◌, ap, subst, arith, inl, inr}
+use Rattle.std.proofs.Common.{◌≡◌, ◌≢◌, Bool, true, false, ◌⊎◌, ◌<◌, ◌≤◌, ℕ, List, [], ◌++◌, length, reverse, Option, Some, None, Result, Ok, Err, IfErr, IfOk, IfSome, IsOk, IsOkUnless, unwrap_or, refl, sym, ◌∙◌, ap, subst, arith, inl, inr}
 use Rattle.std.proofs.KnownBytes.{Keeps-refl}
 use Rattle.tp_types.specs.declared.configs.Config.{Config}
 use Rattle.tp_types.specs.declared.refusals.PoolError.{PoolError}
@@ -22,7 +22,7 @@ use Rattle.tp_record_text.specs.declared.reading.Body.{Body}
 use Rattle.tp_record_text.specs.declared.versions.Version.{Version}
 use Rattle.tp_record_text.specs.ReadRecord.{IsRefusedText}
 use Rattle.tp_record_text.specs.Reading.{IsTaken, OfReader}
-use Rattle.tp_record_text.proofs.LinesRead.{refused_inner}
+use Rattle.tp_record_text.proofs.LinesRead.{refused_inner, whole_text}
 use Rattle.tp_auditor.specs.Audited.{settings}
 use Rattle.tp_audit_text.specs.declared.judging.Judging.{Judging}
 use Rattle.tp_audit_text.specs.declared.judgments.Judgment.{Judgment}
@@ -75,25 +75,25 @@ told j es = IsToldBy j.auditor j.flaw es
 abbrev pub JudgesAll : Body Judging → Result Judgment PoolError → Type 0
 JudgesAll b r = IfOk r (λ j. (es : List Entry) → IsToldBy b.taker.auditor b.taker.flaw es → b.entries ≡ length es → IsJudged (settings b.taker.auditor) es j.legal j.lines.items)
 
-pub judged_text : (text : List ℕ) (b : Body Judging) (r : Result Judgment PoolError) → IsTaken about_pool told b text → JudgesAll b r → IsOkUnless r NoMemory → JudgesText text r
-judged_text text b (Ok j) is judged memory = record {
+pub judged_text : (text : List ℕ) (b : Body Judging) (r : Result Judgment PoolError) → IsTaken about_pool told b text → b.is_over ≡ true → JudgesAll b r → IsOkUnless r NoMemory → JudgesText text r
+judged_text text b (Ok j) is over judged memory = record {
   version = b.version;
   config = is.config;
   entries = is.entries;
   has_text = is.has_text;
   accepted = is.accepted;
-  is_text = is.is_text;
+  is_text = whole_text about_pool told b text is over;
   judged = subst (λ x. IsJudged x is.entries j.legal j.lines.items) is.about_pool (judged is.entries is.taken is.counted);
 }
-judged_text text b (Err e) is judged memory = inl memory
+judged_text text b (Err e) is over judged memory = inl memory
 
 -- what is judged of a text is judged of what each reader gives that gave it
 pub judged_from : (input : Option (List ℕ)) (text : List ℕ) (r : Result Judgment PoolError) → IfSome input (λ xs. text ≡ xs) → JudgesText text r → JudgesFrom input r
 judged_from input text (Ok j) known is = (text, known, is)
 judged_from input text (Err e) known is = inr (text, known, is)
 
-pub judged_stream : (input : Option (List ℕ)) (b : Body Judging) (r : Result Judgment PoolError) → OfReader input (IsTaken about_pool told b) → JudgesAll b r → IsOkUnless r NoMemory → JudgesFrom input r
-judged_stream input b r of judged memory = judged_from input of.0 r of.1 (judged_text of.0 b r of.2 judged memory)
+pub judged_stream : (input : Option (List ℕ)) (b : Body Judging) (r : Result Judgment PoolError) → OfReader input (IsTaken about_pool told b) → b.is_over ≡ true → JudgesAll b r → IsOkUnless r NoMemory → JudgesFrom input r
+judged_stream input b r of over judged memory = judged_from input of.0 r of.1 (judged_text of.0 b r of.2 over judged memory)
 
 -- a judgment brings no refusal of a reader or a writer
 pub judged_inner : (r : Result Judgment PoolError) → IsOkUnless r NoMemory → outer_err r ≡ false

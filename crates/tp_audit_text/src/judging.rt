@@ -31,11 +31,18 @@ impl Taker for Judging {
     ghost use Rattle.tp_auditor.specs.Audited.{settings};
     ghost use Rattle.tp_audit_text.specs.Judging.{IsToldBy};
 
-    ghost about = { λ j v c. settings j.auditor ≡ c };
+    type Question = ();
+
+    ghost about = { λ _ j v c. settings j.auditor ≡ c };
 
     ghost took = { λ j es. IsToldBy j.auditor j.flaw es };
 
-    fn new(alloc: Global, _version: Version, config: &Config) -> Result<Judging, PoolError> {
+    fn new(
+        alloc: Global,
+        _question: &(),
+        _version: Version,
+        config: &Config,
+    ) -> Result<Judging, PoolError> {
         match Auditor::new(alloc, config) {
             Ok(auditor) => Ok(Judging {
                 alloc,

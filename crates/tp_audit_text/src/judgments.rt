@@ -12,7 +12,7 @@ use std::alloc::{AllocError, Global};
 use std::io::Read;
 use tp_audit::summary::Summary;
 use tp_auditor::auditor::Auditor;
-use tp_record_text::reading::{RefusedLine, read_stream, read_whole};
+use tp_record_text::reading::{Ending, RefusedLine, read_stream, read_whole};
 use tp_text::ends::{write_counts, write_state};
 use tp_text::watched::WatchedReader;
 use tp_types::refusals::PoolError;
@@ -102,7 +102,7 @@ pub fn judge_text(alloc: Global, text: &[u8]) -> Result<Judgment, PoolError>
     requires { length text.now ≤ 1048576 }
     ensures { JudgesText text.now result }
 {
-    match read_whole::<Judging>(alloc, text) {
+    match read_whole::<Judging>(alloc, &(), text) {
         Ok(body) => judge(alloc, body.taker, body.entries),
         Err(refusal) => Err(refusal),
     }
@@ -119,7 +119,7 @@ pub fn judge_stream<R: Read>(
     ensures judges { JudgesFrom (R.remaining (source reader.old)) result }
     ensures tells_reader { TellsReader reader.old result reader.new }
 {
-    match read_stream::<R, Judging>(alloc, reader, refused) {
+    match read_stream::<R, Judging>(alloc, &(), Ending::Whole, reader, refused) {
         Ok(read) => judge(alloc, read.taker, read.entries),
         Err(refusal) => Err(refusal),
     }

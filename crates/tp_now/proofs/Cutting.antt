@@ -46,6 +46,11 @@ pub short_grows : (u : Option ℕ) (e : Entry) (h : List Entry) → is_full u (l
 short_grows None e h short = refl
 short_grows (Some n) e h short = short_next n e h (grind (arith, nat_tests))
 
+-- what has not reached its number is the whole
+pub all_of : (u : Option ℕ) (h : List Entry) → is_full u (length (first_of u h)) ≡ false → first_of u h ≡ h
+all_of None h short = refl
+all_of (Some n) h short = whole n h (few n h (grind (arith, nat_tests)))
+
 -- tables that are full stand at the next front too; those that are not stand there once they were told the next entry
 pub stays : (c : Config) (u : Option ℕ) (t : Tables) (e : Entry) (h : List Entry) → StandsAt c (first_of u h) t → is_full u t.steps ≡ true → StandsAt c (first_of u (e ∷ h)) t
 stays c u t e h at full =

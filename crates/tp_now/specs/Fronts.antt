@@ -1,5 +1,5 @@
 -- A record that is followed up to an entry.
-use Rattle.std.specs.Prelude.{ℕ, ◌≡◌, Bool, false, nat_le, List, [], ◌∷◌, Option, Some, None, length, nat_lt, if◌then◌else◌}
+use Rattle.std.specs.Prelude.{ℕ, ◌≡◌, Bool, true, false, nat_le, List, [], ◌∷◌, Option, Some, None, length, nat_lt, if◌then◌else◌}
 use Rattle.tp_record.specs.declared.entries.Entry.{Entry}
 use Rattle.tp_types.specs.declared.configs.Config.{Config}
 use Rattle.tp_auditor.specs.Audited.{Judge, Judged, settings}
@@ -16,6 +16,11 @@ first_of (Some n) (e ∷ h) = if nat_lt (length h) n then e ∷ h else first_of 
 abbrev pub is_full : Option ℕ → ℕ → Bool
 is_full None count = false
 is_full (Some n) count = nat_le n count
+
+-- so many entries have that of the number, where one is given
+abbrev pub has_entry : Option ℕ → ℕ → Bool
+has_entry None count = true
+has_entry (Some n) count = nat_le n count
 
 -- what a contract sees of a record that is followed up to an entry
 pub record Followed : Type 0 where

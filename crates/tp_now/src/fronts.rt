@@ -7,7 +7,7 @@ ghost use Rattle.tp_record.specs.State as states;
 ghost use Rattle.tp_record.specs.Step as steps;
 ghost use Rattle.tp_auditor.specs.Tables.{shown, undone};
 ghost use Rattle.tp_times.specs.Since.{Timed};
-ghost use Rattle.tp_now.specs.Fronts.{first_of, is_full};
+ghost use Rattle.tp_now.specs.Fronts.{first_of, has_entry, is_full};
 
 use std::alloc::Global;
 use std::marker::Model;
@@ -75,6 +75,16 @@ impl Front {
         }
     }
 
+    /// Whether the record has the entry up to which it is followed, if there is one.
+    pub fn has_entry(&self) -> bool
+        ensures { result ≡ has_entry self.now.until self.now.judge.tables.steps }
+    {
+        match self.until {
+            Some(_) => self.is_reached(),
+            None => true,
+        }
+    }
+
     /// Tells the next entry of the record: one behind the entry up to which it is followed changes nothing. One that the step does
     /// not give after those before it is a flaw, with its number, from 1; want of memory is NoMemory (4). After either all is as
     /// it was.
@@ -82,7 +92,7 @@ impl Front {
     pub fn tell(&mut self, entry: &Entry) -> Result<(), Flaw>
         ensures told { OnOk result ((h : List Told) → Follows self.old h → Follows self.new (entry.now ∷ h)) }
         ensures flaw { (n : ℕ) → result ≡ Err (Flaw.At n) → (h : List Told) → Follows self.old h
-            → (n ≡ suc (length (first_of self.old.until h))) × (steps.Gives (settings self.old.judge) (states.state (settings self.old.judge) (first_of self.old.until h)) entry.now.ask entry.now.did → ⊥) }
+            → (first_of self.old.until h ≡ h) × (n ≡ suc (length (first_of self.old.until h))) × (steps.Gives (settings self.old.judge) (states.state (settings self.old.judge) (first_of self.old.until h)) entry.now.ask entry.now.did → ⊥) }
         ensures same { OnErr result ((h : List Told) → Follows self.old h → Follows self.new h) }
         ensures config { self.new.config ≡ self.old.config }
         ensures settings { settings self.new.judge ≡ settings self.old.judge }
@@ -116,6 +126,13 @@ impl Front {
         ensures timed { (h : List Told) → Follows self.now h → Timed (first_of self.now.until h) result.now }
     {
         &self.times
+    }
+
+    /// The auditor that was told the entries up to there.
+    pub fn auditor(&self) -> &Auditor
+        ensures { result.now ≡ self.now.judge }
+    {
+        &self.auditor
     }
 
     /// What the entries up to there say of the pool.

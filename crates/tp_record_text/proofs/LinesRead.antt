@@ -187,20 +187,27 @@ module _ {T : Type 0} (about : T → Version → Config → Type 0) (took : T �
         refused = refuses (lines ++ takes.more) there;
       }
 
-  -- the whole text
-  pub whole_read : (b : Body T) (text left : List ℕ) (lines : List (List ℕ)) → HasRead about took b lines → IsLines text lines left → b.is_over ≡ true → left ≡ [] → IsTaken about took b text
-  whole_read b text left lines is are over none = record {
+  -- a text whose lines were read, where nothing is left behind a record that is over
+  pub taken_here : (b : Body T) (text left : List ℕ) (lines : List (List ℕ)) → HasRead about took b lines → IsLines text lines left → (b.is_over ≡ true → left ≡ []) → IsTaken about took b text
+  taken_here b text left lines is are none = record {
     config = is.config;
     entries = is.entries;
+    left = left;
     about_pool = is.about_pool;
     taken = is.taken;
     counted = is.counted;
     has_text = is.has_text;
     accepted = is.accepted;
-    is_text =
-        are.whole ∙ ap (λ x. flat_map ended lines ++ x) none ∙ append-nil (flat_map ended lines)
-        ∙ ap (flat_map ended) (is.lines_read ∙ ap (lines_to b.version is.config is.entries) over);
+    is_text = are.whole ∙ ap (λ ls. flat_map ended ls ++ left) is.lines_read;
+    is_part = are.last;
+    none_left = none;
   }
+
+  -- the text of a record that is over
+  pub whole_text : (b : Body T) (text : List ℕ) (is : IsTaken about took b text) → b.is_over ≡ true → text ≡ record_text b.version is.config is.entries
+  whole_text b text is over =
+      is.is_text ∙ ap (λ x. flat_map ended (lines_to b.version is.config is.entries b.is_over) ++ x) (is.none_left over) ∙ append-nil (flat_map ended (lines_to b.version is.config is.entries b.is_over))
+      ∙ ap (λ o. flat_map ended (lines_to b.version is.config is.entries o)) over
 
   no_record : (r : Reading T) (lines : List (List ℕ)) (left : List ℕ) → IsRead about took r lines → ((b : Body T) → r ≡ reading.Opened b → b.is_over ≡ true → left ≡ [] → ⊥)
       → (v : Version) (c : Config) (es : List Entry) → HasText v c es → lines ≡ record_lines v c es → left ≡ [] → ⊥
@@ -295,12 +302,13 @@ refused_whole text rest e short stops =
     told (inr refused) = refused
 
 -- a record that took its entries
-pub taken_record : (text : List ℕ) (b : Body Record) → IsTaken (λ (r : Record) v c. (r.version ≡ v) × (r.config ≡ c)) (λ (r : Record) es. r.entries.items ≡ es) b text → ReadsRecord text (Ok b.taker)
-taken_record text b is =
+pub taken_record : (text : List ℕ) (b : Body Record) → IsTaken (λ (r : Record) v c. (r.version ≡ v) × (r.config ≡ c)) (λ (r : Record) es. r.entries.items ≡ es) b text → b.is_over ≡ true → ReadsRecord text (Ok b.taker)
+taken_record text b is over =
     let r : Record = b.taker in
     subst (λ v. HasText v r.config r.entries.items × (checked r.config ≡ Ok tt) × (text ≡ record_text v r.config r.entries.items)) (sym is.about_pool.0)
     (subst (λ c. HasText b.version c r.entries.items × (checked c ≡ Ok tt) × (text ≡ record_text b.version c r.entries.items)) (sym is.about_pool.1)
-    (subst (λ es. HasText b.version is.config es × (checked is.config ≡ Ok tt) × (text ≡ record_text b.version is.config es)) (sym is.taken) (is.has_text, is.accepted, is.is_text)))
+    (subst (λ es. HasText b.version is.config es × (checked is.config ≡ Ok tt) × (text ≡ record_text b.version is.config es)) (sym is.taken)
+    (is.has_text, is.accepted, whole_text (λ (r : Record) v c. (r.version ≡ v) × (r.config ≡ c)) (λ (r : Record) es. r.entries.items ≡ es) b text is over)))
 
 -- a stream that a reader gives
 

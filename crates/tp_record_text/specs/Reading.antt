@@ -9,6 +9,8 @@ use Rattle.tp_record.specs.declared.entries.Entry.{Entry}
 use Rattle.tp_text.specs.Lines.{HasNoLineFeed, IsLines, ended}
 use Rattle.tp_record_text.specs.declared.reading.Body.{Body}
 use Rattle.tp_record_text.specs.declared.reading.Reading.{Reading}
+use Rattle.tp_record_text.specs.declared.reading.Ending.{Ending}
+use Rattle.tp_record_text.specs.declared.reading.Ending.TheVariants as ending
 use Rattle.tp_record_text.specs.declared.reading.Reading.TheVariants as reading
 use Rattle.tp_record_text.specs.declared.reading.Stream.{Stream}
 use Rattle.tp_record_text.specs.declared.versions.Version.{Version}
@@ -19,6 +21,11 @@ use Rattle.tp_record_text.specs.RecordText.{FitsConfig, HasText, entry_texts, he
 abbrev pub lines_to : Version → Config → List Entry → Bool → List (List ℕ)
 lines_to v c es false = header v ∷ pool_line c ∷ entry_texts 1 es
 lines_to v c es true = record_lines v c es
+
+-- a text that may end so does, where this says whether the record is over at its end
+abbrev pub EndsSo : Ending → Bool → Type 0
+EndsSo ending.Whole over = over ≡ true
+EndsSo ending.Anywhere over = Unit {0}
 
 -- there are more lines than have numbers
 abbrev pub AreTooMany : List (List ℕ) → Type 0
@@ -81,16 +88,19 @@ module _ {T : Type 0} (about : T → Version → Config → Type 0) (took : T �
   IsRead (reading.Formed v) lines = lines ≡ header v ∷ []
   IsRead (reading.Opened b) lines = HasRead b lines
 
-  -- a text is that of a record, all of whose entries were taken
+  -- a text is that of a record, or goes on as one and is cut off in some line, and all its entries were taken
   pub record IsTaken (b : Body T) (text : List ℕ) : Type 0 where
     pub config : Config
     pub entries : List Entry
+    pub left : List ℕ
     pub about_pool : about b.taker b.version config
     pub taken : took b.taker entries
     pub counted : b.entries ≡ length entries
     pub has_text : HasText b.version config entries
     pub accepted : checked config ≡ Ok tt
-    pub is_text : text ≡ record_text b.version config entries
+    pub is_text : text ≡ flat_map ended (lines_to b.version config entries b.is_over) ++ left
+    pub is_part : HasNoLineFeed left
+    pub none_left : b.is_over ≡ true → left ≡ []
 
   -- these bytes were read, the last of which are no whole line yet
   pub record HasStreamed (s : Stream T) (bytes : List ℕ) : Type 0 where

@@ -7,7 +7,7 @@ ghost use Rattle.tp_text.specs.Lines.{HasNoLineFeed, IsLines, ended};
 ghost use Rattle.tp_text.specs.Watching.{TellsReader, source};
 ghost use Rattle.tp_record_text.specs.ReadRecord.{IsRefusedText, IsWrongAt};
 ghost use Rattle.tp_record_text.specs.RecordText.{FitsConfig, header, pool_line};
-ghost use Rattle.tp_record_text.specs.Reading.{AreTooMany, HasRead, HasStreamed, IsRead, IsRefusedBy, IsTaken, OfReader, RefusesLine, StopsAt};
+ghost use Rattle.tp_record_text.specs.Reading.{AreTooMany, EndsSo, HasRead, HasStreamed, IsRead, IsRefusedBy, IsTaken, OfReader, RefusesLine, StopsAt};
 
 use crate::records::{BodyLine, read_body_line, read_pool_line};
 use crate::versions::{Version, version_of};
@@ -37,25 +37,42 @@ pub trait Taker: Sized {
     ghost use Rattle.tp_record.specs.declared.entries.Entry.{Entry as Told};
     ghost use Rattle.tp_record_text.specs.declared.versions.Version.{Version as Form};
 
-    /// The text is of this form, and the pool was made with this configuration.
-    ghost about: { Self → Form → Settings → Type 0 };
+    /// What it is asked of the record.
+    type Question;
+
+    /// It is asked this, the text is of this form, and the pool was made with this configuration.
+    ghost about: { Self.Question → Self → Form → Settings → Type 0 };
 
     /// It took these entries, the oldest first.
     ghost took: { Self → List Told → Type 0 };
 
     /// One that took none, of the text of a pool that was made with `config`. Want of memory is NoMemory (4).
-    fn new(alloc: Global, version: Version, config: &Config) -> Result<Self, PoolError>
+    fn new(
+        alloc: Global,
+        question: &Self::Question,
+        version: Version,
+        config: &Config,
+    ) -> Result<Self, PoolError>
         requires { IsConfig config.now }
         ensures none { IfOk result (λ t. took t []) }
-        ensures about { IfOk result (λ t. about t version config.now) }
+        ensures about { IfOk result (λ t. about question.now t version config.now) }
         ensures refused { IsOkUnless result PoolError.NoMemory };
 
     /// Takes the next entry. Want of memory is NoMemory (4).
     fn take(&mut self, entry: &Entry) -> Result<(), PoolError>
         requires { (es : List Told) × took self.old es }
         ensures took { OnOk result ((es : List Told) → took self.old es → took self.new (es ++ entry.now ∷ [])) }
-        ensures about { (v : Form) (c : Settings) → about self.old v c → about self.new v c }
+        ensures about { (q : Self.Question) (v : Form) (c : Settings) → about q self.old v c → about q self.new v c }
         ensures refused { IsOkUnless result PoolError.NoMemory };
+}
+
+/// Where a text may end.
+#[derive(Clone, Copy, Debug, PartialEq, Eq)]
+pub enum Ending {
+    /// Behind the record's last line.
+    Whole,
+    /// There, or anywhere between the pool line and it: the text may be cut off.
+    Anywhere,
 }
 
 /// What was read behind a pool line.
@@ -85,14 +102,19 @@ pub enum Reading<T> {
 impl<T: Taker + Drop> Body<T> {
     /// The body behind the pool line of this configuration: BadSizes (1), BadCapacity (2), BadLimit (3), KeepZero (11),
     /// NoMemory (4).
-    fn new(alloc: Global, version: Version, config: &Config) -> Result<Body<T>, PoolError>
-        ensures read { IfOk result (λ b. FitsConfig version config.now → HasRead T.about T.took b (header version ∷ pool_line config.now ∷ [])) }
+    fn new(
+        alloc: Global,
+        question: &T::Question,
+        version: Version,
+        config: &Config,
+    ) -> Result<Body<T>, PoolError>
+        ensures read { IfOk result (λ b. FitsConfig version config.now → HasRead (T.about question.now) T.took b (header version ∷ pool_line config.now ∷ [])) }
         ensures refused { IfErr result (λ e. (checked config.now ≡ Err e) ⊎ (e ≡ PoolError.NoMemory)) }
     {
         if let Err(refusal) = config.check() {
             return Err(refusal);
         }
-        let taker = match T::new(alloc, version, config) {
+        let taker = match T::new(alloc, question, version, config) {
             Ok(taker) => taker,
             Err(refusal) => return Err(refusal),
         };
@@ -106,9 +128,9 @@ impl<T: Taker + Drop> Body<T> {
 
     /// The number of the next line. ReadFailed (25) where no line has it.
     fn next_number(&self) -> Result<u32, PoolError>
-        ensures number { IfOk result (λ n. (lines : List (List ℕ)) → HasRead T.about T.took self.now lines → n ≡ suc (length lines)) }
+        ensures number { IfOk result (λ n. (q : T.Question) (lines : List (List ℕ)) → HasRead (T.about q) T.took self.now lines → n ≡ suc (length lines)) }
         ensures few { OnOk result (self.now.entries + 4 < 2 ^ 32) }
-        ensures many { IfErr result (λ e. (e ≡ PoolError.ReadFailed) × ((lines : List (List ℕ)) → HasRead T.about T.took self.now lines → AreTooMany lines)) }
+        ensures many { IfErr result (λ e. (e ≡ PoolError.ReadFailed) × ((q : T.Question) (lines : List (List ℕ)) → HasRead (T.about q) T.took self.now lines → AreTooMany lines)) }
     {
         if self.entries >= TOO_MANY {
             return Err(PoolError::ReadFailed);
@@ -121,12 +143,16 @@ impl<T: Taker + Drop> Body<T> {
     }
 
     /// The body, at the text's end, as `Reading::finish` gives it.
-    fn finish(self, left: &[u8]) -> Result<Body<T>, PoolError>
+    fn finish(self, left: &[u8], ending: Ending) -> Result<Body<T>, PoolError>
         requires { HasNoLineFeed left.now }
-        ensures whole { IfOk result (λ b. (text : List ℕ) (lines : List (List ℕ)) → HasRead T.about T.took self lines → IsLines text lines left.now → IsTaken T.about T.took b text) }
-        ensures refused { IfErr result (λ e. (text : List ℕ) (lines : List (List ℕ)) → HasRead T.about T.took self lines → IsLines text lines left.now
+        ensures taken { IfOk result (λ b. (q : T.Question) (text : List ℕ) (lines : List (List ℕ)) → HasRead (T.about q) T.took self lines → IsLines text lines left.now → IsTaken (T.about q) T.took b text) }
+        ensures ends { IfOk result (λ b. EndsSo ending b.is_over) }
+        ensures refused { IfErr result (λ e. (q : T.Question) (text : List ℕ) (lines : List (List ℕ)) → HasRead (T.about q) T.took self lines → IsLines text lines left.now
             → ((e ≡ PoolError.ReadFailed) × AreTooMany lines) ⊎ IsWrongAt text e) }
     {
+        if ending == Ending::Anywhere && !self.is_over {
+            return Ok(self);
+        }
         let number = match self.next_number() {
             Ok(number) => number,
             Err(refusal) => return Err(refusal),
@@ -140,9 +166,9 @@ impl<T: Taker + Drop> Body<T> {
 
     /// Takes the next line.
     fn take(&mut self, line: &[u8]) -> Result<(), PoolError>
-        requires { (lines : List (List ℕ)) × HasRead T.about T.took self.old lines }
-        ensures read { OnOk result ((lines : List (List ℕ)) → HasRead T.about T.took self.old lines → HasRead T.about T.took self.new (lines ++ line.now ∷ [])) }
-        ensures refused { IfErr result (λ e. (lines : List (List ℕ)) → HasRead T.about T.took self.old lines → RefusesLine lines line.now e) }
+        requires { (q : T.Question) × (lines : List (List ℕ)) × HasRead (T.about q) T.took self.old lines }
+        ensures read { OnOk result ((q : T.Question) (lines : List (List ℕ)) → HasRead (T.about q) T.took self.old lines → HasRead (T.about q) T.took self.new (lines ++ line.now ∷ [])) }
+        ensures refused { IfErr result (λ e. (q : T.Question) (lines : List (List ℕ)) → HasRead (T.about q) T.took self.old lines → RefusesLine lines line.now e) }
     {
         let number = match self.next_number() {
             Ok(number) => number,
@@ -181,8 +207,8 @@ impl<T> Reading<T> {
 impl<T: Taker + Drop> Reading<T> {
     /// The number of the next line. ReadFailed (25) where no line has it.
     fn next_number(&self) -> Result<u32, PoolError>
-        ensures number { IfOk result (λ n. (lines : List (List ℕ)) → IsRead T.about T.took self.now lines → n ≡ suc (length lines)) }
-        ensures many { IfErr result (λ e. (e ≡ PoolError.ReadFailed) × ((lines : List (List ℕ)) → IsRead T.about T.took self.now lines → AreTooMany lines)) }
+        ensures number { IfOk result (λ n. (q : T.Question) (lines : List (List ℕ)) → IsRead (T.about q) T.took self.now lines → n ≡ suc (length lines)) }
+        ensures many { IfErr result (λ e. (e ≡ PoolError.ReadFailed) × ((q : T.Question) (lines : List (List ℕ)) → IsRead (T.about q) T.took self.now lines → AreTooMany lines)) }
     {
         match self {
             Reading::Start => Ok(1),
@@ -193,10 +219,10 @@ impl<T: Taker + Drop> Reading<T> {
 
     /// Takes the next line. Refused is a configuration that no pool can have (1, 2, 3, 11), a line that is wrong there (24), and
     /// want of memory (4); and a line that has no number (25).
-    fn take(&mut self, alloc: Global, line: &[u8]) -> Result<(), PoolError>
-        requires { (lines : List (List ℕ)) × IsRead T.about T.took self.old lines }
-        ensures read { OnOk result ((lines : List (List ℕ)) → IsRead T.about T.took self.old lines → IsRead T.about T.took self.new (lines ++ line.now ∷ [])) }
-        ensures refused { IfErr result (λ e. (lines : List (List ℕ)) → IsRead T.about T.took self.old lines → RefusesLine lines line.now e) }
+    fn take(&mut self, alloc: Global, question: &T::Question, line: &[u8]) -> Result<(), PoolError>
+        requires { (lines : List (List ℕ)) × IsRead (T.about question.now) T.took self.old lines }
+        ensures read { OnOk result ((lines : List (List ℕ)) → IsRead (T.about question.now) T.took self.old lines → IsRead (T.about question.now) T.took self.new (lines ++ line.now ∷ [])) }
+        ensures refused { IfErr result (λ e. (lines : List (List ℕ)) → IsRead (T.about question.now) T.took self.old lines → RefusesLine lines line.now e) }
     {
         match self {
             Reading::Start => match version_of(line) {
@@ -211,7 +237,7 @@ impl<T: Taker + Drop> Reading<T> {
                 let Some(config) = read_pool_line(version, line) else {
                     return Err(PoolError::BadEntry(2));
                 };
-                match Body::new(alloc, version, &config) {
+                match Body::new(alloc, question, version, &config) {
                     Ok(body) => {
                         *self = Reading::Opened(body);
                         Ok(())
@@ -228,16 +254,17 @@ impl<T: Taker + Drop> Reading<T> {
     fn take_lines<'a>(
         &mut self,
         alloc: Global,
+        question: &T::Question,
         text: &'a [u8],
     ) -> Result<&'a [u8], (PoolError, &'a [u8])>
-        requires { (lines : List (List ℕ)) × IsRead T.about T.took self.old lines }
-        ensures read { IfOk result (λ rest. (lines : List (List ℕ)) → IsRead T.about T.took self.old lines
-            → (more : List (List ℕ)) × IsLines text.now more rest.now × IsRead T.about T.took self.new (lines ++ more)) }
-        ensures refused { IfErr result (λ r. (lines : List (List ℕ)) → IsRead T.about T.took self.old lines → StopsAt lines text.now r.1.now r.0) }
+        requires { (lines : List (List ℕ)) × IsRead (T.about question.now) T.took self.old lines }
+        ensures read { IfOk result (λ rest. (lines : List (List ℕ)) → IsRead (T.about question.now) T.took self.old lines
+            → (more : List (List ℕ)) × IsLines text.now more rest.now × IsRead (T.about question.now) T.took self.new (lines ++ more)) }
+        ensures refused { IfErr result (λ r. (lines : List (List ℕ)) → IsRead (T.about question.now) T.took self.old lines → StopsAt lines text.now r.1.now r.0) }
     {
         let mut rest = text;
         while let Some((line, behind)) = next_line(rest) {
-            if let Err(refusal) = self.take(alloc, line) {
+            if let Err(refusal) = self.take(alloc, question, line) {
                 return Err((refusal, rest));
             }
             rest = behind;
@@ -245,32 +272,38 @@ impl<T: Taker + Drop> Reading<T> {
         Ok(rest)
     }
 
-    /// What was read, at the text's end, where this is left behind the last line feed. BadEntry (24) where the record is not over or
-    /// something is left.
-    fn finish(self, left: &[u8]) -> Result<Body<T>, PoolError>
+    /// What was read, at the text's end, where this is left behind the last line feed. BadEntry (24) where the text may not end
+    /// there: its pool line is missing, something is left behind the record's last line, or that line is missing where it may not.
+    fn finish(self, left: &[u8], ending: Ending) -> Result<Body<T>, PoolError>
         requires { HasNoLineFeed left.now }
-        ensures whole { IfOk result (λ b. (text : List ℕ) (lines : List (List ℕ)) → IsRead T.about T.took self lines → IsLines text lines left.now → IsTaken T.about T.took b text) }
-        ensures refused { IfErr result (λ e. (text : List ℕ) (lines : List (List ℕ)) → IsRead T.about T.took self lines → IsLines text lines left.now
+        ensures taken { IfOk result (λ b. (q : T.Question) (text : List ℕ) (lines : List (List ℕ)) → IsRead (T.about q) T.took self lines → IsLines text lines left.now → IsTaken (T.about q) T.took b text) }
+        ensures ends { IfOk result (λ b. EndsSo ending b.is_over) }
+        ensures refused { IfErr result (λ e. (q : T.Question) (text : List ℕ) (lines : List (List ℕ)) → IsRead (T.about q) T.took self lines → IsLines text lines left.now
             → ((e ≡ PoolError.ReadFailed) × AreTooMany lines) ⊎ IsWrongAt text e) }
     {
         match self {
             Reading::Start => Err(PoolError::BadEntry(1)),
             Reading::Formed(_) => Err(PoolError::BadEntry(2)),
-            Reading::Opened(body) => body.finish(left),
+            Reading::Opened(body) => body.finish(left, ending),
         }
     }
 }
 
 /// Reads a text whole, at most 1,048,576 bytes. Refused is a configuration that no pool can have (1, 2, 3, 11) where all is good up
 /// to the pool line, and else the first wrong line (24), counted from 1; 4 `NoMemory` comes where the taker finds no memory.
-pub fn read_whole<T: Taker + Drop>(alloc: Global, text: &[u8]) -> Result<Body<T>, PoolError>
+pub fn read_whole<T: Taker + Drop>(
+    alloc: Global,
+    question: &T::Question,
+    text: &[u8],
+) -> Result<Body<T>, PoolError>
     requires { length text.now ≤ 1048576 }
-    ensures whole { IfOk result (λ b. IsTaken T.about T.took b text.now) }
+    ensures taken { IfOk result (λ b. IsTaken (T.about question.now) T.took b text.now) }
+    ensures over { IfOk result (λ b. b.is_over ≡ true) }
     ensures refused { IfErr result (IsRefusedText text.now) }
 {
     let mut reading = Reading::<T>::Start;
-    match reading.take_lines(alloc, text) {
-        Ok(left) => reading.finish(left),
+    match reading.take_lines(alloc, question, text) {
+        Ok(left) => reading.finish(left, Ending::Whole),
         Err((refusal, _)) => Err(refusal),
     }
 }
@@ -314,7 +347,7 @@ impl<T> Stream<T> {
 impl<T: Taker + Drop> Stream<T> {
     /// A stream of which nothing was read.
     fn new(alloc: Global) -> Stream<T>
-        ensures { HasStreamed T.about T.took result [] }
+        ensures { (q : T.Question) → HasStreamed (T.about q) T.took result [] }
     {
         Stream {
             reading: Reading::Start,
@@ -326,18 +359,19 @@ impl<T: Taker + Drop> Stream<T> {
     fn take(
         &mut self,
         alloc: Global,
+        question: &T::Question,
         piece: &[u8],
         refused: &mut Option<RefusedLine>,
     ) -> Result<(), PoolError>
-        requires { (bytes : List ℕ) × HasStreamed T.about T.took self.old bytes }
-        ensures read { OnOk result ((bytes : List ℕ) → HasStreamed T.about T.took self.old bytes → HasStreamed T.about T.took self.new (bytes ++ piece.now)) }
-        ensures refused { IfErr result (λ e. (bytes later : List ℕ) → HasStreamed T.about T.took self.old bytes → IsRefusedBy (bytes ++ piece.now) later e) }
+        requires { (bytes : List ℕ) × HasStreamed (T.about question.now) T.took self.old bytes }
+        ensures read { OnOk result ((bytes : List ℕ) → HasStreamed (T.about question.now) T.took self.old bytes → HasStreamed (T.about question.now) T.took self.new (bytes ++ piece.now)) }
+        ensures refused { IfErr result (λ e. (bytes later : List ℕ) → HasStreamed (T.about question.now) T.took self.old bytes → IsRefusedBy (bytes ++ piece.now) later e) }
     {
         let mut text = mem::replace(&mut self.left, Vec::new(alloc));
         if text.extend_from_slice(piece).is_err() {
             return Err(PoolError::NoMemory);
         }
-        match self.reading.take_lines(alloc, text.as_slice()) {
+        match self.reading.take_lines(alloc, question, text.as_slice()) {
             Ok(rest) => self.keep(alloc, rest, refused),
             Err((refusal, rest)) => {
                 *refused = self.shown(alloc, rest);
@@ -355,8 +389,8 @@ impl<T: Taker + Drop> Stream<T> {
     ) -> Result<(), PoolError>
         requires empty { self.old.left.items ≡ [] }
         requires single { HasNoLineFeed rest.now }
-        ensures kept { OnOk result ((bytes : List ℕ) (lines : List (List ℕ)) → IsRead T.about T.took self.old.reading lines → IsLines bytes lines rest.now → HasStreamed T.about T.took self.new bytes) }
-        ensures refused { IfErr result (λ e. (bytes later : List ℕ) (lines : List (List ℕ)) → IsRead T.about T.took self.old.reading lines → IsLines bytes lines rest.now → IsRefusedBy bytes later e) }
+        ensures kept { OnOk result ((q : T.Question) (bytes : List ℕ) (lines : List (List ℕ)) → IsRead (T.about q) T.took self.old.reading lines → IsLines bytes lines rest.now → HasStreamed (T.about q) T.took self.new bytes) }
+        ensures refused { IfErr result (λ e. (q : T.Question) (bytes later : List ℕ) (lines : List (List ℕ)) → IsRead (T.about q) T.took self.old.reading lines → IsLines bytes lines rest.now → IsRefusedBy bytes later e) }
     {
         if rest.len() <= LONGEST_LINE {
             return match self.left.extend_from_slice(rest) {
@@ -372,14 +406,20 @@ impl<T: Taker + Drop> Stream<T> {
     }
 
     /// What was read, at the stream's end.
-    fn finish(self, alloc: Global, refused: &mut Option<RefusedLine>) -> Result<Body<T>, PoolError>
-        requires { (bytes : List ℕ) × HasStreamed T.about T.took self bytes }
-        ensures whole { IfOk result (λ b. (bytes : List ℕ) → HasStreamed T.about T.took self bytes → IsTaken T.about T.took b bytes) }
-        ensures refused { IfErr result (λ e. (bytes : List ℕ) → HasStreamed T.about T.took self bytes → IsRefusedBy bytes [] e) }
+    fn finish(
+        self,
+        alloc: Global,
+        ending: Ending,
+        refused: &mut Option<RefusedLine>,
+    ) -> Result<Body<T>, PoolError>
+        requires { (q : T.Question) × (bytes : List ℕ) × HasStreamed (T.about q) T.took self bytes }
+        ensures taken { IfOk result (λ b. (q : T.Question) (bytes : List ℕ) → HasStreamed (T.about q) T.took self bytes → IsTaken (T.about q) T.took b bytes) }
+        ensures ends { IfOk result (λ b. EndsSo ending b.is_over) }
+        ensures refused { IfErr result (λ e. (q : T.Question) (bytes : List ℕ) → HasStreamed (T.about q) T.took self bytes → IsRefusedBy bytes [] e) }
     {
         let line = self.shown(alloc, self.left.as_slice());
         let Stream { reading, left } = self;
-        match reading.finish(left.as_slice()) {
+        match reading.finish(left.as_slice(), ending) {
             Ok(body) => Ok(body),
             Err(refusal) => {
                 *refused = line;
@@ -389,14 +429,17 @@ impl<T: Taker + Drop> Stream<T> {
     }
 }
 
-/// Reads a stream line by line, in pieces of 4,096 bytes. Refused as `read_whole`, and the refused line is kept, where there is
-/// memory for it. 25 `ReadFailed` comes just where the reader fails now, which keeps why, or gives more lines than have numbers.
+/// Reads a stream line by line, in pieces of 4,096 bytes, to an end such as it may have. Refused as `read_whole`, and the refused
+/// line is kept, where there is memory for it. 25 `ReadFailed` comes just where the reader fails now, which keeps why, or gives more lines than have numbers.
 pub fn read_stream<R: Read, T: Taker + Drop>(
     alloc: Global,
+    question: &T::Question,
+    ending: Ending,
     reader: &mut WatchedReader<R>,
     refused: &mut Option<RefusedLine>,
 ) -> Result<Body<T>, PoolError>
-    ensures whole { IfOk result (λ b. OfReader (R.remaining (source reader.old)) (IsTaken T.about T.took b)) }
+    ensures taken { IfOk result (λ b. OfReader (R.remaining (source reader.old)) (IsTaken (T.about question.now) T.took b)) }
+    ensures ends { IfOk result (λ b. EndsSo ending b.is_over) }
     ensures refused { IfErr result (λ e. (e ≡ PoolError.ReadFailed) ⊎ OfReader (R.remaining (source reader.old)) (λ text. IsRefusedText text e)) }
     ensures tells_reader { TellsReader reader.old result reader.new }
 {
@@ -408,9 +451,9 @@ pub fn read_stream<R: Read, T: Taker + Drop>(
             Err(_) => return Err(PoolError::ReadFailed),
         };
         if count == 0 {
-            return stream.finish(alloc, refused);
+            return stream.finish(alloc, ending, refused);
         }
-        if let Err(refusal) = stream.take(alloc, &piece[..count], refused) {
+        if let Err(refusal) = stream.take(alloc, question, &piece[..count], refused) {
             return Err(refusal);
         }
     }

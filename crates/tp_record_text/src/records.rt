@@ -95,11 +95,18 @@ pub fn read_body_line(version: Version, line: &[u8], before: u32) -> Option<Body
 }
 
 impl Taker for Record {
-    ghost about = { λ r v c. (r.version ≡ v) × (r.config ≡ c) };
+    type Question = ();
+
+    ghost about = { λ _ r v c. (r.version ≡ v) × (r.config ≡ c) };
 
     ghost took = { λ r es. r.entries.items ≡ es };
 
-    fn new(alloc: Global, version: Version, config: &Config) -> Result<Record, PoolError> {
+    fn new(
+        alloc: Global,
+        _question: &(),
+        version: Version,
+        config: &Config,
+    ) -> Result<Record, PoolError> {
         Ok(Record {
             version,
             config: *config,
@@ -124,7 +131,7 @@ pub fn read_record(alloc: Global, text: &[u8]) -> Result<Record, PoolError>
     requires { length text.now ≤ 1048576 }
     ensures { ReadsRecord text.now result }
 {
-    match read_whole::<Record>(alloc, text) {
+    match read_whole::<Record>(alloc, &(), text) {
         Ok(body) => Ok(body.taker),
         Err(refusal) => Err(refusal),
     }

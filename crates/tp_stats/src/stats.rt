@@ -16,7 +16,7 @@ use tp_audit::summary::Flaw;
 use tp_auditor::auditor::Auditor;
 use tp_auditor::tables::Tables;
 use tp_record::entries::{Did, Entry, Opened, Took};
-use tp_times::times::{Since, Times};
+use tp_times::times::{Since, Times, latest_of};
 use tp_types::configs::Config;
 
 /// The longest queue so far.
@@ -106,18 +106,6 @@ fn with_one(is_one: bool, count: u64) -> u64
         count.saturating_add(1)
     } else {
         count
-    }
-}
-
-/// The latest entry, by the tables after it.
-fn latest_of(after: &Tables) -> Since
-    ensures number { result.number ≡ after.now.steps }
-    ensures moment { result.moment ≡ after.now.moment }
-    ensures few { result.number < 2 ^ 32 }
-{
-    Since {
-        number: u64::from(after.steps),
-        moment: after.moment,
     }
 }
 
@@ -212,6 +200,13 @@ impl Stats {
         self.left = with_one(leaves(did), self.left);
         self.times.note(entry, after);
         Ok(())
+    }
+
+    /// The auditor that was told the entries so far.
+    pub fn auditor(&self) -> &Auditor
+        ensures { result.now ≡ self.now.judge }
+    {
+        &self.auditor
     }
 
     /// What all entries so far say of the pool.

@@ -132,6 +132,13 @@ impl Story {
         }
     }
 
+    /// The auditor that was told the entries so far.
+    pub fn auditor(&self) -> &Auditor
+        ensures { result.now ≡ self.now.judge }
+    {
+        &self.auditor
+    }
+
     /// What all entries so far say of the pool.
     pub fn tables(&self) -> &Tables
         ensures { result.now ≡ self.now.judge.tables }

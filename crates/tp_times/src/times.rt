@@ -1,6 +1,6 @@
 //! Since when tasks and slots are where they are.
 
-ghost use Rattle.std.specs.Prelude.{ℕ, ◌≡◌, ◌↔◌, ◌<◌, ◌≤◌, ◌+◌, ◌∷◌, [], List, Option, None, Some, is_some, nat_eq, Contains, IfOk, IsSome, OnOk, IsPermutation, IsSorted, vec_len, vec_capacity};
+ghost use Rattle.std.specs.Prelude.{ℕ, ◌≡◌, ◌↔◌, ◌<◌, ◌≤◌, ◌+◌, ◌^◌, ◌∷◌, [], List, Option, None, Some, is_some, nat_eq, Contains, IfOk, IsSome, OnOk, IsPermutation, IsSorted, vec_len, vec_capacity};
 ghost use Rattle.std.specs.Ordering.{nat_cmp};
 ghost use Rattle.indexmap.specs.IndexMap.{get, keys, spare};
 ghost use Rattle.tp_types.specs.declared.configs.Config.{Config};
@@ -54,6 +54,18 @@ pub struct Times {
     pub slots: IndexMap<usize, SlotTime>,
     /// The first entry that woke all idle workers.
     pub woken: Option<Since>,
+}
+
+/// The latest entry, by the tables after it.
+pub fn latest_of(after: &Tables) -> Since
+    ensures number { result.number ≡ after.now.steps }
+    ensures moment { result.moment ≡ after.now.moment }
+    ensures few { result.number < 2 ^ 32 }
+{
+    Since {
+        number: u64::from(after.steps),
+        moment: after.moment,
+    }
 }
 
 /// The task that an entry moves by its name.
@@ -161,10 +173,7 @@ impl Times {
         ensures noted { (c : Config) → (h : List Told) → StandsAt c (entry.now ∷ h) after.now → times.Timed h self.old → times.Timed (entry.now ∷ h) self.new }
     {
         let did = entry.did;
-        let since = Since {
-            number: u64::from(after.steps),
-            moment: after.moment,
-        };
+        let since = latest_of(after);
         add_task(&mut self.tasks, entry, since);
         move_task(&mut self.tasks, moved_task(did), since);
         move_task(&mut self.tasks, dropped_task(did), since);

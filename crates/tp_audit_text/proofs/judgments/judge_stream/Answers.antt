@@ -4,7 +4,7 @@ use Rattle.tp_audit_text.proofs.judgments.judge_stream.Goals as goal
 
 pub returns-in-Ok-clause-judges : goal.returns-in-Ok-clause-judges
 returns-in-Ok-clause-judges g c =
-    judged_stream (g.R.Read.remaining c.args.reader.now.inner) c.in-Ok.read c.judge.result c.in-Ok.ensures.whole c.judge.ensures.judged c.judge.ensures.only_memory
+    judged_stream (g.R.Read.remaining c.args.reader.now.inner) c.in-Ok.read c.judge.result c.in-Ok.ensures.taken c.in-Ok.ensures.ends c.judge.ensures.judged c.judge.ensures.only_memory
 
 pub returns-in-Ok-clause-tells_reader : goal.returns-in-Ok-clause-tells_reader
 returns-in-Ok-clause-tells_reader g c =

@@ -2,14 +2,14 @@ use Rattle.std.proofs.Common.{◌++◌, ◌<◌, ◌^◌, [], length, length-app
 use Rattle.tp_record_text.proofs.LinesRead.{err_on, gives_none, gives_on, known_end, known_more, ok_on, refused_at_end, refused_by_reader, tells_outcome, tells_refused}
 use Rattle.tp_record_text.proofs.reading.read_stream.Goals as goal
 
-pub returns-then-count-eq0-clause-whole : goal.returns-then-count-eq0-clause-whole
-returns-then-count-eq0-clause-whole g c =
+pub returns-then-count-eq0-clause-taken : goal.returns-then-count-eq0-clause-taken
+returns-then-count-eq0-clause-taken g c =
     let known = g.R.Read.remaining in
     let l = c.loop.invariant in
     let read = c.in-Ok.ensures in
     let gave = gives_none known c.args.reader.now c.loop.reader c.read.new.self l.bytes c.read.new.buf c.in-Ok.count c.if-count-eq0.true l.gave read.bytes.0 read.given read.well in
     let ends = read.bytes.1 c.if-count-eq0.true (omega arith) in
-    ok_on c.finish.result _ _ (λ b whole. (l.bytes, known_end (known c.args.reader.now.inner) (known c.read.new.self.inner) l.bytes gave.taken ends, whole l.bytes l.streamed)) c.finish.ensures.whole
+    ok_on c.finish.result _ _ (λ b taken. (l.bytes, known_end (known c.args.reader.now.inner) (known c.read.new.self.inner) l.bytes gave.taken ends, taken c.args.question.now l.bytes l.streamed)) c.finish.ensures.taken
 
 pub returns-then-count-eq0-clause-refused : goal.returns-then-count-eq0-clause-refused
 returns-then-count-eq0-clause-refused g c =
@@ -18,7 +18,7 @@ returns-then-count-eq0-clause-refused g c =
     let read = c.in-Ok.ensures in
     let gave = gives_none known c.args.reader.now c.loop.reader c.read.new.self l.bytes c.read.new.buf c.in-Ok.count c.if-count-eq0.true l.gave read.bytes.0 read.given read.well in
     let ends = read.bytes.1 c.if-count-eq0.true (omega arith) in
-    err_on c.finish.result _ _ (λ e refused. refused_at_end (known c.args.reader.now.inner) (known c.read.new.self.inner) l.bytes e gave.taken ends (refused l.bytes l.streamed)) c.finish.ensures.refused
+    err_on c.finish.result _ _ (λ e refused. refused_at_end (known c.args.reader.now.inner) (known c.read.new.self.inner) l.bytes e gave.taken ends (refused c.args.question.now l.bytes l.streamed)) c.finish.ensures.refused
 
 pub returns-then-count-eq0-clause-tells_reader : goal.returns-then-count-eq0-clause-tells_reader
 returns-then-count-eq0-clause-tells_reader g c =
@@ -26,7 +26,7 @@ returns-then-count-eq0-clause-tells_reader g c =
     let read = c.in-Ok.ensures in
     let gave = gives_none g.R.Read.remaining c.args.reader.now c.loop.reader c.read.new.self l.bytes c.read.new.buf c.in-Ok.count c.if-count-eq0.true l.gave read.bytes.0 read.given read.well in
     let few : length l.bytes < 2 ^ 64 = omega (arith, l.most, c.loop-test.true) in
-    tells_outcome _ g.R.Read.remaining c.args.reader.now c.read.new.self l.bytes [] c.finish.result gave few (err_on c.finish.result _ _ (λ e refused. refused l.bytes l.streamed) c.finish.ensures.refused)
+    tells_outcome _ g.R.Read.remaining c.args.reader.now c.read.new.self l.bytes [] c.finish.result gave few (err_on c.finish.result _ _ (λ e refused. refused c.args.question.now l.bytes l.streamed) c.finish.ensures.refused)
 
 pub returns-in-Err-take-clause-refused : goal.returns-in-Err-take-clause-refused
 returns-in-Err-take-clause-refused g c =

@@ -10,5 +10,5 @@ returns-clause-refused g c = λ bytes later is.
     let well : is_err c.extend_from_slice.result ≡ false = cc (c.is_err.ensures.value, c.if-is_err.false) in
     let goes : c.as_slice.result.now ≡ s.left.items ++ c.args.piece.now =
     c.as_slice.ensures.value ∙ grown c.extend_from_slice.result _ _ _ well c.extend_from_slice.ensures.items ∙ ap (λ v. v.items ++ c.args.piece.now) c.replace-text.ensures.value in
-    piece_refused g.T.Taker.about g.T.Taker.took s bytes c.args.piece.now c.in-Err.rest.now later c.in-Err.refusal is
+    piece_refused (g.T.Taker.about c.args.question.now) g.T.Taker.took s bytes c.args.piece.now c.in-Err.rest.now later c.in-Err.refusal is
     (λ lines read. subst (λ text. StopsAt lines text c.in-Err.rest.now c.in-Err.refusal) goes (c.in-Err.ensures.refused lines read))
