@@ -329,6 +329,7 @@ module _ {V A : Type 0} (next : V → List V) (holds : V → Type 0) (rank : V �
           numbers = map (λ k. get_or ns k 0) ends;
           at_ends = zs.1;
           told = told;
+          beside = length-map ends (λ k. get_or ns k 0) ∙ sym (AllZip-long (IsAt xs) ends zs.0 zs.1);
           all = λ f n above.
               let g = of_place f xs in
               let at0 = w.begins in

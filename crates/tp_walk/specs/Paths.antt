@@ -1,5 +1,5 @@
 -- How many paths lead to each end.
-use Rattle.std.specs.Prelude.{◌≡◌, ℕ, zero, suc, ◌+◌, ◌*◌, ◌^◌, ◌<◌, ◌≤◌, ◌-◌, List, [], ◌∷◌, sum_by, set, slice_index, slice_index_or}
+use Rattle.std.specs.Prelude.{◌≡◌, ℕ, zero, suc, ◌+◌, ◌*◌, ◌^◌, ◌<◌, ◌≤◌, ◌-◌, List, [], ◌∷◌, length, sum_by, set, slice_index, slice_index_or}
 use Rattle.std.specs.List.{AllZip, flat_map}
 use Rattle.tp_walk.specs.declared.counts.Count.{Count}
 use Rattle.tp_walk.specs.declared.counts.Count.TheVariants.{Exactly, Over}
@@ -34,6 +34,7 @@ pub record CountsPaths {V : Type 0} (next : V → List V) (first : V) (rank : �
   pub numbers : List ℕ
   pub at_ends : AllZip (IsAt xs) ends states
   pub told : AllZip Tells counts numbers
+  pub beside : length numbers ≡ length states
   pub all : (f : V → ℕ) (n : ℕ) → rank < n → sum_by f (ended next n first) ≡ weighed f states numbers
 
 -- c more at place j

@@ -51,6 +51,7 @@ pub trait Watch {
 }
 
 /// Nobody.
+#[derive(Clone, Copy, Debug)]
 pub struct Unwatched;
 
 impl Watch for Unwatched {

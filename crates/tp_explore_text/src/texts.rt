@@ -1,0 +1,97 @@
+//! What is printed of an exploration: its ends, as lines and as JSON, and the scenario of an interleaving.
+ghost use Rattle.tp_explore_text.specs.Explored.{IsExplored};
+
+use crate::ends::End;
+use crate::explored::Explored;
+use crate::scenarios::scenario;
+use std::alloc::{AllocError, Global};
+use tp_ends::witnesses::witness;
+use tp_types::refusals::PoolError;
+use tp_walk::counts::Count;
+
+fn write_count(text: &mut String, count: Count) -> Result<(), AllocError> {
+    match count {
+        Count::Exactly(n) => write!(text, "{n}"),
+        Count::Over => text.push_str("over 340282366920938463463374607431768211455"),
+    }
+}
+
+impl Explored {
+    /// How many interleavings there are.
+    fn interleavings(&self) -> Count {
+        let mut sum = Count::Exactly(0);
+        for end in &self.ends {
+            sum = sum.plus(end.count);
+        }
+        sum
+    }
+
+    /// How many moves the graph has.
+    fn steps(&self) -> usize {
+        let mut steps: usize = 0;
+        for row in &self.graph.moves {
+            steps = steps.saturating_add(row.len());
+        }
+        steps
+    }
+}
+
+/// The ends, a line for each behind a line with the numbers of states, steps, interleavings and ends.
+pub fn ends_text(alloc: Global, explored: &Explored) -> Result<String, AllocError> {
+    let mut text = String::new(alloc);
+    let states = explored.graph.states.len();
+    let steps = explored.steps();
+    let ends = explored.ends.len();
+    write!(text, "states {states}, steps {steps}, interleavings ")?;
+    write_count(&mut text, explored.interleavings())?;
+    write!(text, ", ends {ends}\n")?;
+    for end in &explored.ends {
+        write_count(&mut text, end.count)?;
+        text.push_str(" ")?;
+        text.push_str(end.text.as_str())?;
+        text.push_str("\n")?;
+    }
+    Ok(text)
+}
+
+// An end as JSON. Its count is a text, since it may be greater than the numbers that readers keep.
+fn write_json(text: &mut String, end: &End) -> Result<(), AllocError> {
+    text.push_str("{\"count\":\"")?;
+    write_count(text, end.count)?;
+    text.push_str("\",\"end\":\"")?;
+    text.push_str(end.text.as_str())?;
+    text.push_str("\"}")
+}
+
+/// The same as JSON, on one line.
+pub fn json_text(alloc: Global, explored: &Explored) -> Result<String, AllocError> {
+    let mut text = String::new(alloc);
+    let states = explored.graph.states.len();
+    let steps = explored.steps();
+    write!(
+        text,
+        "{{\"states\":{states},\"steps\":{steps},\"interleavings\":\""
+    )?;
+    write_count(&mut text, explored.interleavings())?;
+    text.push_str("\",\"ends\":[")?;
+    for (i, end) in explored.ends.iter().enumerate() {
+        if i > 0 {
+            text.push_str(",")?;
+        }
+        write_json(&mut text, end)?;
+    }
+    text.push_str("]}\n")?;
+    Ok(text)
+}
+
+/// The scenario of a shortest interleaving to the state at this place; nothing where the graph leads there from nowhere. NoMemory (4) where
+/// there is none for it.
+pub fn witness_text(alloc: Global, explored: &Explored, place: usize) -> Result<String, PoolError>
+    requires { IsExplored explored.now }
+{
+    let exploration = &explored.named.exploration;
+    match witness(alloc, exploration, &explored.graph, place)? {
+        None => Ok(String::new(alloc)),
+        Some(way) => Ok(scenario(alloc, &exploration.plan, &way)?),
+    }
+}

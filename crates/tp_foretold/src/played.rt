@@ -1,0 +1,107 @@
+//! Witnesses, played step by step.
+ghost use Rattle.tp_explore_text.specs.Explored.{IsExplored};
+
+use std::alloc::Global;
+use std::test::Fail;
+use tp_audit_text::judgments::{Judgment, judge_text};
+use tp_explore_text::ends::End;
+use tp_explore_text::explored::Explored;
+use tp_explore_text::texts::witness_text;
+use tp_replay::plays::{Play, play_text};
+use tp_text::watched::WatchedWriter;
+
+const FATES: [&str; 7] = [
+    "run",
+    "caller",
+    "rejected",
+    "discarded",
+    "handedback",
+    "removed",
+    "cancelled",
+];
+
+/// How many tasks of an end have this fate.
+fn fated(end: &str, fate: &str) -> usize {
+    let mut count: usize = 0;
+    for part in end.split("; ") {
+        let mut words = part.split(' ');
+        let _name = words.next();
+        if words.next() == Some(fate) {
+            count = count.saturating_add(1);
+        }
+    }
+    count
+}
+
+/// The counters of the fates, as the end says them.
+fn counters(alloc: Global, end: &str) -> Result<String, Fail> {
+    let mut text = String::new(alloc);
+    for fate in FATES {
+        let count = fated(end, fate);
+        write!(text, " {fate}={count}")?;
+    }
+    Ok(text)
+}
+
+/// The run state, as the end says it.
+fn state(alloc: Global, end: &str) -> Result<String, Fail> {
+    let name = match end.rsplit_once("; ") {
+        Some((_, name)) => name,
+        None => end,
+    };
+    Ok(format!(in alloc; "\nstate {name}\n")?)
+}
+
+/// The scenario of a shortest interleaving to an end, played.
+fn played(alloc: Global, explored: &Explored, end: &End) -> Result<Play, Fail>
+    requires { IsExplored explored.now }
+{
+    let scenario = witness_text(alloc, explored, end.place)?;
+    let text = scenario.as_bytes();
+    if text.len() > 1_048_576 {
+        return Err(Fail::new("a long scenario"));
+    }
+    Ok(play_text(alloc, text)?)
+}
+
+/// What is judged of the record of a play.
+fn judged(alloc: Global, play: &Play) -> Result<Judgment, Fail> {
+    let mut record = Vec::new(alloc);
+    play.write_record(alloc, &mut WatchedWriter::new(&mut record))?;
+    if record.len() > 1_048_576 {
+        return Err(Fail::new("a long record"));
+    }
+    Ok(judge_text(alloc, record.as_slice())?)
+}
+
+/// Whether the witness of an end has a legal record, at whose end stand the fates and the run state that are told.
+fn is_played(alloc: Global, explored: &Explored, end: &End) -> Result<bool, Fail>
+    requires { IsExplored explored.now }
+{
+    let play = played(alloc, explored, end)?;
+    let judgment = judged(alloc, &play)?;
+    let Ok(lines) = str::from_utf8(judgment.lines.as_slice()) else {
+        return Ok(false);
+    };
+    let told = end.text.as_str();
+    let state = state(alloc, told)?;
+    let counters = counters(alloc, told)?;
+    Ok(
+        play.bad.is_none()
+            && judgment.legal
+            && lines.contains(state.as_str())
+            && lines.contains(counters.as_str()),
+    )
+}
+
+/// Whether this holds of each end.
+pub fn same_played(alloc: Global, explored: &Explored) -> Result<bool, Fail>
+    requires { IsExplored explored.now }
+{
+    for end in &explored.ends {
+        if !is_played(alloc, explored, end)? {
+            return Ok(false);
+        }
+    }
+    Ok(true)
+}
