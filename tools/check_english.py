@@ -1,5 +1,5 @@
 #!/usr/bin/env python3
-"""Tells each sentence of README.md and docs/ that has more than 30 words, and each cell of a table of more than 300 characters.
+"""Tells each sentence of README.md, CHANGELOG.md and docs/ that has more than 30 words, and each cell of a table of more than 300 characters.
 
     python3 tools/check_english.py [PAGE..]
 
@@ -11,17 +11,9 @@ import pathlib
 import re
 import sys
 
+from check_links import lines_of
+
 MOST_WORDS, MOST_CHARACTERS = 30, 300
-
-
-def lines_of(text):
-    """The lines outside fenced and indented code blocks, with their numbers."""
-    fenced = False
-    for number, line in enumerate(text.split("\n"), 1):
-        if line.lstrip().startswith("```"):
-            fenced = not fenced
-        elif not fenced and not line.startswith("    "):
-            yield number, line
 
 
 def flaws(line):
@@ -36,7 +28,7 @@ def flaws(line):
                 yield f"{words} words", sentence
 
 
-pages = sys.argv[1:] or ["README.md", *sorted(glob.glob("docs/**/*.md", recursive=True))]
+pages = sys.argv[1:] or ["README.md", "CHANGELOG.md", *sorted(glob.glob("docs/**/*.md", recursive=True))]
 found = 0
 for page in pages:
     for number, line in lines_of(pathlib.Path(page).read_text(encoding="utf-8")):

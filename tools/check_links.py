@@ -1,5 +1,5 @@
 #!/usr/bin/env python3
-"""Tells each link and each file name in README.md and docs/ that leads nowhere.
+"""Tells each link and each file name in README.md, CHANGELOG.md and docs/ that leads nowhere.
 
     python3 tools/check_links.py [--root FOLDER]
 
@@ -92,7 +92,7 @@ def main():
     tops = {name.split("/")[0] for name in listed} | {"crates", "docs", "tools"}
     crates = {name.split("/")[1] for name in listed if name.startswith("crates/")}
     found = 0
-    for page in [root / "README.md", *sorted((root / "docs").glob("**/*.md"))]:
+    for page in [root / "README.md", root / "CHANGELOG.md", *sorted((root / "docs").glob("**/*.md"))]:
         for number, what in faults(root, page, tops, crates):
             found += 1
             print(f"{page.relative_to(root)}:{number}: {what} leads nowhere")

@@ -10,7 +10,7 @@ without a proof), and a small library in front of the C library's `malloc` and i
 process, for n from 1 on, until a run asks for fewer. A run ends well where it ends as with ample memory, or where the
 test says that it is refused with 4. The status is 1 where a run ends otherwise, or has not ended in a minute.
 
-What a test does about a refusal is its own: `docs/CONTRIBUTING.md`, "Want of memory".
+What a test does about a refusal is its own: `docs/inside/CONTRIBUTING.md`, "Want of memory".
 """
 import pathlib
 import subprocess

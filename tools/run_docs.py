@@ -1,5 +1,5 @@
 #!/usr/bin/env python3
-"""Runs the commands that README.md and docs/FIRST_PROGRAM.md give, in a fresh clone, and compares what they print.
+"""Runs the commands that README.md, docs/TUTORIAL.md and docs/COOKBOOK.md give, in a fresh clone, and compares what they print.
 
     python3 tools/run_docs.py               all of them: those that prove take an hour and more
     python3 tools/run_docs.py --only-quick  without those that prove
@@ -133,7 +133,7 @@ def main():
     parser = argparse.ArgumentParser(description=__doc__, formatter_class=argparse.RawDescriptionHelpFormatter)
     parser.add_argument("--only-quick", action="store_true")
     parser.add_argument("--libs", type=pathlib.Path)
-    parser.add_argument("documents", nargs="*", default=["README.md", "docs/FIRST_PROGRAM.md"])
+    parser.add_argument("documents", nargs="*", default=["README.md", "docs/TUTORIAL.md", "docs/COOKBOOK.md"])
     asked = parser.parse_args()
     faults = 0
     for document in asked.documents:
