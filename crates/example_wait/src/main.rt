@@ -20,7 +20,7 @@ impl Life for Nap {
     type Task = Nap;
 
     fn live<P: Calls<Task = Nap>>(&self, pool: &mut P, _who: u32) -> Told<()> {
-        let slow = pool.submit(Nap(self.0, 600))?;
+        let slow = pool.submit(Nap(self.0, 3_000))?;
         for _ in 0..64 {
             let _ = pool.execute(Nap(self.0, 0));
         }
