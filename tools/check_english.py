@@ -1,10 +1,13 @@
 #!/usr/bin/env python3
-"""Tells each sentence of README.md, CHANGELOG.md and docs/ that has more than 30 words, and each cell of a table of more than 300 characters.
+"""Tells what is too long in README.md, CHANGELOG.md and docs/: a sentence of more than 30 words, a cell of a table of more than
+300 characters, README.md beyond 9 KB, and the users' pages, docs/*.md, beyond 80 KB in all. Tells each word that the glossaries
+explain twice.
 
     python3 tools/check_english.py [PAGE..]
 
 Code blocks are not read. A sentence ends at a full stop, a colon, a semicolon or a question mark before a space, and with its
 paragraph, item or cell. Each line says FILE:LINE, the number, and how the sentence begins. The status is 1 where there is one.
+With pages named, only their sentences and cells are looked at.
 """
 import glob
 import pathlib
@@ -14,6 +17,8 @@ import sys
 from check_links import lines_of
 
 MOST_WORDS, MOST_CHARACTERS = 30, 300
+MOST_BYTES = {"README.md": 9 * 1024, "docs/*.md": 80 * 1024}
+GLOSSARIES = ["docs/GLOSSARY.md", "docs/inside/WORDS.md"]
 
 
 def flaws(line):
@@ -28,12 +33,31 @@ def flaws(line):
                 yield f"{words} words", sentence
 
 
-pages = sys.argv[1:] or ["README.md", "CHANGELOG.md", *sorted(glob.glob("docs/**/*.md", recursive=True))]
-found = 0
-for page in pages:
-    for number, line in lines_of(pathlib.Path(page).read_text(encoding="utf-8")):
-        for much, start in flaws(line):
-            print(f"{page}:{number}: {much}: {start[:60]} ..")
-            found += 1
-print(found, "too long")
-sys.exit(found > 0)
+def large():
+    """The pages that have too many bytes together."""
+    for pages, most in MOST_BYTES.items():
+        size = sum(pathlib.Path(page).stat().st_size for page in glob.glob(pages))
+        if most < size:
+            yield f"{pages}: {size} bytes, and {most} at most"
+
+
+def explained_twice():
+    """The words that have two rows in the glossaries' tables of meanings."""
+    rows = [row for page in GLOSSARIES for row in re.findall(r"^\| ([^|]+) \|", pathlib.Path(page).read_text().split("\n## ")[0], re.M)]
+    for word in sorted({word for word in rows if 1 < rows.count(word)} - {"Word"}):
+        yield f"{' or '.join(GLOSSARIES)}: '{word}' is explained twice"
+
+
+def sentences(pages):
+    for page in pages:
+        for number, line in lines_of(pathlib.Path(page).read_text(encoding="utf-8")):
+            for much, start in flaws(line):
+                yield f"{page}:{number}: {much}: {start[:60]} .."
+
+
+if sys.argv[1:]:
+    found = list(sentences(sys.argv[1:]))
+else:
+    found = [*sentences(["README.md", "CHANGELOG.md", *sorted(glob.glob("docs/**/*.md", recursive=True))]), *large(), *explained_twice()]
+print(*found, f"{len(found)} to mend", sep="\n")
+sys.exit(bool(found))

@@ -8,8 +8,8 @@ FOLDER = pathlib.Path(__file__).parent.parent / "docs" / "pictures"
 STYLE = """<style>
 text { font: 13px sans-serif; fill: #1f2328; }
 .node path, .node polygon, .node ellipse { fill: #f6f8fa; stroke: #57606a; stroke-width: 1.2; }
-.node.strong path { fill: #ddf4ff; stroke: #0969da; }
-.node.end path { fill: #dafbe1; stroke: #1a7f37; }
+.node.strong path, .node path.strong { fill: #ddf4ff; stroke: #0969da; }
+.node.end path, .node path.end { fill: #dafbe1; stroke: #1a7f37; }
 .node.start ellipse { fill: #57606a; }
 .edge path { fill: none; stroke: #57606a; }
 .edge polygon { fill: #57606a; stroke: #57606a; }
@@ -19,8 +19,8 @@ text { font: 13px sans-serif; fill: #1f2328; }
 @media (prefers-color-scheme: dark) {
 text { fill: #e6edf3; }
 .node path, .node polygon, .node ellipse { fill: #21262d; stroke: #8b949e; }
-.node.strong path { fill: #0c2d6b; stroke: #58a6ff; }
-.node.end path { fill: #033a16; stroke: #3fb950; }
+.node.strong path, .node path.strong { fill: #0c2d6b; stroke: #58a6ff; }
+.node.end path, .node path.end { fill: #033a16; stroke: #3fb950; }
 .node.start ellipse { fill: #8b949e; }
 .edge path { stroke: #8b949e; }
 .edge polygon { fill: #8b949e; stroke: #8b949e; }
@@ -35,9 +35,10 @@ LOOK = ["-Nshape=box", "-Nstyle=rounded", "-Nfontname=sans-serif", "-Nfontsize=1
 
 
 def picture(source):
-    """The picture of a graph's source. The page's style gives the colours, so those of graphviz go."""
+    """The picture of a graph's source. The page's style gives the colours, so those of graphviz go, but for cells of a table."""
     made = subprocess.run(["dot", "-Tsvg", *LOOK, str(source)], check=True, capture_output=True, text=True).stdout
     made = re.sub(r'<(?:!--.*?--|\?xml.*?\?|!DOCTYPE.*?)>\s*', "", made, flags=re.S)
+    made = made.replace('fill="lightblue"', 'class="strong"').replace('fill="lightgreen"', 'class="end"')
     made = re.sub(r' (?:fill|stroke|font-family|font-size|xlink:title)="[^"]*"', "", made)
     made = re.sub(r"<title>[^<]*</title>\s*", "", made)
     return re.sub(r"(<svg[^>]*>\s*)", lambda start: start[1] + STYLE, made, count=1)

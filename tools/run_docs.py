@@ -1,5 +1,6 @@
 #!/usr/bin/env python3
-"""Runs the commands that README.md, docs/TUTORIAL.md and docs/COOKBOOK.md give, in a fresh clone, and compares what they print.
+"""Runs the commands that README.md, docs/TUTORIAL.md, docs/COOKBOOK.md and docs/inside/PROVING.md give, in a fresh clone, and
+compares what they print.
 
     python3 tools/run_docs.py               all of them: those that prove take an hour and more
     python3 tools/run_docs.py --only-quick  without those that prove
@@ -12,6 +13,7 @@ What a block of a document is, fenced or indented:
   shell of its own at the top of the clone;
 - what the last commands print, where it has no label or `text` and the line just above it has the word 'prints' or
   'output'. Its lines must come in this order, one after another; a line `..` stands for any lines;
+- a part of a program, where it is `rust` and no file: its lines stand so in a source of `crates`, however they are indented;
 - a file, where the line just above it ends in its name, in backticks and with a colon: it is written there. As
   `diff` it is an edit of that file instead: the lines with `-` become those with `+`.
 
@@ -33,7 +35,7 @@ GATE = r"rt ci\b|gate_costs\.py"
 FENCED = re.compile(r"^```(\w*)\n(.*?)^```$", re.M | re.S)
 SHOWN = re.compile(r"error|not proved|hides")
 INDENTED = re.compile(r"(?<=\n\n)((?: {4}[^\n]*\n|\n(?= {4}))+)")
-FILE = re.compile(r"`([\w./-]+)`[^`\n]*:$")
+FILE = re.compile(r"`([\w-]*[./][\w./-]+)`[^`\n]*:$")
 
 
 def blocks(text):
@@ -58,6 +60,13 @@ def comes(wanted, printed):
             return False
         starts = range(min(starts), len(printed) + 1)
     return True
+
+
+def is_part_of_a_program(crates, lines):
+    """Whether these lines stand one after another in a source of these crates."""
+    part = "\n".join(line.strip() for line in lines)
+    texts = ("\n".join(map(str.strip, path.read_text().split("\n"))) for path in crates.glob("*/src/*.rt"))
+    return any(part in text for text in texts)
 
 
 def edit(path, lines):
@@ -99,7 +108,7 @@ class Reader:
             return
         print("  " + "\n  ".join(lines), flush=True)
         with tempfile.NamedTemporaryFile("r") as told:
-            script = "\n".join(f"{{ {line}\n}} || echo {at} >> {told.name}" for at, line in enumerate(lines))
+            script = "set -o pipefail\n" + "\n".join(f"{{ {line}\n}} || echo {at} >> {told.name}" for at, line in enumerate(lines))
             done = subprocess.run(["bash", "-c", script], cwd=self.clone, stdout=subprocess.PIPE, stderr=subprocess.STDOUT)
             self.failed = [lines[int(at)] for at in told.read().split()]
         self.printed = done.stdout.decode(errors="replace").split("\n")
@@ -120,6 +129,8 @@ class Reader:
             path = self.clone / name[1]
             path.parent.mkdir(parents=True, exist_ok=True)
             path.write_text("\n".join(lines) + "\n")
+        elif label == "rust" and not is_part_of_a_program(self.clone / "crates", lines):
+            self.fault(f"no program has these lines: {lines[0]}")
 
 
 def clone_of(root, folder, libs):
@@ -133,7 +144,7 @@ def main():
     parser = argparse.ArgumentParser(description=__doc__, formatter_class=argparse.RawDescriptionHelpFormatter)
     parser.add_argument("--only-quick", action="store_true")
     parser.add_argument("--libs", type=pathlib.Path)
-    parser.add_argument("documents", nargs="*", default=["README.md", "docs/TUTORIAL.md", "docs/COOKBOOK.md"])
+    parser.add_argument("documents", nargs="*", default=["README.md", "docs/TUTORIAL.md", "docs/COOKBOOK.md", "docs/inside/PROVING.md"])
     asked = parser.parse_args()
     faults = 0
     for document in asked.documents:
