@@ -1,8 +1,9 @@
 -- A way goes on by the legs of a trail.
 use Rattle.std.proofs.Common.{◌≡◌, ℕ, zero, suc, ◌<◌, List, [], ◌∷◌, ◌++◌, length, get_or, map, refl, sym, ◌∙◌, subst, arith}
+use Rattle.std.proofs.lemmas.Slice.Zip.{AllZip-long}
 use Rattle.std.proofs.lemmas.Option.{get_or_from_slice_get, slice_get_within, same_Some}
 use Rattle.tp_walk.specs.declared.trails.Leg.{Leg}
-use Rattle.tp_walk.specs.Moves.{IsAt, IsWalk, Places}
+use Rattle.tp_walk.specs.Moves.{AreLed, IsAt, IsWalk, Places}
 use Rattle.tp_walk.specs.Paths.{LeadsTo, row_of}
 use Rattle.tp_walk.proofs.Places.{zip_at, zip_from}
 use Rattle.tp_explore.specs.declared.moves.Move.{Move}
@@ -36,6 +37,14 @@ followed_all plan xs rows ms end z f at =
     subst (λ y. IsWay plan (spec.starts plan) ms y) same f.way
 
 module _ (plan : Plan) (xs : List Situation) (rows : List (List ℕ)) (ends : List ℕ) (walked : IsWalk (spec.moves plan) (spec.starts plan) xs rows ends) where
+  -- a row stands beside each state
+  pub rows_beside : length xs ≡ length rows
+  rows_beside = AllZip-long (λ row x. Places xs row (spec.moves plan x)) rows xs walked.moves
+
+  -- so each row's place but the first stands in an earlier row
+  pub rows_led : AreLed (length rows) rows
+  rows_led = subst (λ n. AreLed n rows) rows_beside walked.led
+
   -- where the next leg is from, and where it leads
   pub next_leg : (ms : List Move) (leg : Leg) (legs : List Leg) (end : ℕ) → IsFollowed plan xs rows ms (leg ∷ legs) end →
       (z : Situation) × IsAt xs leg.from z × IsWay plan (spec.starts plan) ms z × (j : ℕ) × (y : Situation) × IsAt (spec.moves plan z) leg.choice y × IsAt xs j y × LeadsTo rows j legs end

@@ -1,5 +1,5 @@
 //! A way to a state.
-ghost use Rattle.std.specs.Prelude.{◌<◌, IfOk, IfSome, length, map};
+ghost use Rattle.std.specs.Prelude.{◌<◌, IfOk, length, map};
 ghost use Rattle.std.specs.List.{All};
 ghost use Rattle.tp_walk.specs.Moves.{IsAt, IsWalk};
 ghost use Rattle.tp_explore.specs.Moves as spec;
@@ -27,23 +27,22 @@ fn move_of(alloc: Global, plan: &Plan, state: &State, choice: usize) -> Result<M
     Ok(all.swap_remove(choice))
 }
 
-/// A shortest way from the new pool to a state that was reached, as the moves on it; None where the graph leads there from nowhere. They
-/// are a run of the model, whose record is legal. NoMemory (4) where there is none.
+/// A shortest way from the new pool to the state at this place, as the moves on it. They are a run of the model, whose record is legal.
+/// NoMemory (4) where there is no memory for them.
 pub fn witness(
     alloc: Global,
     exploration: &Exploration,
     graph: &Graph<State>,
     end: usize,
-) -> Result<Option<Vec<Move>>, PoolError>
+) -> Result<Vec<Move>, PoolError>
     requires walked { IsWalk (spec.moves exploration.now.plan) (spec.starts exploration.now.plan)
         (map seen_state graph.now.states.items) (map (λ row. row.items) graph.now.moves.items) graph.now.ends.items }
     requires legal { All (λ s. Holds exploration.now.plan (seen_state s)) graph.now.states.items }
-    ensures { IfOk result (λ o. IfSome o (λ moves. (z : Situation) → IsAt (map seen_state graph.now.states.items) end z
-        → IsWitness exploration.now.plan moves.items z)) }
+    requires within { end < length graph.now.states.items }
+    ensures { IfOk result (λ moves. (z : Situation) → IsAt (map seen_state graph.now.states.items) end z
+        → IsWitness exploration.now.plan moves.items z) }
 {
-    let Some(legs) = trail(alloc, &graph.moves, end)? else {
-        return Ok(None);
-    };
+    let legs = trail(alloc, &graph.moves, end)?;
     let mut way = Vec::new(alloc);
     for leg in &legs {
         way.push(move_of(
@@ -53,5 +52,5 @@ pub fn witness(
             leg.choice,
         )?)?;
     }
-    Ok(Some(way))
+    Ok(way)
 }

@@ -1,4 +1,5 @@
 //! What is printed of an exploration: its ends, as lines and as JSON, and the scenario of an interleaving.
+ghost use Rattle.std.specs.Prelude.{◌<◌, length};
 ghost use Rattle.tp_explore_text.specs.Explored.{IsExplored};
 
 use crate::ends::End;
@@ -84,14 +85,12 @@ pub fn json_text(alloc: Global, explored: &Explored) -> Result<String, AllocErro
     Ok(text)
 }
 
-/// The scenario of a shortest interleaving to the state at this place; nothing where the graph leads there from nowhere. NoMemory (4) where
-/// there is none for it.
+/// The scenario of a shortest interleaving to the state at this place. NoMemory (4) where there is no memory for it.
 pub fn witness_text(alloc: Global, explored: &Explored, place: usize) -> Result<String, PoolError>
-    requires { IsExplored explored.now }
+    requires explored { IsExplored explored.now }
+    requires within { place < length explored.now.graph.states.items }
 {
     let exploration = &explored.named.exploration;
-    match witness(alloc, exploration, &explored.graph, place)? {
-        None => Ok(String::new(alloc)),
-        Some(way) => Ok(scenario(alloc, &exploration.plan, &way)?),
-    }
+    let way = witness(alloc, exploration, &explored.graph, place)?;
+    Ok(scenario(alloc, &exploration.plan, &way)?)
 }

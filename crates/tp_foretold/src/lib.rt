@@ -1,8 +1,11 @@
-//! Tests of what is told of all interleavings: seventeen files of callers with their ends, a second count, and each witness played.
+//! Tests of what is told of all interleavings: seventeen files of callers with their ends, a second count, each witness played, and the
+//! path of each submission.
 #![tactic(auto)]
 
 #[cfg(test)]
 mod again;
+#[cfg(test)]
+mod followed;
 #[cfg(test)]
 mod played;
 #[cfg(test)]

@@ -1,4 +1,5 @@
 //! Witnesses, played step by step.
+ghost use Rattle.std.specs.Prelude.{◌<◌, length};
 ghost use Rattle.tp_explore_text.specs.Explored.{IsExplored};
 
 use std::alloc::Global;
@@ -54,7 +55,8 @@ fn state(alloc: Global, end: &str) -> Result<String, Fail> {
 
 /// The scenario of a shortest interleaving to an end, played.
 fn played(alloc: Global, explored: &Explored, end: &End) -> Result<Play, Fail>
-    requires { IsExplored explored.now }
+    requires explored { IsExplored explored.now }
+    requires within { end.now.place < length explored.now.graph.states.items }
 {
     let scenario = witness_text(alloc, explored, end.place)?;
     let text = scenario.as_bytes();
@@ -76,7 +78,8 @@ fn judged(alloc: Global, play: &Play) -> Result<Judgment, Fail> {
 
 /// Whether the witness of an end has a legal record, at whose end stand the fates and the run state that are told.
 fn is_played(alloc: Global, explored: &Explored, end: &End) -> Result<bool, Fail>
-    requires { IsExplored explored.now }
+    requires explored { IsExplored explored.now }
+    requires within { end.now.place < length explored.now.graph.states.items }
 {
     let play = played(alloc, explored, end)?;
     let judgment = judged(alloc, &play)?;

@@ -23,7 +23,9 @@ caller shutdown
 25 a rejected; b rejected; terminated
 ",
     },
-    // The same where a worker is there first: the task stays with it.
+    // The same where a worker is there first: the task stays with it. By hand: with the shutdown before the submission there are 6
+    // orders of its two steps and the house's two, behind it 7, behind the offer 3. Behind the second look the job runs, and the
+    // shutdown has 6 places among the worker's 5 steps.
     Row {
         callers: "pool 0 1 unbounded keep 0 abort
 caller a: execute 1

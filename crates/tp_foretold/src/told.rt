@@ -3,6 +3,7 @@ ghost use Rattle.std.specs.Prelude.{IfOk};
 ghost use Rattle.tp_explore_text.specs.Explored.{IsExplored};
 
 use crate::again::same_again;
+use crate::followed::same_followed;
 use crate::played::same_played;
 use crate::rows::ROWS;
 use std::alloc::Global;
@@ -56,6 +57,15 @@ fn counts_sequence_by_sequence(rt: HostRuntime) -> Result<(), Fail> {
     for (line, row) in ROWS.iter().enumerate() {
         let explored = explored(rt.alloc(), row.callers)?;
         is_so(&rt, line, same_again(rt.alloc(), &explored)?);
+    }
+    Ok(())
+}
+
+#[test]
+fn goes_along_each_path(rt: HostRuntime) -> Result<(), Fail> {
+    for (line, row) in ROWS.iter().enumerate() {
+        let explored = explored(rt.alloc(), row.callers)?;
+        is_so(&rt, line, same_followed(rt.alloc(), &explored)?);
     }
     Ok(())
 }

@@ -1,4 +1,5 @@
 pub mod Counted
+pub mod Firsts
 pub mod Handed
 pub mod Paths
 pub mod Places

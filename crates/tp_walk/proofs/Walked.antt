@@ -1,24 +1,25 @@
 -- The steps of a walk, over plain lists.
-use Rattle.std.proofs.Common.{◌≡◌, ◌≢◌, ℕ, zero, suc, ◌+◌, ◌≤◌, ◌⊎◌, ◌↔◌, List, [], ◌∷◌, ◌++◌, length, get_or, take, map, refl, sym, ap, ◌∙◌, subst, inl, inr, arith, append_assoc, slice_get, Some, Bool, false, true, cond}
+use Rattle.std.proofs.Common.{◌≡◌, ◌≢◌, ℕ, zero, suc, ◌+◌, ◌<◌, ◌≤◌, ◌⊎◌, ◌↔◌, List, [], ◌∷◌, ◌++◌, length, get_or, take, map, refl, sym, ap, ◌∙◌, subst, inl, inr, arith, append_assoc, slice_get, Some, Bool, false, true, cond}
 use Rattle.std.specs.List.{All, AllPairs, AllZip, Contains, list_any}
 use Rattle.std.proofs.lemmas.Grind.{common_steps}
-use Rattle.std.proofs.lemmas.List.{length-map, map_push}
+use Rattle.std.proofs.lemmas.Bool.{cases_lt}
+use Rattle.std.proofs.lemmas.List.{length-append, length-map, map_push}
 use Rattle.std.proofs.lemmas.List.Elements.{All-contains, Contains-get_or, Contains-append_left, Contains-append_right, Contains-append_cases}
 use Rattle.std.proofs.lemmas.List.Quantifiers.{all_pairs_push}
 use Rattle.std.proofs.lemmas.Map.Keys.{any_passes_from_place}
-use Rattle.std.proofs.lemmas.Option.{slice_get-map}
+use Rattle.std.proofs.lemmas.Option.{slice_get-map, slice_get_within}
 use Rattle.std.specs.Prelude.{option_map}
 use Rattle.indexmap.specs.IndexSet.{insert_key}
-use Rattle.tp_walk.specs.Moves.{Reaches, here, moved, IsAt, Places, IsWalk, Added, empties}
+use Rattle.tp_walk.specs.Moves.{Reaches, here, moved, IsAt, AreLed, Places, IsWalk, Added, empties}
 use Rattle.tp_walk.proofs.Places.{contained, place_of, still_at, pushed_at, was_at, mapped_at, zip_weaker, zip_append, zip_at, places_stay, no_places}
 
 -- some states more
 
 pub added_none : {V : Type 0} (xs : List V) → Added xs xs [] []
-added_none xs = record { grown = ([], grind (arith, common_steps)); from = λ y c. inl c; once = λ h. h; places = tt }
+added_none xs = record { grown = ([], grind (arith, common_steps)); from = λ y c. inl c; once = λ h. h; places = tt; fresh = λ j le lt. absurd (omega (arith, le, lt)) }
 
 added_old : {V : Type 0} (xs : List V) (i : ℕ) (y : V) → IsAt xs i y → Added xs xs (y ∷ []) (i ∷ [])
-added_old xs i y e = record { grown = ([], grind (arith, common_steps)); from = λ z c. inl c; once = λ h. h; places = (e, tt) }
+added_old xs i y e = record { grown = ([], grind (arith, common_steps)); from = λ z c. inl c; once = λ h. h; places = (e, tt); fresh = λ j le lt. absurd (omega (arith, le, lt)) }
 
 added_new : {V : Type 0} (xs : List V) (y : V) (n : ℕ) → n ≡ length xs → (Contains xs y → ⊥) → Added xs (xs ++ y ∷ []) (y ∷ []) (n ∷ [])
 added_new xs y n many lacks = record {
@@ -26,6 +27,9 @@ added_new xs y n many lacks = record {
   from = λ z c. Contains-append_cases xs (y ∷ []) z c;
   once = λ h. all_pairs_push (λ a b. a ≢ b) xs y h (λ k d lt e. lacks (subst (λ z. Contains xs z) e (Contains-get_or xs k d lt)));
   places = (rw many (pushed_at xs y), tt);
+  fresh = λ j le lt.
+      let long : length (xs ++ y ∷ []) ≡ length xs + 1 = length-append xs (y ∷ []) in
+      let same : n ≡ j = omega (arith, many, le, lt, long) in (0, omega arith, same);
 }
 
 pub added_more : {V : Type 0} (xs xs' xs'' ms ns : List V) (row row' : List ℕ) → Added xs xs' ms row → Added xs' xs'' ns row' → Added xs xs'' (ms ++ ns) (row ++ row')
@@ -37,6 +41,10 @@ added_more {V} xs xs' xs'' ms ns row row' a b = record {
   ];
   once = λ h. b.once (a.once h);
   places = zip_append (IsAt xs'') row ms row' ns (subst (λ zs. Places zs row ms) (sym b.grown.1) (places_stay xs' b.grown.0 row ms a.places)) b.places;
+  fresh = λ j le lt. elim (cases_lt j (length xs')) as (λ _. Contains (row ++ row') j) [
+    | inl early ↦ Contains-append_left row row' j (a.fresh j le early)
+    | inr late ↦ Contains-append_right row row' j (b.fresh j late lt)
+  ];
 }
 
 -- one insert into a set of kept states, which are equal where they stand for the same
@@ -70,6 +78,7 @@ pub record IsWalking {V : Type 0} (next : V → List V) (first : V) (xs : List V
   pub sound : All (Reaches next first) xs
   pub once : AllPairs (λ x y. x ≢ y) xs
   pub moves : AllZip (λ row x. Places xs row (next x)) rows (take (length rows) xs)
+  pub led : AreLed (length xs) rows
 
 pub walking_none : {V : Type 0} (next : V → List V) (first : V) → IsWalking next first (first ∷ []) []
 walking_none next first = record {
@@ -77,6 +86,7 @@ walking_none next first = record {
   sound = λ k d lt. let z : k ≡ 0 = omega arith in rw z here;
   once = λ i j d lt in'. absurd (omega arith);
   moves = tt;
+  led = λ j more lt. absurd (omega (arith, more, lt));
 }
 
 take_at : {V : Type 0} (xs ys : List V) (i : ℕ) (x : V) → IsAt xs i x → take (suc i) (xs ++ ys) ≡ take i xs ++ x ∷ []
@@ -102,6 +112,12 @@ module _ {V : Type 0} (next : V → List V) (first : V) (xs xs' : List V) (rows 
         ];
         once = a.once w.once;
         moves = rw (many, more) (zip_append (λ r y. Places xs' r (next y)) rows (take (length rows) xs) (row ∷ []) (x ∷ []) old (a.places, tt));
+        led = λ j some lt. elim (cases_lt j (length xs)) as (λ _. (k : ℕ) × (r : List ℕ) × (k < j) × IsAt (rows ++ row ∷ []) k r × Contains r j) [
+          | inl early ↦ let p = w.led j some early in (p.0, p.1, p.2, still_at rows (row ∷ []) p.0 p.1 p.3, p.4)
+          | inr late ↦
+              let before : length rows < length xs = slice_get_within xs (length rows) x e in
+              (length rows, row, omega (arith, before, late), pushed_at rows row, a.fresh j late lt)
+        ];
       }
 
 -- the empty rows
@@ -155,6 +171,7 @@ module _ {V : Type 0} (next : V → List V) (first : V) (xs : List V) (rows : Li
         exact = λ x. (λ c. All-contains (Reaches next first) xs x w.sound c, λ r. holds_all m w.begins x r);
         once = w.once;
         moves = m;
+        led = w.led;
         bare = empty;
         ended = λ x. (
           λ (i, is, at).

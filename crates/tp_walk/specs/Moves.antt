@@ -1,5 +1,5 @@
 -- What a walk over the states of a finite system finds.
-use Rattle.std.specs.Prelude.{◌≡◌, ◌≢◌, ℕ, suc, ◌<◌, ◌⊎◌, ◌↔◌, List, [], ◌∷◌, ◌++◌, length, slice_get, Some}
+use Rattle.std.specs.Prelude.{◌≡◌, ◌≢◌, ℕ, suc, ◌<◌, ◌≤◌, ◌⊎◌, ◌↔◌, List, [], ◌∷◌, ◌++◌, length, slice_get, Some}
 use Rattle.std.specs.List.{All, AllPairs, AllZip, Contains}
 
 -- b is reached from a by moves, each of them one of those that `next` lists
@@ -21,13 +21,18 @@ empties k [] = []
 empties k ([] ∷ rows) = k ∷ empties (suc k) rows
 empties k ((i ∷ row) ∷ rows) = empties (suc k) rows
 
--- the states xs are those that are reached from the first, each once; the row beside each has the places of its moves; the ends are the
--- places of the states without a move
+-- each place but the first stands in the row of one before it
+abbrev pub AreLed : ℕ → List (List ℕ) → Type 0
+AreLed n rows = (j : ℕ) → 0 < j → j < n → (k : ℕ) × (row : List ℕ) × (k < j) × IsAt rows k row × Contains row j
+
+-- the states xs are those that are reached from the first, each once; the row beside each has the places of its moves, and each but the
+-- first is led to from one before it; the ends are the places of the states without a move
 pub record IsWalk {V : Type 0} (next : V → List V) (first : V) (xs : List V) (rows : List (List ℕ)) (ends : List ℕ) : Type 0 where
   pub begins : IsAt xs 0 first
   pub exact : (x : V) → Contains xs x ↔ Reaches next first x
   pub once : AllPairs (λ x y. x ≢ y) xs
   pub moves : AllZip (λ row x. Places xs row (next x)) rows xs
+  pub led : AreLed (length xs) rows
   pub bare : ends ≡ empties 0 rows
   pub ended : (x : V) → ((i : ℕ) × Contains ends i × IsAt xs i x) ↔ (Reaches next first x × (next x ≡ []))
 
@@ -48,3 +53,4 @@ pub record Added {V : Type 0} (xs xs' ms : List V) (row : List ℕ) : Type 0 whe
   pub from : (y : V) → Contains xs' y → Contains xs y ⊎ Contains ms y
   pub once : AllPairs (λ x y. x ≢ y) xs → AllPairs (λ x y. x ≢ y) xs'
   pub places : Places xs' row ms
+  pub fresh : (j : ℕ) → length xs ≤ j → j < length xs' → Contains row j

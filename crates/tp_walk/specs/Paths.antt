@@ -1,6 +1,6 @@
 -- How many paths lead to each end.
-use Rattle.std.specs.Prelude.{◌≡◌, ℕ, zero, suc, ◌+◌, ◌*◌, ◌^◌, ◌<◌, ◌≤◌, ◌-◌, List, [], ◌∷◌, length, sum_by, set, slice_index, slice_index_or}
-use Rattle.std.specs.List.{AllZip, flat_map}
+use Rattle.std.specs.Prelude.{◌≡◌, ℕ, zero, suc, ◌+◌, ◌*◌, ◌^◌, ◌<◌, ◌≤◌, ◌-◌, ◌⊎◌, List, [], ◌∷◌, sum_by, Option, Some, length, set, slice_get, slice_index, slice_index_or}
+use Rattle.std.specs.List.{AllZip, Contains, flat_map}
 use Rattle.tp_walk.specs.declared.counts.Count.{Count}
 use Rattle.tp_walk.specs.declared.counts.Count.TheVariants.{Exactly, Over}
 use Rattle.tp_walk.specs.declared.counts.Spot.{Spot}
@@ -68,3 +68,15 @@ AreSpots rank xs ps = AreSpotsFrom rank 0 xs ps
 abbrev pub LeadsTo : List (List ℕ) → ℕ → List Leg → ℕ → Type 0
 LeadsTo rows a [] b = a ≡ b
 LeadsTo rows a (leg ∷ legs) b = (leg.from ≡ a) × ((j : ℕ) × IsAt (row_of rows a) leg.choice j × LeadsTo rows j legs b)
+
+-- the legs lead to their places from the first n rows, and each place in one of these rows has one, from no later row
+pub record AreFirsts (rows : List (List ℕ)) (n : ℕ) (firsts : List (Option Leg)) : Type 0 where
+  pub legs : (j : ℕ) (leg : Leg) → slice_get firsts j ≡ Some (Some leg) → IsAt (row_of rows leg.from) leg.choice j × (leg.from ≤ n)
+  pub early : (j k : ℕ) (row : List ℕ) → k < n → IsAt rows k row → Contains row j → j < length firsts → (leg : Leg) × (slice_get firsts j ≡ Some (Some leg)) × (leg.from ≤ k)
+
+-- a leg is noted for a place that had none
+pub record Notes (old : List (Option Leg)) (to : ℕ) (leg : Leg) (new : List (Option Leg)) : Type 0 where
+  pub len : length new ≡ length old
+  pub only : (j : ℕ) (l : Leg) → slice_get new j ≡ Some (Some l) → (slice_get old j ≡ Some (Some l)) ⊎ ((j ≡ to) × (l ≡ leg))
+  pub kept : (j : ℕ) (l : Leg) → slice_get old j ≡ Some (Some l) → slice_get new j ≡ Some (Some l)
+  pub there : to < length old → (l : Leg) × (slice_get new to ≡ Some (Some l))

@@ -1,18 +1,35 @@
-use Rattle.std.proofs.Common.{◌+◌, ◌<◌, ◌≤◌, length, get_or, drop, map, arith}
+use Rattle.std.proofs.Common.{◌≡◌, ◌+◌, ◌<◌, ◌≤◌, length, get_or, drop, map, subst, arith}
 use Rattle.std.proofs.lemmas.List.{drop_all, drop_more, length-map}
 use Rattle.tp_walk.specs.declared.trails.Leg.{Leg}
-use Rattle.tp_walk.specs.Moves.{IsAt}
+use Rattle.tp_walk.specs.Moves.{AreLed, IsAt}
 use Rattle.tp_explore.specs.Situation.{seen}
 use Rattle.tp_ends.proofs.Running.{witnessed}
-use Rattle.tp_ends.proofs.Steps.{at_place, choice_within, followed_all, followed_more, followed_none, from_within}
+use Rattle.tp_ends.proofs.Steps.{at_place, choice_within, followed_all, followed_more, followed_none, from_within, rows_beside, rows_led}
 use Rattle.tp_ends.proofs.witnesses.witness.Goals as goal
+
+pub trail-requires-clause-led : goal.trail-requires-clause-led
+trail-requires-clause-led c =
+    let graph = c.args.graph.now in
+    let rows = map (λ row. row.items) graph.moves.items in
+    let led = rows_led c.args.exploration.now.plan (map seen graph.states.items) rows graph.ends.items c.requires.walked in
+    let long : length rows ≡ length graph.moves.items = length-map graph.moves.items (λ row. row.items) in
+    rw c.deref.ensures.value (subst (λ n. AreLed n rows) long led)
+
+pub trail-requires-clause-within : goal.trail-requires-clause-within
+trail-requires-clause-within c =
+    let graph = c.args.graph.now in
+    let rows = map (λ row. row.items) graph.moves.items in
+    let beside = rows_beside c.args.exploration.now.plan (map seen graph.states.items) rows graph.ends.items c.requires.walked in
+    let long : length rows ≡ length graph.moves.items = length-map graph.moves.items (λ row. row.items) in
+    let many = length-map graph.states.items seen in
+    rw c.deref.ensures.value (omega (arith, c.requires.within, beside, long, many))
 
 pub loop-leg-init : goal.loop-leg-init
 loop-leg-init c =
     let graph = c.args.graph.now in
-    let leads = rw (c.in-Some.is, c.deref.ensures.value) at c.in_ok-legs.ensures in
+    let leads = rw c.deref.ensures.value at c.in_ok-legs.ensures in
     rw (c.new-way.ensures.items, c.deref-leg-items.ensures.value)
-    (followed_none c.args.exploration.now.plan (map seen graph.states.items) (map (λ row. row.items) graph.moves.items) graph.ends.items c.in-Some.legs.items c.args.end c.requires.walked leads)
+    (followed_none c.args.exploration.now.plan (map seen graph.states.items) (map (λ row. row.items) graph.moves.items) graph.ends.items c.in_ok-legs.legs.items c.args.end c.requires.walked leads)
 
 pub index-requires : goal.index-requires
 index-requires c =

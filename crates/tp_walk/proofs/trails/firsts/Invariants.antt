@@ -1,11 +1,16 @@
-use Rattle.std.proofs.Common.{◌≡◌, ℕ, map, Some, slice_get}
-use Rattle.tp_walk.specs.declared.trails.Leg.{Leg}
-use Rattle.tp_walk.specs.Moves.{IsAt}
-use Rattle.tp_walk.specs.Paths.{row_of}
+use Rattle.std.proofs.Common.{◌≡◌, length, map, take}
+use Rattle.tp_walk.specs.Paths.{AreFirsts}
+use Rattle.tp_walk.proofs.Firsts.{AreFirstsSo}
 use Rattle.tp_walk.proofs.trails.firsts.Given as goal
 
 abbrev pub invariant-loop-from : goal.invariant-loop-from
-invariant-loop-from l = (j : ℕ) (leg : Leg) → slice_get l.firsts.items j ≡ Some (Some leg) → IsAt (row_of (map (λ row. row.items) l.rows) leg.from) leg.choice j
+invariant-loop-from l = record {
+  firsts : AreFirsts (map (λ row. row.items) l.rows) l.from l.firsts.items;
+  len : length l.firsts.items ≡ length l.rows;
+}
 
 abbrev pub invariant-loop-choice : goal.invariant-loop-choice
-invariant-loop-choice l = (j : ℕ) (leg : Leg) → slice_get l.firsts.items j ≡ Some (Some leg) → IsAt (row_of (map (λ row. row.items) l.rows) leg.from) leg.choice j
+invariant-loop-choice l = record {
+  firsts : AreFirstsSo (map (λ row. row.items) l.rows) l.from (take l.choice l.to-items) l.firsts.items;
+  len : length l.firsts.items ≡ length l.rows;
+}

@@ -1,13 +1,35 @@
-use Rattle.std.proofs.Common.{◌≡◌, Some, refl, length, ◌<◌, arith, get_or}
-use Rattle.std.proofs.lemmas.Bool.Decides.{nat_tests}
-use Rattle.std.proofs.lemmas.Option.{slice_get_read}
+use Rattle.std.proofs.Common.{rules, ◌≡◌, ◌<◌, length, map, Some, refl, sym, subst, ◌∙◌, arith}
+use Rattle.std.specs.Option.{IsSome}
+use Rattle.std.proofs.lemmas.Option.{get_or_from_slice_get, same_Some}
+use Rattle.tp_walk.specs.Moves.{IsAt}
+use Rattle.tp_walk.specs.Paths.{row_of}
+use Rattle.tp_walk.proofs.Firsts.{first_of}
 use Rattle.tp_walk.proofs.trails.trail.Goals as goal
 
-pub loop-turn-preserved : goal.loop-turn-preserved
-loop-turn-preserved c =
-    let leg = c.in-Some-Some.leg in
-    let found = c.in-Some-Some.ensures.lookup in
-    let lt : c.loop-turn.at < length c.in_ok-firsts.firsts.items = grind (arith, nat_tests) in
-    let is : Some leg ≡ get_or c.in_ok-firsts.firsts.items c.loop-turn.at (Some leg) = cc in
-    let there = slice_get_read c.in_ok-firsts.firsts.items _ c.loop-turn.at (Some leg) refl lt is in
-    rw c.in_ok-insert.ensures.items (refl, (c.loop-turn.at, c.in_ok-firsts.ensures c.loop-turn.at leg there, c.loop-turn.invariant))
+pub unwrap-leg-requires : goal.unwrap-leg-requires
+unwrap-leg-requires c =
+    let fs = c.in_ok-firsts.firsts.items in
+    let p = first_of (map (λ row. row.items) c.args.rows.now) (length c.args.rows.now) fs c.in_ok-firsts.ensures.0 c.in_ok-firsts.ensures.1 c.requires.led c.loop-at.at c.loop-at-test.true c.loop-at.invariant.within in
+    let e : c.index.result.now ≡ Some p.0 = c.index.ensures ∙ get_or_from_slice_get fs c.loop-at.at (Some p.0) c.index.result.now p.1 in
+    subst IsSome (sym e) (search rules)
+
+pub loop-at-smaller : goal.loop-at-smaller
+loop-at-smaller c =
+    let fs = c.in_ok-firsts.firsts.items in
+    let p = first_of (map (λ row. row.items) c.args.rows.now) (length c.args.rows.now) fs c.in_ok-firsts.ensures.0 c.in_ok-firsts.ensures.1 c.requires.led c.loop-at.at c.loop-at-test.true c.loop-at.invariant.within in
+    let e : Some c.unwrap-leg.result ≡ Some p.0 = sym c.unwrap-leg.ensures ∙ c.index.ensures ∙ get_or_from_slice_get fs c.loop-at.at (Some p.0) c.index.result.now p.1 in
+    subst (λ leg. leg.from < c.loop-at.at) (sym (same_Some _ _ e)) p.3
+
+pub loop-at-preserved : goal.loop-at-preserved
+loop-at-preserved c =
+    let rows = map (λ row. row.items) c.args.rows.now in
+    let fs = c.in_ok-firsts.firsts.items in
+    let p = first_of rows (length c.args.rows.now) fs c.in_ok-firsts.ensures.0 c.in_ok-firsts.ensures.1 c.requires.led c.loop-at.at c.loop-at-test.true c.loop-at.invariant.within in
+    let e : Some c.unwrap-leg.result ≡ Some p.0 = sym c.unwrap-leg.ensures ∙ c.index.ensures ∙ get_or_from_slice_get fs c.loop-at.at (Some p.0) c.index.result.now p.1 in
+    let same : c.unwrap-leg.result ≡ p.0 = same_Some _ _ e in
+    let there = subst (λ leg. IsAt (row_of rows leg.from) leg.choice c.loop-at.at) (sym same) p.2 in
+    let before = subst (λ leg. leg.from < c.loop-at.at) (sym same) p.3 in
+    record {
+      leads = rw c.in_ok-insert.ensures.items (refl, (c.loop-at.at, there, c.loop-at.invariant.leads));
+      within = omega (arith, before, c.loop-at.invariant.within);
+    }
