@@ -1,20 +1,25 @@
 #!/usr/bin/env python3
-"""bindings.py [--libraries FOLDERS] [STEP ..]: builds and tests the bindings for C, Rust and Python over the static
+"""bindings.py [--libraries FOLDERS] [--runs N] [--rate] [STEP ..]: builds and tests the bindings for C, Rust and Python over the static
 library libtp_c.a, with the machine's own cc, cargo and python3, and says what it left out.
 
 The library is made by `rt lib` in crates/tp_c. FOLDERS, with a colon between, are where it and the kit's liblibc_c.a lie, if they are
 elsewhere. A STEP is one of these; with none, all are made:
 
-    c          the C test program: the rows of bindings/rows, pointers that are NULL, texts at the limit
-    sanitized  the same with the address and the undefined behaviour sanitizer, where the compiler has them; they look for leaks too
-    leaks      the same under valgrind, where it is there
-    rust       cargo test: the rows, endings, texts at the limit, calls of several threads
-    python     the rows, endings, texts at the limit
+    c          the C test program: the rows, two lives of a machine, refusals, pointers that are NULL, texts at the limit
+    sanitized  the same with the address and the undefined behaviour sanitizer, where the compiler has them
+    threads    four threads on one machine under a mutex, with the thread sanitizer, where the compiler has it
+    leaks      the first under valgrind, where it is there; the address sanitizer looks for leaks too
+    rust       cargo test --release: the rows, endings, N random runs (10,000), the pool under stress with each record judged
+    python     the rows, endings, machines and executors
+    futures    CPython's own tests of ThreadPoolExecutor, where they are there: the folder that PYTHON_TESTS names, which holds
+               test_concurrent_futures.py of the python3 that runs (Debian: libpython3.11-testsuite)
 
-The exit status is 0 where nothing failed.
+The rows are the worked ones of tp_rows, tp_foretold and test_stories, taken from their sources, and those of bindings/rows. With --rate
+the Rust pool's rate is printed beside that of a textbook's pool. The exit status is 0 where nothing failed.
 """
 
 import argparse
+import glob
 import os
 import re
 import shutil
@@ -24,9 +29,9 @@ import tempfile
 
 ROOT = os.path.dirname(os.path.dirname(os.path.abspath(__file__)))
 BINDINGS = os.path.join(ROOT, "bindings")
-STEPS = ["c", "sanitized", "leaks", "rust", "python"]
+STEPS = ["c", "sanitized", "threads", "leaks", "rust", "python", "futures"]
 ARCHIVES = ("libtp_c.a", "liblibc_c.a")
-FLAGS = ["-std=c11", "-O1", "-g", "-Wall", "-Wextra", "-I", os.path.join(BINDINGS, "include")]
+FLAGS = ["-std=gnu11", "-O1", "-g", "-Wall", "-Wextra", "-I", os.path.join(BINDINGS, "include")]
 
 
 class LeftOut(Exception):
@@ -43,16 +48,48 @@ def run(words, **how):
     return subprocess.run(words, **how).returncode == 0
 
 
-class Steps:
-    def __init__(self, folders, folder):
-        self.archives = [next(path for at in folders if os.path.exists(path := os.path.join(at, name))) for name in ARCHIVES]
-        self.folders, self.folder = folders, folder
-        self.rows = os.path.join(BINDINGS, "rows")
+# A constant text of a source, and the escapes in it.
+CONSTANT = re.compile(r'(?:const|static) (\w+): &(?:\[u8\]|str) =\s*b?"((?:[^"\\]|\\.)*)";', re.S)
+ESCAPE = re.compile(r"\\(\n\s*|.)", re.S)
 
-    def c_program(self, name, *flags):
+
+def constants(crate):
+    """The constant texts of a crate's sources, by name."""
+    plain = lambda text: ESCAPE.sub(lambda found: {"n": "\n", '"': '"', "\\": "\\"}.get(found[1], ""), text)
+    paths = sorted(glob.glob(os.path.join(ROOT, "crates", crate, "src", "**", "*.rt"), recursive=True))
+    return {name: plain(text) for path in paths for name, text in CONSTANT.findall(open(path).read())}
+
+
+def worked_rows():
+    """The worked rows of the crates of tests: a file's name for each, its text, and what is answered."""
+    runs = constants("tp_rows")
+    for name, text in runs.items():
+        if f"{name}_OUTPUT" in runs:
+            yield f"{'steps' if text.startswith('pool') else 'audit'}-{name.lower().replace('_', '-')}", text, runs[f"{name}_OUTPUT"]
+    callers = open(os.path.join(ROOT, "crates", "tp_foretold", "src", "rows.rt")).read()
+    for number, (text, ends) in enumerate(re.findall(r'callers: "([^"]*)",\s*ends: "([^"]*)"', callers)):
+        yield f"explore-{number}", text, ends
+    records = constants("test_stories")
+    told = open(os.path.join(ROOT, "crates", "test_stories", "src", "texts.rt")).read()
+    for name, entry, seen in re.findall(r'\(\s*(\w+),\s*(\d+),\s*"(after entry [^"]*)"', told):
+        yield f"now-{entry}-{name.lower()}", records[name], seen
+
+
+class Steps:
+    def __init__(self, folders, folder, said):
+        self.archives = [next(path for at in folders if os.path.exists(path := os.path.join(at, name))) for name in ARCHIVES]
+        self.folders, self.folder, self.said = folders, folder, said
+        self.rows = os.path.join(folder, "rows")
+        shutil.copytree(os.path.join(BINDINGS, "rows"), self.rows)
+        for name, text, answer in worked_rows():
+            for end, content in (("in", text), ("out", answer)):
+                with open(os.path.join(self.rows, f"{name}.{end}"), "w") as file:
+                    file.write(content)
+
+    def c_program(self, name, *flags, source="test_core.c"):
         needs("cc")
         program = os.path.join(self.folder, name)
-        source = os.path.join(BINDINGS, "c", "test_core.c")
+        source = os.path.join(BINDINGS, "c", source)
         if not run(["cc", *FLAGS, *flags, source, *self.archives, "-o", program]):
             raise LeftOut(f"the compiler does not take {' '.join(flags)}") if flags else AssertionError("the C program does not compile")
         return program
@@ -65,14 +102,23 @@ class Steps:
         program = self.c_program("test_sanitized", "-fsanitize=address,undefined", "-fno-sanitize-recover=all")
         return run([program, self.rows], env={**os.environ, "ASAN_OPTIONS": "detect_leaks=1"})
 
+    def threads(self):
+        return run([self.c_program("test_threads", "-fsanitize=thread", "-pthread", source="test_threads.c")])
+
     def leaks(self):
         needs("valgrind")
         return run(["valgrind", "--quiet", "--leak-check=full", "--error-exitcode=9", self.c_program("test_leaks"), self.rows])
 
-    def rust(self):
+    def cargo(self, *words):
         needs("cargo")
-        env = {**os.environ, "ZELLUNKAY_LIBS": ":".join(self.folders), "CARGO_TARGET_DIR": os.path.join(self.folder, "target")}
-        return run(["cargo", "test", "--offline"], cwd=os.path.join(BINDINGS, "rust"), env=env)
+        folder = os.path.join(BINDINGS, "rust")
+        env = {**os.environ, "ZELLUNKAY_LIBS": ":".join(self.folders), "CARGO_TARGET_DIR": os.path.join(self.folder, "target"),
+               "ZELLUNKAY_ROWS": self.rows, "ZELLUNKAY_RUNS": str(self.said.runs)}
+        return run(["cargo", *words], cwd=folder, env=env)
+
+    def rust(self):
+        done = self.cargo("test", "--release", "--offline")
+        return done and (not self.said.rate or self.cargo("run", "--release", "--offline", "--bin", "pool_rate"))
 
     def shared(self):
         """libzellunkay.so, for ctypes."""
@@ -82,15 +128,24 @@ class Steps:
         wanted = [f"-Wl,-u,{name}" for name in dict.fromkeys(names)]
         if not run(["cc", "-shared", *wanted, *self.archives, "-o", path]):
             raise AssertionError("no shared library")
-        return {**os.environ, "ZELLUNKAY_LIBRARY": self.folder, "PYTHONPATH": os.path.join(BINDINGS, "python"), "PYTHONDONTWRITEBYTECODE": "1"}
+        return {**os.environ, "ZELLUNKAY_LIBRARY": self.folder, "ZELLUNKAY_ROWS": self.rows, "PYTHONPATH": os.path.join(BINDINGS, "python"), "PYTHONDONTWRITEBYTECODE": "1"}
 
     def python(self):
         return run([sys.executable, "-m", "unittest", "discover", "-s", os.path.join(BINDINGS, "python", "tests")], env=self.shared())
+
+    def futures(self):
+        tests = os.environ.get("PYTHON_TESTS", "")
+        if not os.path.exists(os.path.join(tests, "test_concurrent_futures.py")):
+            raise LeftOut("PYTHON_TESTS names no folder with test_concurrent_futures.py")
+        program = os.path.join(BINDINGS, "python", "cpython_tests.py")
+        return run([sys.executable, program, tests], env=self.shared())
 
 
 def main():
     parser = argparse.ArgumentParser(description=__doc__, formatter_class=argparse.RawDescriptionHelpFormatter)
     parser.add_argument("--libraries", default=f"{ROOT}/crates/tp_c/out:/opt/rattle/c")
+    parser.add_argument("--runs", type=int, default=10_000)
+    parser.add_argument("--rate", action="store_true")
     parser.add_argument("steps", nargs="*", choices=[[], *STEPS], metavar="STEP")
     said = parser.parse_args()
     folders = [os.path.abspath(at) for at in said.libraries.split(":")]
@@ -99,7 +154,7 @@ def main():
         sys.exit(f"no {' and no '.join(lacking)} in {said.libraries}: run `rt lib` in crates/tp_c, and name the kit's folder c")
     ends = {}
     with tempfile.TemporaryDirectory() as folder:
-        steps = Steps(folders, folder)
+        steps = Steps(folders, folder, said)
         for name in said.steps or STEPS:
             try:
                 ends[name] = "passed" if getattr(steps, name)() else "FAILED"

@@ -1,5 +1,6 @@
-"""The proved judge of a thread pool's records, and its player of scenarios: bytes in, bytes out."""
+"""The proved core of a thread pool: `audit`, `steps`, `explore`, `now`, a `Machine`, and an `Executor` in the form of concurrent.futures."""
 
-from .texts import Told, audit, steps
+from .core import Answer, Ask, Fate, Kind, Machine, Place, Recorder, Refused, Told, Verdict, What, audit, explore, now, steps
+from .executor import Executor
 
-__all__ = ["Told", "audit", "steps"]
+__all__ = ["Answer", "Ask", "Executor", "Fate", "Kind", "Machine", "Place", "Recorder", "Refused", "Told", "Verdict", "What", "audit", "explore", "now", "steps"]

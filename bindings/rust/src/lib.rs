@@ -1,9 +1,20 @@
-//! The proved judge of a thread pool's records, and its player of scenarios: bytes in, bytes out.
+//! A thread pool whose every decision is made by a proved machine.
 //!
-//! [`audit`] judges the text of a record as `poolrun audit` does, and [`steps`] plays a scenario as `poolrun steps` does. Nothing is
-//! kept between calls, and any thread may call. What is proved of them stands in `docs/BINDINGS.md`.
+//! [`Machine`] is the machine itself: each call is one step of the model, or a refusal that changes nothing. [`ThreadPool`] runs
+//! closures over it: its lock, its threads and its wakes are Rust's, and what becomes of a task is the machine's answer. [`audit`] judges a
+//! record, [`steps`] plays a scenario, [`explore`] tells all ends of some callers' interleavings, and [`now`] the pool after an entry.
+//!
+//! What is proved, and what this crate keeps so that it holds, stands in `docs/BINDINGS.md`.
 
+mod futures;
+mod machine;
+mod pool;
 mod raw;
+mod scopes;
 mod texts;
 
-pub use texts::{audit, steps, Error, Told};
+pub use futures::{Failure, Future};
+pub use machine::{Answer, Ask, Error, Fate, Kind, Machine, Outcome, Place, PoolView, Recorder, TaskView, Verdict};
+pub use pool::{Builder, Closed, HandedBack, ThreadPool};
+pub use scopes::Scope;
+pub use texts::{audit, explore, now, steps, Told};

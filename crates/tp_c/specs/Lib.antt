@@ -1,5 +1,11 @@
+pub mod Asks
+pub mod Handles
+pub mod Homes
+pub mod Numbers
+pub mod Opening
 pub mod Rooms
 pub mod Statuses
 pub mod Texts
+pub mod Views
 pub use Rattle.tp_audit_text.specs.AuditText
 pub use Rattle.tp_scenario.specs.Played

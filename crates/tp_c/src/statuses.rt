@@ -16,6 +16,13 @@ pub enum Status {
     Flaw,
     /// 33: the room for the answer is too small.
     TooSmall,
+    /// 34: there is no such recorder; a record was asked of a machine that keeps none, or the other way round; no machine is there, or one is
+    /// where none is to be.
+    WrongKind,
+    /// 35: the numbers are those of no ask.
+    WrongAsk,
+    /// 37: more states are reached than may be kept.
+    TooMany,
 }
 
 impl Status {
@@ -28,6 +35,9 @@ impl Status {
             Status::Refused(error) => u32::from(error.number()),
             Status::Flaw => 32,
             Status::TooSmall => 33,
+            Status::WrongKind => 34,
+            Status::WrongAsk => 35,
+            Status::TooMany => 37,
         }
     }
 

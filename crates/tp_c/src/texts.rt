@@ -18,7 +18,7 @@ use tp_types::limits::MAX_TEXT_BYTES;
 use tp_types::refusals::PoolError;
 
 /// Lays lines, and behind them that of a refusal, into the room, with the refusal's number as status.
-fn refuse(lines: &[u8], refusal: PoolError, room: &mut [u8], needed: &mut usize) -> u32
+pub(crate) fn refuse(lines: &[u8], refusal: PoolError, room: &mut [u8], needed: &mut usize) -> u32
     ensures { IsLaid (lines.now ++ refusal_text refusal) (Refused refusal) room.old room.new needed.new result }
 {
     let line = refusal_line(refusal);
