@@ -14,7 +14,8 @@ elsewhere. A STEP is one of these; with none, all are made:
     futures    CPython's own tests of ThreadPoolExecutor, where they are there: the folder that PYTHON_TESTS names, which holds
                test_concurrent_futures.py of the python3 that runs (Debian: libpython3.11-testsuite)
 
-The rows are the worked ones of tp_rows, tp_foretold and test_stories, taken from their sources, and those of bindings/rows. With --rate
+The rows are those of bindings/rows, and the worked ones of tp_rows, tp_foretold and test_stories, taken from their sources where
+bindings/rows has no such text. With --rate
 the Rust pool's rate is printed beside that of a textbook's pool. The exit status is 0 where nothing failed.
 """
 
@@ -81,7 +82,8 @@ class Steps:
         self.folders, self.folder, self.said = folders, folder, said
         self.rows = os.path.join(folder, "rows")
         shutil.copytree(os.path.join(BINDINGS, "rows"), self.rows)
-        for name, text, answer in worked_rows():
+        kept = {open(path).read() for path in glob.glob(os.path.join(self.rows, "*.in"))}
+        for name, text, answer in (row for row in worked_rows() if row[1] not in kept):
             for end, content in (("in", text), ("out", answer)):
                 with open(os.path.join(self.rows, f"{name}.{end}"), "w") as file:
                     file.write(content)

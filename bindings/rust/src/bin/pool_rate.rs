@@ -94,7 +94,7 @@ fn main() {
             pool.close();
         });
         let tally = rate(tasks, |sum| ours(ThreadPool::fixed(workers).unwrap(), tasks, sum));
-        let kept = tasks.min(150_000);
+        let kept = tasks.min(60_000);
         let full = rate(kept, |sum| ours(Builder::new(workers).record(1_048_576).open().unwrap(), kept, sum));
         println!("{workers} workers: textbook {textbook:.0} tasks a second, tally {tally:.0}, full record {full:.0}");
     }
