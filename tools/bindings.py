@@ -15,8 +15,8 @@ elsewhere. A STEP is one of these; with none, all are made:
                test_concurrent_futures.py of the python3 that runs (Debian: libpython3.11-testsuite)
 
 The rows are those of bindings/rows, and the worked ones of tp_rows, tp_foretold and test_stories, taken from their sources where
-bindings/rows has no such text. With --rate
-the Rust pool's rate is printed beside that of a textbook's pool. The exit status is 0 where nothing failed.
+bindings/rows has no such text. With --rate the Rust pool's rate is printed beside that of a textbook's pool. The exit status is 0
+where nothing failed.
 """
 
 import argparse

@@ -1,19 +1,12 @@
 /* test_core.c ROWS: plays and judges each row of the folder through the library, and walks a machine through its life. It prints the
    first check that fails, and ends with 1 then, else with 0. */
+#include "check.h"
 #include "zellunkay.h"
 
 #include <dirent.h>
 #include <stdio.h>
 #include <stdlib.h>
 #include <string.h>
-
-#define CHECK(holds)                                                       \
-    do {                                                                   \
-        if (!(holds)) {                                                    \
-            fprintf(stderr, "%s:%d: %s\n", __FILE__, __LINE__, #holds);    \
-            exit(1);                                                       \
-        }                                                                  \
-    } while (0)
 
 struct bytes {
     uint8_t *at;

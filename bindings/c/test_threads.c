@@ -1,19 +1,12 @@
 /* test_threads.c: four threads ask one machine, under a mutex, whatever fits or not, and judge texts beside that. Its record is legal at
    the end. It is for the thread sanitizer: it prints the first check that fails, and ends with 1 then, else with 0. */
+#include "check.h"
 #include "zellunkay.h"
 
 #include <pthread.h>
 #include <stdio.h>
 #include <stdlib.h>
 #include <string.h>
-
-#define CHECK(holds)                                                       \
-    do {                                                                   \
-        if (!(holds)) {                                                    \
-            fprintf(stderr, "%s:%d: %s\n", __FILE__, __LINE__, #holds);    \
-            exit(1);                                                       \
-        }                                                                  \
-    } while (0)
 
 enum { THREADS = 4, STEPS = 4000 };
 
