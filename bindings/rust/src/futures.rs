@@ -1,5 +1,6 @@
 //! Futures of jobs, and the jobs that a pool holds by their tasks' numbers.
 
+use crate::locks::{sound, wait_until};
 use crate::machine::{Error, Fate, Outcome};
 use crate::pool::Inner;
 use std::any::Any;
@@ -54,7 +55,7 @@ impl<T> Cell<T> {
     }
 
     fn lock(&self) -> MutexGuard<'_, State<T>> {
-        self.state.lock().unwrap_or_else(|poisoned| poisoned.into_inner())
+        sound(self.state.lock())
     }
 
     /// Ends it so, where it is open.
@@ -98,16 +99,7 @@ impl<T> Future<T> {
     fn wait(self, deadline: Option<Instant>) -> Result<T, Failure> {
         let mut state = self.cell.lock();
         while matches!(*state, State::Open) {
-            state = match deadline {
-                None => self.cell.changed.wait(state).unwrap_or_else(|poisoned| poisoned.into_inner()),
-                Some(deadline) => {
-                    let now = Instant::now();
-                    if deadline <= now {
-                        return Err(Failure::TimedOut);
-                    }
-                    self.cell.changed.wait_timeout(state, deadline - now).unwrap_or_else(|poisoned| poisoned.into_inner()).0
-                }
-            };
+            state = wait_until(&self.cell.changed, state, deadline).ok_or(Failure::TimedOut)?;
         }
         match std::mem::replace(&mut *state, State::Taken) {
             State::Ended(result) => result,

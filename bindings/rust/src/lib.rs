@@ -7,6 +7,7 @@
 //! What is proved, and what this crate keeps so that it holds, stands in `docs/BINDINGS.md`.
 
 mod futures;
+mod locks;
 mod machine;
 mod pool;
 mod raw;

@@ -1,6 +1,7 @@
 //! A pool of threads over a machine: each decision is one step of it, made under the pool's lock.
 
 use crate::futures::{set, Cell, Failure, Future, HeldJob, Plain, Promised};
+use crate::locks::{sound, wait_until};
 use crate::machine::{Answer, Ask, Error, Fate, Kind, Machine, PoolView, Recorder, Verdict};
 use std::collections::HashMap;
 use std::sync::{mpsc, Arc, Condvar, Mutex, MutexGuard};
@@ -237,7 +238,7 @@ impl Core {
 
 impl Inner {
     fn lock(&self) -> Lock<'_> {
-        self.core.lock().unwrap_or_else(|poisoned| poisoned.into_inner())
+        sound(self.core.lock())
     }
 
     fn wake_slot(&self, core: &mut Core, slot: u64) {
@@ -493,12 +494,10 @@ impl Inner {
             let view = if self.keep.is_zero() { None } else { Some(core.machine.view()) };
             let may_leave = view.is_some_and(|view| self.core_timeout || view.slots > u64::from(view.core));
             if !may_leave {
-                core = self.wakes[slot as usize].wait(core).unwrap_or_else(|poisoned| poisoned.into_inner());
+                core = sound(self.wakes[slot as usize].wait(core));
                 continue;
             }
-            let (held, waited) = self.wakes[slot as usize]
-                .wait_timeout(core, self.keep + Duration::from_millis(1))
-                .unwrap_or_else(|poisoned| poisoned.into_inner());
+            let (held, waited) = sound(self.wakes[slot as usize].wait_timeout(core, self.keep + Duration::from_millis(1)));
             core = held;
             if waited.timed_out() && core.is_listed[slot as usize] {
                 core.is_listed[slot as usize] = false;
@@ -644,15 +643,9 @@ impl ThreadPool {
         let deadline = timeout.map(|timeout| Instant::now() + timeout);
         let mut core = self.inner.lock();
         while !core.ended {
-            core = match deadline {
-                None => self.inner.ends.wait(core).unwrap_or_else(|poisoned| poisoned.into_inner()),
-                Some(deadline) => {
-                    let now = Instant::now();
-                    if deadline <= now {
-                        return false;
-                    }
-                    self.inner.ends.wait_timeout(core, deadline - now).unwrap_or_else(|poisoned| poisoned.into_inner()).0
-                }
+            core = match wait_until(&self.inner.ends, core, deadline) {
+                Some(core) => core,
+                None => return false,
             };
         }
         true

@@ -1,6 +1,7 @@
 //! Jobs that borrow: a scope waits for the end of all its jobs.
 
 use crate::futures::{Cell, Failure, Future, HeldJob, Job, Promised};
+use crate::locks::sound;
 use crate::machine::{Error, Kind, Outcome};
 use crate::pool::ThreadPool;
 use std::marker::PhantomData;
@@ -16,9 +17,9 @@ struct Open {
 
 impl Open {
     fn wait(&self) {
-        let mut count = self.count.lock().unwrap_or_else(|poisoned| poisoned.into_inner());
+        let mut count = sound(self.count.lock());
         while *count > 0 {
-            count = self.none.wait(count).unwrap_or_else(|poisoned| poisoned.into_inner());
+            count = sound(self.none.wait(count));
         }
     }
 }
@@ -28,14 +29,14 @@ struct Counted(Arc<Open>);
 
 impl Counted {
     fn of(open: &Arc<Open>) -> Counted {
-        *open.count.lock().unwrap_or_else(|poisoned| poisoned.into_inner()) += 1;
+        *sound(open.count.lock()) += 1;
         Counted(open.clone())
     }
 }
 
 impl Drop for Counted {
     fn drop(&mut self) {
-        let mut count = self.0.count.lock().unwrap_or_else(|poisoned| poisoned.into_inner());
+        let mut count = sound(self.0.count.lock());
         *count -= 1;
         if *count == 0 {
             self.0.none.notify_all();
