@@ -34,6 +34,9 @@ use tp_types::tasks::Fate;
 /// many slots and tasks as they wake and hand back, a `purge` as the queue is long, all others the same or by the logarithm of
 /// what is kept; what is done with one task of a priority queue goes by the logarithm of how many wait. The memory goes by the
 /// numbers of tasks and slots. What it was told and took is at each moment a legal record.
+//
+// Its contracts speak of each legal history that it was told (`Judged`): it keeps no list of the entries. That there is such a
+// history is the invariant of the type, so a caller owes nothing for what it tells.
 #[derive(Drop)]
 pub struct Auditor {
     alloc: Global,
