@@ -18,9 +18,6 @@ use tp_types::states::RunState;
 
 /// How many tasks are handed back: all that are queued. A stop always fits, a second one too. BookFull (5), which only a pool that
 /// is stopped answers.
-//
-// A second stop still hands back what was offered after the first, and writes its entry: an offer does not look at the run
-// state, and the second look that does comes later.
 pub fn answer<P>(parts: &Parts<P>) -> Result<u32, PoolError>
     requires stands { Stands parts.now }
     ensures accepts { IfOk result (λ n. Accepts parts.now Ask.Stop (Did.Stop n)) }
