@@ -98,18 +98,27 @@ impl Hash for State {
     ghost hash_input = { λ s. flat_map ⟦<Caller as Hash>⟧.hash_input s.callers.items
         ++ flat_map ⟦<Option<TaskId> as Hash>⟧.hash_input s.numbers.items
         ++ flat_map ⟦<u32 as Hash>⟧.hash_input s.pool.queue.items
-        ++ flat_map (λ r. ⟦<Place as Hash>⟧.hash_input r.place) s.pool.tasks.items };
+        ++ flat_map (λ r. ⟦<Place as Hash>⟧.hash_input r.place) s.pool.tasks.items
+        ++ flat_map ⟦<usize as Hash>⟧.hash_input s.pool.idling.items
+        ++ ⟦<u32 as Hash>⟧.hash_input s.pool.steps
+        ++ ⟦<u8 as Hash>⟧.hash_input s.pool.rank };
 
     ghost respects_eq = { λ a b h. ap (λ x. flat_map ⟦<Caller as Hash>⟧.hash_input x.callers
         ++ flat_map ⟦<Option<TaskId> as Hash>⟧.hash_input x.numbers
         ++ flat_map ⟦<u32 as Hash>⟧.hash_input x.pool.queue
-        ++ flat_map (λ r. ⟦<Place as Hash>⟧.hash_input r.place) x.pool.tasks) (same.same_seen a b h) };
+        ++ flat_map (λ r. ⟦<Place as Hash>⟧.hash_input r.place) x.pool.tasks
+        ++ flat_map ⟦<usize as Hash>⟧.hash_input x.pool.idling
+        ++ ⟦<u32 as Hash>⟧.hash_input x.pool.steps
+        ++ ⟦<u8 as Hash>⟧.hash_input x.pool.rank) (same.same_seen a b h) };
 
     fn hash<H: Hasher>(&self, state: &mut H) {
         feed(&self.callers, state);
         feed(&self.numbers, state);
         feed(&self.pool.queue, state);
         feed_places(&self.pool.tasks, state);
+        feed(&self.pool.idling, state);
+        self.pool.steps.hash(state);
+        self.pool.rank.hash(state);
     }
 }
 
