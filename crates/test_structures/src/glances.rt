@@ -24,7 +24,7 @@ const TIDY: Entry = Entry {
     did: Did::Tidy,
 };
 
-// What a seat sees.
+/// What a seat sees.
 fn sees<G: Naming>(
     rt: &impl Abort,
     line: usize,
@@ -35,7 +35,7 @@ fn sees<G: Naming>(
     same(rt, line, &glance.glance(seat), &wanted);
 }
 
-// Raises the state twice for the owner of a seat, which sees each raise, and notes an entry that raises nothing.
+/// Raises the state twice for the owner of a seat, which sees each raise, and notes an entry that raises nothing.
 fn raise_twice<G: Naming>(
     rt: &impl Abort,
     glance: &Glance<G>,
@@ -53,7 +53,7 @@ fn raise_twice<G: Naming>(
     sees(rt, 4, glance, seat, RunState::Tidying);
 }
 
-// What another seat sees then, and the book's own, also once a task is forgotten.
+/// What another seat sees then, and the book's own, also once a task is forgotten.
 fn look_on<G: Naming>(
     rt: &impl Abort,
     glance: &Glance<G>,
@@ -68,7 +68,7 @@ fn look_on<G: Naming>(
     sees(rt, 7, glance, seat, RunState::Tidying);
 }
 
-// What other seats see of a raise, and when.
+/// What other seats see of a raise, and when.
 fn look_at_raises<G: Naming, R: Abort>(rt: &R, blank: BlankGlance)
     requires { blank ≡ G.table }
 {

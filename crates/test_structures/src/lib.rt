@@ -1,5 +1,5 @@
-//! Tests of the types, the record, the structures, the published word, and what submitters and workers
-//! do in order: one module for each of them, over public calls alone. They stand above those crates, so that none of them is proved twice for its tests.
+//! Tests of the types, the record, the structures, the published word, and what submitters and workers do in order. Each has a module,
+//! which makes public calls alone. The tests stand above those crates, so that none of them is proved twice for its tests.
 #![tactic(auto)]
 
 #[cfg(test)]

@@ -96,8 +96,8 @@ fn fill(rt: &impl Abort, values: &mut Values, capacity: u64) {
     asks(rt, 2, values, Call::IsFull, Holds(true));
 }
 
-/// Takes out the value behind the head and offers a new one, until this one was offered. A line of
-/// one place gives up its head each time.
+/// Takes out the value behind the head and offers the next one, again and again, up to this value. A line of one place gives up its
+/// head each time.
 fn churn(rt: &impl Abort, values: &mut Values, capacity: u64, to: u64) {
     let behind_head = u64::from(capacity != 1);
     for id in capacity..to {

@@ -11,7 +11,7 @@ const TASK: TaskId = TaskId(7);
 
 const SLOT: SlotId = SlotId(2);
 
-// Answers, and what follows each; the last stands for another task's.
+/// Answers, and what follows each; the last stands for another task's.
 const PATH: [(Did, Next); 9] = [
     (
         Did::Submit(TASK, Kind::Plain, 0, Looked::Queue),

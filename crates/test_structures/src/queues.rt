@@ -89,7 +89,7 @@ fn fill<Q: WorkQueue>(rt: &impl Abort, tasks: &mut Tasks<Q>, from: u32, to: u32)
     }
 }
 
-/// The tasks that wait are these, from one number up to another. They are taken out all at once.
+/// The tasks from one number up to another wait, and no others. They are taken out all at once.
 fn drain<Q: WorkQueue>(
     rt: &impl Abort,
     alloc: Global,
@@ -109,8 +109,8 @@ fn drain<Q: WorkQueue>(
     Ok(())
 }
 
-/// Of a full queue with this capacity, takes out the task behind the head and offers a new one, until this one was offered, so
-/// that the queue's ring gives up its dead. A queue of one place gives up its head each time.
+/// Fills a queue of this capacity. Then it takes out the task behind the head and offers the next one, again and again, up to this
+/// task: so the queue's ring gives up its dead. A queue of one place gives up its head each time.
 fn churn<Q: WorkQueue>(rt: &impl Abort, tasks: &mut Tasks<Q>, capacity: u32, to: u32) {
     fill(rt, tasks, 0, capacity);
     asks(rt, 0, tasks, Call::IsFull, Holds(true));

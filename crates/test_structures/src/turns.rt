@@ -15,7 +15,7 @@ use tp_types::tasks::{Outcome, Promise, WIDEST, as_widest};
 
 const TASK: TaskId = TaskId(3);
 
-// A job that answers its value, or the fault 9.
+/// A job that answers its value, or the fault 9.
 #[derive(Drop)]
 struct Fixed {
     value: i64,
@@ -36,7 +36,7 @@ impl Job for Fixed {
     }
 }
 
-// What a turn is to meet.
+/// What a turn is to meet.
 #[derive(Clone, Copy)]
 enum Script {
     Leaves,
@@ -46,7 +46,7 @@ enum Script {
     Runs(bool, Ended, Departed),
 }
 
-// A pool by a script, with the deeds so far.
+/// A pool by a script, with the deeds so far.
 #[derive(Drop)]
 struct Stage {
     script: Script,
@@ -138,7 +138,7 @@ impl<R: Wait> Workplace<Fixed, R> for Stage {
     }
 }
 
-// The turn of each script, and what it does.
+/// The turn of each script, and what it does.
 const RUN: [Deed; 9] = [
     Deed::Passed(Point::Take),
     Deed::Took(Taken::Task),
@@ -188,7 +188,7 @@ const NO_TASK: [Deed; 3] = [
     Deed::Unbegun,
 ];
 
-// Plays one turn, and compares how it went and what was done.
+/// Plays one turn, and compares how it went and what was done.
 fn play<R: Abort + Wait>(
     rt: &R,
     alloc: Global,

@@ -181,32 +181,13 @@ const RESULTS: [(Event, Calls); 14] = [
     (Event::Step(Ask::Purge, Did::Purge(1), 0), NOBODY),
 ];
 
-#[test]
-fn wakes_one_worker_at_a_time(rt: HostRuntime) -> Result<(), Fail> {
-    play(&rt, rt.alloc(), &ONE_AT_A_TIME)?;
-    Ok(())
-}
+/// Workers one at a time; one that is to leave; callers that wait for the end, for a future, or for a step.
+static TABLES: [&[(Event, Calls)]; 5] = [&ONE_AT_A_TIME, &TO_LEAVE, &END, &RESULTS, &STEPS];
 
 #[test]
-fn wakes_who_is_to_leave(rt: HostRuntime) -> Result<(), Fail> {
-    play(&rt, rt.alloc(), &TO_LEAVE)?;
-    Ok(())
-}
-
-#[test]
-fn wakes_who_waits_for_the_end(rt: HostRuntime) -> Result<(), Fail> {
-    play(&rt, rt.alloc(), &END)?;
-    Ok(())
-}
-
-#[test]
-fn wakes_who_waits_for_a_future(rt: HostRuntime) -> Result<(), Fail> {
-    play(&rt, rt.alloc(), &RESULTS)?;
-    Ok(())
-}
-
-#[test]
-fn wakes_who_waits_for_a_step(rt: HostRuntime) -> Result<(), Fail> {
-    play(&rt, rt.alloc(), &STEPS)?;
+fn wakes_whom_a_step_concerns(rt: HostRuntime) -> Result<(), Fail> {
+    for table in &TABLES {
+        play(&rt, rt.alloc(), table)?;
+    }
     Ok(())
 }
