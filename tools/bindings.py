@@ -14,7 +14,7 @@ elsewhere. A STEP is one of these; with none, all are made:
     futures    CPython's own tests of ThreadPoolExecutor, where they are there: the folder that PYTHON_TESTS names, which holds
                test_concurrent_futures.py of the python3 that runs (Debian: libpython3.11-testsuite)
 
-The rows are those of bindings/rows, and the worked ones of tp_rows, tp_foretold and test_stories, taken from their sources where
+The rows are those of bindings/rows, and the worked ones of test_model, tp_foretold and test_stories, taken from their sources where
 bindings/rows has no such text. With --rate the Rust pool's rate is printed beside that of a textbook's pool. The exit status is 0
 where nothing failed.
 """
@@ -54,23 +54,22 @@ CONSTANT = re.compile(r'(?:const|static) (\w+): &(?:\[u8\]|str) =\s*b?"((?:[^"\\
 ESCAPE = re.compile(r"\\(\n\s*|.)", re.S)
 
 
-def constants(crate):
-    """The constant texts of a crate's sources, by name."""
+def constants(folder):
+    """The constant texts of the sources in a crate's folder, by name."""
     plain = lambda text: ESCAPE.sub(lambda found: {"n": "\n", '"': '"', "\\": "\\"}.get(found[1], ""), text)
-    paths = sorted(glob.glob(os.path.join(ROOT, "crates", crate, "src", "**", "*.rt"), recursive=True))
+    paths = sorted(glob.glob(os.path.join(ROOT, "crates", folder, "**", "*.rt"), recursive=True))
     return {name: plain(text) for path in paths for name, text in CONSTANT.findall(open(path).read())}
 
 
 def worked_rows():
     """The worked rows of the crates of tests: a file's name for each, its text, and what is answered."""
-    runs = constants("tp_rows")
-    for name, text in runs.items():
-        if f"{name}_OUTPUT" in runs:
-            yield f"{'steps' if text.startswith('pool') else 'audit'}-{name.lower().replace('_', '-')}", text, runs[f"{name}_OUTPUT"]
+    for name, row in constants("test_model/src/rows").items():
+        text, _, answer = row.partition("\n\n")
+        yield f"{'steps' if text.startswith('pool') else 'audit'}-{name.lower().replace('_', '-')}", f"{text}\n", answer
     callers = open(os.path.join(ROOT, "crates", "tp_foretold", "src", "rows.rt")).read()
     for number, (text, ends) in enumerate(re.findall(r'callers: "([^"]*)",\s*ends: "([^"]*)"', callers)):
         yield f"explore-{number}", text, ends
-    records = constants("test_stories")
+    records = constants("test_stories/src")
     told = open(os.path.join(ROOT, "crates", "test_stories", "src", "texts.rt")).read()
     for name, entry, seen in re.findall(r'\(\s*(\w+),\s*(\d+),\s*"(after entry [^"]*)"', told):
         yield f"now-{entry}-{name.lower()}", records[name], seen

@@ -1,0 +1,69 @@
+-- Worked row bare opens at shutdown: each entry is the one that the step gives at its front, and each refusal is the step's.
+use Rattle.std.proofs.Common.{◌≡◌, ℕ, List, [], ◌∷◌, ◌++◌, Some, Ok, Err, true, false, map, refl}
+use Rattle.test_model.proofs.Entries.{entry, task, slot, front, start, Config, Unbounded, NotThere, Entry, queue, state, fate_of, counts, step, Legal, waiting_line, has_fate, counters, pos}
+use Rattle.test_model.proofs.Entries.fate
+use Rattle.test_model.proofs.Entries.policy
+use Rattle.test_model.proofs.Entries.ask
+use Rattle.test_model.proofs.Entries.did
+use Rattle.test_model.proofs.Entries.opened
+use Rattle.test_model.proofs.Entries.took
+use Rattle.test_model.proofs.Entries.started
+use Rattle.test_model.proofs.Worked.Row_27 as begun
+use Rattle.test_model.proofs.Agree.{agrees_at_fronts, owed_at_fronts, NextHolds}
+
+abbrev pub config : Config
+config = record { core = 0; maximum = 1; queue = Unbounded; keep = 0; core_timeout = false; policy = policy.Abort; record_limit = 4096 }
+
+abbrev pub row : List Entry
+row =
+    start 6 begun.row
+    ++ entry ask.Shutdown did.Shutdown
+    ∷ entry (ask.Open (slot 0)) (did.Open (slot 0) opened.Live)
+    ∷ entry (ask.Take (slot 0)) (did.Take (slot 0) (took.Head (task 0)))
+    ∷ entry (ask.Begin (slot 0)) (did.Begin (slot 0) (started.Run (task 0)))
+    ∷ entry (ask.End (slot 0) (Err 3)) (did.End (slot 0) (task 0) (Err 3))
+    ∷ entry (ask.Leave (slot 0)) (did.Leave (slot 0) (Some (slot 0)))
+    ∷ entry (ask.Open (slot 0)) (did.Open (slot 0) opened.Live)
+    ∷ entry (ask.Take (slot 0)) (did.Take (slot 0) (took.Head (task 1)))
+    ∷ entry (ask.Begin (slot 0)) (did.Begin (slot 0) (started.Run (task 1)))
+    ∷ entry (ask.End (slot 0) (Ok (pos 2))) (did.End (slot 0) (task 1) (Ok (pos 2)))
+    ∷ entry (ask.Take (slot 0)) (did.Take (slot 0) took.Leave)
+    ∷ entry ask.Tidy did.Tidy
+    ∷ entry ask.Ended did.Ended
+    ∷ []
+
+pub legal : Legal config (front 19 row)
+legal = ((refl, tt), ((refl, tt), ((refl, tt), ((refl, tt), ((refl, tt), ((refl, tt), ((refl, tt), ((refl, refl), ((refl, tt), ((refl, tt), ((refl, tt), ((refl, tt), ((refl, tt), ((refl, tt), ((refl, tt), ((refl, tt), ((refl, refl), ((refl, tt), ((refl, tt), tt)))))))))))))))))))
+
+pub refused_0 : (w : ℕ) → step config (state config (front 11 row)) w (ask.Take (slot 0)) ≡ Err NotThere
+refused_0 w = refl
+
+pub refused_1 : (w : ℕ) → step config (state config (front 16 row)) w (ask.Leave (slot 0)) ≡ Err NotThere
+refused_1 w = refl
+
+pub rank_last : (state config (front 19 row)).rank ≡ 4
+rank_last = refl
+
+pub fates_last : map fate_of (state config (front 19 row)).tasks ≡ Some fate.Run ∷ Some fate.Run ∷ []
+fates_last = refl
+
+pub counts_last : counts (state config (front 19 row)) ≡ record { submitted = 2; run = 2; caller = 0; rejected = 0; discarded = 0; handedback = 0; removed = 0; cancelled = 0; completed = 2; queued = 0; live = 0; largest = 1 }
+counts_last = refl
+
+pub counters_last : counters (front 19 row) ≡ record { submitted = 2; run = 2; caller = 0; rejected = 0; discarded = 0; handedback = 0; removed = 0; cancelled = 0; completed = 2; queued = 0; live = 0; largest = 1 }
+counters_last = refl
+
+pub fates_in_words : (has_fate fate.Run (front 19 row) 0 ≡ true) × (has_fate fate.RunByCaller (front 19 row) 0 ≡ false) × (has_fate fate.Rejected (front 19 row) 0 ≡ false) × (has_fate fate.Discarded (front 19 row) 0 ≡ false) × (has_fate fate.HandedBack (front 19 row) 0 ≡ false) × (has_fate fate.Removed (front 19 row) 0 ≡ false) × (has_fate fate.Cancelled (front 19 row) 0 ≡ false) × (has_fate fate.Run (front 19 row) 1 ≡ true) × (has_fate fate.RunByCaller (front 19 row) 1 ≡ false) × (has_fate fate.Rejected (front 19 row) 1 ≡ false) × (has_fate fate.Discarded (front 19 row) 1 ≡ false) × (has_fate fate.HandedBack (front 19 row) 1 ≡ false) × (has_fate fate.Removed (front 19 row) 1 ≡ false) × (has_fate fate.Cancelled (front 19 row) 1 ≡ false)
+fates_in_words = (refl, refl, refl, refl, refl, refl, refl, refl, refl, refl, refl, refl, refl, refl)
+
+pub words_agree : agrees_at_fronts config (front 19 row) ≡ true
+words_agree = refl
+
+pub next_holds : NextHolds config (front 19 row)
+next_holds = (refl, refl, (refl, refl, (refl, refl, (refl, refl, (refl, refl, (refl, refl, (refl, refl, (refl, refl, (refl, refl, (refl, refl, (refl, refl, (refl, refl, (refl, refl, (refl, refl, (refl, refl, (refl, refl, (refl, refl, (refl, refl, (refl, refl, tt)))))))))))))))))))
+
+pub owed : owed_at_fronts config (front 19 row) ≡ 0 ∷ 1 ∷ 3 ∷ 4 ∷ 8 ∷ 9 ∷ 10 ∷ 12 ∷ 13 ∷ 14 ∷ 15 ∷ 16 ∷ 18 ∷ 19 ∷ 23 ∷ 24 ∷ 13 ∷ 14 ∷ 15 ∷ 4 ∷ []
+owed = refl
+
+pub line_last : waiting_line config (front 19 row) ≡ queue config (front 19 row)
+line_last = refl

@@ -1,0 +1,60 @@
+-- Worked row queue before timeout: each entry is the one that the step gives at its front, and each refusal is the step's.
+use Rattle.std.proofs.Common.{◌≡◌, List, [], ◌∷◌, ◌++◌, Some, Ok, true, false, map, refl}
+use Rattle.test_model.proofs.Entries.{entry, task, slot, front, start, Config, Unbounded, Entry, queue, state, fate_of, counts, Legal, waiting_line, has_fate, counters, pos}
+use Rattle.test_model.proofs.Entries.kinds
+use Rattle.test_model.proofs.Entries.fate
+use Rattle.test_model.proofs.Entries.policy
+use Rattle.test_model.proofs.Entries.ask
+use Rattle.test_model.proofs.Entries.did
+use Rattle.test_model.proofs.Entries.looked
+use Rattle.test_model.proofs.Entries.offered
+use Rattle.test_model.proofs.Entries.seconded
+use Rattle.test_model.proofs.Entries.took
+use Rattle.test_model.proofs.Entries.started
+use Rattle.test_model.proofs.Worked.Row_15 as begun
+use Rattle.test_model.proofs.Agree.{agrees_at_fronts, owed_at_fronts, NextHolds}
+
+abbrev pub config : Config
+config = record { core = 0; maximum = 1; queue = Unbounded; keep = 0; core_timeout = false; policy = policy.Abort; record_limit = 4096 }
+
+abbrev pub row : List Entry
+row =
+    start 7 begun.row
+    ++ entry (ask.Submit kinds.Plain 0) (did.Submit (task 1) kinds.Plain 0 looked.Queue)
+    ∷ entry (ask.Offer (task 1)) (did.Offer (task 1) offered.Queued)
+    ∷ entry (ask.Take (slot 0)) (did.Take (slot 0) (took.Head (task 1)))
+    ∷ entry (ask.Second (task 1)) (did.Second (task 1) seconded.Stay)
+    ∷ entry (ask.Begin (slot 0)) (did.Begin (slot 0) (started.Run (task 1)))
+    ∷ entry (ask.End (slot 0) (Ok (pos 2))) (did.End (slot 0) (task 1) (Ok (pos 2)))
+    ∷ entry (ask.Take (slot 0)) (did.Take (slot 0) took.Leave)
+    ∷ []
+
+pub legal : Legal config (front 14 row)
+legal = ((refl, tt), ((refl, tt), ((refl, tt), ((refl, tt), ((refl, tt), ((refl, tt), ((refl, tt), ((refl, tt), ((refl, tt), ((refl, tt), ((refl, tt), ((refl, refl), ((refl, tt), ((refl, tt), tt))))))))))))))
+
+pub rank_last : (state config (front 14 row)).rank ≡ 0
+rank_last = refl
+
+pub fates_last : map fate_of (state config (front 14 row)).tasks ≡ Some fate.Run ∷ Some fate.Run ∷ []
+fates_last = refl
+
+pub counts_last : counts (state config (front 14 row)) ≡ record { submitted = 2; run = 2; caller = 0; rejected = 0; discarded = 0; handedback = 0; removed = 0; cancelled = 0; completed = 2; queued = 0; live = 0; largest = 1 }
+counts_last = refl
+
+pub counters_last : counters (front 14 row) ≡ record { submitted = 2; run = 2; caller = 0; rejected = 0; discarded = 0; handedback = 0; removed = 0; cancelled = 0; completed = 2; queued = 0; live = 0; largest = 1 }
+counters_last = refl
+
+pub fates_in_words : (has_fate fate.Run (front 14 row) 0 ≡ true) × (has_fate fate.RunByCaller (front 14 row) 0 ≡ false) × (has_fate fate.Rejected (front 14 row) 0 ≡ false) × (has_fate fate.Discarded (front 14 row) 0 ≡ false) × (has_fate fate.HandedBack (front 14 row) 0 ≡ false) × (has_fate fate.Removed (front 14 row) 0 ≡ false) × (has_fate fate.Cancelled (front 14 row) 0 ≡ false) × (has_fate fate.Run (front 14 row) 1 ≡ true) × (has_fate fate.RunByCaller (front 14 row) 1 ≡ false) × (has_fate fate.Rejected (front 14 row) 1 ≡ false) × (has_fate fate.Discarded (front 14 row) 1 ≡ false) × (has_fate fate.HandedBack (front 14 row) 1 ≡ false) × (has_fate fate.Removed (front 14 row) 1 ≡ false) × (has_fate fate.Cancelled (front 14 row) 1 ≡ false)
+fates_in_words = (refl, refl, refl, refl, refl, refl, refl, refl, refl, refl, refl, refl, refl, refl)
+
+pub words_agree : agrees_at_fronts config (front 14 row) ≡ true
+words_agree = refl
+
+pub next_holds : NextHolds config (front 14 row)
+next_holds = (refl, refl, (refl, refl, (refl, refl, (refl, refl, (refl, refl, (refl, refl, (refl, refl, (refl, refl, (refl, refl, (refl, refl, (refl, refl, (refl, refl, (refl, refl, (refl, refl, tt))))))))))))))
+
+pub owed : owed_at_fronts config (front 14 row) ≡ 4 ∷ 6 ∷ 9 ∷ 10 ∷ 14 ∷ 16 ∷ 17 ∷ 6 ∷ 9 ∷ 10 ∷ 12 ∷ 13 ∷ 14 ∷ 15 ∷ 4 ∷ []
+owed = refl
+
+pub line_last : waiting_line config (front 14 row) ≡ queue config (front 14 row)
+line_last = refl

@@ -1,0 +1,70 @@
+-- Worked row 15: each entry is the one that the step gives at its front, and each refusal is the step's.
+use Rattle.std.proofs.Common.{◌≡◌, ℕ, List, [], ◌∷◌, Some, Ok, Err, true, false, map, refl}
+use Rattle.test_model.proofs.Entries.{entry, task, slot, front, Config, Unbounded, NotThere, ClockBack, Entry, queue, state, fate_of, counts, step, Legal, waiting_line, has_fate, counters, pos}
+use Rattle.test_model.proofs.Entries.kinds
+use Rattle.test_model.proofs.Entries.fate
+use Rattle.test_model.proofs.Entries.policy
+use Rattle.test_model.proofs.Entries.ask
+use Rattle.test_model.proofs.Entries.did
+use Rattle.test_model.proofs.Entries.looked
+use Rattle.test_model.proofs.Entries.offered
+use Rattle.test_model.proofs.Entries.seconded
+use Rattle.test_model.proofs.Entries.opened
+use Rattle.test_model.proofs.Entries.took
+use Rattle.test_model.proofs.Entries.started
+use Rattle.test_model.proofs.Agree.{agrees_at_fronts, owed_at_fronts, NextHolds}
+
+abbrev pub config : Config
+config = record { core = 0; maximum = 1; queue = Unbounded; keep = 10; core_timeout = false; policy = policy.Abort; record_limit = 4096 }
+
+abbrev pub row : List Entry
+row =
+    entry (ask.Submit kinds.Plain 0) (did.Submit (task 0) kinds.Plain 0 looked.Queue)
+    ∷ entry (ask.Offer (task 0)) (did.Offer (task 0) offered.Queued)
+    ∷ entry (ask.Second (task 0)) (did.Second (task 0) (seconded.StayReserve (slot 0)))
+    ∷ entry (ask.Open (slot 0)) (did.Open (slot 0) opened.Live)
+    ∷ entry (ask.Take (slot 0)) (did.Take (slot 0) (took.Head (task 0)))
+    ∷ entry (ask.Begin (slot 0)) (did.Begin (slot 0) (started.Run (task 0)))
+    ∷ entry (ask.End (slot 0) (Ok (pos 1))) (did.End (slot 0) (task 0) (Ok (pos 1)))
+    ∷ entry (ask.Tick 5) (did.Tick 5)
+    ∷ entry (ask.Take (slot 0)) (did.Take (slot 0) took.Idle)
+    ∷ entry (ask.Tick 14) (did.Tick 14)
+    ∷ entry (ask.Tick 15) (did.Tick 15)
+    ∷ entry (ask.Take (slot 0)) (did.Take (slot 0) took.Leave)
+    ∷ []
+
+pub legal : Legal config (front 12 row)
+legal = ((refl, tt), ((refl, tt), ((refl, tt), ((refl, tt), ((refl, tt), ((refl, tt), ((refl, tt), ((refl, tt), ((refl, tt), ((refl, refl), ((refl, tt), ((refl, tt), tt))))))))))))
+
+pub refused_0 : (w : ℕ) → step config (state config (front 10 row)) w (ask.Take (slot 0)) ≡ Err NotThere
+refused_0 w = refl
+
+pub refused_1 : (w : ℕ) → step config (state config (front 12 row)) w (ask.Tick 14) ≡ Err ClockBack
+refused_1 w = refl
+
+pub rank_last : (state config (front 12 row)).rank ≡ 0
+rank_last = refl
+
+pub fates_last : map fate_of (state config (front 12 row)).tasks ≡ Some fate.Run ∷ []
+fates_last = refl
+
+pub counts_last : counts (state config (front 12 row)) ≡ record { submitted = 1; run = 1; caller = 0; rejected = 0; discarded = 0; handedback = 0; removed = 0; cancelled = 0; completed = 1; queued = 0; live = 0; largest = 1 }
+counts_last = refl
+
+pub counters_last : counters (front 12 row) ≡ record { submitted = 1; run = 1; caller = 0; rejected = 0; discarded = 0; handedback = 0; removed = 0; cancelled = 0; completed = 1; queued = 0; live = 0; largest = 1 }
+counters_last = refl
+
+pub fates_in_words : (has_fate fate.Run (front 12 row) 0 ≡ true) × (has_fate fate.RunByCaller (front 12 row) 0 ≡ false) × (has_fate fate.Rejected (front 12 row) 0 ≡ false) × (has_fate fate.Discarded (front 12 row) 0 ≡ false) × (has_fate fate.HandedBack (front 12 row) 0 ≡ false) × (has_fate fate.Removed (front 12 row) 0 ≡ false) × (has_fate fate.Cancelled (front 12 row) 0 ≡ false)
+fates_in_words = (refl, refl, refl, refl, refl, refl, refl)
+
+pub words_agree : agrees_at_fronts config (front 12 row) ≡ true
+words_agree = refl
+
+pub next_holds : NextHolds config (front 12 row)
+next_holds = (refl, refl, (refl, refl, (refl, refl, (refl, refl, (refl, refl, (refl, refl, (refl, refl, (refl, refl, (refl, refl, (refl, refl, (refl, refl, (refl, refl, tt))))))))))))
+
+pub owed : owed_at_fronts config (front 12 row) ≡ 4 ∷ 5 ∷ 5 ∷ 5 ∷ 6 ∷ 6 ∷ 9 ∷ 10 ∷ 12 ∷ 13 ∷ 14 ∷ 15 ∷ 4 ∷ []
+owed = refl
+
+pub line_last : waiting_line config (front 12 row) ≡ queue config (front 12 row)
+line_last = refl
