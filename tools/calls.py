@@ -32,7 +32,7 @@ In a signature `rt` is the runtime by which a call waits, `alloc` the allocator,
 # {twins} are the calls of the trait `Calls` that a pool has too, and that stand in no section.
 SECTIONS = {
     "Settings": ("They are a value, as `Config::fixed(2).queue(QueueKind::Bounded(8)).policy(Policy::CallerRuns)`. `fixed`, as `Executors.newFixedThreadPool`, has so many workers that stay, a queue with room for any number of tasks, the policy abort, and a record of 4,096 entries. `core`, `maximum`, `queue`, `keep`, `core_timeout`, `policy` and `record_limit` each set one, in the range that the [pool line](SCENARIOS.md#the-pool-line) has.",
-        "sizes::for_jobs"),
+        "makers::single makers::cached makers::by_processors sizes::for_jobs"),
     "A pool's whole life in one call": ("A closure that is a job sends a value of any type by the two ends of a channel, `send` and `take`.", "running::run_tasks lives::with_pool lives::with_tally lives::run_all tasks::job oneshot::oneshot"),
     "What a caller of `with_pool` asks": ("The trait `Calls`. Its `pool` is lent to each caller, and has the caller's pass and runtime. It has these calls, too, which are the pool's of the same name: {twins}. `state` is a `glance`.",
         "Calls::execute Calls::submit Calls::get Calls::get_for"),
@@ -63,6 +63,7 @@ INSIDE = """orders::staffed_by orders::rescue_tasks_by closing::sole sizes::law_
 SAYS = {
     "IsLived TellsCount": "*closed*, of a record that nobody keeps",
     "IsLived": "*closed*",
+    "result ≡ record . core": "they are settings that a pool can have",
     "AreRun": "each answer is that of its own task; *closed*, with their submissions in order",
     "IsRun": "each answer is that of its own job; *closed*, with their submissions in order",
     "jobs . 13": "no submission of so many jobs is refused with 5, where every other entry was owed",
