@@ -2,11 +2,15 @@
 #![tactic(auto)]
 
 #[cfg(test)]
+mod claims;
+#[cfg(test)]
 mod compare;
 #[cfg(test)]
 mod fronts;
 #[cfg(test)]
 mod numbers;
+#[cfg(test)]
+mod questions;
 #[cfg(test)]
 mod records;
 #[cfg(test)]
