@@ -283,7 +283,7 @@ fn write_event(
     shown: ShownEvent<'_>,
     form: Form,
 ) -> Result<(), AllocError>
-    ensures { OnOk result ((words : List ℕ) × HasNoLineFeed words × (string_bytes text.new ≡ string_bytes text.old ++ event_line form shown.event.now.number words)) }
+    ensures { OnOk result ((words : List ℕ) × HasNoLineFeed words × (string_bytes text.new ≡ string_bytes text.old ++ event_line form shown.entry.event.now.number words)) }
 {
     let words = words_of(alloc, shown, form)?;
     let words = one_line(words.as_str());

@@ -11,9 +11,9 @@ returns-in-Words c =
     (λ e. (words.result.now, words.ensures.single, subst (λ f. string_bytes c.write.new.self ≡ string_bytes c.args.text.now ++ event_line f c.args.shown.event.now.number words.result.now) (sym c.in-Words.is) (search rules)))
     c.write.ensures.bytes
 
-pub returns-in-Json : goal.returns-in-Json
-returns-in-Json c =
+pub returns : goal.returns
+returns c =
     let words = c.one_line-words in
-    on_ok c.write.result _ _
-    (λ e. (words.result.now, words.ensures.single, subst (λ f. string_bytes c.write.new.self ≡ string_bytes c.args.text.now ++ event_line f c.args.shown.event.now.number words.result.now) (sym c.in-Json.is) e))
-    c.write.ensures.bytes
+    on_ok c.write-in-Json.result _ _
+    (λ e. (words.result.now, words.ensures.single, subst (λ f. string_bytes c.write-in-Json.new.self ≡ string_bytes c.args.text.now ++ event_line f c.args.shown.event.now.number words.result.now) (sym c.in-Json.is) e))
+    c.write-in-Json.ensures.bytes
