@@ -1,6 +1,6 @@
 -- Lines, written one behind another.
 use Rattle.std.proofs.Common.{◌≡◌, ℕ, zero, suc, ◌+◌, ◌<◌, List, [], ◌∷◌, ◌++◌, length, get_or, take, Option, Some, None, Result, Ok, Err, refl, sym, ◌∙◌, ap, subst, arith, append_assoc, append-nil}
-use Rattle.std.specs.Prelude.{OnOk, min, codes}
+use Rattle.std.specs.Prelude.{IfOk, OnOk, min, codes}
 use Rattle.std.proofs.lemmas.List.{take_more}
 use Rattle.tp_types.specs.declared.states.RunState.{RunState}
 use Rattle.tp_types.specs.declared.states.RunState.TheVariants.{Running, Shutdown, Stop, Tidying, Terminated}
@@ -77,3 +77,7 @@ no_number form.Json (Some x) line is = is
 -- pieces of a line, of which the first seven are a line's beginning
 pub first_seven : (a b c d e f g more : List ℕ) → a ++ (b ++ (c ++ (d ++ (e ++ (f ++ (g ++ more)))))) ≡ (a ++ (b ++ (c ++ (d ++ (e ++ (f ++ g)))))) ++ more
 first_seven a b c d e f g more = sym (simp append_assoc)
+
+pub ok_on : {A E : Type 0} (r : Result A E) (P Q : A → Type 0) → ((a : A) → P a → Q a) → IfOk r P → IfOk r Q
+ok_on (Ok a) P Q on is = on a is
+ok_on (Err e) P Q on is = tt

@@ -13,7 +13,7 @@ returns-in-Some-fated c =
 pub returns-in-None-fated : goal.returns-in-None-fated
 returns-in-None-fated c =
     on_ok c.write_left.result _ _
-    (λ w h tells. (w.0, subst (λ n. IsEnd c.args.form _ n w.0) c.in-None-fated.ensures.fated (no_number c.args.form _ w.0 w.1), w.2))
+    (λ w h tells. (w.0, subst (λ (o : Option Fate). IsEnd c.args.form o c.args.story.now.fated w.0) (c.in-Some.ensures h tells) (subst (λ n. IsEnd c.args.form (Some c.in-Some.fate) n w.0) c.in-None-fated.ensures.fated (no_number c.args.form (Some c.in-Some.fate) w.0 w.1)), w.2))
     c.write_left.ensures
 
 pub returns-in-None : goal.returns-in-None
