@@ -2,8 +2,6 @@
 #![tactic(auto)]
 
 #[cfg(test)]
-mod claims;
-#[cfg(test)]
 mod compare;
 #[cfg(test)]
 mod fronts;

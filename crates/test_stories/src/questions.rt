@@ -113,7 +113,7 @@ const ROWS: [Row; 14] = [
 settings: core 1, max 1, bounded 2, keep 5, abort
 slots: 0, 0 of them live, at most 0 so far
 queue: 0
-owed: 0 entries
+owed: 4 entries
 ",
         "",
         None,
@@ -173,7 +173,7 @@ owed: 5 entries
         Form::Words,
         Ok(false),
         "",
-        "a flaw",
+        "line 3: submit plain: 0 tasks were submitted, 0 slots are taken, core is 1 and max is 1, so the entry here is '1 submit t0 plain reserve w0'",
         None,
     ),
     (
