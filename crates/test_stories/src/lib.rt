@@ -8,6 +8,8 @@ mod fronts;
 #[cfg(test)]
 mod numbers;
 #[cfg(test)]
+mod questions;
+#[cfg(test)]
 mod records;
 #[cfg(test)]
 mod stories;

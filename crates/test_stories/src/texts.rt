@@ -9,6 +9,7 @@ use std::alloc::Global;
 use std::process::Abort;
 use std::test::Fail;
 use tp_story::subjects::Subject;
+use tp_telling::forms::Form;
 use tp_telling::fronts::write_front;
 use tp_telling::numbers::write_stats;
 use tp_telling::stories::write_story;
@@ -256,9 +257,9 @@ fn told(alloc: Global, row: &Row) -> Result<Vec<u8>, PoolError> {
         Ok(story) => story,
         Err(refusal) => return Err(refusal),
     };
-    let mut words = Vec::new(alloc);
-    match write_story(&mut words, &story) {
-        Ok(()) => Ok(words),
+    let mut words = String::new(alloc);
+    match write_story(alloc, &mut words, &story, Form::Words) {
+        Ok(()) => Ok(words.into_bytes()),
         Err(_) => Err(PoolError::NoMemory),
     }
 }

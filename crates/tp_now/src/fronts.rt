@@ -112,6 +112,13 @@ impl Front {
         Ok(())
     }
 
+    /// The number of the entry up to which the record is followed, if one was given.
+    pub fn until(&self) -> Option<u64>
+        ensures { result ≡ self.now.until }
+    {
+        self.until
+    }
+
     /// The settings with which the pool was made.
     pub fn config(&self) -> &Config
         ensures config { result.now ≡ self.now.config }

@@ -1,7 +1,12 @@
 //! A pool after an entry, told line by line.
 
+ghost use Rattle.std.specs.Prelude.{◌≡◌, ◌++◌, ℕ, List, IfOk, IsOkUnless, string_bytes};
+ghost use Rattle.tp_telling.specs.Fronts.{front_head};
+
 use crate::amounts::Amount;
-use std::alloc::Global;
+use crate::forms::Form;
+use crate::json::write_json;
+use std::alloc::{AllocError, Global};
 use std::fmt;
 use std::io::{self, Write};
 use tp_auditor::tables::Tables;
@@ -10,12 +15,13 @@ use tp_now::fronts::Front;
 use tp_times::times::Since;
 use tp_types::configs::{Config, QueueKind};
 use tp_types::ids::{SlotId, TaskId};
+use tp_types::refusals::PoolError;
 use tp_types::states::RunState;
 use tp_types::tasks::Place;
 
 /// A work queue's kind, as `bounded 8`.
 #[derive(Clone, Copy)]
-struct ShownQueue(QueueKind);
+pub(crate) struct ShownQueue(pub QueueKind);
 
 impl fmt::Display for ShownQueue {
     fn fmt<W: fmt::Write>(&self, f: &mut fmt::Formatter<W>) -> fmt::Result {
@@ -129,7 +135,7 @@ fn write_slots<W: Write>(alloc: Global, out: &mut W, front: &Front) -> io::Resul
 }
 
 /// Whether a task was cancelled.
-fn is_cancelled(tables: &Tables, task: u32) -> bool {
+pub(crate) fn is_cancelled(tables: &Tables, task: u32) -> bool {
     match tables.tasks.get(task as usize) {
         Some(row) => row.cancelled,
         None => false,
@@ -162,7 +168,7 @@ fn write_queue<W: Write>(out: &mut W, front: &Front) -> io::Result<()> {
 }
 
 /// Whether a task is with its submitter.
-fn is_with_submitter(place: Place) -> bool {
+pub(crate) fn is_with_submitter(place: Place) -> bool {
     matches!(
         place,
         Place::Looking | Place::ToOffer | Place::ToGrow | Place::Refused | Place::Caller
@@ -213,20 +219,64 @@ fn write_end<W: Write>(out: &mut W, tables: &Tables) -> io::Result<()> {
     }
 }
 
-/// Writes what the pool is like after the entries that were followed.
-pub fn write_front<W: Write>(alloc: Global, out: &mut W, front: &Front) -> io::Result<()> {
+/// Writes what stands under the first line.
+fn write_below<W: Write>(alloc: Global, out: &mut W, front: &Front) -> io::Result<()> {
     let tables = front.tables();
-    let steps = tables.steps;
-    let state = RunState::from_rank(tables.rank.min(4)).name();
-    let moment = tables.moment;
-    let tasks = Amount::Tasks(tables.tasks.len() as u64);
-    writeln!(
-        out,
-        "after entry {steps}: {state}, at moment {moment}, {tasks} submitted"
-    )?;
     write_settings(out, front.config(), tables)?;
     write_slots(alloc, out, front)?;
     write_queue(out, front)?;
     write_owed(out, front)?;
     write_end(out, tables)
+}
+
+/// The first line: after which entry, the run state and the moment, and how many tasks were submitted.
+fn head_of(alloc: Global, tables: &Tables, form: Form) -> Result<String, AllocError>
+    ensures { IfOk result (λ s. (more : List ℕ) × (string_bytes s ≡ front_head form tables.now ++ more)) }
+{
+    let entry = tables.steps;
+    let state = RunState::from_rank(tables.rank.min(4)).name();
+    let moment = tables.moment;
+    let submitted = tables.tasks.len();
+    match form {
+        Form::Words => {
+            let tasks = Amount::Tasks(submitted as u64);
+            let more = format!(in alloc; "{tasks} submitted")?;
+            let more = more.as_str();
+            format!(in alloc; "after entry {entry}: {state}, at moment {moment}, {more}\n")
+        }
+        Form::Json => {
+            let due = tables.due;
+            format!(in alloc;
+                "{{\"entry\":{entry},\"state\":\"{state}\",\"moment\":{moment},\"submitted\":{submitted},\"due\":{due}}}\n"
+            )
+        }
+    }
+}
+
+/// Writes what the pool is like after the entries that were followed.
+pub fn write_front<W: Write>(alloc: Global, out: &mut W, front: &Front) -> io::Result<()> {
+    let Ok(head) = head_of(alloc, front.tables(), Form::Words) else {
+        return Err(io::Error::from(io::ErrorKind::OutOfMemory));
+    };
+    out.write_all(head.as_bytes())?;
+    write_below(alloc, out, front)
+}
+
+/// What the pool is like after the entries that were followed: first after which entry, the run state and the moment. Want of
+/// memory is NoMemory (4).
+pub fn front_text(alloc: Global, front: &Front, form: Form) -> Result<Vec<u8>, PoolError>
+    ensures text { IfOk result (λ text. (more : List ℕ) × (text.items ≡ front_head form front.now.judge.tables ++ more)) }
+    ensures only_memory { IsOkUnless result PoolError.NoMemory }
+{
+    let mut below = Vec::new(alloc);
+    let written = match form {
+        Form::Words => write_below(alloc, &mut below, front),
+        Form::Json => write_json(alloc, &mut below, front),
+    };
+    if written.is_err() {
+        return Err(PoolError::NoMemory);
+    }
+    let mut text = head_of(alloc, front.tables(), form)?.into_bytes();
+    text.extend_from_slice(below.as_slice())?;
+    Ok(text)
 }

@@ -2,7 +2,10 @@
 #![tactic(auto)]
 
 pub mod amounts;
+pub mod forms;
 pub mod fronts;
+mod json;
 pub mod numbers;
 pub mod stories;
+mod tallies;
 pub mod words;

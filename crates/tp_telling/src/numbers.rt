@@ -1,6 +1,10 @@
 //! A record's numbers, told line by line.
 
+ghost use Rattle.std.specs.Prelude.{IsOkUnless};
+
 use crate::amounts::Amount;
+use crate::forms::Form;
+use crate::tallies::write_json;
 use std::alloc::{AllocError, Global};
 use std::io::{self, Write};
 use tp_record::rows::TaskRow;
@@ -8,10 +12,11 @@ use tp_stats::fates::{Sort, count_fated};
 use tp_stats::spans::Span;
 use tp_stats::stats::Stats;
 use tp_types::ids::SlotId;
+use tp_types::refusals::PoolError;
 use tp_types::tasks::Fate;
 
 /// Want of memory, as a writer's error.
-fn no_memory(_error: AllocError) -> io::Error {
+pub(crate) fn no_memory(_error: AllocError) -> io::Error {
     io::Error::from(io::ErrorKind::OutOfMemory)
 }
 
@@ -43,7 +48,7 @@ fn write_tasks<W: Write>(out: &mut W, tasks: &[TaskRow]) -> io::Result<()> {
 }
 
 /// The number that so many in a hundred of these do not exceed, which stand in order.
-fn quantile(sorted: &[u64], hundredth: usize) -> u64 {
+pub(crate) fn quantile(sorted: &[u64], hundredth: usize) -> u64 {
     let count = sorted.len();
     let whole = (count / 100).saturating_mul(hundredth);
     let rest = (count % 100).saturating_mul(hundredth).saturating_add(99) / 100;
@@ -65,7 +70,7 @@ fn write_quantiles<W: Write>(out: &mut W, unit: &str, sorted: &[u64]) -> io::Res
 }
 
 /// The span that is the longest in entries, and of these the first.
-fn longest(spans: &[Span]) -> Option<Span> {
+pub(crate) fn longest(spans: &[Span]) -> Option<Span> {
     let mut found: Option<Span> = None;
     for span in spans {
         found = match found {
@@ -77,7 +82,7 @@ fn longest(spans: &[Span]) -> Option<Span> {
 }
 
 /// The lengths of spans in entries, in order.
-fn entries_of(alloc: Global, spans: &[Span]) -> Result<Vec<u64>, AllocError> {
+pub(crate) fn entries_of(alloc: Global, spans: &[Span]) -> Result<Vec<u64>, AllocError> {
     let mut numbers = Vec::new(alloc);
     for span in spans {
         numbers.push(span.entries)?;
@@ -87,7 +92,7 @@ fn entries_of(alloc: Global, spans: &[Span]) -> Result<Vec<u64>, AllocError> {
 }
 
 /// The lengths of spans in ticks, in order.
-fn ticks_of(alloc: Global, spans: &[Span]) -> Result<Vec<u64>, AllocError> {
+pub(crate) fn ticks_of(alloc: Global, spans: &[Span]) -> Result<Vec<u64>, AllocError> {
     let mut numbers = Vec::new(alloc);
     for span in spans {
         numbers.push(span.ticks)?;
@@ -112,10 +117,10 @@ fn write_bar<W: Write>(out: &mut W, bar: &Bar, most: u64) -> io::Result<()> {
 
 /// How many numbers there are in a range.
 #[derive(Clone, Copy, Debug, PartialEq, Eq)]
-struct Bar {
-    low: u64,
-    high: u64,
-    count: u64,
+pub(crate) struct Bar {
+    pub low: u64,
+    pub high: u64,
+    pub count: u64,
 }
 
 /// How many of these numbers, which stand in order, are below a bound.
@@ -131,7 +136,7 @@ fn count_below(sorted: &[u64], bound: u64) -> usize {
 }
 
 /// The bars of numbers in order, by powers of two: 0, 1, 2 to 3, 4 to 7 and so on, from the least number to the greatest.
-fn bars_of(alloc: Global, sorted: &[u64]) -> Result<Vec<Bar>, AllocError> {
+pub(crate) fn bars_of(alloc: Global, sorted: &[u64]) -> Result<Vec<Bar>, AllocError> {
     let mut bars = Vec::new(alloc);
     let mut low = 0u64;
     let mut rest = sorted;
@@ -187,7 +192,10 @@ fn write_spans<W: Write>(alloc: Global, out: &mut W, name: &str, spans: &[Span])
 }
 
 /// The lengths of spans in entries, their tasks, and their lengths in ticks, the longest first.
-fn longest_first(alloc: Global, spans: &[Span]) -> Result<Vec<(u64, u32, u64)>, AllocError> {
+pub(crate) fn longest_first(
+    alloc: Global,
+    spans: &[Span],
+) -> Result<Vec<(u64, u32, u64)>, AllocError> {
     let mut order = Vec::new(alloc);
     for span in spans {
         order.push((u64::MAX - span.entries, span.task, span.ticks))?;
@@ -216,7 +224,7 @@ fn write_top<W: Write>(alloc: Global, out: &mut W, spans: &[Span], top: u64) -> 
 }
 
 /// How many tasks the workers of a slot ended, and for how many entries they ran them.
-fn work_of(runs: &[Span], slot: SlotId) -> (u64, u64) {
+pub(crate) fn work_of(runs: &[Span], slot: SlotId) -> (u64, u64) {
     let mut tasks = 0u64;
     let mut busy = 0u64;
     for run in runs {
@@ -229,7 +237,7 @@ fn work_of(runs: &[Span], slot: SlotId) -> (u64, u64) {
 }
 
 /// The slots whose workers ran a task, each once, the least first.
-fn slots_of(alloc: Global, runs: &[Span]) -> Result<Vec<usize>, AllocError> {
+pub(crate) fn slots_of(alloc: Global, runs: &[Span]) -> Result<Vec<usize>, AllocError> {
     let mut slots = Vec::new(alloc);
     for run in runs {
         if let Some(SlotId(w)) = run.slot {
@@ -289,4 +297,19 @@ pub fn write_stats<W: Write>(
         out,
         "refused: {full} since queue and pool were full, {shut_down} since the pool was shut down, {no_worker} since no worker was made"
     )
+}
+
+/// What a record tells in numbers, with so many of the tasks that waited longest. Want of memory is NoMemory (4).
+pub fn stats_text(alloc: Global, stats: &Stats, top: u64, form: Form) -> Result<Vec<u8>, PoolError>
+    ensures { IsOkUnless result PoolError.NoMemory }
+{
+    let mut text = Vec::new(alloc);
+    let written = match form {
+        Form::Words => write_stats(alloc, &mut text, stats, top),
+        Form::Json => write_json(alloc, &mut text, stats, top),
+    };
+    match written {
+        Ok(()) => Ok(text),
+        Err(_) => Err(PoolError::NoMemory),
+    }
 }
