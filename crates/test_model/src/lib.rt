@@ -5,6 +5,9 @@
 //! A wrong definition fails the check at the row that shows it. The rows of the specification stand in `proofs/Worked`. Records
 //! of our own, for what no such row shows, stand in `proofs/Further`: a model that was written apart, in another language,
 //! computed them first.
+//!
+//! The tests of lines and of whole runs stand in this crate, above the crates that they test: the code of a crate with tests is
+//! proved twice, and this one has no code but its tests.
 #![tactic(auto)]
 
 #[cfg(test)]

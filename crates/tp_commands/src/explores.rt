@@ -56,7 +56,8 @@ fn clear<E: Write>(errors: &mut E, style: Style) {
     }
 }
 
-/// How the text of a file of callers is read.
+/// How the text of a file of callers is read. The contract of `run_explore` is told over this trait, of the plan that `says` gives to
+/// this very text. That the words of a file mean what its page says is tested.
 pub trait Reading {
     ghost use Rattle.std.specs.Prelude.{◌≡◌, true, ℕ, List, IfOk};
     ghost use Rattle.tp_explore.specs.Moves.{is_fit};

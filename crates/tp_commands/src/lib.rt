@@ -1,4 +1,9 @@
-//! The commands `steps`, `audit` and `explore`: what they do with a text, with what status they end, and what they tell beside their output.
+//! The commands `steps`, `audit` and `explore`: what they do with a text, with what status they end, and what they tell beside their
+//! output.
+//!
+//! They stand over any reader and writers, and not on the pool's storeys: a change of those then costs the program a few functions.
+//! `poolrun` adds files, the command line and `threads`, which alone stands on the pool. Tests of the commands stand above them, in
+//! `tp_told`, and need no files.
 #![tactic(auto)]
 
 pub mod audits;

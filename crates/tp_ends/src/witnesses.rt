@@ -28,7 +28,8 @@ fn move_of(alloc: Global, plan: &Plan, state: &State, choice: usize) -> Result<M
 }
 
 /// A shortest way from the new pool to the state at this place, as the moves on it. They are a run of the model, whose record is legal.
-/// NoMemory (4) where there is no memory for them.
+/// NoMemory (4) where there is no memory for them. Each move has its deed, its answer and the state behind it: a text of the way needs
+/// all three, and the contract names no place of the graph.
 pub fn witness(
     alloc: Global,
     exploration: &Exploration,

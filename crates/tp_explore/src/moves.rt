@@ -31,7 +31,9 @@ pub struct Move {
     pub after: State,
 }
 
-/// The number that a slot gets which the ask makes: that of the worker that leaves, else the least one that is no slot.
+/// The number that a slot gets which the ask makes: that of the worker that leaves, else the least one that is no slot. The model lets
+/// a new slot have any free number, and with the least one more states are the same. The pool gives the number that was freed last, so
+/// a way that is told for it is renumbered.
 pub fn new_slot(pool: &Snapshot, ask: Ask) -> SlotId
     ensures { result.0 ≡ spec.new_slot (shown pool.now) ask }
 {

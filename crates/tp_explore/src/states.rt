@@ -17,10 +17,12 @@ use tp_types::ids::TaskId;
 use tp_types::refusals::PoolError;
 use tp_types::tasks::Place;
 
-/// The pool, and how far each caller is.
+/// The pool, and how far each caller is. What a submitter asks next is read off its task's place, so no place on a path is kept.
 #[derive(Debug, Drop)]
 pub struct State {
-    /// The pool. What no step asks for is 0: the greatest number of workers, and how many tasks were completed.
+    /// The pool. What no step asks for is 0: the greatest number of workers, and how many tasks were completed. So states that part in
+    /// these alone are one. The number of entries is kept: the record's room rests on it, and each entry lowers the rank that ends the
+    /// walk. So two orders that come to the same by more or by fewer entries are two states.
     pub pool: Snapshot,
     /// How far each caller is.
     pub callers: Vec<Caller>,

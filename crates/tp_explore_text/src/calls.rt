@@ -131,7 +131,8 @@ pub fn call_of(text: &str) -> Option<SaidCall<'_>> {
     }
 }
 
-/// The calls of a caller, with a semicolon and a space between two. None where one is no call; AllocError where there is no memory for them.
+/// The calls of a caller, with a semicolon and a space between two. None where one is no call; AllocError where there is no memory for
+/// them.
 pub fn calls_of(alloc: Global, text: &str) -> Result<Option<Vec<SaidCall<'_>>>, AllocError> {
     let mut calls = Vec::new(alloc);
     for said in text.split("; ") {

@@ -151,8 +151,8 @@ fn in_order(mut ends: Vec<End>) -> Vec<End>
     ends
 }
 
-/// The distinct ends of a graph, to each of which so many interleavings lead: those of most interleavings first, and equal ones in the order
-/// of their texts. AllocError where there is no memory for them.
+/// The distinct ends of a graph, to each of which so many interleavings lead: those of most interleavings first, and equal ones in the
+/// order of their texts. AllocError where there is no memory for them.
 pub fn ends_of(
     alloc: Global,
     labels: &[Label],

@@ -60,8 +60,8 @@ pub fn explore_named<W: Watch>(
     }
 }
 
-/// The place of a state that is an end and has all these parts between the semicolons of its line: one to which a shortest interleaving leads.
-/// AllocError where there is no memory to look.
+/// The place of a state that is an end and has all these parts between the semicolons of its line: one to which a shortest interleaving
+/// leads. AllocError where there is no memory to look.
 pub fn end_with(
     alloc: Global,
     explored: &Explored,

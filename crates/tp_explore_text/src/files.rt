@@ -246,9 +246,9 @@ fn plan_of(alloc: Global, pool: PoolLine, said: &Said<'_>) -> Result<Named, Pool
     })
 }
 
-/// The plan that a text says. BadLine (23) with the number of a line that is bad, of the line behind the last where there is no pool line, or
-/// of the last one where there are more than 4,096 callers; the refusal of settings that no pool can have: 1, 2, 3 or 11. NoMemory (4) where
-/// there is none.
+/// The plan that a text says. BadLine (23) with the number of a line that is bad, of the line behind the last where there is no pool line,
+/// or of the last one where there are more than 4,096 callers; the refusal of settings that no pool can have: 1, 2, 3 or 11. NoMemory (4)
+/// where there is none.
 pub fn read_plan(alloc: Global, text: &[u8]) -> Result<Named, PoolError>
     ensures { IfOk result (λ named. is_fit named.exploration.plan ≡ true) }
 {

@@ -1,5 +1,5 @@
-//! Callers, and all that may become of their tasks. The ends and their numbers were counted by a program in another language, which was written
-//! from the rules alone.
+//! Callers, and all that may become of their tasks. The ends and their numbers were counted by a program in another language, which was
+//! written from the rules alone.
 
 /// A file of callers, and what is told of it behind the numbers of states and steps.
 #[derive(Clone, Copy)]

@@ -18,8 +18,9 @@ use tp_types::refusals::PoolError;
 pub type CloseOneFault<G, J, E, K> = CloseFault<G, J, E, K, Pass<G>>;
 
 impl<G: PoolNaming, J: Job, E: Edge, K: Keeper> PoolOf<G, J, E, K> {
-    /// One more handle of this pool, for an owner of its own, as a copied reference in Java. A close by one handle waits until
-    /// the others are dropped. So the pool's own edge is to keep none, and a job only as long as it runs. NoMemory (4), or TornRecord (22) where a close found the pool's record torn.
+    /// One more handle of this pool, for an owner of its own, as a copied reference in Java. A close by one handle waits until the others
+    /// are dropped. So the pool's own edge is to keep none, and a job only as long as it runs. NoMemory (4), or TornRecord (22) where a
+    /// close found the pool's record torn.
     pub fn handle(&self) -> Result<PoolOf<G, J, E, K>, PoolError>
         ensures refused { IfErr result (λ e. (e ≡ PoolError.NoMemory) ⊎ (e ≡ PoolError.TornRecord)) }
     {

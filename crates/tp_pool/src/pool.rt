@@ -26,10 +26,10 @@ use tp_types::configs::Config;
 use tp_types::refusals::PoolError;
 use tp_types::states::RunState;
 
-/// A pool of threads, as `ThreadPoolExecutor`, over jobs `J` and the caller's objects `E`. What keeps its record is
-/// `Full` unless another is named: a pool over `Tally` keeps none, forgets its plain tasks once nothing is owed to
-/// them, and serves without end. Its calls take `&self`, so that many threads may share it. A call that makes steps takes a pass: each entry of the record
-/// has the number of the pass that asked for it.
+/// A pool of threads, as `ThreadPoolExecutor`, over jobs `J` and the caller's objects `E`. What keeps its record is `Full` unless another
+/// is named: a pool over `Tally` keeps none, forgets its plain tasks once nothing is owed to them, and serves without end. Its calls take
+/// `&self`, so that many threads may share it. A call that makes steps takes a pass: each entry of the record has the number of the pass
+/// that asked for it.
 ///
 /// A pool that is dropped is not shut down: its workers run what is queued, then wait, and end with the process.
 /// A drop has no runtime by which it could take the lock.

@@ -76,7 +76,8 @@ entry_texts n (e ∷ es) = entry_text n e ∷ entry_texts (suc n) es
 abbrev pub end_line : ℕ → List ℕ
 end_line n = spaced (codes "end") (decimal n)
 
--- all lines of a record: its configuration and its entries, oldest first
+-- all lines of a record: its configuration and its entries, oldest first. The first line says the form. Behind it a record without
+-- priorities has the same lines in both forms, since priority 0 has no words. So one reader and one proof serve both
 abbrev pub record_lines : Version → Config → List Entry → List (List ℕ)
 record_lines v c es = header v ∷ pool_line c ∷ (entry_texts 1 es ++ end_line (length es) ∷ [])
 
@@ -85,7 +86,8 @@ abbrev pub record_text : Version → Config → List Entry → List ℕ
 record_text v c es = flat_map ended (record_lines v c es)
 
 -- a record that has a text in this form: its numbers are in the range of their types, and the answer of each entry is of the
--- form of its ask; in the first form its queue does not go by priority, and all priorities are 0
+-- form of its ask; in the first form its queue does not go by priority, and all priorities are 0. It has no more entries than a number
+-- of 32 bits can count: no reader and no writer meets another record
 pub record HasText (v : Version) (c : Config) (es : List Entry) : Type 0 where
   pub config : FitsConfig v c
   pub count : Fits32 (length es)

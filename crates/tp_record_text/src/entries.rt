@@ -1,4 +1,7 @@
 //! The line of an entry, read.
+//!
+//! A line is read word by word, and contracts speak of the list of its words, which determine the line. A clause on a list of words
+//! falls apart at each word. A clause on a text with spaces between its pieces does not.
 ghost use Rattle.std.specs.Prelude.{◌≡◌, ◌≢◌, ◌++◌, List, ℕ, [], ◌∷◌, Some, None};
 ghost use Rattle.tp_text.specs.EntryLine.{entry_line, pass_name, did_words, entry_words, pass_words};
 ghost use Rattle.tp_text.specs.Fits.{Fits32};

@@ -23,7 +23,8 @@ pub fn texts_are_distinct()
 
 /// The law that a legal record has a text in the second form: each of its entries has its line, so what is
 /// written of it is read as that record and as no other (`texts_are_distinct`). Its premise is that the numbers are in the
-/// range of their types, since the rules do not bound them all.
+/// range of their types: the rules bound no pass number, group, value, moment, keep-alive or slot number. What Rust's types keep is
+/// in range, so the text of a closed pool's record is read again as that record.
 pub fn legal_has_text()
     ensures { (c : Config) (es : List Entry) → IsConfig c → Fits64 c.keep → Legal c (reverse es)
         → AllByRecursion IsInRange es → HasText Version.Two c es }

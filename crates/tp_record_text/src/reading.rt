@@ -29,7 +29,8 @@ const LONGEST_LINE: usize = 256;
 /// A stream of more pieces is too long.
 const MAX_PIECES: u64 = 1 << 51;
 
-/// What takes the entries of a record text, each as it is read.
+/// What takes the entries of a record text, each as it is read: a list of them, or the auditor. The auditor lets pass what stands
+/// behind the first flaw, so that the text is read to its end.
 pub trait Taker: Sized {
     ghost use Rattle.std.specs.Prelude.{◌≡◌, List, [], ◌∷◌, ◌++◌, IfOk, OnOk, IsOkUnless};
     ghost use Rattle.tp_types.specs.Config.{IsConfig};
@@ -429,8 +430,9 @@ impl<T: Taker + Drop> Stream<T> {
     }
 }
 
-/// Reads a stream line by line, in pieces of 4,096 bytes, to an end such as it may have. Refused as `read_whole`, and the refused
-/// line is kept, where there is memory for it. 25 `ReadFailed` comes just where the reader fails now, which keeps why, or gives more lines than have numbers.
+/// Reads a stream line by line, in pieces of 4,096 bytes, to an end such as it may have. Refused as `read_whole`, and the refused line is
+/// kept, where there is memory for it. 25 `ReadFailed` comes just where the reader fails now, which keeps why, or gives more lines than
+/// have numbers.
 pub fn read_stream<R: Read, T: Taker + Drop>(
     alloc: Global,
     question: &T::Question,

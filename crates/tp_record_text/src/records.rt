@@ -83,7 +83,7 @@ pub fn read_end_line(line: &[u8]) -> Option<u32>
 }
 
 /// What a line says behind the pool line and so many entries: the next entry, or that there are no
-/// more.
+/// more. Only the number of the entries is handed in, so an auditor that takes one entry at a time holds none.
 pub fn read_body_line(version: Version, line: &[u8], before: u32) -> Option<BodyLine>
     requires { before + 1 < 2 ^ 32 }
     ensures { ReadsAs (body_text before) (FitsBody version) line.now result }

@@ -25,7 +25,8 @@ fn write_record(text: &mut String, config: &Config, entries: &[Entry]) -> Result
 
 /// The text of a record in the second form: the configuration's pool line, with a limit only where it is not
 /// 4,096, a line for each entry, oldest first, and the line that says how many they are. Want of memory
-/// is 4 `NoMemory`.
+/// is 4 `NoMemory`. The text is made in memory, and not piece by piece into a writer: a writer of pieces can't say which one failed,
+/// and a run that is refused keeps its text.
 pub fn record_text(alloc: Global, config: &Config, entries: &[Entry]) -> Result<Vec<u8>, PoolError>
     ensures text { IfOk result (λ text. text.items ≡ text_of Version.Two config.now entries.now) }
     ensures only_memory { IsOkUnless result PoolError.NoMemory }

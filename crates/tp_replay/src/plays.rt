@@ -16,7 +16,8 @@ use tp_types::refusals::PoolError;
 /// How the pool answered a step: the entry that it added to the record, or its refusal.
 pub type Answered = Result<Entry, Refusal>;
 
-/// What came of a scenario's steps.
+/// What came of a scenario's steps. Neither the pool nor an auditor is kept: a type that holds a machine makes each function of a
+/// caller cost the prover minutes. So the contract of a play, too, speaks of answers alone.
 #[derive(Debug, Drop)]
 pub struct Play {
     /// The settings of the pool.

@@ -7,7 +7,8 @@ use tp_record::entries::Entry;
 use tp_record::recorders::Recorder;
 use tp_types::configs::Config;
 
-/// Counts the entries of a record, and keeps none: what comes of a scenario is written line by line, and no entry is read again.
+/// Counts the entries of a record, and keeps none: what comes of a scenario is written line by line, and no entry is read again. A
+/// third of a long run went into first touches of the record's memory.
 #[derive(Drop)]
 pub struct Counted {
     /// How many entries were noted.

@@ -2,7 +2,8 @@
 
 use tp_text::pools::PoolLine;
 
-/// A form of lines: each line of it has one text.
+/// A form of lines: each line of it has one text. Scenarios and files of jobs both begin with a pool line, skip the same lines, count
+/// them alike and name the first bad one. So their reading is proved once, over this trait, and a third form needs its text alone.
 pub trait LineForm: Drop {
     ghost use Rattle.std.specs.Prelude.{ℕ, List};
     ghost use Rattle.tp_text.specs.Reads.{ReadsAs};

@@ -52,7 +52,8 @@ pub struct Told {
 }
 
 /// A pool that lines are played on. Every ask is by pass 0, and a task ends as the line said that
-/// submitted it. Of its record the runner keeps how long it is.
+/// submitted it. Of its record the runner keeps how long it is. So its contracts name any record at which the pool stands, and say what
+/// the answer makes of each.
 #[derive(Drop)]
 pub struct Runner {
     alloc: Global,
@@ -270,7 +271,7 @@ impl Runner {
         ensures tells { IfOk result (λ x. (p : Playing) → IsAt self.old p → Tells p (ask.Submit kind priority) (Some outcome) x self.new) }
         ensures unchanged { OnErr result (self.new ≡ self.old) }
     {
-        // Before the step, since no accepted submission is undone.
+        // Before the step, since no accepted submission is undone. No other line needs this room, so want of it ends no run there.
         self.outcomes.reserve(1)?;
         let ask = Ask::Submit(kind, priority);
         let handed = Vec::new(self.alloc);

@@ -1,4 +1,8 @@
 //! A reader and a writer that keep why they failed.
+//!
+//! The library's contracts do not tell when a call fails. So contracts on 25 and 26 say that the count of failures is one higher, or
+//! that too many bytes came. The fields are private, so that nothing but a call that fails changes the count. Of the reader's own
+//! `read` it is proved only that a failure is counted; tests show that it fails only where the reader below does.
 ghost use Rattle.std.specs.Prelude.{◌≡◌, ◌≢◌, ◌+◌, ◌%◌, ◌^◌, None, IfOk, IfErr, OnOk, OnErr};
 ghost use Rattle.std.specs.Io.{ReadsAtMost, WritesAtMost};
 ghost use Rattle.std.specs.Io.KnownBytes.{Appends, Keeps, ReadConsumes, WriteAppends};

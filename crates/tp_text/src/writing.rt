@@ -1,4 +1,4 @@
-//! Texts written whole.
+//! Texts written whole. Each text was made before, so that want of memory and a failing writer are two refusals of two calls.
 
 ghost use Rattle.std.specs.Prelude.{◌≡◌, OnOk, IsOkUnless};
 ghost use Rattle.std.specs.Io.KnownBytes.{Appends};

@@ -72,8 +72,9 @@ IsEnd by steps = (rest : List Entry) × (steps ≡ entry_of by ask.Shutdown did.
 abbrev pub AddsEnd : Config → PassView → PassView → Type 0
 AddsEnd c old new = (steps : List Entry) × IsEnd old.number steps × Adds c old steps new × (rank new.front ≡ 4)
 
--- the report of a pool with these settings that ran jobs of these kinds and priorities: its record is legal and ends it, and pass 0 submitted
--- such tasks in their order, each to the end of its submission, and then shut the pool down
+-- the report of a pool with these settings that ran jobs of these kinds and priorities: its record is legal and ends it, and pass 0
+-- submitted such tasks in their order, each to the end of its submission, and then shut the pool down. It does not say that each task
+-- ends as its line says, since what a worker ran lies under the lock: tests show that
 pub record IsRun (c : Config) (ks : List Asked) (r : Report) : Type 0 where
   pub good : IsConfig c
   pub legal : Legal c (reverse r.entries.items)
@@ -81,8 +82,9 @@ pub record IsRun (c : Config) (ks : List Asked) (r : Report) : Type 0 where
   pub counts : r.counts ≡ counts (state c (reverse r.entries.items))
   pub submissions : (steps last : List Entry) × AreSubmissions ks steps × IsEnd 0 last × (own 0 r.entries.items ≡ steps ++ last)
 
--- the report, as its keeper tells it, of a pool with these settings and terms that ran jobs of these kinds and priorities: its first pass, which keeps
--- receipts or none, submitted such tasks in their order, each to the end of its submission, and then shut the pool down; with it the pool was closed
+-- the report, as its keeper tells it, of a pool with these settings and terms that ran jobs of these kinds and priorities: its first
+-- pass, which keeps receipts or none, submitted such tasks in their order, each to the end of its submission, and then shut the pool
+-- down; with it the pool was closed
 pub record IsLife {Report : Type 0} (told : Config → List Entry → Report → Type 0) (keeps : Bool) (settings c : Config) (ks : List Asked) (r : Report) : Type 0 where
   pub first : PassView
   pub opened : first ≡ record { number = 0; amount = 0; front = []; released = []; keeps = keeps; receipts = []; room = first.room }

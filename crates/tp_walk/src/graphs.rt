@@ -92,8 +92,8 @@ fn empty_rows(alloc: Global, rows: &[Vec<usize>]) -> Result<Vec<usize>, AllocErr
     Ok(ends)
 }
 
-/// Every state that is reached from the first, by moves, and told to `watch` as it goes on. NoMemory where there is none, TooMany where more
-/// than `most` states are reached.
+/// Every state that is reached from the first, by moves, and told to `watch` as it goes on. NoMemory where there is none, TooMany where
+/// more than `most` states are reached.
 pub fn walk<S: System, W: Watch>(
     alloc: Global,
     system: &S,

@@ -6,7 +6,7 @@
 //! |---|---|
 //! | `4 begin w0 t0: pays 10` | what the entry asks for is asked, and answered so: it is entry 4, and hands this payload out; `-` is none |
 //! | `5 tidy: refused NotThere` | what the entry asks for is asked, and refused so; of the entry's answer nothing is said |
-//! | `task 0 Ok(Gone) Ok(Some(Run)) Ok(Some(8)) Ok(true)` | where the task is, its fate, what its future answers, and whether it promises what it should |
+//! | `task 0 Ok(Gone) Ok(Some(Run)) Ok(Some(8)) Ok(true)` | its place, fate and future's answer, and whether it promises what it should |
 //! | `slot 1 Some(TaskId(1))` | which task is in the slot |
 //! | `group 4 true` | whether a task of the group has no fate yet |
 //! | `pool stop at 0 counts ..` | the state, the moment and the counters |

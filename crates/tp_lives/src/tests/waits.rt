@@ -74,8 +74,8 @@ fn takes_part<
     (answer, pass)
 }
 
-// Both share one closure, since each is proved anew. One waits for the end, and the other makes the step: by itself, and for all jobs and edges, since the check shows
-// here that the pool may be shared, and boxes are much to look through.
+// Both share one closure, since each is proved anew. One waits for the end, and the other makes the step: by itself, and for all jobs and
+// edges, since the check shows here that the pool may be shared, and boxes are much to look through.
 fn beside<
     G: PoolNaming + Send + Sync + 'static,
     J: Job + 'static,
