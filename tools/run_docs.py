@@ -1,5 +1,5 @@
 #!/usr/bin/env python3
-"""Runs the commands that README.md, docs/TUTORIAL.md, docs/COOKBOOK.md and docs/inside/PROVING.md give, in a fresh clone, and
+"""Runs the commands that README.md, docs/TUTORIAL.md, docs/COOKBOOK.md, docs/EXPLORE.md and docs/inside/PROVING.md give, in a fresh clone, and
 compares what they print.
 
     python3 tools/run_docs.py               all of them: those that prove take an hour and more
@@ -144,7 +144,7 @@ def main():
     parser = argparse.ArgumentParser(description=__doc__, formatter_class=argparse.RawDescriptionHelpFormatter)
     parser.add_argument("--only-quick", action="store_true")
     parser.add_argument("--libs", type=pathlib.Path)
-    parser.add_argument("documents", nargs="*", default=["README.md", "docs/TUTORIAL.md", "docs/COOKBOOK.md", "docs/inside/PROVING.md"])
+    parser.add_argument("documents", nargs="*", default=["README.md", "docs/TUTORIAL.md", "docs/COOKBOOK.md", "docs/EXPLORE.md", "docs/inside/PROVING.md"])
     asked = parser.parse_args()
     faults = 0
     for document in asked.documents:

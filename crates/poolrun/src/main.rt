@@ -1,9 +1,10 @@
 //! `poolrun steps FILE`: runs a scenario of atomic steps of one pool and prints its record, the
 //! refusals, each task's fate, the run state and the counters. `poolrun threads FILE`: runs a file of jobs
-//! by threads and prints its pool's record. `poolrun audit FILE`: judges a record.
+//! by threads and prints its pool's record. `poolrun audit FILE`: judges a record. `poolrun explore FILE`: tells all that may
+//! become of the tasks of callers.
 //!
-//! The status is 0 where the run went to its end or the record is legal, 1 where it was refused (its
-//! refusal is the last line of the output) or the record has a flaw, and 2 for a bad command line or a
+//! The status is 0 where the run went to its end, the record is legal or the interleavings are as they were wished, 1 where it was
+//! refused (its refusal is the last line of the output), the record has a flaw or the wish is not met, and 2 for a bad command line or a
 //! request for help, whose text goes to the standard error. `--version` is printed on the standard
 //! output, with status 0. Where a text is refused, a record has a flaw, a file can't be opened or read, or
 //! the standard output fails, the standard error says why.

@@ -10,6 +10,7 @@ use std::sync::Wait;
 use std::thread::Threads;
 use tp_choices::choices::{Choice, Unchosen, chosen};
 use tp_commands::audits::run_audit;
+use tp_commands::explores::{Callers, run_explore};
 use tp_commands::statuses::finish;
 use tp_commands::steps::run_steps;
 use tp_commands::telling::{name_of, tell};
@@ -49,6 +50,9 @@ fn run_reader<
             )
         }
         Choice::Tally(_) => run_tally(rt, alloc, name, reader, out, errors, style),
+        Choice::Explore(_, exploring) => {
+            run_explore(alloc, &Callers, exploring, name, reader, out, errors, style)
+        }
         Choice::Audit(_, has_any_length) => {
             run_audit(alloc, *has_any_length, name, reader, out, errors, style)
         }

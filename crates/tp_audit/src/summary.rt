@@ -18,7 +18,8 @@ pub struct Summary {
 /// Why a record has no summary.
 #[derive(Clone, Copy, Debug, PartialEq, Eq)]
 pub enum Flaw {
-    /// The number, from 1, of the first entry that the entries before it do not allow.
+    /// The number, from 1, of the first entry that the entries before it do not allow. It is all that is told of the entry: which
+    /// of its words is wrong depends on what was meant.
     At(usize),
     /// Refusal 4: there was no memory to judge the record.
     NoMemory,

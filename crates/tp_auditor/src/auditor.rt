@@ -30,10 +30,13 @@ use tp_types::refusals::PoolError;
 use tp_types::states::{Counts, RunState};
 use tp_types::tasks::Fate;
 
-/// Judges the record of a pool, one entry at a time. Each entry costs what it changes: the first `shutdown` and a `stop` as
-/// many slots and tasks as they wake and hand back, a `purge` as the queue is long, all others the same or by the logarithm of
-/// what is kept; what is done with one task of a priority queue goes by the logarithm of how many wait. The memory goes by the
-/// numbers of tasks and slots. What it was told and took is at each moment a legal record.
+/// Judges the record of a pool, one entry at a time. Each entry costs what it changes. The first `shutdown` and a `stop` cost as
+/// many slots and tasks as they wake and hand back, and a `purge` as the queue is long. All others have a fixed cost, or go by
+/// the logarithm of what is kept: in a priority queue what is done with one task goes by the logarithm of how many wait. The memory
+/// goes by the numbers of tasks and slots. What the auditor was told and took is at each moment a legal record.
+//
+// Its contracts speak of each legal history that it was told (`Judged`): it keeps no list of the entries. That there is such a
+// history is the invariant of the type, so a caller owes nothing for what it tells.
 #[derive(Drop)]
 pub struct Auditor {
     alloc: Global,

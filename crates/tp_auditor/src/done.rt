@@ -6,7 +6,8 @@ use indexmap::IndexMap;
 use std::alloc::{AllocError, Global};
 use std::collections::VecDeque;
 
-/// The completed tasks of groups that are not handed out: of each group, in the order of their completion.
+/// The completed tasks of groups that are not handed out: of each group, in the order of their completion. No step asks for the
+/// order over all groups.
 #[derive(Drop)]
 pub struct Done {
     alloc: Global,

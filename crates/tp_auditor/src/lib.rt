@@ -1,4 +1,10 @@
 //! The auditor that judges a record one entry at a time: what it keeps, by tables of its own. It knows no machine.
+//!
+//! It is for long records: by filters over the list, as `audit_plain` judges, a record of n entries costs n times n. Both have
+//! one contract, and tests compare their answers.
+//!
+//! No structure of the machine is below its tables, so an error in the machine's can't hide in these. Both have in common the
+//! line of `tp_line` and the methods of rows. A line is proved by itself, and a second one would have the same contracts.
 #![tactic(auto)]
 
 pub mod auditor;

@@ -65,7 +65,8 @@ impl Queue {
     }
 
     /// Puts a task behind all whose rank is not greater, where the queue goes by ranks, and else at the end. Where memory is
-    /// refused nothing has changed; so it is after 2^64 - 1 of them.
+    /// refused nothing has changed; so it is after 2^64 - 1 of them. The rank is the priority in the task's row: a queue that
+    /// looked into the rows at each comparison would have to know of rows.
     pub fn push(&mut self, t: u32, rank: u32) -> Result<(), AllocError>
         requires { Contains (tasks_of self.old) t → ⊥ }
         ensures ok { OnOk result ((ranks : ℕ → ℕ) → ranks t ≡ rank → AreRanked ranks self.old

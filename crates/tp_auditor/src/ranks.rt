@@ -21,7 +21,9 @@ const NUMBERS: u128 = 18_446_744_073_709_551_616;
 /// order, each with its key.
 #[derive(Drop)]
 pub struct Ranks {
-    // The tasks by their keys, each of which is made of a rank and a place number.
+    // The tasks by their keys, each of which is made of a rank and a place number. An auditor may take memory with each entry, as
+    // the pool's offer may not. In a list in order a task that comes among n others moves a quarter of them, and so does each
+    // that a purge takes out.
     tasks: BTreeMap<u128, u32>,
     // The key of each task that is there.
     keys: IndexMap<u32, u128>,

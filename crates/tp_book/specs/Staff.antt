@@ -1,4 +1,5 @@
--- What a pass may ask that is no caller's: the steps of workers, and those that are left to whoever finds them undone.
+-- What a pass may ask that is no caller's: the steps of workers, and those that are left to whoever finds them undone. So a thread
+-- that ends does what is left and no more. Without this a thread that stops the pool as it ends would be proved.
 use Rattle.std.specs.Prelude.{⊤}
 use Rattle.tp_record.specs.declared.entries.Ask.{Ask}
 use Rattle.tp_record.specs.declared.entries.Ask.TheVariants as ask

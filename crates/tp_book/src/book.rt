@@ -27,8 +27,11 @@ use tp_types::refusals::PoolError;
 use tp_types::states::RunState;
 
 /// One pool, as its lock keeps it: with its record, unless its recorder keeps none. Each of its steps is one
-/// step of its machine, made with a pass and accounted for in the ledger. Whenever no step is under way, the machine stands at the history that the
-/// seat knows, whose rank the word publishes.
+/// step of its machine, made with a pass and accounted for in the ledger. Whenever no step is under way, the
+/// machine stands at the history that the seat knows, whose rank the word publishes.
+//
+// Each call that needs the word is handed it. The pool has the word beside its lock anyway, since `glance`
+// takes no lock. So the book is proved with no handle of it, and whoever shares the word chooses how.
 #[derive(Drop)]
 pub struct Book<G: Naming, P, R: Keeper = Full> {
     accounts: Accounts<G>,

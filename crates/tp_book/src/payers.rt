@@ -10,7 +10,8 @@ use tp_glance::glance::{BookSeat, Glance, Naming};
 use tp_record::entries::Entry;
 use tp_types::states::RunState;
 
-/// A pass that steps are made with.
+/// A pass that steps are made with. By this trait one body of a step serves callers and workers, and its proof stands
+/// once. What differs are a few words of the contract: what is ready, paid and shown.
 pub trait Payer<G: Naming> {
     ghost use Rattle.std.specs.Prelude.{ℕ, List};
     ghost use Rattle.tp_record.specs.declared.entries.Ask.{Ask};

@@ -1,5 +1,6 @@
 //! The words of a command line, and what they choose.
 
+use clap::builder::ValueParser;
 use clap::error::ErrorKind;
 use clap::{Arg, ArgAction, ArgMatches, Command, Error};
 use std::alloc::{AllocError, Global};
@@ -15,6 +16,34 @@ pub struct Playing {
     pub prints_record: bool,
 }
 
+/// What is to be told of the interleavings of callers.
+#[derive(Debug, PartialEq, Eq, Drop)]
+pub enum Wish {
+    /// Each end, on a line with the number of its interleavings.
+    Ends,
+    /// The same as JSON.
+    Json,
+    /// The graph of states, for Graphviz.
+    Dot,
+    /// The scenario of a shortest interleaving to the end on this line, counted from 1.
+    Witness(usize),
+    /// The record of such an interleaving.
+    Record(usize),
+    /// The scenario of a shortest interleaving whose end has all these parts; status 1 where none has.
+    Find(Vec<String>),
+    /// That no end has all these parts; else the scenario of such an interleaving, and status 1.
+    Never(Vec<String>),
+}
+
+/// How the interleavings of callers are to be explored.
+#[derive(Debug, PartialEq, Eq, Drop)]
+pub struct Exploring {
+    /// What is to be told.
+    pub wish: Wish,
+    /// The most states that are kept.
+    pub most: usize,
+}
+
 /// What the program is to do. A path `-` is the standard input.
 #[derive(Debug, PartialEq, Eq, Drop)]
 pub enum Choice {
@@ -26,6 +55,8 @@ pub enum Choice {
     Tally(String),
     /// Judge the record in the file at this path, which may have any length where the flag says so.
     Audit(String, bool),
+    /// Explore all interleavings of the callers in the file at this path.
+    Explore(String, Exploring),
 }
 
 impl Choice {
@@ -34,6 +65,7 @@ impl Choice {
         match self {
             Choice::Steps(path, _) | Choice::Threads(path, _) => path.as_str(),
             Choice::Tally(path) | Choice::Audit(path, _) => path.as_str(),
+            Choice::Explore(path, _) => path.as_str(),
         }
     }
 }
@@ -69,12 +101,14 @@ const EXAMPLES: &str = "Examples:
   poolrun steps data/shortest-life.txt     runs a scenario, step by step
   poolrun threads data/four-jobs.txt       runs jobs by threads, and prints the record
   poolrun audit data/shortest-record.txt   judges a record by the model
+  poolrun explore data/shutdown-race.txt   tells all that may become of the tasks
   poolrun steps --record - | poolrun audit -   reads the standard input
 
 Status:
-  0  the run went to its end, or the record is legal
+  0  the run went to its end, the record is legal, or all is explored
   1  the run was refused: its refusal is the last line on the standard output;
-     or the record has a flaw; or, with --strict, a step was refused
+     or the record has a flaw; or, with --strict, a step was refused;
+     or there are too many states, no end is as --find says, or one as --never
   2  the command line is bad, or asks for help";
 
 /// A command with one file.
@@ -166,6 +200,102 @@ fn audit_command<'a>(alloc: Global) -> Result<Command<'a>, AllocError> {
     .arg(any_length)
 }
 
+/// The flags of `explore` that say what is wished.
+const WISHES: [&str; 6] = ["witness", "record", "find", "never", "json", "dot"];
+
+/// A flag of `explore` that says what is wished, and excludes the others.
+fn wish_flag<'a>(
+    alloc: Global,
+    name: &'static str,
+    help: &'static str,
+) -> Result<Arg<'a>, AllocError> {
+    let mut flag = Arg::new(alloc, name).long(name).help(help);
+    for other in WISHES {
+        if other != name {
+            flag = flag.conflicts_with(other)?;
+        }
+    }
+    Ok(flag)
+}
+
+/// A flag of `explore` that names an end by its line, from 1 on.
+fn line_flag<'a>(
+    alloc: Global,
+    name: &'static str,
+    help: &'static str,
+) -> Result<Arg<'a>, AllocError> {
+    let flag = wish_flag(alloc, name, help)?;
+    let lines = ValueParser::unsigned(1, u64::MAX);
+    Ok(flag.value_name("K").value_parser(lines))
+}
+
+/// A flag of `explore` that names a part of an end, and may stand several times.
+fn part_flag<'a>(
+    alloc: Global,
+    name: &'static str,
+    help: &'static str,
+) -> Result<Arg<'a>, AllocError> {
+    let flag = wish_flag(alloc, name, help)?;
+    Ok(flag.value_name("PART").action(ArgAction::Append))
+}
+
+/// The flags of `explore` that choose an end.
+fn with_choices<'a>(alloc: Global, command: Command<'a>) -> Result<Command<'a>, AllocError> {
+    let witness = line_flag(
+        alloc,
+        "witness",
+        "Prints a scenario that `poolrun steps` plays to the end on line K",
+    )?;
+    let record = line_flag(
+        alloc,
+        "record",
+        "Prints the record of a run to the end on line K",
+    )?;
+    let find = part_flag(
+        alloc,
+        "find",
+        "Prints a scenario to an end with this part, as 'b rejected'; status 1 where none has all parts",
+    )?;
+    let never = part_flag(
+        alloc,
+        "never",
+        "Status 0 just where no end has all these parts; else prints a scenario to one",
+    )?;
+    command.arg(witness)?.arg(record)?.arg(find)?.arg(never)
+}
+
+/// The flags of `explore` that choose another form.
+fn with_formats<'a>(alloc: Global, command: Command<'a>) -> Result<Command<'a>, AllocError> {
+    let json = wish_flag(alloc, "json", "Prints the ends as JSON")?;
+    let dot = wish_flag(
+        alloc,
+        "dot",
+        "Prints the graph of states for Graphviz, of 2,000 states at most",
+    )?;
+    command
+        .arg(json.action(ArgAction::SetTrue))?
+        .arg(dot.action(ArgAction::SetTrue))
+}
+
+/// The command `explore`.
+fn explore_command<'a>(alloc: Global) -> Result<Command<'a>, AllocError> {
+    let command = with_file(
+        alloc,
+        "explore",
+        "Tells all that may become of the tasks of callers, whatever the schedule",
+        "the callers' text, - for the standard input",
+    )?;
+    let most = Arg::new(alloc, "most")
+        .long("most")
+        .value_name("N")
+        .value_parser(ValueParser::unsigned(1, u64::MAX))
+        .help(
+            "Keeps N states at most, 1000000 where it is left out; status 1 where there are more",
+        );
+    let command = with_choices(alloc, command)?;
+    with_formats(alloc, command)?.arg(most)
+}
+
 /// The program's command line.
 fn program_command<'a>(alloc: Global) -> Result<Command<'a>, AllocError> {
     Command::new(alloc, "poolrun")
@@ -175,8 +305,52 @@ fn program_command<'a>(alloc: Global) -> Result<Command<'a>, AllocError> {
         .subcommand_required(true)
         .subcommand(steps_command(alloc)?)?
         .subcommand(threads_command(alloc)?)?
-        .subcommand(audit_command(alloc)?)
+        .subcommand(audit_command(alloc)?)?
+        .subcommand(explore_command(alloc)?)
 }
+
+/// Copies of the values of a flag; None where it is not there.
+fn copies(
+    alloc: Global,
+    inner: &ArgMatches<'_>,
+    flag: &str,
+) -> Result<Option<Vec<String>>, AllocError> {
+    let Some(values) = inner.get_strs(flag) else {
+        return Ok(None);
+    };
+    let mut copies = Vec::new(alloc);
+    for value in values {
+        copies.push(String::from_str(alloc, *value)?)?;
+    }
+    Ok(Some(copies))
+}
+
+/// What is to be told of an exploration. The flags exclude each other.
+fn wished(alloc: Global, inner: &ArgMatches<'_>) -> Result<Wish, AllocError> {
+    if let Some(line) = inner.get_one::<usize>("witness") {
+        return Ok(Wish::Witness(line));
+    }
+    if let Some(line) = inner.get_one::<usize>("record") {
+        return Ok(Wish::Record(line));
+    }
+    if let Some(parts) = copies(alloc, inner, "find")? {
+        return Ok(Wish::Find(parts));
+    }
+    if let Some(parts) = copies(alloc, inner, "never")? {
+        return Ok(Wish::Never(parts));
+    }
+    if inner.get_flag("json") {
+        return Ok(Wish::Json);
+    }
+    Ok(if inner.get_flag("dot") {
+        Wish::Dot
+    } else {
+        Wish::Ends
+    })
+}
+
+/// The most states where the command line says nothing.
+const MOST: usize = 1_000_000;
 
 /// What the words behind a command choose.
 fn chosen_by(alloc: Global, name: &str, inner: &ArgMatches<'_>) -> Result<Choice, AllocError> {
@@ -191,6 +365,13 @@ fn chosen_by(alloc: Global, name: &str, inner: &ArgMatches<'_>) -> Result<Choice
             Ok(Choice::Threads(path, record))
         }
         "audit" => Ok(Choice::Audit(path, inner.get_flag("any-length"))),
+        "explore" => Ok(Choice::Explore(
+            path,
+            Exploring {
+                wish: wished(alloc, inner)?,
+                most: inner.get_one("most").unwrap_or(MOST),
+            },
+        )),
         _ => Ok(Choice::Steps(
             path,
             Playing {

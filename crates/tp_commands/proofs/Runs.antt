@@ -27,7 +27,7 @@ known_as None text got is known = tt
 known_as (Some xs) text got is known = is ∙ known
 
 -- what holds of a text holds of what each reader gave that gave it
-of_text : (input : Option (List ℕ)) (text : List ℕ) (P : List ℕ → Type 0) → IfSome input (λ xs. text ≡ xs) → OfText (Some text) P → OfText input P
+pub of_text : (input : Option (List ℕ)) (text : List ℕ) (P : List ℕ → Type 0) → IfSome input (λ xs. text ≡ xs) → OfText (Some text) P → OfText input P
 of_text input text P known of = (of.0, known_as input text of.0 of.1 known, of.2)
 
 record_from : (input old new : Option (List ℕ)) (text : List ℕ) (r : Result Bool PoolError) → IfSome input (λ xs. text ≡ xs) → IsRecordRun (Some text) old new r → IsRecordRun input old new r

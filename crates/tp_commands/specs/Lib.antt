@@ -1,3 +1,4 @@
 pub mod Audits
+pub mod Explores
 pub mod Status
 pub mod Steps

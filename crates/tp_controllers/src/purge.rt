@@ -9,6 +9,10 @@ use tp_record::entries::{Ask, Did};
 use tp_types::refusals::PoolError;
 
 /// How many cancelled tasks are in the queue, without a look at any task. BookFull (5).
+//
+// The number is part of the answer, and room is tested before anything changes, so it must be known before. The table of tasks
+// counts these tasks at each write to a row, and lists them. A purge costs a search in the queue for each of them, and a look at
+// each task that was cancelled there since the last purge.
 pub fn answer<P>(parts: &Parts<P>) -> Result<u32, PoolError>
     requires stands { Stands parts.now }
     ensures accepts { IfOk result (λ n. Accepts parts.now Ask.Purge (Did.Purge n)) }

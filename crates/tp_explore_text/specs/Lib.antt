@@ -1,2 +1,3 @@
 pub mod Ends
 pub mod Explored
+pub mod Texts

@@ -38,8 +38,8 @@ pub struct End {
     pub place: usize,
 }
 
-// Writes a fate, and how the body ended where it ran.
-fn write_fate(
+/// Writes a fate, and how the body ended where it ran.
+pub fn write_fate(
     line: &mut String,
     fate: Option<Fate>,
     outcome: Option<Outcome>,

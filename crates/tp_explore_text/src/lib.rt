@@ -6,6 +6,7 @@ pub mod ends;
 pub mod explored;
 pub mod files;
 pub mod outcomes;
+pub mod parts;
 pub mod pictures;
 pub mod scenarios;
 pub mod slots;

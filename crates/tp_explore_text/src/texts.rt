@@ -1,6 +1,8 @@
 //! What is printed of an exploration: its ends, as lines and as JSON, and the scenario of an interleaving.
-ghost use Rattle.std.specs.Prelude.{◌<◌, length};
+ghost use Rattle.std.specs.Prelude.{◌≡◌, ◌<◌, ◌++◌, IfOk, OnOk, length, string_bytes};
+ghost use Rattle.std.specs.List.{flat_map};
 ghost use Rattle.tp_explore_text.specs.Explored.{IsExplored};
+ghost use Rattle.tp_explore_text.specs.Texts.{ListsEnds, count_text, end_line};
 
 use crate::ends::End;
 use crate::explored::Explored;
@@ -10,7 +12,9 @@ use tp_ends::witnesses::witness;
 use tp_types::refusals::PoolError;
 use tp_walk::counts::Count;
 
-fn write_count(text: &mut String, count: Count) -> Result<(), AllocError> {
+fn write_count(text: &mut String, count: Count) -> Result<(), AllocError>
+    ensures { OnOk result (string_bytes text.new ≡ string_bytes text.old ++ count_text count) }
+{
     match count {
         Count::Exactly(n) => write!(text, "{n}"),
         Count::Over => text.push_str("over 340282366920938463463374607431768211455"),
@@ -37,8 +41,30 @@ impl Explored {
     }
 }
 
+// The line of an end.
+fn write_end(text: &mut String, end: &End) -> Result<(), AllocError>
+    ensures { OnOk result (string_bytes text.new ≡ string_bytes text.old ++ end_line end.now) }
+{
+    write_count(text, end.count)?;
+    text.push_str(" ")?;
+    text.push_str(end.text.as_str())?;
+    text.push_str("\n")
+}
+
+// A line for each end.
+fn write_ends(text: &mut String, ends: &[End]) -> Result<(), AllocError>
+    ensures { OnOk result (string_bytes text.new ≡ string_bytes text.old ++ flat_map end_line ends.now) }
+{
+    for end in ends {
+        write_end(text, end)?;
+    }
+    Ok(())
+}
+
 /// The ends, a line for each behind a line with the numbers of states, steps, interleavings and ends.
-pub fn ends_text(alloc: Global, explored: &Explored) -> Result<String, AllocError> {
+pub fn ends_text(alloc: Global, explored: &Explored) -> Result<String, AllocError>
+    ensures { IfOk result (λ text. ListsEnds explored.now.ends.items (string_bytes text)) }
+{
     let mut text = String::new(alloc);
     let states = explored.graph.states.len();
     let steps = explored.steps();
@@ -46,12 +72,7 @@ pub fn ends_text(alloc: Global, explored: &Explored) -> Result<String, AllocErro
     write!(text, "states {states}, steps {steps}, interleavings ")?;
     write_count(&mut text, explored.interleavings())?;
     write!(text, ", ends {ends}\n")?;
-    for end in &explored.ends {
-        write_count(&mut text, end.count)?;
-        text.push_str(" ")?;
-        text.push_str(end.text.as_str())?;
-        text.push_str("\n")?;
-    }
+    write_ends(&mut text, &explored.ends)?;
     Ok(text)
 }
 

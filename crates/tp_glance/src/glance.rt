@@ -32,7 +32,7 @@ impl Naming for Brand {
 }
 
 /// A new word that publishes `Running`, which no type names yet. Contracts see it as the name of
-/// its table.
+/// its table. A name can be picked only once the table is there, so there is no `Glance::new`.
 #[derive(Drop)]
 pub struct BlankGlance {
     table: Table<(), View, (), Rises, Global>,
@@ -167,6 +167,9 @@ impl<G: Naming> Glance<G> {
     /// Notes an entry and publishes the state after it, for the owner of a seat, and answers the state
     /// that was published before. What the seat knew is a front of the history before, and it knows the
     /// history with the entry then.
+    //
+    // This answer, `published` and `law_is_front` show the whole rule of the word in contracts. A rule that
+    // none of them shows could be weakened unseen.
     pub fn raise(
         &self,
         book: &mut BookSeat<G>,

@@ -8,7 +8,8 @@ ghost use Rattle.tp_types.specs.declared.configs.Config.{Config};
 ghost use Rattle.tp_types.specs.Queues.{is_ranked};
 
 /// A task is put in the queue at most once: one that came back from it at a second look is not queued
-/// again, and a retry under `DiscardOldestPolicy` offers only what was never queued.
+/// again, and a retry under `DiscardOldestPolicy` offers only what was never queued. The definition of
+/// the queue goes by the last offer of each task, and so does not assume it.
 pub fn queued_once()
     ensures { (c : Config) (h : List Entry) → Legal c h → QueuedOnce h }
 {}

@@ -11,7 +11,9 @@ ghost use Rattle.tp_record.specs.Step.{step, Legal};
 ghost use Rattle.tp_record.specs.Left.{left, mark, MayRelease, MayAll, asked, is_one_of};
 
 /// The step answers as ever where tasks are left out that are gone and owe nothing, unless the ask names one of them. Then the
-/// task is unknown (6).
+/// task is unknown (6), as one that was never submitted: a pool that keeps nothing of a task can't tell the two apart, but by
+/// the number of submissions. A task that is not gone, owes a second look, or has a completion that waits may not be left out:
+/// the next answers could tell.
 pub fn left_out_is_not_missed()
     ensures step { (c : Config) (h : List Entry) (rs : List ℕ) (w : ℕ) (a : Ask) → Legal c h → MayAll rs (state c h) →
         is_one_of (asked a) rs ≡ false → step c (left rs (state c h)) w a ≡ step c (state c h) w a }
@@ -28,7 +30,7 @@ pub fn left_out_stays_so()
         is_one_of (asked a) rs ≡ false → step c (state c h) w a ≡ Ok d → MayAll rs (next (state c h) d) }
 {}
 
-/// Neither the counters nor what is owed tell that tasks are left out.
+/// Neither the counters nor what is owed tell that tasks are left out: a counter never falls.
 pub fn left_out_is_counted()
     ensures counts { (c : Config) (h : List Entry) (rs : List ℕ) → Legal c h → MayAll rs (state c h) → counts (left rs (state c h)) ≡ counts (state c h) }
     ensures due { (c : Config) (h : List Entry) (rs : List ℕ) → Legal c h → MayAll rs (state c h) → due (left rs (state c h)) ≡ due (state c h) }
@@ -43,7 +45,8 @@ pub fn one_more_is_left_out()
 {}
 
 /// Whether the rows of the tasks that are left out are blank or whole, the step answers alike, whatever the ask names. So the
-/// proofs of steps may speak of the whole state, on which these tasks are only marked.
+/// proofs of steps may speak of the whole state, on which these tasks are only marked. The next state of that one computes, and
+/// of a state with blank rows it does not.
 pub fn blank_rows_tell_as_much()
     ensures { (c : Config) (h : List Entry) (rs : List ℕ) (w : ℕ) (a : Ask) → Legal c h → MayAll rs (state c h) →
         step c (mark rs (state c h)) w a ≡ step c (left rs (state c h)) w a }

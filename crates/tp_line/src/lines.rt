@@ -18,7 +18,8 @@ use std::marker::Model;
 #[derive(Drop)]
 pub struct Line<T: Copy> {
     // Twice as many places as the capacity. The dead are given up when it is full, and then half of it
-    // and more is free: an offer moves two items at most, over many offers.
+    // and more is free: an offer moves two items at most, over many offers. With just as many places, each offer to a full
+    // line might follow a removal from its middle. It would give up that one dead item, at the cost of the whole line.
     ring: HeapCircularBuffer<Item<T>>,
     live: usize,
     offers: u64,

@@ -13,10 +13,12 @@ use std::marker::Model;
 /// Values that wait in the order of their ranks, the least first, and of equal ranks in the order of their offers.
 ///
 /// Place numbers count the accepted offers from 0, so none comes twice. A contract sees a line, in which each value stands under
-/// one rising key that is made of its rank and its place number. A ranking never holds more than its capacity, and takes memory
-/// only where its capacity is raised.
+/// one rising key that is made of its rank and its place number: what holds of rising numbers holds of both, and is proved
+/// once. A ranking never holds more than its capacity, and takes memory only where its capacity is raised.
 #[derive(Drop)]
 pub struct Ranking<T: Copy> {
+    // In order, since an offer may take no memory, as a tree's would, and a heap has no order in which to hand its values back.
+    // Among equal ranks an offer and a take move nothing.
     items: VecDeque<Ranked<T>, Global>,
     // The capacity. It doubles where it is raised; `VecDeque::reserve` by itself doubles the length alone.
     places: usize,
@@ -140,7 +142,8 @@ impl<T: Copy> Ranking<T> {
     }
 
     /// Takes out the one of this rank and place number, if it waits. The others keep their order and numbers. It compares as
-    /// often as a binary search does, and moves those before it or those behind it, whichever are fewer.
+    /// often as a binary search does, and moves those before it or those behind it, whichever are fewer. By the number alone a
+    /// search from the front would read half of the ranking.
     pub fn remove(&mut self, rank: u32, number: u64)
         ensures { self.new ≡ line (without_place (key rank number) self.old.items) self.old.capacity self.old.offers }
     {

@@ -30,7 +30,9 @@ pub record BookAt (P : Type 0) (c : Config) (history : List Entry) (F : BookView
   pub at : book.history ≡ history
   pub holds : F book
 
--- the pool's book is such, as this pass knows it: at its front, with the tasks released that it knows of
+-- the pool's book is such, as this pass knows it: at its front, with the tasks released that it knows of. A front has no jobs, so
+-- what a call says of a job names such a book. With jobs beside the entries each pass and each seat of the word would be of the
+-- jobs' type
 pub record BookOf (P : Type 0) (c : Config) (p : PassView) (F : BookView P → Type 0) : Type 0 where
   pub book : BookView P
   pub is : IsBook P c book

@@ -21,7 +21,9 @@ pub struct PoolLock<G: PoolNaming, J, R: Keeper = Full> {
 }
 
 impl<G: PoolNaming, J: Drop, R: Keeper> PoolLock<G, J, R> {
-    /// The lock of a new pool: its record is empty, its first pass is the only one, and it has no thread.
+    /// The lock of a new pool: its record is empty, its first pass is the only one, and it has no thread. What lies under a lock is
+    /// known by its type alone, so what a new pool is stands here: else a body that makes a step or a pass before would be
+    /// proved.
     pub fn new(core: Core<G, J, R>) -> PoolLock<G, J, R>
         requires empty { core.book.history ≡ [] }
         requires first { core.book.accounts ≡ record { total = 0; made = 1; callers = 1 } }

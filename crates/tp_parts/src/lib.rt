@@ -1,4 +1,10 @@
 //! What a pool keeps beside its record, the state that it shows, and the changes of which each step is made.
+//!
+//! The contract of a change speaks of what is seen of a state, row by row, and not of the state's lists: no structure with
+//! cheap steps equals those, and what is seen after a chain of changes computes.
+//!
+//! The steps stand in a crate for each wing, so that checks stay short and each wing is read alone. A step is two functions,
+//! `answer` and `apply`: all refusals stand before the first change, and memory can be taken between the two.
 #![tactic(auto)]
 
 pub mod drain_changes;

@@ -10,7 +10,8 @@ use tp_types::states::RunState;
 
 impl<P> Parts<P> {
     /// By how many entries fewer are owed once the pool has come to this run state, for its workers and for itself: a worker
-    /// that is about to take may not be idle any more.
+    /// that is about to take may not be idle any more. Where the pool runs it looks at every slot: these workers are counted
+    /// here, and no count of them is kept.
     pub fn owed_until(&self, state: RunState) -> u64
         requires stands { Stands self.now }
         ensures falls { result ≡ (if state_rank self.now.state == 0 then count_by is_at_take self.now.slots.slots else 0) + (state_rank state - state_rank self.now.state) }

@@ -29,8 +29,9 @@ pub fn free_slot(state: &Snapshot) -> SlotId
     SlotId(free)
 }
 
-/// The answer to an ask after these entries of a pool that was made with `config`, where a slot that is made gets the
-/// number `w`, which is no slot, or is freed by the ask. The step gives each entry that is answered.
+/// The answer to an ask after these entries of a pool that was made with `config`. A slot that is made gets the number
+/// `w`, which is no slot, or is freed by the ask. The step gives each entry that is answered: under another slot's number
+/// an answer would be no entry of any record.
 pub fn answer_at(
     alloc: Global,
     config: &Config,

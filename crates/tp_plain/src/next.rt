@@ -111,7 +111,7 @@ fn keep_staying(did: Did, state: &Snapshot, queue: &mut Vec<u32>)
     queue.retain(|t| stays_queued(did, state, *t));
 }
 
-/// Task `t` behind all of a line whose priority is not greater.
+/// Task `t` behind all of a line whose priority is not greater. As in the definition, no line is taken to be sorted.
 fn put_behind(alloc: Global, state: &Snapshot, t: u32, line: &[u32]) -> Result<Vec<u32>, PoolError>
     ensures tasks { IfOk result (λ v. v.items
         ≡ lists.put_behind (λ u. (states.row_at state.now.tasks.items u).priority) t line.now) }

@@ -1,4 +1,5 @@
-//! What the tables of steps read of a pool, wherever it is kept.
+//! What the tables of steps read of a pool, wherever it is kept. As a program these tables stand once: they read a snapshot, and
+//! the tables of `tp_auditor`.
 
 ghost use Rattle.std.specs.Prelude.{◌≡◌, count_by, is_some, length, slice_get};
 ghost use Rattle.tp_record.specs.State as states;

@@ -1,4 +1,7 @@
 //! A caller's jobs and objects in boxes.
+//!
+//! They stand apart from the traits that they hold. A call into another crate on a boxed object counts as one that may make
+//! such an object: `Pool::new` would then be proved of the objects alone that it makes.
 
 use std::sync::{Mutex, Wait};
 use tp_callbacks::factories::ThreadFactory;

@@ -19,7 +19,9 @@ use tp_shared::edges::Edge;
 use tp_types::ids::TaskId;
 use tp_types::refusals::PoolError;
 
-// Forgets a task of the value under the lock, and no other. The pass then knows the history at which this was so.
+// Forgets a task of the value under the lock, and no other. The pass then knows the history at which this was so. The caller's
+// clause says that its task was the last one that was released, at this history: other threads may have released tasks
+// meanwhile, and no pass accounts for releases.
 fn release_in<G: PoolNaming, J: Job>(
     core: &mut Core<G, J, Tally>,
     t: TaskId,

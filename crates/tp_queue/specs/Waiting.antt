@@ -7,7 +7,8 @@ use Rattle.tp_types.specs.Queues.{is_ranked}
 use Rattle.tp_line.specs.Line.{Line}
 use Rattle.tp_line.specs.Ranks.{key}
 
--- the kind; the tasks that wait, in order, each with its key; how many may wait; how many offers were accepted so far
+-- the kind; the tasks that wait, in order, each with its key; how many may wait; how many offers were accepted so far. With the
+-- kind the capacity is known: none for a handoff, the configured one for a bounded queue, what was reserved for the others
 pub record Waiting : Type 0 where
   pub kind : QueueKind
   pub items : List (TaskId × ℕ)

@@ -38,7 +38,8 @@ pub trait WorkQueue {
 
     /// Makes places for so many tasks in all, where the queue has no limit; a queue of another kind
     /// stays as it is. `AllocError` is refusal 4: nothing has changed. To ask for one place more each
-    /// time moves each task but a few times.
+    /// time moves each task but a few times. The number is that of all, since several submitters may each
+    /// still need a place before any of them offers.
     fn reserve(&mut self, places: usize) -> Result<(), AllocError>
         ensures room { OnOk result (IsTrue (is_open (waiting self.old).kind) → places ≤ (waiting self.new).capacity) }
         ensures kept { (waiting self.old).capacity ≤ (waiting self.new).capacity }
@@ -73,7 +74,7 @@ pub trait WorkQueue {
         ensures { waiting self.new ≡ record (waiting self.old) { items = without_place (place_key (waiting self.old).kind priority number) (waiting self.old).items } };
 
     /// Moves all tasks, in the queue's order, to the end of a list that has room for them, as
-    /// `BlockingQueue.drainTo`.
+    /// `BlockingQueue.drainTo`. A stop reserves its whole answer before it changes anything.
     fn drain(&mut self, tasks: &mut Vec<TaskId>)
         requires { vec_len tasks.old + length (waiting self.old).items ≤ vec_capacity tasks.old }
         ensures tasks { tasks.new.items ≡ tasks.old.items ++ ids (waiting self.old).items }

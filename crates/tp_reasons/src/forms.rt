@@ -87,6 +87,62 @@ pub const JOB_FORMS: Forms = &[
     "submit !N prio N",
 ];
 
+/// What a line of a file of callers begins with, behind the pool line.
+pub const CALLER_FORMS: Forms = &[
+    "caller CALL",
+    "factory consents",
+    "factory refuses",
+    "factory may refuse",
+];
+
+/// The forms of a submission in a caller's line, behind its name.
+pub const NAMED_FORMS: Forms = &[
+    "execute V",
+    "execute V prio N",
+    "execute !N",
+    "execute !N prio N",
+    "submit V",
+    "submit V prio N",
+    "submit !N",
+    "submit !N prio N",
+    "group G V",
+    "group G V prio N",
+    "group G !N",
+    "group G !N prio N",
+];
+
+/// The forms of a caller's calls.
+pub const CALL_FORMS: Forms = &[
+    "execute V",
+    "execute V prio N",
+    "execute !N",
+    "execute !N prio N",
+    "submit V",
+    "submit V prio N",
+    "submit !N",
+    "submit !N prio N",
+    "group G V",
+    "group G V prio N",
+    "group G !N",
+    "group G !N prio N",
+    "shutdown",
+    "stop",
+    "purge",
+    "max SIZE",
+    "keep TICKS",
+    "coretimeout on",
+    "coretimeout off",
+    "tick TICKS",
+    "takedone G",
+    "core SIZE",
+    "prestart",
+    "cancel NAME",
+    "cancel NAME flag",
+    "remove NAME",
+    "await end",
+    "await NAME",
+];
+
 /// What a record's line begins with, behind the pool line: an entry's number, or `end`.
 pub const BODY_FORMS: Forms = &["ENTRY STEP", "end N"];
 

@@ -14,6 +14,8 @@ const JAVA: &[(&str, &str)] = &[
     ("allowCoreThreadTimeOut", "coretimeout"),
     ("prestartCoreThread", "prestart"),
     ("poll", "takedone"),
+    ("awaitTermination", "await"),
+    ("thread", "caller"),
     ("SynchronousQueue", "handoff"),
     ("LinkedBlockingQueue", "unbounded"),
     ("ArrayBlockingQueue", "bounded"),

@@ -2,6 +2,7 @@
 //! message. The refusal says which line it is.
 #![tactic(auto)]
 
+pub mod callers;
 pub mod faults;
 pub mod forms;
 pub mod guesses;

@@ -22,6 +22,8 @@ pub enum Look {
     Step,
     /// A step that says which worker ends, or the last line of a record.
     End,
+    /// A line of a file of callers.
+    Caller,
     /// None of these.
     Other,
 }
@@ -35,6 +37,7 @@ pub fn look_of(text: &str) -> Look {
         "submit" => Look::Submit,
         "execute" => Look::Execute,
         "end" => Look::End,
+        "caller" | "factory" => Look::Caller,
         _ if word.starts_with('#') => Look::Comment,
         _ if command(word).is_some() => Look::Step,
         _ if number(word).is_some() && rest.is_some() => Look::Entry,

@@ -17,6 +17,8 @@ pub enum Kind {
     Jobs,
     /// A record, for `poolrun audit`.
     Record,
+    /// A file of callers, for `poolrun explore`.
+    Callers,
 }
 
 /// What is wrong with a line.
@@ -64,6 +66,20 @@ pub enum Mistake<'a> {
     BehindEnd,
     /// The submission of this job, counted from 1, is refused so.
     Job(usize, PoolError),
+    /// A call stands in a line of its own, behind no `caller`.
+    CallWithoutCaller,
+    /// A second line says what the factory does.
+    SecondFactory,
+    /// A semicolon has no space behind it, or no call.
+    Semicolon,
+    /// This may not name a task.
+    BadName(&'a str),
+    /// A second task has this name.
+    NameTwice(&'a str),
+    /// No task has this name.
+    NoSuchName(&'a str),
+    /// There are more than 4,096 callers.
+    ManyCallers,
     /// None of these.
     Unknown,
 }

@@ -13,6 +13,8 @@ pub enum Range {
     Value,
     /// One of these names.
     Name(&'static [&'static str]),
+    /// A task's name, as a file of callers gives it.
+    Label,
 }
 
 /// A word of a form that stands for others.
@@ -29,6 +31,12 @@ pub struct Sign {
 }
 
 const SIGNS: &[Sign] = &[
+    Sign {
+        word: "NAME",
+        prefix: "",
+        range: Range::Label,
+        legend: "NAME is a task's name, as a in 'a: execute 5'",
+    },
     Sign {
         word: "T",
         prefix: "",
@@ -139,6 +147,21 @@ const SIGNS: &[Sign] = &[
     },
 ];
 
+/// Whether a byte may stand in a task's name.
+fn is_of_label(byte: u8) -> bool {
+    byte.is_ascii_alphanumeric() || byte == b'_' || byte == b'-'
+}
+
+/// Whether a word may name a task.
+pub fn is_label(word: &str) -> bool {
+    for byte in word.bytes() {
+        if !is_of_label(byte) {
+            return false;
+        }
+    }
+    word.starts_with(|first: char| first.is_ascii_alphabetic()) && word != "end"
+}
+
 /// The sign that a word of a form is; None for a word that stands for itself.
 pub fn sign_of(word: &str) -> Option<&'static Sign> {
     for sign in SIGNS {
@@ -161,7 +184,7 @@ impl Sign {
     /// Whether it stands for a number.
     pub fn is_number(&self) -> bool {
         match self.range {
-            Range::Name(_) => false,
+            Range::Name(_) | Range::Label => false,
             _ => true,
         }
     }
@@ -184,6 +207,7 @@ impl Sign {
             Range::Bits64 => long_number(digits).is_some(),
             Range::Value => value(digits).is_some(),
             Range::Name(names) => names.contains(&digits),
+            Range::Label => is_label(digits),
         }
     }
 }

@@ -1,5 +1,6 @@
-//! What is wrong with a line of a scenario, or of a file of jobs.
+//! What is wrong with a line of a scenario, of a file of jobs, or of a file of callers.
 
+use crate::callers::{has_many_callers, in_caller_line};
 use crate::forms::{JOB_FORMS, POOL_FORMS, STEP_FORMS};
 use crate::lines::{Line, line_at};
 use crate::looks::{Look, look_of};
@@ -39,7 +40,7 @@ pub fn first_line(text: &[u8]) -> u32 {
 fn in_pool_line<'a>(line: Line<'a>, text: &'a str) -> Finding<'a> {
     match look_of(text) {
         Look::Version | Look::Entry => of_line(line, Mistake::OtherKind(Kind::Record)),
-        Look::Submit | Look::Execute | Look::Step | Look::End => {
+        Look::Submit | Look::Execute | Look::Step | Look::End | Look::Caller => {
             of_word(line, text, 0, Mistake::EarlyLine(first_word(text).0))
         }
         _ => of_words(line, 0, POOL_FORMS, text),
@@ -52,6 +53,7 @@ fn in_step<'a>(line: Line<'a>, text: &'a str) -> Finding<'a> {
         Look::Pool => of_word(line, text, 0, Mistake::SecondPoolLine),
         Look::Execute => of_line(line, Mistake::OtherKind(Kind::Jobs)),
         Look::Entry => of_line(line, Mistake::OtherKind(Kind::Record)),
+        Look::Caller => of_line(line, Mistake::OtherKind(Kind::Callers)),
         _ => of_words(line, 0, STEP_FORMS, text),
     }
 }
@@ -74,6 +76,7 @@ fn in_job<'a>(line: Line<'a>, text: &'a str) -> Finding<'a> {
         Look::Step | Look::End => of_line(line, Mistake::OtherKind(Kind::Scenario)),
         _ if has_kind(text) => of_line(line, Mistake::OtherKind(Kind::Scenario)),
         Look::Entry => of_line(line, Mistake::OtherKind(Kind::Record)),
+        Look::Caller => of_line(line, Mistake::OtherKind(Kind::Callers)),
         _ => of_words(line, 0, JOB_FORMS, text),
     }
 }
@@ -81,6 +84,11 @@ fn in_job<'a>(line: Line<'a>, text: &'a str) -> Finding<'a> {
 /// What is wrong with the line of this number, which its reader refused.
 pub fn in_line(kind: Kind, text: &[u8], number: u32) -> Finding<'_> {
     let line = line_at(text, number);
+    if let Kind::Callers = kind {
+        if has_many_callers(text, number) {
+            return of_line(line, Mistake::ManyCallers);
+        }
+    }
     if line.bytes.is_empty() {
         return of_line(line, Mistake::NoPoolLine);
     }
@@ -92,6 +100,7 @@ pub fn in_line(kind: Kind, text: &[u8], number: u32) -> Finding<'_> {
         Some(words) if number <= first_line(text) => in_pool_line(line, words),
         Some(words) => match kind {
             Kind::Jobs => in_job(line, words),
+            Kind::Callers => in_caller_line(text, line, words),
             _ => in_step(line, words),
         },
     }

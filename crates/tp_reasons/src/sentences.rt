@@ -41,6 +41,46 @@ const A_RECORD: Saying = Saying {
     advice: " it is for `poolrun audit`",
 };
 
+const A_FILE_OF_CALLERS: Saying = Saying {
+    sentence: "this is a line of a file of callers",
+    advice: " it is for `poolrun explore`",
+};
+
+const CALL_WITHOUT_CALLER: Saying = Saying {
+    sentence: "a call stands without its caller",
+    advice: " write 'caller' and a space before it",
+};
+
+const SECOND_FACTORY: Saying = Saying {
+    sentence: "a second line on the factory",
+    advice: " take one of them out",
+};
+
+const SEMICOLON: Saying = Saying {
+    sentence: "a semicolon wants a space and a call behind it",
+    advice: " write '; ' between two calls",
+};
+
+const BAD_NAME: Saying = Saying {
+    sentence: "'{}' may not name a task",
+    advice: " a name is letters, digits, _ and -, begins with a letter, and is not 'end'",
+};
+
+const NAME_TWICE: Saying = Saying {
+    sentence: "a second task has the name '{}'",
+    advice: " give one of them another name",
+};
+
+const NO_SUCH_NAME: Saying = Saying {
+    sentence: "no task has the name '{}'",
+    advice: " a task gets one where it is submitted, as in 'a: execute 5'",
+};
+
+const MANY_CALLERS: Saying = Saying {
+    sentence: "there are more than 4096 callers",
+    advice: " the states of so many could not be counted",
+};
+
 const NO_VERSION: Saying = Saying {
     sentence: "a record begins with the line 'tprecord 2'",
     advice: " write 'tprecord 2' here",
@@ -130,6 +170,14 @@ impl<'a> Mistake<'a> {
             Mistake::OtherKind(Kind::Scenario) => &A_SCENARIO,
             Mistake::OtherKind(Kind::Jobs) => &A_FILE_OF_JOBS,
             Mistake::OtherKind(Kind::Record) => &A_RECORD,
+            Mistake::OtherKind(Kind::Callers) => &A_FILE_OF_CALLERS,
+            Mistake::CallWithoutCaller => &CALL_WITHOUT_CALLER,
+            Mistake::SecondFactory => &SECOND_FACTORY,
+            Mistake::Semicolon => &SEMICOLON,
+            Mistake::BadName(_) => &BAD_NAME,
+            Mistake::NameTwice(_) => &NAME_TWICE,
+            Mistake::NoSuchName(_) => &NO_SUCH_NAME,
+            Mistake::ManyCallers => &MANY_CALLERS,
             Mistake::Tab => &TAB,
             Mistake::NoPoolLine => &NO_POOL_LINE,
             Mistake::EarlyLine(_) => &EARLY_LINE,
@@ -155,10 +203,11 @@ impl<'a> Mistake<'a> {
 
     /// What is told of a mistake that is not one of words.
     fn value(&self) -> Value<'a> {
-        if let Mistake::EarlyLine(word) = self {
-            return Value::Word("", *word);
-        }
         match self {
+            Mistake::EarlyLine(word)
+            | Mistake::BadName(word)
+            | Mistake::NameTwice(word)
+            | Mistake::NoSuchName(word) => Value::Word("", *word),
             Mistake::Bytes(Fault::NotAscii(byte)) => Value::Number(u32::from(*byte)),
             Mistake::Setting(Setting::Core(core, maximum)) => Value::Sizes(*core, *maximum),
             Mistake::Setting(Setting::Maximum(number))

@@ -125,6 +125,14 @@ impl<'a> Wording<'a> {
         }
     }
 
+    /// Whether the forms are those of a caller's calls.
+    fn is_of_calls(&self) -> bool {
+        match self.forms.last() {
+            Some(form) => *form == "await NAME" || *form == "group G !N prio N",
+            None => false,
+        }
+    }
+
     /// Whether a form is told of the line. One that ends in a priority is not told of a line that ends before it.
     pub fn tells(&self, form: &str) -> bool {
         match form.strip_suffix(" prio N") {
@@ -177,6 +185,7 @@ impl<'a> Wording<'a> {
         }
         match self.misspelling() {
             Some(misspelling) => misspelling.sentence,
+            None if self.fitting == 0 && self.is_of_calls() => "no call begins with '{}'",
             None if self.fitting == 0 => "no line begins with '{}'",
             None => "'{}' may not stand here",
         }

@@ -24,7 +24,8 @@ pub enum Stage {
     Dying,
 }
 
-/// What a state says of a slot.
+/// What a state says of a slot. A reservation sets both fields, so no table needs to know what stood there before: the number
+/// of a freed slot may come again.
 #[derive(Clone, Copy, Debug, PartialEq, Eq)]
 pub struct SlotRow {
     /// What it is for, or what its worker does.
@@ -51,7 +52,8 @@ pub struct TaskRow {
     pub outcome: Option<Outcome>,
     /// How often its verdict was a retry.
     pub retries: u32,
-    /// Its priority: the task with the least number leaves a priority queue first.
+    /// Its priority: the task with the least number leaves a priority queue first. It is kept whatever the queue, since a record
+    /// says what was asked.
     pub priority: u32,
 }
 
@@ -139,7 +141,7 @@ impl SlotRow {
 impl TaskRow {
     ghost use Rattle.tp_record.specs.State as states;
 
-    /// The row of a new task of this kind and priority, in this place.
+    /// The row of a new task of this kind and priority, in this place. It sets every field.
     pub fn new(kind: Kind, priority: u32, place: Place) -> TaskRow
         ensures { result ≡ record states.no_row { kind = kind; priority = priority; place = place } }
     {

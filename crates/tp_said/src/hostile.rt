@@ -21,6 +21,9 @@ const RANKED: &[u8] =
 
 const JOBS: &[u8] = b"pool 1 1 unbounded keep 0 abort\nexecute 5\nsubmit !7 prio 5\n";
 
+const CALLERS: &[u8] =
+    b"# all calls\npool 1 2 bounded 3 keep 0 own\ncaller a: group 3 -5 prio 6; cancel a flag\nfactory may refuse\ncaller await a; stop\n";
+
 /// The bytes that are set in place of each.
 const OTHERS: [u8; 12] = [
     b' ', b'\n', b'\r', b'\t', b'#', b'0', b'9', b'x', b't', b'-', 0, 200,
@@ -89,11 +92,12 @@ fn tells_of_changes(rt: &impl Abort, alloc: Global, kind: Kind, whole: &[u8]) ->
     Ok(())
 }
 
-static TEXTS: [(Kind, &[u8]); 4] = [
+static TEXTS: [(Kind, &[u8]); 5] = [
     (Kind::Scenario, SCENARIO),
     (Kind::Record, RECORD),
     (Kind::Record, RANKED),
     (Kind::Jobs, JOBS),
+    (Kind::Callers, CALLERS),
 ];
 
 #[test]

@@ -5,6 +5,7 @@ use std::alloc::Global;
 use std::process::Abort;
 use std::test::Fail;
 use tp_audit_text::audits::audit_text;
+use tp_explore_text::files::read_plan;
 use tp_reasons::messages::{Style, write_message};
 use tp_reasons::mistakes::Kind;
 use tp_reasons::reasons::reason;
@@ -24,6 +25,7 @@ pub fn refusal_of(alloc: Global, kind: Kind, text: &[u8]) -> Option<PoolError> {
         Kind::Scenario => run(alloc, &mut reader, &mut out).err(),
         Kind::Jobs => read_jobs(alloc, &mut reader).err(),
         Kind::Record => audit_text(alloc, &mut reader, &mut out).err(),
+        Kind::Callers => read_plan(alloc, text).err(),
     }
 }
 
@@ -494,11 +496,111 @@ static JOBS: [Row; 5] = [
     ),
 ];
 
+static CALLERS: [Row; 16] = [
+    (
+        b"pool 1 1 unbounded keep 0 abort\ncaller a: exekute 1\n",
+        "2:11",
+        "no call begins with 'exekute'",
+        "^^^^^^^ did you mean 'execute'?\n  = expected: execute, submit or group\n",
+    ),
+    (
+        b"pool 1 1 unbounded keep 0 abort\ncaller a: execute 1; shutdownNow\n",
+        "2:22",
+        "no call begins with 'shutdownNow'",
+        "did you mean 'stop'?",
+    ),
+    (
+        b"pool 1 1 unbounded keep 0 abort\ncaller execute one\n",
+        "2:16",
+        "'one' is no whole number",
+        "= expected: V or !N\n",
+    ),
+    (
+        b"pool 1 1 unbounded keep 0 abort\ncaller a: execute 1;stop\n",
+        "2:20",
+        "a semicolon wants a space and a call behind it",
+        "^ write '; ' between two calls",
+    ),
+    (
+        b"pool 1 1 unbounded keep 0 abort\ncaller 1st: execute 1\n",
+        "2:8",
+        "'1st' may not name a task",
+        "a name is letters, digits, _ and -, begins with a letter, and is not 'end'",
+    ),
+    (
+        b"pool 1 1 unbounded keep 0 abort\ncaller a: execute 1\ncaller stop; a: execute 2\n",
+        "3:14",
+        "a second task has the name 'a'",
+        "^ give one of them another name",
+    ),
+    (
+        b"pool 1 1 unbounded keep 0 abort\ncaller a: submit 1\ncaller cancel b flag\n",
+        "3:15",
+        "no task has the name 'b'",
+        "^ a task gets one where it is submitted, as in 'a: execute 5'",
+    ),
+    (
+        b"pool 1 1 unbounded keep 0 abort\ncaller cancel 0\n",
+        "2:15",
+        "'0' may not stand here",
+        "= NAME is a task's name, as a in 'a: execute 5'\n",
+    ),
+    (
+        b"pool 1 1 unbounded keep 0 abort\ncalller stop\n",
+        "2:1",
+        "no line begins with 'calller'",
+        "did you mean 'caller'?\n  = expected: caller or factory\n",
+    ),
+    (
+        b"pool 1 1 unbounded keep 0 abort\ncaller\n",
+        "2:8",
+        "a word is missing",
+        "= form: caller CALL\n",
+    ),
+    (
+        b"pool 1 1 unbounded keep 0 abort\nfactory refuse\n",
+        "2:9",
+        "'refuse' may not stand here",
+        "did you mean 'refuses'?",
+    ),
+    (
+        b"pool 1 1 unbounded keep 0 abort\nfactory refuses\nfactory consents\n",
+        "3:1",
+        "a second line on the factory",
+        "take one of them out",
+    ),
+    (
+        b"pool 1 1 unbounded keep 0 abort\nexecute 5\n",
+        "2:1",
+        "a call stands without its caller",
+        "write 'caller' and a space before it",
+    ),
+    (
+        b"pool 1 1 unbounded keep 0 abort\nsubmit plain 5\n",
+        "2:1",
+        "this is a line of a scenario",
+        "it is for `poolrun steps`",
+    ),
+    (
+        b"caller stop\n",
+        "1:1",
+        "'caller' stands before the pool line",
+        "the pool line comes first",
+    ),
+    (
+        b"pool 3 2 unbounded keep 0 abort\ncaller stop\n",
+        "1:6",
+        "a CORE of 3 is above the MAX of 2",
+        "CORE is 0 to MAX",
+    ),
+];
+
 #[test]
 fn tells_what_is_wrong(rt: HostRuntime) -> Result<(), Fail> {
     tells(&rt, rt.alloc(), Kind::Scenario, &WORDS)?;
     tells(&rt, rt.alloc(), Kind::Scenario, &BYTES)?;
     tells(&rt, rt.alloc(), Kind::Scenario, &SETTINGS)?;
     tells(&rt, rt.alloc(), Kind::Record, &RECORDS)?;
-    tells(&rt, rt.alloc(), Kind::Jobs, &JOBS)
+    tells(&rt, rt.alloc(), Kind::Jobs, &JOBS)?;
+    tells(&rt, rt.alloc(), Kind::Callers, &CALLERS)
 }

@@ -15,7 +15,8 @@ use tp_turns::rescues::{Remains, rescue};
 use tp_types::ids::SlotId;
 
 // A worker's pass, kept for its thread, which takes it as it begins. Where no thread can be made, whoever wanted one
-// still has the pass: no close would find all passes without it.
+// still has the pass: no close would find all passes without it. Where a thread that has a name can't be made, its work
+// is dropped: so the pass stands beside the work.
 type Kept<G> = Arc<Mutex<Option<WorkerPass<G>>>>;
 
 /// Has a worker made for this slot, and tells whether one was: the factory is asked, and where it consents a

@@ -47,7 +47,8 @@ const MANY: u32 = 12;
 // Whenever the lock goes from one thread to another, its memory goes from one processor to another too, which costs about as
 // much as the steps of a task. Where jobs are short, a thread that finds the lock free takes it again and again. So a
 // worker that was alone for a while waits long, and lets another thread be alone in its turn. Where jobs take a while, others
-// step during most of them; then a worker is hardly ever alone, and one that waited long would only be missed.
+// step during most of them; then a worker is hardly ever alone, and one that waited long would only be missed. The pool reads no
+// clock, so it can't measure a job.
 #[derive(Drop)]
 struct Holds {
     // The pool's steps at the end of its last hold.

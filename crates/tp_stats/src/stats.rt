@@ -33,6 +33,7 @@ pub struct Longest {
 pub struct Stats {
     auditor: Auditor,
     times: Times,
+    // Each wait and each run is kept: the middle one, and the one that 99 in a hundred do not exceed, can't be told from sums.
     waits: Vec<Span>,
     runs: Vec<Span>,
     refusals: Refusals,

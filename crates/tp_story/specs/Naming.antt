@@ -42,7 +42,8 @@ names_task (did.TakeDone g u) t = t == u.0
 names_task _ t = false
 
 -- an entry tells of a task where it names it, and where it finishes it with others, as a `stop` and a `purge` do; of a slot
--- where it names it, and where it wakes its worker with others
+-- where it names it, and where it wakes its worker with others. A reader of the record would look for just these: the entries
+-- that name a task need not tell its end
 abbrev pub tells_of : State → Did → Subject → Bool
 tells_of s d (subject.Task t) = names_task d t.0 || sweeps d (task_at s t.0).cancelled (task_at s t.0).place
 tells_of s d (subject.Slot w) = names_slot d w.0 || (wakes d && is_idle_row (slot_at s.slots w.0))

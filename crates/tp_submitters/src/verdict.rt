@@ -134,7 +134,7 @@ fn retry_of<P>(parts: &Parts<P>) -> Ruled
     }
 }
 
-/// How many more entries are owed after this retry.
+/// How many more entries are owed after this retry. A dropped head owed 6 entries, which are taken off.
 fn rise(retry: Ruled) -> u64
     ensures rise { result ≡ retry_rise retry }
     ensures bound { result ≤ 11 }

@@ -18,7 +18,8 @@ pub struct Home<P> {
 }
 
 /// What is kept of all tasks, by number. A task lies at its home, by the low bits of its number. Only where another one lies
-/// there, which is kept for longer, it lies in a table beside, by the hash of its number.
+/// there, which is kept for longer, it lies in a table beside, by the hash of its number. So a look is one read and no hash,
+/// however many tasks were forgotten before, and a forgotten task moves no other.
 #[derive(Drop)]
 pub struct Rows<P> {
     /// How many tasks are kept.
@@ -26,7 +27,8 @@ pub struct Rows<P> {
     /// How many of them a purge takes: they are queued and cancelled.
     pub purgeable: u32,
     /// Each of these, in any order: a task is noted where a write has a purge take it, and goes off the list where a purge comes
-    /// to it. So the list also has tasks that left the queue since, and may have one twice.
+    /// to it. So the list also has tasks that left the queue since, and may have one twice. A task needs not know its place in
+    /// the list, and one that leaves the queue otherwise costs nothing here.
     pub noted: Vec<u32>,
     /// The tasks that lie beside.
     pub beside: IndexMap<u32, Task<P>>,

@@ -71,7 +71,7 @@ impl<P> Tasks<P> {
     }
 
     /// Makes memory for one more task of this kind: its own place, and one among the completed tasks of its group. Want of
-    /// memory is NoMemory (4).
+    /// memory is NoMemory (4): it comes before the step, so all refusals of a submission stand before its first change.
     #[inline(always)]
     pub fn reserve(&mut self, kind: Kind) -> Result<(), PoolError>
         ensures ready { OnOk result (IsReady self.new kind) }
@@ -289,7 +289,8 @@ impl<P> Tasks<P> {
         table::conclude(&mut self.tasks, t.0, fate, outcome);
     }
 
-    /// The task is gone without having run, with this fate, unless it was cancelled.
+    /// The task is gone without having run, with this fate, unless it was cancelled. A cancelled task keeps the fate
+    /// cancelled: its row notes the ending, and no counter and no group changes.
     pub fn finish(&mut self, t: TaskId, row: TaskRow, fate: Fate)
         requires now { row_of self.old t.0 ≡ Some row }
         requires unended { row.ending ≡ None }

@@ -52,7 +52,8 @@ pub struct Times {
     pub tasks: Vec<TaskTime>,
     /// The slots by number.
     pub slots: IndexMap<usize, SlotTime>,
-    /// The first entry that woke all idle workers.
+    /// The first entry that woke all idle workers. No worker is idle after it, so one entry is kept for all of them, and no slot
+    /// is touched.
     pub woken: Option<Since>,
 }
 
@@ -68,7 +69,8 @@ pub fn latest_of(after: &Tables) -> Since
     }
 }
 
-/// The task that an entry moves by its name.
+/// The task that an entry moves by its name. A `stop` and a `purge` end tasks that they do not name: these are gone then, and
+/// nobody asks since when.
 fn moved_task(did: Did) -> Option<u32>
     ensures { result ≡ times.moved did }
 {

@@ -5,6 +5,7 @@ use std::io::Read;
 use std::test::Fail;
 use tp_choices::choices::{Choice, chosen};
 use tp_commands::audits::run_audit;
+use tp_commands::explores::{Callers, run_explore};
 use tp_commands::steps::run_steps;
 use tp_commands::telling::name_of;
 use tp_reasons::messages::Style;
@@ -38,17 +39,29 @@ pub fn has(text: &[u8], part: &str) -> bool {
     }
 }
 
+/// A word of a command line, in which a tilde stands for a space.
+fn word_of(alloc: Global, said: &str) -> Result<String, Fail> {
+    let mut word = String::new(alloc);
+    for part in said.split('~') {
+        if !word.is_empty() {
+            word.push_str(" ")?;
+        }
+        word.push_str(part)?;
+    }
+    Ok(word)
+}
+
 /// What a command line chooses, behind the program's name.
 fn choice_of(alloc: Global, line: &str) -> Result<Option<Choice>, Fail> {
     let mut words = Vec::new(alloc);
     words.push(String::from_str(alloc, "poolrun")?)?;
     for word in line.split(' ') {
-        words.push(String::from_str(alloc, word)?)?;
+        words.push(word_of(alloc, word)?)?;
     }
     Ok(chosen(alloc, words.as_slice()).ok())
 }
 
-/// Does what was chosen with what a reader gives, and gives the status; 99 where it is neither `steps` nor `audit`.
+/// Does what was chosen with what a reader gives, and gives the status; 99 where it is `threads`.
 fn status_of<R: Read + Drop>(
     alloc: Global,
     choice: &Choice,
@@ -65,12 +78,16 @@ fn status_of<R: Read + Drop>(
             run_steps(alloc, *playing, name, reader, out, errors, plain)
         }
         Choice::Audit(_path, any) => run_audit(alloc, *any, name, reader, out, errors, plain),
+        Choice::Explore(_path, exploring) => {
+            run_explore(alloc, &Callers, exploring, name, reader, out, errors, plain)
+        }
         Choice::Threads(_path, _record) => 99,
         Choice::Tally(_path) => 99,
     }
 }
 
-/// Calls `steps` or `audit` by this command line, where the file gives what this reader gives. The status is 99 for another line.
+/// Calls `steps`, `audit` or `explore` by this command line, where the file gives what this reader gives. The status is 99 for another
+/// line.
 pub fn call<R: Read + Drop>(alloc: Global, line: &str, reader: R) -> Result<Called, Fail> {
     let mut out = Vec::new(alloc);
     let mut errors = Vec::new(alloc);

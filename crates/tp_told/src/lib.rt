@@ -1,8 +1,10 @@
-//! Tests of the commands `steps` and `audit`: their output, their statuses, and what they tell beside it.
+//! Tests of the commands `steps`, `audit` and `explore`: their output, their statuses, and what they tell beside it.
 #![tactic(auto)]
 
 #[cfg(test)]
 mod calls;
+#[cfg(test)]
+mod explored;
 #[cfg(test)]
 mod flags;
 #[cfg(test)]

@@ -19,13 +19,14 @@ impl Read for Broken<'_> {
     }
 }
 
-const LINES: [&str; 6] = [
+const LINES: [&str; 7] = [
     "steps -",
     "steps --explain --strict -",
     "steps --record -",
     "steps --record --explain --strict -",
     "audit -",
     "audit --any-length -",
+    "explore -",
 ];
 
 /// What a reader gave before it fails: nothing, a scenario's first line, a record's.

@@ -28,7 +28,8 @@ pub trait Workplace<J: Job, R: Wait> {
     ghost use Rattle.tp_types.specs.declared.tasks.Promise.{Promise};
     ghost use Rattle.tp_turns.specs.Turns.{Act};
 
-    // it is so before a deed and after it, with the job that the deed hands out or runs
+    // it is so before a deed and after it, with the job that the deed hands out or runs. By this relation the contract of a turn
+    // says which deeds led from its beginning to its end. A pool's worker keeps no list of its deeds, and a stand-in may
     ghost did: { Self → Act J → Self → Type 0 };
 
     // the task that was begun is to end as it promised

@@ -6,6 +6,9 @@ ghost use Rattle.tp_waking.specs.declared.calls.TheConstants.{NOBODY, NO_WAITERS
 use tp_types::ids::SlotId;
 
 /// Who waits for what, apart from workers. Each kind sleeps on a condition of its own.
+//
+// A kind has a mark and no count, which would have to be kept right. The thread that waits sets the mark, and sets it again where
+// it waits on; the thread that wakes clears it. A condition without sleepers is not notified, which would be a system call.
 #[derive(Clone, Copy, Debug, PartialEq, Eq)]
 pub struct Waiters {
     /// Those in `await_termination`.

@@ -1,4 +1,5 @@
--- The order of idling, in the words of the rules.
+-- The order of idling, in the words of the rules. It is made of the words of `tp_record`, and stands here beside its law: all
+-- crates cite `tp_record`, and would be checked again for it.
 use Rattle.std.specs.Prelude.{ℕ, Bool, ◌&&◌, List, [], ◌∷◌, filter, Option, Some, None, is_some}
 use Rattle.tp_record.specs.declared.entries.Entry.{Entry}
 use Rattle.tp_record.specs.declared.entries.Did.{Did}

@@ -60,7 +60,8 @@ pub fn places_agree()
         is_gone h t ≡ is_gone_place (place h t) }
 {}
 
-/// A task that was never submitted is in no place, in all the words; its row says gone.
+/// A task that was never submitted is in no place, in all the words; its row says gone. No step rests
+/// on that row: Step asks for the number first, and answers UnknownTask (6).
 pub fn unsubmitted_is_nowhere()
     ensures queued { (c : Config) (h : List Entry) (t : ℕ) → Legal c h → submitted h ≤ t →
         waits_in_queue h t ≡ false }

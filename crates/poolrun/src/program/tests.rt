@@ -1,6 +1,7 @@
 //! Every way to call the program, over real files in the test's folder.
 
 mod calls;
+mod explores;
 mod flags;
 mod mistakes;
 mod scenarios;

@@ -23,7 +23,7 @@ impl<G: Naming, P, R: Keeper> Book<G, P, R> {
     /// An accepted step writes one entry with the pass's number. That entry is one unit of the pass's share and,
     /// where the pass is a caller's, its last receipt: the caller has reserved a place for it. Where the step
     /// raises the run state, the word publishes that. Accepted or refused, the pass knows the whole history
-    /// then, and what it knew is a front of the history before.
+    /// then, and what it knew is a front of the history before. So a refusal is said of the pass's new front.
     ///
     /// TornRecord (22) where an outcome is not as the ending task promised, else refused as the machine's
     /// call is. Nothing has changed then, and what came with the step comes back.

@@ -1,5 +1,6 @@
 //! What an accepted step is to the cancel flags of tasks, and which tasks may be gone with it for good. Most steps are nothing
-//! to either. A step tells both by its answer alone: what follows from that is done here, once for all steps.
+//! to either. A step tells both by its answer alone: what follows from that is done here, once for all steps. A method that is
+//! given the book would state the layout of all that the book is made of, in each step's `impl`, also where it does nothing.
 
 ghost use Rattle.std.specs.Prelude.{◌≡◌, List, map};
 ghost use Rattle.tp_types.specs.declared.configs.Config.{Config};
