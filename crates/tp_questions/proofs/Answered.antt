@@ -1,6 +1,5 @@
 -- What comes of a question.
-use Rattle.std.proofs.Common.{◌≡◌, ◌≢◌, ◌⊎◌, inl, inr, ℕ, Bool, false, List, [], Option, Some, None, Result, Ok, Err, IfOk, IfSome, IsOkUnless, refl, sym, ◌∙◌, ap, subst}
-use Rattle.std.specs.Io.KnownBytes.{Appends, Keeps}
+use Rattle.std.proofs.Common.{◌≡◌, ◌≢◌, ◌⊎◌, inl, inr, ℕ, Bool, false, List, Option, Result, Ok, Err, IfOk, IfSome, IsOkUnless, refl, sym, ◌∙◌, ap, subst}
 use Rattle.std.proofs.KnownBytes.{Keeps-refl}
 use Rattle.tp_types.specs.declared.configs.Config.{Config}
 use Rattle.tp_types.specs.declared.refusals.PoolError.{PoolError}
@@ -19,7 +18,7 @@ use Rattle.tp_record_text.proofs.LinesRead.{refused_inner}
 use Rattle.tp_telling.specs.declared.forms.Form.{Form}
 use Rattle.tp_questions.specs.declared.accounts.Said.{Said}
 use Rattle.tp_questions.specs.declared.asking.Asking.{Asking}
-use Rattle.tp_questions.specs.Answers.{AnswersFrom, IsAnswer, IsAsked, IsRecordText, IsWritten}
+use Rattle.tp_questions.specs.Answers.{AnswersFrom, IsAnswer, IsAsked, IsWritten}
 use Rattle.tp_questions.specs.Asking.{IsAskedOf, IsToldAll, SaysOfAll}
 
 module _ {A Q : Type 0} (settings : A → Config) (is_asked : Q → A → Type 0) (tells : A → List Entry → Type 0) (says : A → List Entry → Form → List ℕ → Bool → Type 0) where

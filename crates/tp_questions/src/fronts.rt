@@ -21,6 +21,7 @@ fn missing(alloc: Global, front: &Front) -> Result<String, AllocError> {
 }
 
 impl Account for Front {
+    ghost use Rattle.std.specs.Prelude.{◌≡◌};
     ghost use Rattle.tp_auditor.specs.Audited as audited;
     ghost use Rattle.tp_now.specs.Fronts.{Follows};
     ghost use Rattle.tp_questions.specs.Saying.{SaysFront};

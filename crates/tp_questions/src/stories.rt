@@ -32,6 +32,7 @@ fn unknown(alloc: Global, story: &Story) -> Result<String, AllocError> {
 }
 
 impl Account for Story {
+    ghost use Rattle.std.specs.Prelude.{◌≡◌};
     ghost use Rattle.tp_auditor.specs.Audited as audited;
     ghost use Rattle.tp_story.specs.Stories.{Tells};
     ghost use Rattle.tp_questions.specs.Saying.{SaysStory};

@@ -1,4 +1,4 @@
-use Rattle.std.proofs.Common.{◌≡◌, ℕ, List, [], ◌∷◌, ◌++◌, reverse, true, false, Result, Err, sym, ap, subst}
+use Rattle.std.proofs.Common.{◌≡◌, [], ◌∷◌, ◌++◌, reverse, true, false, Result, Err, sym, ap, subst}
 use Rattle.std.specs.Prelude.{is_some}
 use Rattle.tp_audit.specs.declared.summary.Flaw.{Flaw}
 use Rattle.tp_audit.specs.Audit.{IsFirstFlaw}
@@ -12,7 +12,7 @@ refused f = Err f
 pub returns-then-is_some-clause-took : goal.returns-then-is_some-clause-took
 returns-then-is_some-clause-took g c = λ es told.
     let some : is_some c.args.self.now.flaw ≡ true = cc (c.is_some.ensures, c.if-is_some.true) in
-    told_on g.T.Account.settings g.T.Account.tells c.args.self.now.account c.args.self.now.flaw es c.args.entry.now some told
+    told_on g.T.Account.settings g.T.Account.tells g.T.Account.says c.args.self.now.account c.args.self.now.flaw es c.args.entry.now some told
 
 pub returns-in-Err-At-clause-took : goal.returns-in-Err-At-clause-took
 returns-in-Err-At-clause-took g c = λ es told.
