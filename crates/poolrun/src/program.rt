@@ -11,6 +11,7 @@ use std::thread::Threads;
 use tp_choices::choices::{Choice, Unchosen, chosen};
 use tp_commands::audits::run_audit;
 use tp_commands::explores::{Callers, run_explore};
+use tp_commands::questions::run_asked;
 use tp_commands::statuses::finish;
 use tp_commands::steps::run_steps;
 use tp_commands::telling::{name_of, tell};
@@ -52,6 +53,9 @@ fn run_reader<
         Choice::Tally(_) => run_tally(rt, alloc, name, reader, out, errors, style),
         Choice::Explore(_, exploring) => {
             run_explore(alloc, &Callers, exploring, name, reader, out, errors, style)
+        }
+        Choice::Ask(_, question, format) => {
+            run_asked(alloc, *question, *format, name, reader, out, errors, style)
         }
         Choice::Audit(_, has_any_length) => {
             run_audit(alloc, *has_any_length, name, reader, out, errors, style)
@@ -110,6 +114,13 @@ pub fn program<H: Files + Input + Threads + Wait + Copy + Send + 'static, W: Wri
         Ok(choice) => run_choice(rt, alloc, &choice, &mut out, errors, style),
         Err(Unchosen::NoMemory) => finish(&mut out, &Err(PoolError::NoMemory)),
         Err(Unchosen::Usage(error)) => show_usage(&error, &mut out, errors),
+        Err(Unchosen::Unnamed(word)) => {
+            let _ = writeln!(
+                errors,
+                "poolrun: '{word}' names no task, as t4, and no slot, as w0"
+            );
+            2
+        }
     };
     if let Some(reason) = out.failure() {
         tell(errors, "standard output", reason);

@@ -44,6 +44,30 @@ pub struct Exploring {
     pub most: usize,
 }
 
+/// A question about a record.
+#[derive(Clone, Copy, Debug, PartialEq, Eq)]
+pub enum Question {
+    /// The story of the task of this number.
+    Task(u32),
+    /// The story of the slot of this number.
+    Slot(usize),
+    /// What the pool was like after the entry of this number, or after the last.
+    Now(Option<u64>),
+    /// The record in numbers, with so many of the tasks that waited longest.
+    Stats(u64),
+    /// Whether the record is legal as far as it goes.
+    Cut,
+}
+
+/// In what form a question is to be answered.
+#[derive(Clone, Copy, Debug, PartialEq, Eq)]
+pub enum Format {
+    /// In words.
+    Words,
+    /// As JSON.
+    Json,
+}
+
 /// What the program is to do. A path `-` is the standard input.
 #[derive(Debug, PartialEq, Eq, Drop)]
 pub enum Choice {
@@ -57,6 +81,8 @@ pub enum Choice {
     Audit(String, bool),
     /// Explore all interleavings of the callers in the file at this path.
     Explore(String, Exploring),
+    /// Answer a question about the record in the file at this path.
+    Ask(String, Question, Format),
 }
 
 impl Choice {
@@ -65,7 +91,7 @@ impl Choice {
         match self {
             Choice::Steps(path, _) | Choice::Threads(path, _) => path.as_str(),
             Choice::Tally(path) | Choice::Audit(path, _) => path.as_str(),
-            Choice::Explore(path, _) => path.as_str(),
+            Choice::Explore(path, _) | Choice::Ask(path, _, _) => path.as_str(),
         }
     }
 }
@@ -76,6 +102,8 @@ pub enum Unchosen {
     /// The command line is bad, or it asks for help: the parser's text says more. Status 2. A wish for
     /// the version is one too, of the parser's kind `DisplayVersion`, and its status is 0.
     Usage(Error),
+    /// This word names no task, as `t4`, and no slot, as `w0`. Status 2.
+    Unnamed(String),
     /// There was no memory to read it. Status 1, as refusal 4.
     NoMemory,
 }
@@ -102,13 +130,17 @@ const EXAMPLES: &str = "Examples:
   poolrun threads data/four-jobs.txt       runs jobs by threads, and prints the record
   poolrun audit data/shortest-record.txt   judges a record by the model
   poolrun explore data/shutdown-race.txt   tells all that may become of the tasks
+  poolrun why a-record.txt t4              tells the story of a task, or of a slot w0
+  poolrun now a-record.txt --at 28         tells what the pool was like after an entry
+  poolrun stats a-record.txt --top 5       tells the record in numbers
   poolrun steps --record - | poolrun audit -   reads the standard input
 
 Status:
   0  the run went to its end, the record is legal, or all is explored
   1  the run was refused: its refusal is the last line on the standard output;
      or the record has a flaw; or, with --strict, a step was refused;
-     or there are too many states, no end is as --find says, or one as --never
+     or there are too many states, no end is as --find says, or one as --never;
+     or the record has no such task, slot or entry
   2  the command line is bad, or asks for help";
 
 /// A command with one file.
@@ -132,6 +164,23 @@ fn flag<'a>(alloc: Global, name: &'a str, help: &'a str) -> Arg<'a> {
         .action(ArgAction::SetTrue)
         .help(help)
 }
+
+/// The flag for JSON.
+fn json_flag<'a>(alloc: Global) -> Arg<'a> {
+    flag(alloc, "json", "Answers as JSON, an object a line")
+}
+
+/// A flag with a number, from 0 on.
+fn number_flag<'a>(alloc: Global, name: &'a str, help: &'a str) -> Arg<'a> {
+    Arg::new(alloc, name)
+        .long(name)
+        .value_name("N")
+        .value_parser(ValueParser::unsigned(0, u64::MAX))
+        .help(help)
+}
+
+/// What the file of a command is that reads a record.
+const RECORD: &str = "the record's text, - for the standard input";
 
 /// The command `steps`.
 fn steps_command<'a>(alloc: Global) -> Result<Command<'a>, AllocError> {
@@ -191,13 +240,66 @@ fn audit_command<'a>(alloc: Global) -> Result<Command<'a>, AllocError> {
         "any-length",
         "Reads the record line by line, also beyond 1,048,576 bytes",
     );
+    let cut = flag(
+        alloc,
+        "cut",
+        "Tells how far a record is legal that may be cut off, of any length",
+    );
+    let json = json_flag(alloc).requires_arg("cut")?;
     with_file(
         alloc,
         "audit",
         "Tells whether a record is legal, or its first flaw",
-        "the record's text, - for the standard input",
+        RECORD,
     )?
-    .arg(any_length)
+    .arg(any_length)?
+    .arg(cut)?
+    .arg(json)
+}
+
+/// A command that answers a question about a record, of any length, that may be cut off.
+fn question_command<'a>(
+    alloc: Global,
+    name: &'a str,
+    about: &'a str,
+) -> Result<Command<'a>, AllocError> {
+    with_file(alloc, name, about, RECORD)?.arg(json_flag(alloc))
+}
+
+/// The command `why`.
+fn why_command<'a>(alloc: Global) -> Result<Command<'a>, AllocError> {
+    let subject = Arg::new(alloc, "SUBJECT")
+        .required(true)
+        .action(ArgAction::Set)
+        .help("a task as t4, or a worker's slot as w0");
+    question_command(
+        alloc,
+        "why",
+        "Tells the story of a task or of a slot: each entry that tells of it, and what became of it",
+    )?
+    .arg(subject)
+}
+
+/// The command `now`.
+fn now_command<'a>(alloc: Global) -> Result<Command<'a>, AllocError> {
+    let at = number_flag(alloc, "at", "Stands after entry N, and not after the last");
+    question_command(
+        alloc,
+        "now",
+        "Tells what the pool was like: its slots, its queue and what is owed",
+    )?
+    .arg(at)
+}
+
+/// The command `stats`.
+fn stats_command<'a>(alloc: Global) -> Result<Command<'a>, AllocError> {
+    let top = number_flag(alloc, "top", "Names the N tasks that waited longest");
+    question_command(
+        alloc,
+        "stats",
+        "Tells a record in numbers: fates, waits, runs, workers and refusals",
+    )?
+    .arg(top)
 }
 
 /// The flags of `explore` that say what is wished.
@@ -306,7 +408,10 @@ fn program_command<'a>(alloc: Global) -> Result<Command<'a>, AllocError> {
         .subcommand(steps_command(alloc)?)?
         .subcommand(threads_command(alloc)?)?
         .subcommand(audit_command(alloc)?)?
-        .subcommand(explore_command(alloc)?)
+        .subcommand(explore_command(alloc)?)?
+        .subcommand(why_command(alloc)?)?
+        .subcommand(now_command(alloc)?)?
+        .subcommand(stats_command(alloc)?)
 }
 
 /// Copies of the values of a flag; None where it is not there.
@@ -352,7 +457,46 @@ fn wished(alloc: Global, inner: &ArgMatches<'_>) -> Result<Wish, AllocError> {
 /// The most states where the command line says nothing.
 const MOST: usize = 1_000_000;
 
-/// What the words behind a command choose.
+/// The task or the slot that a word names, as `t4` or `w0`.
+fn subject_of(word: &str) -> Option<Question> {
+    if let Some(number) = word.strip_prefix('t') {
+        return number.parse().ok().map(Question::Task);
+    }
+    let number = word.strip_prefix('w')?;
+    number.parse().ok().map(Question::Slot)
+}
+
+/// The question that a command asks, where it asks one.
+fn question_of(
+    alloc: Global,
+    name: &str,
+    inner: &ArgMatches<'_>,
+) -> Result<Option<Question>, Unchosen> {
+    match name {
+        "why" => {
+            let word = inner.get_str("SUBJECT").unwrap_or("");
+            match subject_of(word) {
+                Some(question) => Ok(Some(question)),
+                None => Err(Unchosen::Unnamed(String::from_str(alloc, word)?)),
+            }
+        }
+        "now" => Ok(Some(Question::Now(inner.get_one("at")))),
+        "stats" => Ok(Some(Question::Stats(inner.get_one("top").unwrap_or(0)))),
+        "audit" if inner.get_flag("cut") => Ok(Some(Question::Cut)),
+        _ => Ok(None),
+    }
+}
+
+/// The form of an answer.
+fn format_of(inner: &ArgMatches<'_>) -> Format {
+    if inner.get_flag("json") {
+        Format::Json
+    } else {
+        Format::Words
+    }
+}
+
+/// What the words behind a command choose that asks no question.
 fn chosen_by(alloc: Global, name: &str, inner: &ArgMatches<'_>) -> Result<Choice, AllocError> {
     let path = String::from_str(alloc, inner.get_str("FILE").unwrap_or(""))?;
     match name {
@@ -387,8 +531,14 @@ fn chosen_by(alloc: Global, name: &str, inner: &ArgMatches<'_>) -> Result<Choice
 pub fn chosen(alloc: Global, words: &[String]) -> Result<Choice, Unchosen> {
     let command = program_command(alloc)?;
     let matches = command.try_get_matches_from(words)?;
-    match matches.subcommand() {
-        Some((name, inner)) => Ok(chosen_by(alloc, name, inner)?),
-        None => Err(Unchosen::NoMemory),
+    let Some((name, inner)) = matches.subcommand() else {
+        return Err(Unchosen::NoMemory);
+    };
+    match question_of(alloc, name, inner)? {
+        Some(question) => {
+            let path = String::from_str(alloc, inner.get_str("FILE").unwrap_or(""))?;
+            Ok(Choice::Ask(path, question, format_of(inner)))
+        }
+        None => Ok(chosen_by(alloc, name, inner)?),
     }
 }

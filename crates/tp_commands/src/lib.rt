@@ -1,5 +1,5 @@
-//! The commands `steps`, `audit` and `explore`: what they do with a text, with what status they end, and what they tell beside their
-//! output.
+//! The commands `steps`, `audit` and `explore`, and those that ask a question of a record: what they do with a text, with what status
+//! they end, and what they tell beside their output.
 //!
 //! They stand over any reader and writers, and not on the pool's storeys: a change of those then costs the program a few functions.
 //! `poolrun` adds files, the command line and `threads`, which alone stands on the pool. Tests of the commands stand above them, in
@@ -8,6 +8,7 @@
 
 pub mod audits;
 pub mod explores;
+pub mod questions;
 pub mod statuses;
 pub mod steps;
 pub mod telling;

@@ -6,6 +6,7 @@ use std::test::Fail;
 use tp_choices::choices::{Choice, chosen};
 use tp_commands::audits::run_audit;
 use tp_commands::explores::{Callers, run_explore};
+use tp_commands::questions::run_asked;
 use tp_commands::steps::run_steps;
 use tp_commands::telling::name_of;
 use tp_reasons::messages::Style;
@@ -81,12 +82,15 @@ fn status_of<R: Read + Drop>(
         Choice::Explore(_path, exploring) => {
             run_explore(alloc, &Callers, exploring, name, reader, out, errors, plain)
         }
+        Choice::Ask(_path, question, format) => {
+            run_asked(alloc, *question, *format, name, reader, out, errors, plain)
+        }
         Choice::Threads(_path, _record) => 99,
         Choice::Tally(_path) => 99,
     }
 }
 
-/// Calls `steps`, `audit` or `explore` by this command line, where the file gives what this reader gives. The status is 99 for another
+/// Calls a command but `threads` by this command line, where the file gives what this reader gives. The status is 99 for another
 /// line.
 pub fn call<R: Read + Drop>(alloc: Global, line: &str, reader: R) -> Result<Called, Fail> {
     let mut out = Vec::new(alloc);

@@ -1,6 +1,8 @@
-//! Tests of the commands `steps`, `audit` and `explore`: their output, their statuses, and what they tell beside it.
+//! Tests of the commands `steps`, `audit`, `explore` and those that ask a question: their output, their statuses, and what they tell beside it.
 #![tactic(auto)]
 
+#[cfg(test)]
+mod asked;
 #[cfg(test)]
 mod calls;
 #[cfg(test)]

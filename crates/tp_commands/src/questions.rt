@@ -1,0 +1,113 @@
+//! The commands that ask a question of a record: `why`, `now`, `stats` and `audit --cut`.
+
+ghost use Rattle.std.specs.Prelude.{◌≤◌};
+ghost use Rattle.tp_commands.specs.Questions.{Asks, AsksChosen, form_of};
+ghost use Rattle.tp_commands.specs.Status.{Ends};
+
+use crate::statuses::finish;
+use crate::telling::{finding_in, tell_finding, tell_flaw, tell_unread};
+use std::alloc::Global;
+use std::io::{Read, Write};
+use tp_auditor::auditor::Auditor;
+use tp_choices::choices::{Format, Question};
+use tp_now::fronts::Front;
+use tp_questions::accounts::Account;
+use tp_questions::numbers::Counted;
+use tp_questions::questions::{Notes, answer_question};
+use tp_reasons::messages::Style;
+use tp_reasons::mistakes::Kind;
+use tp_story::stories::Story;
+use tp_story::subjects::Subject;
+use tp_telling::forms::Form;
+use tp_text::watched::{WatchedReader, WatchedWriter};
+use tp_types::ids::{SlotId, TaskId};
+use tp_types::refusals::PoolError;
+
+/// Tells why there is no answer, and where a record is cut off.
+fn tell_notes<E: Write>(errors: &mut E, name: &str, notes: &Notes) {
+    if let Some(complaint) = &notes.complaint {
+        tell_flaw(errors, name, complaint.as_str());
+    }
+    if let Some(entries) = notes.cut_off {
+        let _ = writeln!(
+            errors,
+            "poolrun: {name}: the record ends at entry {entries}, without its last line"
+        );
+    }
+}
+
+/// Asks a question of the record that a reader of this name gives, and gives the status of the program: 0 where what was asked for is
+/// there. What is wrong goes to `errors`.
+fn run_question<R: Read, W: Write, E: Write, T: Account + Drop>(
+    alloc: Global,
+    name: &str,
+    question: &T::Question,
+    form: Form,
+    reader: &mut WatchedReader<R>,
+    out: &mut WatchedWriter<W>,
+    errors: &mut E,
+    style: Style,
+) -> u8
+    ensures few { result ≤ 1 }
+    ensures asks { Ends W.contents (Asks R.remaining W.contents T.settings T.is_asked T.tells T.says question.now form reader.old reader.new out.old) result out.new }
+{
+    let mut notes = Notes::none();
+    let outcome = answer_question::<R, W, T>(alloc, question, form, reader, out, &mut notes);
+    if let Err(PoolError::ReadFailed) = outcome {
+        tell_unread(errors, Kind::Record, name, reader);
+    }
+    let status = finish(out, &outcome);
+    if let Err(refusal) = outcome {
+        let finding = finding_in(alloc, &notes.refused, refusal);
+        tell_finding(alloc, errors, name, finding, style);
+    }
+    tell_notes(errors, name, &notes);
+    status
+}
+
+/// The form that is called for.
+fn form_of(format: Format) -> Form
+    ensures { result ≡ form_of format }
+{
+    match format {
+        Format::Words => Form::Words,
+        Format::Json => Form::Json,
+    }
+}
+
+/// Answers a question about the record that a reader of this name gives, as `poolrun why`, `now`, `stats` and `audit --cut`, and gives
+/// the status of the program: 0 where what was asked for is there. Why it is not, and where the record is cut off, goes to `errors`.
+pub fn run_asked<R: Read, W: Write, E: Write>(
+    alloc: Global,
+    question: Question,
+    format: Format,
+    name: &str,
+    reader: &mut WatchedReader<R>,
+    out: &mut WatchedWriter<W>,
+    errors: &mut E,
+    style: Style,
+) -> u8
+    ensures few { result ≤ 1 }
+    ensures asks { Ends W.contents (AsksChosen R.remaining W.contents question (form_of format) reader.old reader.new out.old) result out.new }
+{
+    let form = form_of(format);
+    match question {
+        Question::Task(t) => {
+            let subject = Subject::Task(TaskId(t));
+            run_question::<R, W, E, Story>(alloc, name, &subject, form, reader, out, errors, style)
+        }
+        Question::Slot(w) => {
+            let subject = Subject::Slot(SlotId(w));
+            run_question::<R, W, E, Story>(alloc, name, &subject, form, reader, out, errors, style)
+        }
+        Question::Now(until) => {
+            run_question::<R, W, E, Front>(alloc, name, &until, form, reader, out, errors, style)
+        }
+        Question::Stats(top) => {
+            run_question::<R, W, E, Counted>(alloc, name, &top, form, reader, out, errors, style)
+        }
+        Question::Cut => {
+            run_question::<R, W, E, Auditor>(alloc, name, &(), form, reader, out, errors, style)
+        }
+    }
+}
