@@ -7,12 +7,13 @@ use Rattle.tp_auditor.specs.Audited.{Judged, settings}
 use Rattle.tp_text.specs.declared.watched.WatchedReader.{WatchedReader}
 use Rattle.tp_text.specs.declared.watched.WatchedWriter.{WatchedWriter}
 use Rattle.tp_text.specs.Watching.{TellsReader, TellsWriter, sink, source}
-use Rattle.tp_story.specs.Stories.{Tells}
+use Rattle.tp_story.specs.Stories.{Telling, Tells}
 use Rattle.tp_story.specs.declared.subjects.Subject.TheVariants as subject
-use Rattle.tp_now.specs.Fronts.{Follows}
+use Rattle.tp_now.specs.Fronts.{Followed, Follows}
 use Rattle.tp_stats.specs.Counted.{Counts}
 use Rattle.tp_telling.specs.declared.forms.Form.{Form}
 use Rattle.tp_telling.specs.declared.forms.Form.TheVariants as form
+use Rattle.tp_questions.specs.declared.numbers.Counted.{Counted}
 use Rattle.tp_questions.specs.Answers.{IsAsked}
 use Rattle.tp_questions.specs.Saying.{SaysCut, SaysFront, SaysStory}
 use Rattle.tp_choices.specs.declared.choices.Format.{Format}
@@ -34,8 +35,8 @@ module _ {R W : Type 0} (remaining : R → Option (List ℕ)) (contents : W → 
 
   -- the question that the command line chose
   abbrev pub AsksChosen : Question → Form → WatchedReader R → WatchedReader R → WatchedWriter W → Result Bool PoolError → WatchedWriter W → Type 0
-  AsksChosen (question.Task t) = Asks (λ s. settings s.judge) (λ q s. s.subject ≡ q) Tells SaysStory (subject.Task (record { 0 = t }))
-  AsksChosen (question.Slot w) = Asks (λ s. settings s.judge) (λ q s. s.subject ≡ q) Tells SaysStory (subject.Slot (record { 0 = w }))
-  AsksChosen (question.Now until) = Asks (λ f. settings f.judge) (λ q f. f.until ≡ q) Follows SaysFront until
-  AsksChosen (question.Stats top) = Asks (λ c. settings c.stats.judge) (λ q c. c.top ≡ q) (λ c. Counts c.stats) (λ c h form out holds. holds ≡ true) top
-  AsksChosen question.Cut = Asks settings (λ q a. Unit {0}) Judged SaysCut tt
+  AsksChosen (question.Task t) = Asks (λ (s : Telling). settings s.judge) (λ q s. s.subject ≡ q) Tells SaysStory (subject.Task (record { 0 = t }))
+  AsksChosen (question.Slot w) = Asks (λ (s : Telling). settings s.judge) (λ q s. s.subject ≡ q) Tells SaysStory (subject.Slot (record { 0 = w }))
+  AsksChosen (question.Now until) = Asks (λ (f : Followed). settings f.judge) (λ q f. f.until ≡ q) Follows SaysFront until
+  AsksChosen (question.Stats top) = Asks (λ (c : Counted). settings c.stats.judge) (λ q c. c.top ≡ q) (λ c. Counts c.stats) (λ c h form out holds. holds ≡ true) top
+  AsksChosen question.Cut = Asks settings (λ q a. Unit {0}) Judged SaysCut (tt {0})

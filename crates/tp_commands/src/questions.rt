@@ -1,6 +1,6 @@
 //! The commands that ask a question of a record: `why`, `now`, `stats` and `audit --cut`.
 
-ghost use Rattle.std.specs.Prelude.{◌≤◌};
+ghost use Rattle.std.specs.Prelude.{◌≡◌, ◌≤◌};
 ghost use Rattle.tp_commands.specs.Questions.{Asks, AsksChosen, form_of};
 ghost use Rattle.tp_commands.specs.Status.{Ends};
 

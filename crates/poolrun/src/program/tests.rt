@@ -4,6 +4,7 @@ mod calls;
 mod explores;
 mod flags;
 mod mistakes;
+mod questions;
 mod scenarios;
 mod threads;
 

@@ -1,0 +1,16 @@
+-- The question that was chosen.
+use Rattle.std.proofs.Common.{◌≡◌, ℕ, List, Option, sym, subst}
+use Rattle.tp_text.specs.declared.watched.WatchedReader.{WatchedReader}
+use Rattle.tp_text.specs.declared.watched.WatchedWriter.{WatchedWriter}
+use Rattle.tp_telling.specs.declared.forms.Form.{Form}
+use Rattle.tp_choices.specs.declared.choices.Question.{Question}
+use Rattle.tp_commands.specs.Questions.{AsksChosen}
+use Rattle.tp_commands.specs.Status.{Ends}
+
+module _ {R W : Type 0} (remaining : R → Option (List ℕ)) (contents : W → Option (List ℕ)) (before after : WatchedReader R) (old new : WatchedWriter W) (status : ℕ) where
+  abbrev pub Asked : Question → Form → Type 0
+  Asked q f = Ends contents (AsksChosen remaining contents q f before after old) status new
+
+  -- what holds of a question and a form holds of those that are the same
+  pub chosen : (q p : Question) (f g : Form) → q ≡ p → g ≡ f → Asked p g → Asked q f
+  chosen q p f g same shown asked = subst (λ x. Asked x f) (sym same) (subst (Asked p) shown asked)
