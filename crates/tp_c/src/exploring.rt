@@ -15,8 +15,8 @@ use tp_types::limits::MAX_TEXT_BYTES;
 use tp_types::refusals::PoolError;
 use tp_walk::systems::Unwatched;
 
-/// The lines of all ends to which the interleavings of a text's callers lead; none where more than `most` states are reached. ReadFailed (25)
-/// for a text that is too long, else as `read_plan` and `explore_named`.
+/// The lines of all ends to which the interleavings of a text's callers lead; none where more than `most` states are reached. ReadFailed
+/// (25) for a text that is too long, else as `read_plan` and `explore_named`.
 fn lines_of(alloc: Global, text: &[u8], most: usize) -> Result<Option<String>, PoolError> {
     if MAX_TEXT_BYTES < text.len() {
         return Err(PoolError::ReadFailed);
@@ -28,9 +28,9 @@ fn lines_of(alloc: Global, text: &[u8], most: usize) -> Result<Option<String>, P
     }
 }
 
-/// Explores all interleavings of the callers that a text says, and lays the lines of their ends into the room. The answer is 0, TooMany (37)
-/// where more than `most` states are reached, the number of the refusal, or TooSmall (33), where nothing was laid; `needed` is the length of
-/// what was to be laid.
+/// Explores all interleavings of the callers that a text says, and lays the lines of their ends into the room. The answer is 0, TooMany
+/// (37) where more than `most` states are reached, the number of the refusal, or TooSmall (33), where nothing was laid; `needed` is the
+/// length of what was to be laid.
 #[unsafe(no_mangle)]
 pub extern "C" fn zk_core_explore(
     alloc: Global,

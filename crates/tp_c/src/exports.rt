@@ -1,5 +1,5 @@
-//! The calls on a machine, as C makes them. A caller gives the memory for it: `zk_core_size` bytes, aligned as `malloc` aligns. The pointer is
-//! one at which `zk_core_init` was called.
+//! The calls on a machine, as C makes them. A caller gives the memory for it: `zk_core_size` bytes, aligned as `malloc` aligns. The pointer
+//! is one at which `zk_core_init` was called.
 ghost use Rattle.std.specs.Prelude.{◌≡◌, None};
 ghost use Rattle.std.specs.Borrow.{sem};
 ghost use Rattle.std.specs.Ptr.{points_to, room_at};

@@ -86,8 +86,8 @@ fn lines_of(
     }
 }
 
-/// Tells what the pool was like after the entry of this number, or after the last for THE_END, of the record that a text is the text of, and
-/// lays that into the room. The answer is 0, Flaw (32), the number of the refusal, which is NotThere (8) where the record has no such
+/// Tells what the pool was like after the entry of this number, or after the last for THE_END, of the record that a text is the text of,
+/// and lays that into the room. The answer is 0, Flaw (32), the number of the refusal, which is NotThere (8) where the record has no such
 /// entry, or TooSmall (33), where nothing was laid; `needed` is the length of what was to be laid.
 #[unsafe(no_mangle)]
 pub extern "C" fn zk_core_now(

@@ -16,8 +16,8 @@ pub enum Status {
     Flaw,
     /// 33: the room for the answer is too small.
     TooSmall,
-    /// 34: there is no such recorder; a record was asked of a machine that keeps none, or the other way round; no machine is there, or one is
-    /// where none is to be.
+    /// 34: there is no such recorder; a record was asked of a machine that keeps none, or the other way round; no machine is there, or one
+    /// is where none is to be.
     WrongKind,
     /// 35: the numbers are those of no ask.
     WrongAsk,
