@@ -18,15 +18,15 @@ use tp_types::refusals::PoolError;
 use tp_types::states::{Counts, RunState};
 use tp_types::tasks::{Fate, Kind};
 
-const T0: TaskId = TaskId(0);
+const TASK_0: TaskId = TaskId(0);
 
-const T1: TaskId = TaskId(1);
+const TASK_1: TaskId = TaskId(1);
 
-const T2: TaskId = TaskId(2);
+const TASK_2: TaskId = TaskId(2);
 
-const W0: SlotId = SlotId(0);
+const SLOT_0: SlotId = SlotId(0);
 
-const W1: SlotId = SlotId(1);
+const SLOT_1: SlotId = SlotId(1);
 
 // The ask of an entry is not written.
 fn entry(by: u32, did: Did) -> Entry {
@@ -39,102 +39,120 @@ fn entry(by: u32, did: Did) -> Entry {
 
 static SUBMISSIONS_AND_LOOKS: [(Did, &str); 10] = [
     (
-        Did::Submit(T0, Kind::Plain, 0, Looked::Reserve(W0)),
+        Did::Submit(TASK_0, Kind::Plain, 0, Looked::Reserve(SLOT_0)),
         "1 submit t0 plain reserve w0\n",
     ),
     (
-        Did::Submit(T1, Kind::Future, 0, Looked::Queue),
+        Did::Submit(TASK_1, Kind::Future, 0, Looked::Queue),
         "2 submit t1 future queue\n",
     ),
     (
-        Did::Submit(T0, Kind::Group(3), 0, Looked::Reserve(W0)),
+        Did::Submit(TASK_0, Kind::Group(3), 0, Looked::Reserve(SLOT_0)),
         "1 submit t0 group 3 reserve w0\n",
     ),
     (
-        Did::Submit(T2, Kind::Plain, 0, Looked::Refuse),
+        Did::Submit(TASK_2, Kind::Plain, 0, Looked::Refuse),
         "10 submit t2 plain refuse\n",
     ),
     (
-        Did::Submit(T1, Kind::Plain, 5, Looked::Queue),
+        Did::Submit(TASK_1, Kind::Plain, 5, Looked::Queue),
         "2 submit t1 plain prio 5 queue\n",
     ),
     (
-        Did::Submit(T2, Kind::Group(3), 1, Looked::Reserve(W1)),
+        Did::Submit(TASK_2, Kind::Group(3), 1, Looked::Reserve(SLOT_1)),
         "3 submit t2 group 3 prio 1 reserve w1\n",
     ),
     (
-        Did::Submit(T0, Kind::Future, u32::MAX, Looked::Refuse),
+        Did::Submit(TASK_0, Kind::Future, u32::MAX, Looked::Refuse),
         "4 submit t0 future prio 4294967295 refuse\n",
     ),
-    (Did::Look(T2, Looked::Queue), "9 look t2 queue\n"),
-    (Did::Look(T2, Looked::Reserve(W1)), "9 look t2 reserve w1\n"),
-    (Did::Look(T2, Looked::Refuse), "9 look t2 refuse\n"),
+    (Did::Look(TASK_2, Looked::Queue), "9 look t2 queue\n"),
+    (
+        Did::Look(TASK_2, Looked::Reserve(SLOT_1)),
+        "9 look t2 reserve w1\n",
+    ),
+    (Did::Look(TASK_2, Looked::Refuse), "9 look t2 refuse\n"),
 ];
 
 static OFFERS_AND_GROWTH: [(Did, &str); 8] = [
-    (Did::Offer(T1, Offered::Queued), "3 offer t1 queued\n"),
-    (Did::Offer(T1, Offered::Hand(W0)), "10 offer t1 hand w0\n"),
-    (Did::Offer(T2, Offered::Full), "6 offer t2 full\n"),
-    (Did::Second(T1, Seconded::Stay), "4 second t1 stay\n"),
+    (Did::Offer(TASK_1, Offered::Queued), "3 offer t1 queued\n"),
     (
-        Did::Second(T0, Seconded::StayReserve(W0)),
+        Did::Offer(TASK_1, Offered::Hand(SLOT_0)),
+        "10 offer t1 hand w0\n",
+    ),
+    (Did::Offer(TASK_2, Offered::Full), "6 offer t2 full\n"),
+    (Did::Second(TASK_1, Seconded::Stay), "4 second t1 stay\n"),
+    (
+        Did::Second(TASK_0, Seconded::StayReserve(SLOT_0)),
         "3 second t0 stay reserve w0\n",
     ),
-    (Did::Second(T1, Seconded::Back), "5 second t1 back\n"),
-    (Did::Grow(T2, Grown::Reserve(W1)), "7 grow t2 reserve w1\n"),
-    (Did::Grow(T2, Grown::Refuse), "7 grow t2 refuse\n"),
+    (Did::Second(TASK_1, Seconded::Back), "5 second t1 back\n"),
+    (
+        Did::Grow(TASK_2, Grown::Reserve(SLOT_1)),
+        "7 grow t2 reserve w1\n",
+    ),
+    (Did::Grow(TASK_2, Grown::Refuse), "7 grow t2 refuse\n"),
 ];
 
 static VERDICTS: [(Did, &str); 8] = [
     (
-        Did::Verdict(T1, Verdict::Abort, Ruled::Rejected),
+        Did::Verdict(TASK_1, Verdict::Abort, Ruled::Rejected),
         "6 verdict t1 abort rejected\n",
     ),
     (
-        Did::Verdict(T1, Verdict::CallerRuns, Ruled::Caller),
+        Did::Verdict(TASK_1, Verdict::CallerRuns, Ruled::Caller),
         "7 verdict t1 callerruns caller\n",
     ),
     (
-        Did::Verdict(T1, Verdict::CallerRuns, Ruled::Skip),
+        Did::Verdict(TASK_1, Verdict::CallerRuns, Ruled::Skip),
         "8 verdict t1 callerruns skip\n",
     ),
     (
-        Did::Verdict(T1, Verdict::Discard, Ruled::Discarded),
+        Did::Verdict(TASK_1, Verdict::Discard, Ruled::Discarded),
         "7 verdict t1 discard discarded\n",
     ),
     (
-        Did::Verdict(T1, Verdict::DiscardOldest, Ruled::Retry),
+        Did::Verdict(TASK_1, Verdict::DiscardOldest, Ruled::Retry),
         "7 verdict t1 discardoldest retry\n",
     ),
     (
-        Did::Verdict(T2, Verdict::DiscardOldest, Ruled::RetryDrop(T1)),
+        Did::Verdict(TASK_2, Verdict::DiscardOldest, Ruled::RetryDrop(TASK_1)),
         "8 verdict t2 discardoldest retry drop t1\n",
     ),
-    (Did::CallerEnd(T1, Ok(2)), "8 callerend t1 value 2\n"),
-    (Did::CallerEnd(T1, Err(7)), "8 callerend t1 fault 7\n"),
+    (Did::CallerEnd(TASK_1, Ok(2)), "8 callerend t1 value 2\n"),
+    (Did::CallerEnd(TASK_1, Err(7)), "8 callerend t1 fault 7\n"),
 ];
 
 static SLOTS: [(Did, &str); 17] = [
-    (Did::Open(W0, Opened::Live), "2 open w0 live\n"),
-    (Did::Open(W0, Opened::GivenUp), "8 open w0 givenup\n"),
+    (Did::Open(SLOT_0, Opened::Live), "2 open w0 live\n"),
+    (Did::Open(SLOT_0, Opened::GivenUp), "8 open w0 givenup\n"),
     (
-        Did::Open(W0, Opened::GivenUpRefuse(T0)),
+        Did::Open(SLOT_0, Opened::GivenUpRefuse(TASK_0)),
         "3 open w0 givenup t0 refuse\n",
     ),
-    (Did::Fail(W0, Failed::Nothing), "5 fail w0 none\n"),
-    (Did::Fail(W0, Failed::Offer(T0)), "2 fail w0 t0 offer\n"),
-    (Did::Fail(W0, Failed::Refuse(T0)), "8 fail w0 t0 refuse\n"),
-    (Did::Take(W0, Took::Held(T0)), "3 take w0 held t0\n"),
-    (Did::Take(W0, Took::Head(T1)), "9 take w0 head t1\n"),
-    (Did::Take(W0, Took::Leave), "9 take w0 leave\n"),
-    (Did::Take(W0, Took::Idle), "8 take w0 idle\n"),
-    (Did::Begin(W0, Started::Run(T0)), "4 begin w0 t0\n"),
-    (Did::Begin(W0, Started::Skip(T1)), "12 begin w0 skip t1\n"),
-    (Did::End(W0, T0, Ok(5)), "5 end w0 t0 value 5\n"),
-    (Did::End(W0, T0, Ok(-5)), "5 end w0 t0 value -5\n"),
-    (Did::End(W0, T0, Err(7)), "5 end w0 t0 fault 7\n"),
-    (Did::Leave(W0, None), "6 leave w0\n"),
-    (Did::Leave(W0, Some(W0)), "6 leave w0 reserve w0\n"),
+    (Did::Fail(SLOT_0, Failed::Nothing), "5 fail w0 none\n"),
+    (
+        Did::Fail(SLOT_0, Failed::Offer(TASK_0)),
+        "2 fail w0 t0 offer\n",
+    ),
+    (
+        Did::Fail(SLOT_0, Failed::Refuse(TASK_0)),
+        "8 fail w0 t0 refuse\n",
+    ),
+    (Did::Take(SLOT_0, Took::Held(TASK_0)), "3 take w0 held t0\n"),
+    (Did::Take(SLOT_0, Took::Head(TASK_1)), "9 take w0 head t1\n"),
+    (Did::Take(SLOT_0, Took::Leave), "9 take w0 leave\n"),
+    (Did::Take(SLOT_0, Took::Idle), "8 take w0 idle\n"),
+    (Did::Begin(SLOT_0, Started::Run(TASK_0)), "4 begin w0 t0\n"),
+    (
+        Did::Begin(SLOT_0, Started::Skip(TASK_1)),
+        "12 begin w0 skip t1\n",
+    ),
+    (Did::End(SLOT_0, TASK_0, Ok(5)), "5 end w0 t0 value 5\n"),
+    (Did::End(SLOT_0, TASK_0, Ok(-5)), "5 end w0 t0 value -5\n"),
+    (Did::End(SLOT_0, TASK_0, Err(7)), "5 end w0 t0 fault 7\n"),
+    (Did::Leave(SLOT_0, None), "6 leave w0\n"),
+    (Did::Leave(SLOT_0, Some(SLOT_0)), "6 leave w0 reserve w0\n"),
 ];
 
 static POOLS: [(Did, &str); 20] = [
@@ -142,21 +160,21 @@ static POOLS: [(Did, &str); 20] = [
     (Did::Stop(0), "7 stop drained 0\n"),
     (Did::Tidy, "12 tidy\n"),
     (Did::Ended, "13 ended\n"),
-    (Did::Remove(T1, true), "13 remove t1 yes\n"),
-    (Did::Remove(T1, false), "14 remove t1 no\n"),
+    (Did::Remove(TASK_1, true), "13 remove t1 yes\n"),
+    (Did::Remove(TASK_1, false), "14 remove t1 no\n"),
     (Did::Purge(1), "11 purge 1\n"),
-    (Did::Cancel(T1, false, true), "5 cancel t1 yes\n"),
-    (Did::Cancel(T1, false, false), "6 cancel t1 no\n"),
-    (Did::Cancel(T2, true, true), "21 cancel t2 flag yes\n"),
-    (Did::Cancel(T2, true, false), "22 cancel t2 flag no\n"),
-    (Did::TakeDone(3, T1), "10 takedone 3 t1\n"),
+    (Did::Cancel(TASK_1, false, true), "5 cancel t1 yes\n"),
+    (Did::Cancel(TASK_1, false, false), "6 cancel t1 no\n"),
+    (Did::Cancel(TASK_2, true, true), "21 cancel t2 flag yes\n"),
+    (Did::Cancel(TASK_2, true, false), "22 cancel t2 flag no\n"),
+    (Did::TakeDone(3, TASK_1), "10 takedone 3 t1\n"),
     (Did::Core(3, 2), "7 core 3 add 2\n"),
     (Did::Maximum(1), "23 max 1\n"),
     (Did::Keep(7), "11 keep 7\n"),
     (Did::CoreTimeout(true), "12 coretimeout on\n"),
     (Did::CoreTimeout(false), "12 coretimeout off\n"),
     (Did::Tick(5), "8 tick 5\n"),
-    (Did::Prestart(Some(W0)), "1 prestart reserve w0\n"),
+    (Did::Prestart(Some(SLOT_0)), "1 prestart reserve w0\n"),
     (Did::Prestart(None), "10 prestart none\n"),
 ];
 
@@ -169,11 +187,11 @@ static REFUSALS: [(PoolError, &str); 5] = [
 ];
 
 static FATES: [(TaskId, Option<Fate>, &str); 5] = [
-    (T0, Some(Fate::Run), "t0 run\n"),
-    (T1, Some(Fate::RunByCaller), "t1 caller\n"),
-    (T2, Some(Fate::Cancelled), "t2 cancelled\n"),
+    (TASK_0, Some(Fate::Run), "t0 run\n"),
+    (TASK_1, Some(Fate::RunByCaller), "t1 caller\n"),
+    (TASK_2, Some(Fate::Cancelled), "t2 cancelled\n"),
     (TaskId(3), Some(Fate::HandedBack), "t3 handedback\n"),
-    (T1, None, "t1 open\n"),
+    (TASK_1, None, "t1 open\n"),
 ];
 
 const COUNTS: Counts = Counts {
@@ -271,12 +289,12 @@ fn refusals_and_fates(rt: HostRuntime) {
 static LINES: [(&[Said], &str); 3] = [
     (
         &[
-            Said::Entry(2, 0, Did::Open(W0, Opened::Live)),
-            Said::Entry(3, 1, Did::Take(W0, Took::Held(T0))),
+            Said::Entry(2, 0, Did::Open(SLOT_0, Opened::Live)),
+            Said::Entry(3, 1, Did::Take(SLOT_0, Took::Held(TASK_0))),
         ],
         "2 open w0 live\n3 p1 take w0 held t0\n",
     ),
-    (&[Said::Back(&[T2, T0])], "back t2 t0\n"),
+    (&[Said::Back(&[TASK_2, TASK_0])], "back t2 t0\n"),
     (
         &[Said::State(RunState::Terminated), Said::Counts(COUNTS)],
         "state terminated\ncounts submitted=1 run=2 caller=3 rejected=4 discarded=5 handedback=6 removed=7 cancelled=8 completed=9 queued=10 live=11 largest=12\n",
@@ -293,9 +311,9 @@ fn lines_one_behind_another(rt: HostRuntime) {
 /// A pool's output: a stop of no task and one of a task, a refusal, a fate, the state and the counts.
 fn fill(output: &mut Output) -> Result<(), PoolError> {
     output.entry(7, &entry(0, Did::Stop(0)), &[])?;
-    output.entry(11, &entry(0, Did::Stop(1)), &[T2])?;
+    output.entry(11, &entry(0, Did::Stop(1)), &[TASK_2])?;
     output.refusal(PoolError::NotThere)?;
-    output.fate(T1, Some(Fate::Run))?;
+    output.fate(TASK_1, Some(Fate::Run))?;
     output.state(RunState::Running)?;
     output.counts(&Counts::default())
 }
