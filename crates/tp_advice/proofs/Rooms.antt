@@ -17,13 +17,13 @@ use Rattle.tp_record.specs.Effects.{is_submit, reserves}
 use Rattle.tp_record.specs.Fields.{submitted}
 use Rattle.tp_record.specs.State.{State, state, next, due}
 use Rattle.tp_record.specs.Step.{IsFreeTo, Legal, fitting, is_free_for, leaves_room, look, within_room}
-use Rattle.tp_room.proofs.OwedLaws.{entries_lower}
-use Rattle.tp_model.proofs.Functions.{free_asked, own_asked}
-use Rattle.tp_model.proofs.Given.{Given}
-use Rattle.tp_model.proofs.NextState.{next_is_state}
-use Rattle.tp_model.proofs.Readings.{tasks_counted}
-use Rattle.tp_model.proofs.Told.{given_answer, given_legal, sound_legal}
-use Rattle.tp_shapes.proofs.Submitters.Submit.{submit_queue, submit_refuse, submit_reserve}
+use Rattle.tp_laws.proofs.OwedLaws.{entries_lower}
+use Rattle.tp_laws.proofs.Model.Functions.{free_asked, own_asked}
+use Rattle.tp_laws.proofs.Model.Given.{Given}
+use Rattle.tp_laws.proofs.Model.NextState.{next_is_state}
+use Rattle.tp_laws.proofs.Model.Readings.{tasks_counted}
+use Rattle.tp_laws.proofs.Model.Told.{given_answer, given_legal, sound_legal}
+use Rattle.tp_laws.proofs.Effects.Submitters.Submit.{submit_queue, submit_refuse, submit_reserve}
 use Rattle.tp_advice.specs.Sizes.{IsOfJobs, JobsHaveRoom}
 
 -- what is owed rises by twelve at most where a job is submitted

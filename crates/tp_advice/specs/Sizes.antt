@@ -9,7 +9,7 @@ use Rattle.tp_record.specs.Effects.{is_submit}
 use Rattle.tp_record.specs.Fields.{rank, submitted}
 use Rattle.tp_record.specs.State.{state}
 use Rattle.tp_record.specs.Step.{IsFreeTo, Legal, step}
-use Rattle.tp_room.specs.Room.{lowers}
+use Rattle.tp_laws.specs.Room.{lowers}
 
 -- each entry is a submission, or does what is owed: nobody cancels, tells a moment, changes a size or tries a task again
 abbrev pub IsOfJobs : List Entry → Type 0

@@ -5,7 +5,7 @@ use Rattle.std.specs.Prelude.{◌==◌, filter}
 use Rattle.std.proofs.lemmas.Bool.{cases_eq, eq-eqb, ne_eqb}
 use Rattle.std.proofs.lemmas.List.{ext_get_or, get_or-set_same, get_or-set_other, length-set}
 use Rattle.tp_record.specs.Lists.{is_it, without, change_each, is_among}
-use Rattle.tp_model.proofs.ListLaws.{length-change_each, filter-filter}
+use Rattle.tp_laws.proofs.Model.ListLaws.{length-change_each, filter-filter}
 use Rattle.tp_auditor.specs.Changed.{change_at, leave_out}
 
 module _ {A : Type 0} (g : ℕ → A → A) (d : A) where

@@ -10,10 +10,10 @@ use Rattle.tp_record.specs.declared.entries.Did.TheVariants as did
 use Rattle.tp_record.specs.Effects.{is_group}
 use Rattle.tp_record.specs.State.{state, next, task_at}
 use Rattle.tp_record.specs.Step.{Legal, done_of, is_of_group}
-use Rattle.tp_model.proofs.Given.{Given}
-use Rattle.tp_shapes.proofs.Done.{done_same, done_more, done_submit, done_taken}
-use Rattle.tp_shapes.proofs.Invariants.{is_gone}
-use Rattle.tp_shapes.proofs.Facts.{undone, unclosed}
+use Rattle.tp_laws.proofs.Model.Given.{Given}
+use Rattle.tp_laws.proofs.Effects.Done.{done_same, done_more, done_submit, done_taken}
+use Rattle.tp_laws.proofs.Effects.Invariants.{is_gone}
+use Rattle.tp_laws.proofs.Effects.Facts.{undone, unclosed}
 use Rattle.tp_auditor.specs.Tables.{group_of, grouped, completion, with_completion, handed_out}
 
 -- a task of kind k is completed, if b

@@ -14,10 +14,10 @@ use Rattle.tp_record.specs.Lists.{said_of, is_it, without, join_line, change_eac
 use Rattle.tp_record.specs.Effects.{queues, idles, cancels, tries, reserves, frees, one_said}
 use Rattle.tp_record.specs.Fields.{is_queued_place, is_idle_row, is_live, swept, counted}
 use Rattle.tp_record.specs.State.{State, next, row_at, slot_at, no_row, no_seat, row_after, seat_after, seat_by, slot_after, slots_after, stays_queued, stays_idle}
-use Rattle.tp_model.proofs.Queues.{among-append, Contains-from_among}
-use Rattle.tp_model.proofs.Arranged.{filter-swap}
-use Rattle.tp_model.proofs.NextState.{idle_left}
-use Rattle.tp_shapes.proofs.Names.{is_wide, names, drops, seats, replaces, other_row, other_slot, place_unsaid, not_swept}
+use Rattle.tp_laws.proofs.Model.Queues.{among-append, Contains-from_among}
+use Rattle.tp_laws.proofs.Model.Arranged.{filter-swap}
+use Rattle.tp_laws.proofs.Model.NextState.{idle_left}
+use Rattle.tp_laws.proofs.Effects.Names.{is_wide, names, drops, seats, replaces, other_row, other_slot, place_unsaid, not_swept}
 use Rattle.tp_auditor.specs.Changed.{change_at, leave_out}
 use Rattle.tp_auditor.specs.Named.{unless, turns, if_awake, wakes, take_out}
 use Rattle.tp_auditor.specs.Tables.{undone, grown, settled, Suits}

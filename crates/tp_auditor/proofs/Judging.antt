@@ -16,9 +16,9 @@ use Rattle.tp_record.specs.Effects.{reserves, completes}
 use Rattle.tp_record.specs.Fields.{is_live, rank, task_rows, slot_rows, live, largest}
 use Rattle.tp_record.specs.State.{State, state, next, due, task_at, counts, fate_of}
 use Rattle.tp_record.specs.Step.{Answer, Legal, Gives, fitting, step, within_room, leaves_room, is_free_for, done_of}
-use Rattle.tp_model.proofs.Weak.{within}
-use Rattle.tp_model.proofs.NextState.{next_is_state}
-use Rattle.tp_model.proofs.Told.{sound_legal, given_answer, given_legal}
+use Rattle.tp_laws.proofs.Model.Weak.{within}
+use Rattle.tp_laws.proofs.Model.NextState.{next_is_state}
+use Rattle.tp_laws.proofs.Model.Told.{sound_legal, given_answer, given_legal}
 use Rattle.tp_plain.specs.Snapshot.{IsAnswer, IsFirstDone}
 use Rattle.tp_plain.proofs.Numbers.{taken_at}
 use Rattle.tp_plain.proofs.Sizes.{length-task_rows}

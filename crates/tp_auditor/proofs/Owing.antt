@@ -16,21 +16,21 @@ use Rattle.tp_record.specs.declared.rows.Stage.TheVariants as stages
 use Rattle.tp_record.specs.Fields.{rank, is_slot, task_in, slot_row, stage}
 use Rattle.tp_record.specs.State.{State, state, next, due, slot_at, row_after, slot_after, slot_weight, is_core_slot}
 use Rattle.tp_record.specs.Step.{Legal}
-use Rattle.tp_model.proofs.Readings.{slot_read}
-use Rattle.tp_model.proofs.NextState.{slot_row-more}
-use Rattle.tp_model.proofs.Given.{Given}
-use Rattle.tp_model.specs.Seats.{number_of}
-use Rattle.tp_model.proofs.Told.{sound_legal}
-use Rattle.tp_model.proofs.Totals.{at_named}
-use Rattle.tp_model.proofs.Weights.{weight_of, is_core, task_due, slot_due}
-use Rattle.tp_shapes.proofs.Names.{is_wide, names, beside, seats, replaces, rank_still}
-use Rattle.tp_shapes.proofs.Next.{entry, fits_given, row_sound}
-use Rattle.tp_shapes.proofs.Sums.{named_due, due_next}
-use Rattle.tp_shapes.proofs.Controllers.Shutdown as wakes
-use Rattle.tp_shapes.proofs.Controllers.Shutdown.{shutdown}
-use Rattle.tp_shapes.proofs.Controllers.Stop.{stop}
-use Rattle.tp_shapes.proofs.Controllers.Purge.{purge}
-use Rattle.tp_shapes.proofs.Controllers.Tidy.{tidy, ended}
+use Rattle.tp_laws.proofs.Model.Readings.{slot_read}
+use Rattle.tp_laws.proofs.Model.NextState.{slot_row-more}
+use Rattle.tp_laws.proofs.Model.Given.{Given}
+use Rattle.tp_laws.specs.Seats.{number_of}
+use Rattle.tp_laws.proofs.Model.Told.{sound_legal}
+use Rattle.tp_laws.proofs.Model.Totals.{at_named}
+use Rattle.tp_laws.proofs.Model.Weights.{weight_of, is_core, task_due, slot_due}
+use Rattle.tp_laws.proofs.Effects.Names.{is_wide, names, beside, seats, replaces, rank_still}
+use Rattle.tp_laws.proofs.Effects.Next.{entry, fits_given, row_sound}
+use Rattle.tp_laws.proofs.Effects.Sums.{named_due, due_next}
+use Rattle.tp_laws.proofs.Effects.Controllers.Shutdown as wakes
+use Rattle.tp_laws.proofs.Effects.Controllers.Shutdown.{shutdown}
+use Rattle.tp_laws.proofs.Effects.Controllers.Stop.{stop}
+use Rattle.tp_laws.proofs.Effects.Controllers.Purge.{purge}
+use Rattle.tp_laws.proofs.Effects.Controllers.Tidy.{tidy, ended}
 use Rattle.tp_auditor.specs.Seats as seats_spec
 use Rattle.tp_auditor.specs.Tables.{undone}
 use Rattle.tp_auditor.specs.Owed.{beside_in, seated_number, core_now, task_now, task_then, slot_now, slot_then, owed_now, owed_then, takers, falls, due_by}

@@ -12,8 +12,8 @@ use Rattle.tp_record.specs.Lists.{said_of, put_behind, join_line, change_each, i
 use Rattle.tp_record.specs.Effects.{is_submit, priorities_said, place_looked}
 use Rattle.tp_record.specs.Fields.{is_queued_place}
 use Rattle.tp_record.specs.State.{row_at, no_row, row_after, tasks_after, queue_after, stays_queued}
-use Rattle.tp_model.proofs.Queues.{among-filter}
-use Rattle.tp_shapes.proofs.Names.{is_wide}
+use Rattle.tp_laws.proofs.Model.Queues.{among-filter}
+use Rattle.tp_laws.proofs.Effects.Names.{is_wide}
 use Rattle.tp_line.specs.Line.{ids}
 use Rattle.tp_line.specs.Ranks.{key, enter}
 use Rattle.tp_auditor.specs.declared.queue.Queue.{Queue}

@@ -13,7 +13,7 @@ use Rattle.tp_record.specs.Fields.{completions, slot_rows, rank}
 use Rattle.tp_record.specs.State.{state, due, stage_weight, slot_weight}
 use Rattle.tp_record.specs.Step.{Legal}
 use Rattle.tp_plain.proofs.Sizes.{rows_retries, length-task_rows}
-use Rattle.tp_room.proofs.OwedLaws.{room_is_enough}
+use Rattle.tp_laws.proofs.OwedLaws.{room_is_enough}
 use Rattle.tp_auditor.specs.Tables.{undone, HasSizes}
 
 completions-le : (h : List Entry) → completions h ≤ length h

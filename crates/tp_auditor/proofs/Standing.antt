@@ -18,14 +18,14 @@ use Rattle.tp_record.specs.Effects.{queues, idles}
 use Rattle.tp_record.specs.Fields.{queue, idling, is_queued, is_queued_place, is_idle_row, slot_row, rank, submitted, retries}
 use Rattle.tp_record.specs.State.{State, state, slot_at, task_at, due}
 use Rattle.tp_record.specs.Step.{Legal, leaves_room, retry_of}
-use Rattle.tp_model.proofs.Readings.{slot_read, tasks_counted}
-use Rattle.tp_model.proofs.Places.{head_queued}
+use Rattle.tp_laws.proofs.Model.Readings.{slot_read, tasks_counted}
+use Rattle.tp_laws.proofs.Model.Places.{head_queued}
 use Rattle.tp_plain.proofs.Sizes.{length-queue}
-use Rattle.tp_model.proofs.Given.{Given, GivenRuled}
-use Rattle.tp_model.proofs.Told.{sound_legal}
-use Rattle.tp_model.proofs.Queues.{among-queue, once-queue, among-idling, among_from_Contains}
-use Rattle.tp_shapes.proofs.Names.{names, drops}
-use Rattle.tp_shapes.proofs.Next.{row_sound}
+use Rattle.tp_laws.proofs.Model.Given.{Given, GivenRuled}
+use Rattle.tp_laws.proofs.Model.Told.{sound_legal}
+use Rattle.tp_laws.proofs.Model.Queues.{among-queue, once-queue, among-idling, among_from_Contains}
+use Rattle.tp_laws.proofs.Effects.Names.{names, drops}
+use Rattle.tp_laws.proofs.Effects.Next.{row_sound}
 use Rattle.tp_auditor.specs.declared.tables.Tables.{Tables}
 use Rattle.tp_auditor.specs.Owed.{room_by}
 use Rattle.tp_auditor.specs.Tables.{shown, undone, HasSizes, StandsAt, Suits, SuitsAll}

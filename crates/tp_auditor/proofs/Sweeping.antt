@@ -5,8 +5,8 @@ use Rattle.std.proofs.lemmas.Bool.{cases_lt, cases_eq, eq-eqb, ne_eqb, and_parts
 use Rattle.std.proofs.lemmas.List.{ext_get_or, get_or_past, get_or-set_same, get_or-set_other, set_past}
 use Rattle.std.proofs.lemmas.Option.{none-some}
 use Rattle.tp_record.specs.Lists.{without, change_each, is_among}
-use Rattle.tp_model.proofs.ListLaws.{length-change_each, get_or-change_each}
-use Rattle.tp_model.proofs.Queues.{among-filter}
+use Rattle.tp_laws.proofs.Model.ListLaws.{length-change_each, get_or-change_each}
+use Rattle.tp_laws.proofs.Model.Queues.{among-filter}
 use Rattle.tp_auditor.specs.Changed.{change_at}
 use Rattle.tp_auditor.proofs.Changing.{length-change_at}
 

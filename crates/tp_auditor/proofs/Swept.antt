@@ -11,8 +11,8 @@ use Rattle.tp_record.specs.declared.rows.SlotRow.{SlotRow}
 use Rattle.tp_record.specs.Lists.{change_each, is_among}
 use Rattle.tp_record.specs.Fields.{is_queued_place, is_idle_row}
 use Rattle.tp_record.specs.State.{State, row_at, slot_at, row_after, tasks_after, slot_after, slots_after, queue_after, idling_after, stays_queued, stays_idle}
-use Rattle.tp_shapes.proofs.Names.{is_wide}
-use Rattle.tp_shapes.proofs.Controllers.Shutdown.{filter_none, none_idle}
+use Rattle.tp_laws.proofs.Effects.Names.{is_wide}
+use Rattle.tp_laws.proofs.Effects.Controllers.Shutdown.{filter_none, none_idle}
 use Rattle.tp_auditor.proofs.Changing.{filter_among, filter_every}
 
 -- the state after all that an entry changes but the settings and counters

@@ -5,7 +5,7 @@ use Rattle.std.proofs.lemmas.Bool.{cases_lt, cases_eq}
 use Rattle.std.proofs.lemmas.List.{ext_get_or, get_or_past, get_or-set_same, get_or-set_other, length-set, set_past}
 use Rattle.std.proofs.lemmas.List.Sums.{sum_by-set, sum_by-append, sum_by-cons}
 use Rattle.tp_record.specs.Lists.{count_from, long_enough}
-use Rattle.tp_model.proofs.ListLaws.{length-map_count, get_or-map_count, long_table}
+use Rattle.tp_laws.proofs.Model.ListLaws.{length-map_count, get_or-map_count, long_table}
 
 module _ {A : Type 0} where
   -- the options of the numbers below n

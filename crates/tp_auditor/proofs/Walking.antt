@@ -5,9 +5,9 @@ use Rattle.std.proofs.lemmas.List.Elements.{All-contains}
 use Rattle.std.proofs.lemmas.List.Sums.{sum_by-cons}
 use Rattle.std.proofs.lemmas.Bool.{cases_eq, eq-eqb, ne_eqb, false≢true, and_parts}
 use Rattle.tp_record.specs.Lists.{is_it, without, is_among, IsOnce}
-use Rattle.tp_model.proofs.ListLaws.{filter-filter}
-use Rattle.tp_model.proofs.Queues.{once-filter, Contains-from_among}
-use Rattle.tp_shapes.proofs.Lists.{without_absent}
+use Rattle.tp_laws.proofs.Model.ListLaws.{filter-filter}
+use Rattle.tp_laws.proofs.Model.Queues.{once-filter, Contains-from_among}
+use Rattle.tp_laws.proofs.Effects.Lists.{without_absent}
 use Rattle.tp_auditor.specs.Changed.{leave_out}
 use Rattle.tp_auditor.specs.Orders.{next_of, from_on}
 use Rattle.tp_auditor.proofs.Changing.{filter_among}

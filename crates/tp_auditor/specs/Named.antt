@@ -4,7 +4,7 @@ use Rattle.tp_record.specs.declared.entries.Did.{Did}
 use Rattle.tp_record.specs.Lists.{is_it, without}
 use Rattle.tp_record.specs.Effects.{reserves}
 use Rattle.tp_record.specs.State.{State, stays_idle}
-use Rattle.tp_shapes.proofs.Names.{seats}
+use Rattle.tp_laws.proofs.Effects.Names.{seats}
 
 -- the second number, unless it is the first
 abbrev pub unless : Option ℕ → Option ℕ → Option ℕ

@@ -7,10 +7,10 @@ use Rattle.tp_record.specs.declared.entries.Ruled.TheVariants as ruled
 use Rattle.tp_record.specs.declared.entries.Opened.TheVariants as opened
 use Rattle.tp_record.specs.declared.rows.SlotRow.{SlotRow}
 use Rattle.tp_record.specs.State.{State, task_at, slot_at, row_after, slot_after, slot_weight, is_core_slot}
-use Rattle.tp_model.specs.Seats.{number_of}
-use Rattle.tp_model.proofs.Totals.{at_named}
-use Rattle.tp_model.proofs.Weights.{weight_of}
-use Rattle.tp_shapes.proofs.Names.{is_wide, names, seats, replaces}
+use Rattle.tp_laws.specs.Seats.{number_of}
+use Rattle.tp_laws.proofs.Model.Totals.{at_named}
+use Rattle.tp_laws.proofs.Model.Weights.{weight_of}
+use Rattle.tp_laws.proofs.Effects.Names.{is_wide, names, seats, replaces}
 use Rattle.tp_auditor.specs.Seats.{is_at_take}
 
 abbrev pub seated_number : Option SlotRow → Option ℕ

@@ -13,7 +13,7 @@ use Rattle.tp_record.specs.Effects.{queues, idles, completes, reserves, reaches,
 use Rattle.tp_record.specs.Fields.{is_idle_row, is_live, is_queued_place}
 use Rattle.tp_record.specs.State.{State, state, row_at, task_at, slot_at, due, tasks_after, stays_queued, slot_after}
 use Rattle.tp_record.specs.Step.{Legal, done_of}
-use Rattle.tp_shapes.proofs.Names.{names, drops}
+use Rattle.tp_laws.proofs.Effects.Names.{names, drops}
 use Rattle.tp_auditor.specs.declared.tables.Tables.{Tables}
 use Rattle.tp_auditor.specs.Changed.{change_at}
 use Rattle.tp_auditor.specs.Done.{done_in}

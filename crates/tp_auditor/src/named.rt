@@ -1,7 +1,7 @@
 //! The tasks and slots that an entry names.
 
 ghost use Rattle.std.specs.Prelude.{◌≡◌};
-ghost use Rattle.tp_shapes.proofs.Names as entry;
+ghost use Rattle.tp_laws.proofs.Effects.Names as entry;
 
 use tp_record::entries::{
     Did, Failed, Grown, Looked, Offered, Opened, Ruled, Seconded, Started, Took,

@@ -5,7 +5,7 @@ ghost use Rattle.tp_record.specs.Effects as effects;
 ghost use Rattle.tp_record.specs.Fields.{is_live};
 ghost use Rattle.tp_record.specs.Lists.{is_it};
 ghost use Rattle.tp_record.specs.State as states;
-ghost use Rattle.tp_shapes.proofs.Names as entry;
+ghost use Rattle.tp_laws.proofs.Effects.Names as entry;
 ghost use Rattle.tp_auditor.specs.Done.{done_in};
 ghost use Rattle.tp_auditor.specs.Queued.{Keeps};
 ghost use Rattle.tp_auditor.specs.Tables.{shown, undone, grown as grown_by, settled as settled_by, completion as completion_of, with_completion, handed_out, HasRanks, HasSizes, Suits};

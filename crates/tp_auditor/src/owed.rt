@@ -2,8 +2,8 @@
 
 ghost use Rattle.std.specs.Prelude.{ℕ, ◌≡◌, ◌<◌, ◌≤◌, ◌-◌, ◌^◌};
 ghost use Rattle.tp_record.specs.State as states;
-ghost use Rattle.tp_model.proofs.Totals.{at_named};
-ghost use Rattle.tp_model.proofs.Weights.{held_core};
+ghost use Rattle.tp_laws.proofs.Model.Totals.{at_named};
+ghost use Rattle.tp_laws.proofs.Model.Weights.{held_core};
 ghost use Rattle.tp_auditor.specs.Owed as owed;
 ghost use Rattle.tp_auditor.specs.Tables.{shown, HasSizes};
 

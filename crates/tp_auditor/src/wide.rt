@@ -4,7 +4,7 @@ ghost use Rattle.std.specs.Prelude.{ℕ, ◌≡◌, ◌<◌, ◌-◌, ◌^◌, [
 ghost use Rattle.tp_record.specs.Effects as effects;
 ghost use Rattle.tp_record.specs.Lists.{change_each, is_among, IsOnce};
 ghost use Rattle.tp_record.specs.State as states;
-ghost use Rattle.tp_shapes.proofs.Names as entry;
+ghost use Rattle.tp_laws.proofs.Effects.Names as entry;
 ghost use Rattle.tp_auditor.specs.Changed.{leave_out};
 ghost use Rattle.tp_auditor.specs.Queued.{tasks_of, Keeps};
 ghost use Rattle.tp_auditor.specs.Readings.{read};

@@ -18,11 +18,11 @@ use Rattle.tp_record.specs.Fields.{submitted, place}
 use Rattle.tp_record.specs.Left.{left, MayAll}
 use Rattle.tp_record.specs.State.{State, state, task_at, fate_of}
 use Rattle.tp_record.specs.Step.{Legal, is_known, is_of_group}
-use Rattle.tp_model.proofs.Fated.{gone_fated}
-use Rattle.tp_model.proofs.Readings.{tasks_counted, row_read}
-use Rattle.tp_model.proofs.Told.{told_legal}
-use Rattle.tp_left.proofs.LeftOut.{left_out_of, left_length, left_row, fitting_legal}
-use Rattle.tp_left.proofs.Marks.{left_else}
+use Rattle.tp_laws.proofs.Model.Fated.{gone_fated}
+use Rattle.tp_laws.proofs.Model.Readings.{tasks_counted, row_read}
+use Rattle.tp_laws.proofs.Model.Told.{told_legal}
+use Rattle.tp_laws.proofs.Left.LeftOut.{left_out_of, left_length, left_row, fitting_legal}
+use Rattle.tp_laws.proofs.Left.Marks.{left_else}
 use Rattle.tp_parts.specs.Steps.{IsFitting}
 use Rattle.tp_machine.specs.Readings.{HasOpen, value_of_row, value_in}
 

@@ -5,7 +5,7 @@ use Rattle.tp_types.specs.declared.configs.Config.{Config}
 use Rattle.tp_record.specs.declared.entries.Entry.{Entry}
 use Rattle.tp_record.specs.Left.{left, MayRelease}
 use Rattle.tp_record.specs.State.{State, state}
-use Rattle.tp_left.proofs.LeftOut.{left_length}
+use Rattle.tp_laws.proofs.Left.LeftOut.{left_length}
 use Rattle.tp_tasks.specs.Tasks.{KeepsOthers}
 use Rattle.tp_glance.specs.declared.view.History.{History}
 use Rattle.tp_glance.specs.Word.{with_released}

@@ -11,7 +11,7 @@ use Rattle.tp_record.specs.Fields.{rank}
 use Rattle.tp_record.specs.Left.{left, asked, is_one_of}
 use Rattle.tp_record.specs.Lists.{is_among}
 use Rattle.tp_record.specs.State.{State, state}
-use Rattle.tp_left.proofs.Marks.{left_else}
+use Rattle.tp_laws.proofs.Left.Marks.{left_else}
 use Rattle.tp_tasks.specs.declared.tasks.Tasks.{Tasks}
 use Rattle.tp_machine.specs.Seen.{Seen, At, config_of}
 use Rattle.tp_machine.specs.Steps.{IsStep, Stays, IsRefusedAt, NeedsMemory}

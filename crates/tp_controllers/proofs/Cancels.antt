@@ -10,12 +10,12 @@ use Rattle.tp_types.specs.declared.tasks.Place.TheVariants as at
 use Rattle.tp_record.specs.declared.entries.Ask.TheVariants as ask
 use Rattle.tp_record.specs.declared.entries.Did.TheVariants as did
 use Rattle.tp_record.specs.Fields.{place}
-use Rattle.tp_model.proofs.Readings.{row_read}
-use Rattle.tp_model.proofs.Told.{told_legal}
+use Rattle.tp_laws.proofs.Model.Readings.{row_read}
+use Rattle.tp_laws.proofs.Model.Told.{told_legal}
 use Rattle.tp_tasks.specs.declared.tasks.Tasks.{Tasks}
 use Rattle.tp_tasks.specs.Tasks.{payload_of}
-use Rattle.tp_shapes.proofs.Invariants.{is_gone, unended}
-use Rattle.tp_shapes.proofs.Controllers.Cancel.{cancel, cancel_late}
+use Rattle.tp_laws.proofs.Effects.Invariants.{is_gone, unended}
+use Rattle.tp_laws.proofs.Effects.Controllers.Cancel.{cancel, cancel_late}
 use Rattle.tp_parts.specs.declared.parts.Parts.{Parts}
 use Rattle.tp_parts.specs.Payloads.{HandsOut}
 use Rattle.tp_parts.specs.Steps.{Stands, Fits}

@@ -12,11 +12,11 @@ use Rattle.tp_record.specs.Fields.{place, queue, is_queued, is_queued_place}
 use Rattle.tp_record.specs.Left.{mark, MayAll}
 use Rattle.tp_record.specs.State.{state, task_at}
 use Rattle.tp_record.specs.Step.{Legal, Answer}
-use Rattle.tp_model.proofs.Queues.{among-queue, Contains-from_among, among_from_Contains}
-use Rattle.tp_model.proofs.Told.{sound_legal}
-use Rattle.tp_shapes.specs.View.{View, view}
-use Rattle.tp_shapes.proofs.Next.{row_sound}
-use Rattle.tp_shapes.proofs.Controllers.Purge.{purge}
+use Rattle.tp_laws.proofs.Model.Queues.{among-queue, Contains-from_among, among_from_Contains}
+use Rattle.tp_laws.proofs.Model.Told.{sound_legal}
+use Rattle.tp_laws.specs.View.{View, view}
+use Rattle.tp_laws.proofs.Effects.Next.{row_sound}
+use Rattle.tp_laws.proofs.Effects.Controllers.Purge.{purge}
 use Rattle.tp_parts.specs.declared.parts.Parts.{Parts}
 use Rattle.tp_parts.specs.Purges.{HoldsQueued}
 use Rattle.tp_parts.specs.Shows.{Views}

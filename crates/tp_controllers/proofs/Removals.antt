@@ -8,10 +8,10 @@ use Rattle.tp_record.specs.declared.entries.Did.TheVariants as did
 use Rattle.tp_record.specs.declared.rows.TaskRow.{TaskRow}
 use Rattle.tp_record.specs.Fields.{queue, is_queued_place}
 use Rattle.tp_record.specs.State.{state, task_at}
-use Rattle.tp_model.proofs.Queues.{among-queue, Contains-from_among}
+use Rattle.tp_laws.proofs.Model.Queues.{among-queue, Contains-from_among}
 use Rattle.tp_queue.specs.Queues.{waiting_of}
 use Rattle.tp_tasks.specs.Tasks.{row_of}
-use Rattle.tp_shapes.proofs.Controllers.Remove.{remove, remove_absent}
+use Rattle.tp_laws.proofs.Effects.Controllers.Remove.{remove, remove_absent}
 use Rattle.tp_parts.specs.declared.parts.Parts.{Parts}
 use Rattle.tp_parts.specs.Shows.{numbers}
 use Rattle.tp_parts.specs.Steps.{Stands, Fits}

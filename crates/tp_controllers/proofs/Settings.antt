@@ -6,8 +6,8 @@ use Rattle.tp_record.specs.declared.entries.Did.{Did}
 use Rattle.tp_record.specs.Left.{mark}
 use Rattle.tp_record.specs.State.{state}
 use Rattle.tp_record.specs.Step.{Legal}
-use Rattle.tp_model.proofs.Given.{Given}
-use Rattle.tp_shapes.specs.View.{View, Effect}
+use Rattle.tp_laws.proofs.Model.Given.{Given}
+use Rattle.tp_laws.specs.View.{View, Effect}
 use Rattle.tp_parts.specs.declared.parts.Parts.{Parts}
 use Rattle.tp_parts.specs.Shows.{Views, Shows}
 use Rattle.tp_parts.specs.Tied.{IsTied}

@@ -8,7 +8,7 @@ use Rattle.tp_record.specs.Left.{mark}
 use Rattle.tp_record.specs.State.{State, state}
 use Rattle.tp_queue.specs.Queues.{waiting_of}
 use Rattle.tp_slots.specs.Table.{is_at_take}
-use Rattle.tp_shapes.proofs.Controllers.Stop.{stop as stop_effect}
+use Rattle.tp_laws.proofs.Effects.Controllers.Stop.{stop as stop_effect}
 use Rattle.tp_parts.specs.declared.parts.Parts.{Parts}
 use Rattle.tp_parts.specs.Shows.{Shows}
 use Rattle.tp_parts.specs.Terms.{terms}

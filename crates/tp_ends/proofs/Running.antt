@@ -9,8 +9,8 @@ use Rattle.tp_record.specs.declared.entries.Entry.{Entry}
 use Rattle.tp_record.specs.declared.rows.SlotRow.{SlotRow}
 use Rattle.tp_record.specs.State as states
 use Rattle.tp_record.specs.Step.{Answer, Gives, IsFreeTo, Legal, Refuses, RunFrom, step}
-use Rattle.tp_model.proofs.Functions.{refused_legal}
-use Rattle.tp_model.proofs.NextState.{next_is_state}
+use Rattle.tp_laws.proofs.Model.Functions.{refused_legal}
+use Rattle.tp_laws.proofs.Model.NextState.{next_is_state}
 use Rattle.tp_plain.specs.Snapshot.{least_free}
 use Rattle.tp_explore.specs.declared.callers.Caller.{Caller}
 use Rattle.tp_explore.specs.declared.callers.Doing.{Doing}

@@ -22,8 +22,8 @@ use Rattle.tp_record.specs.Effects.{reserves}
 use Rattle.tp_record.specs.Lists.{long_enough}
 use Rattle.tp_record.specs.State as states
 use Rattle.tp_record.specs.Step.{Answer, Gives, fitting, of_row, leave_answer, leaves_room, within_room, step}
-use Rattle.tp_model.proofs.Functions.{own_asked}
-use Rattle.tp_model.proofs.NextState.{next_is_state}
+use Rattle.tp_laws.proofs.Model.Functions.{own_asked}
+use Rattle.tp_laws.proofs.Model.NextState.{next_is_state}
 use Rattle.tp_plain.specs.Snapshot.{IsSmall, least_free}
 use Rattle.tp_plain.proofs.Numbers.{gives_at_least, answer_at_gives}
 use Rattle.tp_plain.proofs.Sizes.{rows_retries, length-task_rows, length-queue}

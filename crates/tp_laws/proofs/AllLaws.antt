@@ -4,10 +4,10 @@ use Rattle.tp_types.specs.Config.{IsConfig}
 use Rattle.tp_types.specs.declared.configs.Config.{Config}
 use Rattle.tp_record.specs.declared.entries.Entry.{Entry}
 use Rattle.tp_record.specs.Step.{Legal}
-use Rattle.tp_model.proofs.Readings.{legal_tail}
-use Rattle.tp_model.proofs.Given.{Told}
-use Rattle.tp_model.proofs.Told.{told_legal}
-use Rattle.tp_room.proofs.OwedLaws as room
+use Rattle.tp_laws.proofs.Model.Readings.{legal_tail}
+use Rattle.tp_laws.proofs.Model.Given.{Told}
+use Rattle.tp_laws.proofs.Model.Told.{told_legal}
+use Rattle.tp_laws.proofs.OwedLaws as room
 use Rattle.tp_laws.specs.Laws.{HasGoodSizes}
 use Rattle.tp_laws.specs.Lawful.{IsLawful}
 use Rattle.tp_laws.proofs.Begins as begins

@@ -11,7 +11,7 @@ use Rattle.tp_record.specs.Lists.{said_of, is_it}
 use Rattle.tp_record.specs.Effects.{moved, is_submit}
 use Rattle.tp_record.specs.Fields.{submitted, place, swept, is_cancelled}
 use Rattle.tp_record.specs.Words.{begun, begun_by, is_begun}
-use Rattle.tp_model.proofs.Given.{Told}
+use Rattle.tp_laws.proofs.Model.Given.{Told}
 use Rattle.tp_laws.proofs.Fits.{fits_place, fits_given}
 
 -- a task in this place has not begun

@@ -12,8 +12,8 @@ use Rattle.tp_record.specs.declared.entries.Started.TheVariants as started
 use Rattle.tp_record.specs.Lists.{said_of, is_among, IsOnce}
 use Rattle.tp_record.specs.Effects.{moved, is_submit, is_completion}
 use Rattle.tp_record.specs.Fields.{submitted, place, swept, is_cancelled, completions}
-use Rattle.tp_model.proofs.Given.{Given, Told}
-use Rattle.tp_words.specs.Agrees.{is_gone_place}
+use Rattle.tp_laws.proofs.Model.Given.{Given, Told}
+use Rattle.tp_laws.specs.Agrees.{is_gone_place}
 use Rattle.tp_laws.proofs.Fits.{fits_place, fits_given}
 
 -- the task that a worker completes by an entry: it ends it, or skips it

@@ -23,9 +23,9 @@ use Rattle.tp_record.specs.Effects.{reserves, frees, holds, one_said}
 use Rattle.tp_record.specs.Fields.{is_slot, slot_bound, reach, slot_row, stage, task_in}
 use Rattle.tp_record.specs.State.{state}
 use Rattle.tp_record.specs.Step.{slot_count}
-use Rattle.tp_model.proofs.Given.{Given, Told, IsFree, HasRow, Waits}
-use Rattle.tp_model.proofs.Readings.{slot_below}
-use Rattle.tp_words.proofs.WordsLists.{count_by-cons, count_by-map}
+use Rattle.tp_laws.proofs.Model.Given.{Given, Told, IsFree, HasRow, Waits}
+use Rattle.tp_laws.proofs.Model.Readings.{slot_below}
+use Rattle.tp_laws.proofs.WordsLists.{count_by-cons, count_by-map}
 
 -- two tests that agree from k on count alike there
 pub count_same : (f g : ℕ → Bool) (k n : ℕ) → ((x : ℕ) → k ≤ x → f x ≡ g x) → count_by f (count_from k n) ≡ count_by g (count_from k n)

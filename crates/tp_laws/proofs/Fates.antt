@@ -17,13 +17,13 @@ use Rattle.tp_record.specs.Effects.{moved, cancels, endings}
 use Rattle.tp_record.specs.Fields.{submitted, place, swept, is_cancelled, ending, handed_back, task_row}
 use Rattle.tp_record.specs.State.{is_fate, fate_of}
 use Rattle.tp_record.specs.Words.{has_fate}
-use Rattle.tp_model.proofs.Given.{Given, Told}
-use Rattle.tp_model.proofs.Fated.{gone_fated}
+use Rattle.tp_laws.proofs.Model.Given.{Given, Told}
+use Rattle.tp_laws.proofs.Model.Fated.{gone_fated}
 use Rattle.tp_laws.specs.Laws.{GoneHasFate, FatedIsGone}
-use Rattle.tp_words.proofs.WordsFates.{fate_agrees}
-use Rattle.tp_words.proofs.WordsTasks.{gone_agrees, cancelled_agrees}
+use Rattle.tp_laws.proofs.WordsFates.{fate_agrees}
+use Rattle.tp_laws.proofs.WordsTasks.{gone_agrees, cancelled_agrees}
 use Rattle.tp_laws.proofs.Fits.{fits_place, fits_given, told_front}
-use Rattle.tp_words.specs.Agrees.{is_gone_place}
+use Rattle.tp_laws.specs.Agrees.{is_gone_place}
 use Rattle.tp_laws.proofs.News.{new_alive, new_unended}
 
 -- a task that is not gone has no fate but by a cancel

@@ -11,10 +11,10 @@ use Rattle.tp_record.specs.Lists.{said_of, is_it}
 use Rattle.tp_record.specs.Effects.{moved, is_submit}
 use Rattle.tp_record.specs.Fields.{submitted, place, swept, is_cancelled, is_queued_place}
 use Rattle.tp_record.specs.Words.{finished_by, finishes, finishings, is_stop, is_purge}
-use Rattle.tp_model.proofs.Given.{Told}
-use Rattle.tp_words.specs.Agrees.{is_gone_place}
+use Rattle.tp_laws.proofs.Model.Given.{Told}
+use Rattle.tp_laws.specs.Agrees.{is_gone_place}
 use Rattle.tp_laws.proofs.Fits.{fits_place, fits_given}
-use Rattle.tp_words.proofs.WordsTasks.{cancelled_agrees, queued_agrees}
+use Rattle.tp_laws.proofs.WordsTasks.{cancelled_agrees, queued_agrees}
 use Rattle.tp_laws.proofs.News.{new_gone}
 
 -- the entry finishes t, which is at p, and cancelled or not

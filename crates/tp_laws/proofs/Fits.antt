@@ -21,8 +21,8 @@ use Rattle.tp_record.specs.declared.entries.Took.TheVariants as took
 use Rattle.tp_record.specs.declared.entries.Started.TheVariants as started
 use Rattle.tp_record.specs.Fields.{rank, submitted, place, is_queued_place}
 use Rattle.tp_record.specs.Step.{is_refused_place}
-use Rattle.tp_words.specs.Agrees.{is_caller_place}
-use Rattle.tp_model.proofs.Given.{Given, IsAt, Told}
+use Rattle.tp_laws.specs.Agrees.{is_caller_place}
+use Rattle.tp_laws.proofs.Model.Given.{Given, IsAt, Told}
 
 abbrev pub is_looking_place : Place → Bool
 is_looking_place at.Looking = true

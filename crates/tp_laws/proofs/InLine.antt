@@ -9,11 +9,11 @@ use Rattle.tp_types.specs.Queues.{is_ranked}
 use Rattle.tp_record.specs.declared.entries.Entry.{Entry}
 use Rattle.tp_record.specs.Lists.{arrange, in_line, is_among, IsOnce}
 use Rattle.tp_record.specs.Words.{queued_by, waits_in_queue, offers_in_order as offers, waiting, waiting_line, priority_of}
-use Rattle.tp_model.proofs.Given.{Told}
-use Rattle.tp_model.proofs.Arranged.{AllPass, IsSorted, sorted-arrange, arrange-equal, arrange-filter, filter-passes}
-use Rattle.tp_model.proofs.Queues.{among-queue, once-queue}
-use Rattle.tp_words.proofs.WordsTasks.{queued_agrees}
-use Rattle.tp_words.proofs.WordsQueue.{queue_words}
+use Rattle.tp_laws.proofs.Model.Given.{Told}
+use Rattle.tp_laws.proofs.Model.Arranged.{AllPass, IsSorted, sorted-arrange, arrange-equal, arrange-filter, filter-passes}
+use Rattle.tp_laws.proofs.Model.Queues.{among-queue, once-queue}
+use Rattle.tp_laws.proofs.WordsTasks.{queued_agrees}
+use Rattle.tp_laws.proofs.WordsQueue.{queue_words}
 use Rattle.tp_laws.specs.Laws.{ListsThoseWaiting, LeastFirst, IsQueuedBefore, OffersInOrder}
 use Rattle.tp_laws.proofs.Order.{filter_kept}
 

@@ -12,11 +12,11 @@ use Rattle.tp_record.specs.Lists.{said_of, is_it}
 use Rattle.tp_record.specs.Effects.{moved, reaches}
 use Rattle.tp_record.specs.Fields.{rank, submitted, place, swept, is_cancelled, is_queued_place}
 use Rattle.tp_record.specs.Words.{begun_by, is_begun, is_stop, queued_by}
-use Rattle.tp_model.proofs.Given.{Told}
-use Rattle.tp_words.specs.Agrees.{is_gone_place}
+use Rattle.tp_laws.proofs.Model.Given.{Told}
+use Rattle.tp_laws.specs.Agrees.{is_gone_place}
 use Rattle.tp_laws.proofs.Fits.{fits_place, fits_given, fits_rank, rank_given}
 use Rattle.tp_laws.proofs.Fits.{told_front}
-use Rattle.tp_words.proofs.WordsTasks.{is_submitted_below, queued_agrees}
+use Rattle.tp_laws.proofs.WordsTasks.{is_submitted_below, queued_agrees}
 use Rattle.tp_laws.specs.Laws.{NothingBeginsAfterShutdown, StoppedNeverBegins, QueuedLateNeverBegins}
 use Rattle.tp_laws.proofs.Ranks.{shut_down_rank, stopped_rank}
 use Rattle.tp_laws.proofs.News.{new_gone}

@@ -10,8 +10,8 @@ use Rattle.tp_record.specs.declared.entries.Did.{Did}
 use Rattle.tp_record.specs.Lists.{said_of}
 use Rattle.tp_record.specs.Effects.{moved, is_submit, cancels, endings}
 use Rattle.tp_record.specs.Fields.{submitted, place, swept, is_cancelled, ending, handed_back}
-use Rattle.tp_model.proofs.Given.{Told}
-use Rattle.tp_words.specs.Agrees.{is_gone_place}
+use Rattle.tp_laws.proofs.Model.Given.{Told}
+use Rattle.tp_laws.specs.Agrees.{is_gone_place}
 use Rattle.tp_laws.proofs.Fits.{fits_place, fits_given}
 
 new_place : (d : Did) (n t : ℕ) (p : Place) (c : Bool) → fits_place d t n p ≡ true → (n ≤ t → is_gone_place p ≡ true) →

@@ -14,11 +14,11 @@ use Rattle.tp_record.specs.declared.entries.Ruled.TheVariants as ruled
 use Rattle.tp_record.specs.Fields.{queue, queued, priority, place, is_queued_place}
 use Rattle.tp_record.specs.Lists.{arrange, in_line, is_among, IsOnce}
 use Rattle.tp_record.specs.Words.{queued_by, waits_in_queue, offers_in_order}
-use Rattle.tp_model.proofs.Given.{Given, Told}
-use Rattle.tp_model.proofs.Arranged.{AllPass, least-first, equal-first}
-use Rattle.tp_model.proofs.Queues.{among-append, among-queue, once-queued, once-filter}
-use Rattle.tp_words.proofs.WordsTasks.{queued_agrees}
-use Rattle.tp_words.proofs.WordsQueue.{queue_words, waiting_words, priority_agrees}
+use Rattle.tp_laws.proofs.Model.Given.{Given, Told}
+use Rattle.tp_laws.proofs.Model.Arranged.{AllPass, least-first, equal-first}
+use Rattle.tp_laws.proofs.Model.Queues.{among-append, among-queue, once-queued, once-filter}
+use Rattle.tp_laws.proofs.WordsTasks.{queued_agrees}
+use Rattle.tp_laws.proofs.WordsQueue.{queue_words, waiting_words, priority_agrees}
 use Rattle.tp_laws.specs.Laws.{leaves_in_turn, FirstLeaves, QueueOrder, NoneBefore, FirstOfEquals}
 
 -- who leaves in turn is the first of the queue, and is queued

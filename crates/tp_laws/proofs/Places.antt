@@ -11,12 +11,12 @@ use Rattle.tp_record.specs.declared.rows.SlotRow.{SlotRow}
 use Rattle.tp_record.specs.Lists.{is_it}
 use Rattle.tp_record.specs.Fields.{rank, submitted, place, is_queued_place, slot_row, is_slot, stage, task_in}
 use Rattle.tp_record.specs.Words.{is_in, in_slot}
-use Rattle.tp_model.specs.Seats.{slot_of, seat_of}
-use Rattle.tp_words.specs.Agrees.{submitter_of, is_caller_place, is_gone_place}
-use Rattle.tp_model.proofs.Given.{Told}
-use Rattle.tp_model.proofs.Told.{sound_told}
-use Rattle.tp_words.proofs.WordsTasks.{is_submitted_below, in_slot_agrees, queued_agrees, submitter_agrees, caller_agrees, gone_agrees}
-use Rattle.tp_words.proofs.WordsSlots.{slot_agrees}
+use Rattle.tp_laws.specs.Seats.{slot_of, seat_of}
+use Rattle.tp_laws.specs.Agrees.{submitter_of, is_caller_place, is_gone_place}
+use Rattle.tp_laws.proofs.Model.Given.{Told}
+use Rattle.tp_laws.proofs.Model.Told.{sound_told}
+use Rattle.tp_laws.proofs.WordsTasks.{is_submitted_below, in_slot_agrees, queued_agrees, submitter_agrees, caller_agrees, gone_agrees}
+use Rattle.tp_laws.proofs.WordsSlots.{slot_agrees}
 use Rattle.tp_laws.specs.Laws.{OnePlace, OneTaskASlot, OwedAfterTidy, number_of}
 use Rattle.tp_laws.proofs.Slots.{no_slots}
 

@@ -1,7 +1,7 @@
 -- Each task is put in the queue at most once.
 use Rattle.std.proofs.Common.{◌≡◌, ℕ, suc, ◌≤◌, max, Bool, true, false, cond, List, [], ◌∷◌, refl, arith}
 use Rattle.std.specs.Prelude.{◌==◌, unwrap_or, count_by}
-use Rattle.tp_words.proofs.WordsLists.{count_by-cons}
+use Rattle.tp_laws.proofs.WordsLists.{count_by-cons}
 use Rattle.std.proofs.lemmas.Bool.Decides.{nat_tests}
 use Rattle.tp_types.specs.declared.configs.Config.{Config}
 use Rattle.tp_types.specs.declared.tasks.Place.{Place}
@@ -12,7 +12,7 @@ use Rattle.tp_record.specs.Lists.{said_of, is_it}
 use Rattle.tp_record.specs.Effects.{moved, is_submit, reaches}
 use Rattle.tp_record.specs.Fields.{rank, submitted, place, swept, is_cancelled}
 use Rattle.tp_record.specs.Words.{queued_by}
-use Rattle.tp_model.proofs.Given.{Told}
+use Rattle.tp_laws.proofs.Model.Given.{Told}
 use Rattle.tp_laws.proofs.Fits.{fits_place, fits_given, fits_rank, rank_given}
 
 -- at rank r a task at p was not put in the queue yet

@@ -13,14 +13,14 @@ use Rattle.tp_record.specs.declared.rows.SlotRow.{SlotRow}
 use Rattle.tp_record.specs.Fields.{rank, is_idle, is_idle_row, is_idle_stage, slot_row, idled}
 use Rattle.std.specs.Prelude.{filter}
 use Rattle.std.proofs.lemmas.Bool.{false_from_ne_true}
-use Rattle.tp_words.specs.Agrees.{idle_of}
-use Rattle.tp_words.proofs.WordsSlots.{idle_agrees}
+use Rattle.tp_laws.specs.Agrees.{idle_of}
+use Rattle.tp_laws.proofs.WordsSlots.{idle_agrees}
 use Rattle.tp_record.specs.Words.{idle_since, takes_nothing, names_slot, wakes, is_stop, moment}
-use Rattle.tp_model.proofs.Given.{Given, Told}
+use Rattle.tp_laws.proofs.Model.Given.{Given, Told}
 use Rattle.tp_laws.specs.Laws.{was_shut_down, was_stopped, NoIdleAfterShutdown, NoneIdling, is_tidy, is_ended}
 use Rattle.tp_laws.proofs.Fits.{fits_rank, rank_given}
 use Rattle.std.specs.Prelude.{count_by, ◌||◌}
-use Rattle.tp_words.proofs.WordsLists.{count_by-cons}
+use Rattle.tp_laws.proofs.WordsLists.{count_by-cons}
 
 -- a worker that takes nothing is idle only while the pool runs
 idle_runs : (c : Config) (h : List Entry) (d : Did) → Given c h d → takes_nothing d ≡ true → rank h ≡ 0

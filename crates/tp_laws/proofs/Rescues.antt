@@ -9,9 +9,9 @@ use Rattle.tp_record.specs.Lists.{count_from}
 use Rattle.tp_record.specs.Fields.{rank, queue, is_slot, slot_bound}
 use Rattle.tp_record.specs.State.{state}
 use Rattle.tp_record.specs.Step.{slot_count}
-use Rattle.tp_model.proofs.Given.{Told}
-use Rattle.tp_words.proofs.WordsTasks.{queued_agrees}
-use Rattle.tp_words.proofs.WordsSlots.{slot_agrees}
+use Rattle.tp_laws.proofs.Model.Given.{Told}
+use Rattle.tp_laws.proofs.WordsTasks.{queued_agrees}
+use Rattle.tp_laws.proofs.WordsSlots.{slot_agrees}
 use Rattle.tp_laws.specs.Laws.{RescueServes}
 use Rattle.tp_laws.proofs.Counting.{slots_counted_below}
 use Rattle.tp_laws.proofs.Seconds.{none_queued}

@@ -13,9 +13,9 @@ use Rattle.tp_record.specs.Lists.{said_of, is_among}
 use Rattle.tp_record.specs.Effects.{moved, reaches}
 use Rattle.tp_record.specs.Fields.{rank, submitted, place, swept, is_cancelled, is_queued_place, queue}
 use Rattle.tp_record.specs.Words.{accepts_offer, looks_again, owes_look}
-use Rattle.tp_model.proofs.Given.{Given, Told}
-use Rattle.tp_words.proofs.WordsTasks.{queued_agrees}
-use Rattle.tp_model.proofs.Queues.{among-queue}
+use Rattle.tp_laws.proofs.Model.Given.{Given, Told}
+use Rattle.tp_laws.proofs.WordsTasks.{queued_agrees}
+use Rattle.tp_laws.proofs.Model.Queues.{among-queue}
 use Rattle.tp_laws.specs.Laws.{SecondLookOwedAfterStop}
 use Rattle.tp_laws.proofs.Fits.{fits_place, fits_given, fits_rank, rank_given}
 

@@ -21,10 +21,10 @@ use Rattle.tp_record.specs.Fields.{rank, submitted, place, swept, is_cancelled, 
 use Rattle.tp_record.specs.Words.{accepts_offer, looks_again, owes_look}
 use Rattle.tp_record.specs.State.{state}
 use Rattle.tp_record.specs.Step.{slot_count, wants_worker}
-use Rattle.tp_model.proofs.Given.{Given, Told}
-use Rattle.tp_words.proofs.WordsTasks.{queued_agrees}
-use Rattle.tp_words.proofs.WordsSlots.{slot_agrees}
-use Rattle.tp_words.proofs.WordsLists.{count_by-cons}
+use Rattle.tp_laws.proofs.Model.Given.{Given, Told}
+use Rattle.tp_laws.proofs.WordsTasks.{queued_agrees}
+use Rattle.tp_laws.proofs.WordsSlots.{slot_agrees}
+use Rattle.tp_laws.proofs.WordsLists.{count_by-cons}
 use Rattle.tp_laws.specs.Laws.{HasGoodSizes, loses_worker, Served}
 use Rattle.tp_laws.proofs.Fits.{fits_place, fits_given}
 use Rattle.tp_laws.proofs.Seconds.{none_queued}

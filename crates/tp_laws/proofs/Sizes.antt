@@ -25,12 +25,12 @@ use Rattle.tp_record.specs.Fields.{queue, priority, slot_bound, reach, is_slot, 
 use Rattle.tp_record.specs.State.{State, state, row_at, stays_queued}
 use Rattle.tp_record.specs.Step.{slot_count, Legal}
 use Rattle.tp_record.specs.Words.{reserved_by, slot_numbers, is_slot_now}
-use Rattle.tp_model.proofs.Given.{Given, Told, HasQueueRoom}
-use Rattle.tp_model.proofs.Arranged.{line-length}
-use Rattle.tp_model.proofs.Told.{told_legal}
-use Rattle.tp_model.proofs.NextState.{next_is_state}
-use Rattle.tp_words.proofs.WordsQueue.{queue_words}
-use Rattle.tp_words.proofs.WordsSlots.{slot_agrees}
+use Rattle.tp_laws.proofs.Model.Given.{Given, Told, HasQueueRoom}
+use Rattle.tp_laws.proofs.Model.Arranged.{line-length}
+use Rattle.tp_laws.proofs.Model.Told.{told_legal}
+use Rattle.tp_laws.proofs.Model.NextState.{next_is_state}
+use Rattle.tp_laws.proofs.WordsQueue.{queue_words}
+use Rattle.tp_laws.proofs.WordsSlots.{slot_agrees}
 use Rattle.tp_laws.specs.Laws.{HasGoodSizes, slots_now, SlotsWithinMaximum, IsWithin, QueueWithinCapacity}
 use Rattle.tp_laws.proofs.Counting.{one, slot_count-more, slots_counted_below, count_same}
 

@@ -17,9 +17,9 @@ use Rattle.tp_record.specs.Effects.{reserves, holds, reaches}
 use Rattle.tp_record.specs.Fields.{rank, is_slot, slot_bound, slot_row, stage, task_in}
 use Rattle.tp_record.specs.State.{state}
 use Rattle.tp_record.specs.Step.{slot_count}
-use Rattle.tp_model.proofs.Given.{Given, Told}
-use Rattle.tp_model.proofs.Readings.{slot_below}
-use Rattle.tp_words.proofs.WordsSlots.{slot_agrees}
+use Rattle.tp_laws.proofs.Model.Given.{Given, Told}
+use Rattle.tp_laws.proofs.Model.Readings.{slot_below}
+use Rattle.tp_laws.proofs.WordsSlots.{slot_agrees}
 use Rattle.tp_laws.specs.Laws.{is_tidy, NoSlotsAfterTidy}
 use Rattle.tp_laws.proofs.Fits.{fits_rank, rank_given}
 

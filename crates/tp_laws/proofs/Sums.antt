@@ -10,11 +10,11 @@ use Rattle.tp_record.specs.Lists.{count_from}
 use Rattle.tp_record.specs.Fields.{task_row}
 use Rattle.tp_record.specs.State.{is_fate, fate_of}
 use Rattle.tp_record.specs.Words.{has_fate, submissions}
-use Rattle.tp_model.proofs.Given.{Told}
+use Rattle.tp_laws.proofs.Model.Given.{Told}
 use Rattle.std.specs.Prelude.{nat_lt}
-use Rattle.tp_words.proofs.WordsTasks.{is_submitted_below}
-use Rattle.tp_words.proofs.WordsSlots.{submissions_agrees}
-use Rattle.tp_words.proofs.WordsFates.{fate_agrees}
+use Rattle.tp_laws.proofs.WordsTasks.{is_submitted_below}
+use Rattle.tp_laws.proofs.WordsSlots.{submissions_agrees}
+use Rattle.tp_laws.proofs.WordsFates.{fate_agrees}
 use Rattle.tp_laws.specs.Laws.{NumberedInOrder, is_open, SubmissionsAddUp}
 
 abbrev one : Bool → ℕ

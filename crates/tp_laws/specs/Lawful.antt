@@ -9,7 +9,7 @@ use Rattle.tp_record.specs.declared.entries.Ask.{Ask}
 use Rattle.tp_record.specs.Fields.{rank}
 use Rattle.tp_record.specs.State.{state, due}
 use Rattle.tp_record.specs.Step.{step, IsFreeTo}
-use Rattle.tp_room.specs.Room.{lowers, is_owed}
+use Rattle.tp_laws.specs.Room.{lowers, is_owed}
 use Rattle.tp_laws.specs.Laws.{OnePlace, BeginsOnce, FinishesOnce, OneTaskASlot, FatesAreDisjoint, FateNeverChanges, GoneHasFate, FatedIsGone, NumberedInOrder, SubmissionsAddUp, QueuedOnce, FirstLeaves, QueueOrder, NoneBefore, FirstOfEquals, ListsThoseWaiting, LeastFirst, OffersInOrder, NothingBeginsAfterShutdown, StoppedNeverBegins, QueuedLateNeverBegins, NoIdleAfterShutdown, NoneIdling, TidyOnce, EndedOnce, NoSlotsAfterTidy, SecondLookOwedAfterStop, OwedAfterTidy, Served, SlotsWithinMaximum, QueueWithinCapacity}
 
 -- at each front of the record, the whole record among them, with the entries that come later

@@ -1,2 +1,7 @@
+pub mod Seats
+pub mod View
+pub mod Agrees
+pub mod IdleLine
+pub mod Room
 pub mod Laws
 pub mod Lawful

@@ -13,8 +13,8 @@ use Rattle.tp_record.specs.Effects.{cancels, is_plain, kinds_said, is_submit}
 use Rattle.tp_record.specs.Fields.{is_cancelled, kind, submitted}
 use Rattle.tp_record.specs.Lists.{said_of}
 use Rattle.tp_record.specs.Step.{Legal}
-use Rattle.tp_model.proofs.Given.{Given, Told}
-use Rattle.tp_model.proofs.Told.{told_legal}
+use Rattle.tp_laws.proofs.Model.Given.{Given, Told}
+use Rattle.tp_laws.proofs.Model.Told.{told_legal}
 use Rattle.tp_glance.specs.Word.{IsFrontOf}
 
 module _ (c : Config) where

@@ -13,10 +13,10 @@ use Rattle.tp_record.specs.Lists.{is_among}
 use Rattle.tp_record.specs.Left.{left, mark, MayAll, MayRelease}
 use Rattle.tp_record.specs.State.{State, state, task_at}
 use Rattle.tp_record.specs.Step.{Legal}
-use Rattle.tp_left.proofs.LeftOut.{may_more, left_length}
-use Rattle.tp_left.proofs.Marks.{known_marked, may_marked, may_unmarked, row_marked}
+use Rattle.tp_laws.proofs.Left.LeftOut.{may_more, left_length}
+use Rattle.tp_laws.proofs.Left.Marks.{known_marked, may_marked, may_unmarked, row_marked}
 use Rattle.tp_tasks.specs.Tasks.{row_of, AreReleased}
-use Rattle.tp_shapes.specs.View.{View, view}
+use Rattle.tp_laws.specs.View.{View, view}
 use Rattle.tp_parts.specs.declared.parts.Parts.{Parts}
 use Rattle.tp_parts.specs.Releases.{OwesNothing, IsKept}
 use Rattle.tp_parts.specs.Shows.{Views, Shows}

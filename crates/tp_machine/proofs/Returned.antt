@@ -16,14 +16,14 @@ use Rattle.tp_record.specs.Fields.{is_cancelled, is_queued, offered, place, prio
 use Rattle.tp_record.specs.Left.{mark, MayAll}
 use Rattle.tp_record.specs.State.{state, task_at}
 use Rattle.tp_record.specs.Step.{Legal}
-use Rattle.tp_model.proofs.Arranged.{AllPass, filter-passes, line-pass}
-use Rattle.tp_model.proofs.Given.{Given, IsAt}
-use Rattle.tp_model.proofs.Inversion.{present, queued_place}
-use Rattle.tp_model.proofs.Told.{sound_legal}
+use Rattle.tp_laws.proofs.Model.Arranged.{AllPass, filter-passes, line-pass}
+use Rattle.tp_laws.proofs.Model.Given.{Given, IsAt}
+use Rattle.tp_laws.proofs.Model.Inversion.{present, queued_place}
+use Rattle.tp_laws.proofs.Model.Told.{sound_legal}
 use Rattle.tp_queue.specs.Queues.{waiting_of}
 use Rattle.tp_tasks.specs.Tasks.{payload_of}
 use Rattle.tp_tasks.specs.declared.tasks.Tasks.{Tasks}
-use Rattle.tp_shapes.proofs.Invariants.{is_gone}
+use Rattle.tp_laws.proofs.Effects.Invariants.{is_gone}
 use Rattle.tp_parts.specs.declared.parts.Parts.{Parts}
 use Rattle.tp_parts.specs.Drained.{handed_back}
 use Rattle.tp_parts.specs.Shows.{Shows, numbers}

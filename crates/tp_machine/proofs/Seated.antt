@@ -7,11 +7,11 @@ use Rattle.tp_record.specs.declared.rows.SlotRow.{SlotRow}
 use Rattle.tp_record.specs.Fields.{slot_row}
 use Rattle.tp_record.specs.State.{state, slot_at}
 use Rattle.tp_record.specs.Words.{in_slot}
-use Rattle.tp_model.specs.Seats.{number_of, seat_of}
-use Rattle.tp_model.proofs.Readings.{slot_read}
-use Rattle.tp_model.proofs.Told.{told_legal}
-use Rattle.tp_words.proofs.WordsSlots.{seat_agrees}
-use Rattle.tp_left.proofs.Marks.{left_slots}
+use Rattle.tp_laws.specs.Seats.{number_of, seat_of}
+use Rattle.tp_laws.proofs.Model.Readings.{slot_read}
+use Rattle.tp_laws.proofs.Model.Told.{told_legal}
+use Rattle.tp_laws.proofs.WordsSlots.{seat_agrees}
+use Rattle.tp_laws.proofs.Left.Marks.{left_slots}
 use Rattle.tp_parts.specs.declared.parts.Parts.{Parts}
 use Rattle.tp_parts.specs.Terms.{terms}
 use Rattle.tp_machine.specs.Seen.{Seen, task_of_row}

@@ -11,7 +11,7 @@ use Rattle.tp_record.specs.Lists.{is_among}
 use Rattle.tp_record.specs.Left.{left}
 use Rattle.tp_record.specs.State.{State, state, task_at, no_row}
 use Rattle.tp_record.specs.Step.{is_known}
-use Rattle.tp_left.proofs.LeftOut.{left_out_of}
+use Rattle.tp_laws.proofs.Left.LeftOut.{left_out_of}
 use Rattle.tp_tasks.specs.declared.table.Task.{Task}
 use Rattle.tp_tasks.specs.Table.{row_of_task, promise_of_task}
 use Rattle.tp_tasks.specs.Tasks.{task_of, row_of, promise_of}

@@ -8,12 +8,12 @@ use Rattle.tp_record.specs.declared.entries.Did.{Did}
 use Rattle.tp_record.specs.Effects.{reserves}
 use Rattle.tp_record.specs.State.{State, state}
 use Rattle.tp_record.specs.Step.{Legal, IsFreeTo, fitting, within_room, is_free_for}
-use Rattle.tp_model.proofs.Given.{Given}
-use Rattle.tp_model.proofs.Told.{given_answer, sound_legal}
+use Rattle.tp_laws.proofs.Model.Given.{Given}
+use Rattle.tp_laws.proofs.Model.Told.{given_answer, sound_legal}
 use Rattle.tp_parts.specs.declared.parts.Parts.{Parts}
-use Rattle.tp_shapes.specs.View.{View, Effect}
+use Rattle.tp_laws.specs.View.{View, Effect}
 use Rattle.tp_record.specs.Left.{mark, MayAll}
-use Rattle.tp_left.proofs.Marks.{fits_whole}
+use Rattle.tp_laws.proofs.Left.Marks.{fits_whole}
 use Rattle.tp_parts.specs.Shows.{Shows}
 use Rattle.tp_parts.specs.Steps.{Fits, Accepts, Refuses}
 use Rattle.tp_parts.specs.Room.{TellsRoom}

@@ -14,19 +14,19 @@ use Rattle.tp_record.specs.Fields.{queue, place, is_queued, is_queued_place}
 use Rattle.tp_record.specs.Left.{mark, MayAll}
 use Rattle.tp_record.specs.State.{state, task_at}
 use Rattle.tp_record.specs.Step.{Legal}
-use Rattle.tp_model.proofs.NextState.{queue_known}
-use Rattle.tp_model.proofs.Queues.{among-queue, once-queue}
-use Rattle.tp_model.proofs.Readings.{tasks_counted}
-use Rattle.tp_model.proofs.Told.{told_legal, sound_legal}
-use Rattle.tp_shapes.proofs.Invariants.{is_gone, unended}
-use Rattle.tp_shapes.proofs.Next.{row_sound}
-use Rattle.tp_shapes.proofs.Controllers.Stop.{handed}
+use Rattle.tp_laws.proofs.Model.NextState.{queue_known}
+use Rattle.tp_laws.proofs.Model.Queues.{among-queue, once-queue}
+use Rattle.tp_laws.proofs.Model.Readings.{tasks_counted}
+use Rattle.tp_laws.proofs.Model.Told.{told_legal, sound_legal}
+use Rattle.tp_laws.proofs.Effects.Invariants.{is_gone, unended}
+use Rattle.tp_laws.proofs.Effects.Next.{row_sound}
+use Rattle.tp_laws.proofs.Effects.Controllers.Stop.{handed}
 use Rattle.tp_record.specs.declared.rows.TaskRow.{TaskRow}
 use Rattle.tp_queue.specs.declared.queues.Queue.{Queue}
 use Rattle.tp_queue.specs.Queues.{waiting_of}
 use Rattle.tp_tasks.specs.declared.tasks.Tasks.{Tasks}
 use Rattle.tp_tasks.specs.Tasks.{payload_of}
-use Rattle.tp_shapes.specs.View.{View, view, is_held, put}
+use Rattle.tp_laws.specs.View.{View, view, is_held, put}
 use Rattle.tp_parts.specs.declared.parts.Parts.{Parts}
 use Rattle.tp_parts.specs.Drained.{gone, gains, drained, handed_back, DrainsHead}
 use Rattle.tp_parts.specs.Payloads.{HandsOut}

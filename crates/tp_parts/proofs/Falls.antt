@@ -6,7 +6,7 @@ use Rattle.tp_record.specs.declared.entries.Did.{Did}
 use Rattle.tp_record.specs.State.{State}
 use Rattle.tp_slots.specs.Table.{is_at_take}
 use Rattle.tp_parts.specs.declared.parts.Parts.{Parts}
-use Rattle.tp_shapes.specs.View.{View, Effect}
+use Rattle.tp_laws.specs.View.{View, Effect}
 use Rattle.tp_parts.specs.Shows.{Shows}
 use Rattle.tp_parts.proofs.Sums.{sums_agree}
 

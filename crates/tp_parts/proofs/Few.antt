@@ -8,13 +8,13 @@ use Rattle.tp_record.specs.Fields.{is_live, submitted, queue}
 use Rattle.tp_record.specs.Lists.{is_among}
 use Rattle.tp_queue.specs.Queues.{waiting_of}
 use Rattle.tp_tasks.specs.Tasks.{submissions}
-use Rattle.tp_model.proofs.Given.{IsAt}
-use Rattle.tp_model.proofs.Places.{queue_at}
-use Rattle.tp_model.proofs.Queues.{once-queue, Contains-from_among}
-use Rattle.tp_model.proofs.Readings.{tasks_counted}
-use Rattle.tp_model.proofs.Short.{live_largest}
-use Rattle.tp_model.proofs.Told.{told_legal}
-use Rattle.tp_words.specs.Agrees.{is_gone_place}
+use Rattle.tp_laws.proofs.Model.Given.{IsAt}
+use Rattle.tp_laws.proofs.Model.Places.{queue_at}
+use Rattle.tp_laws.proofs.Model.Queues.{once-queue, Contains-from_among}
+use Rattle.tp_laws.proofs.Model.Readings.{tasks_counted}
+use Rattle.tp_laws.proofs.Model.Short.{live_largest}
+use Rattle.tp_laws.proofs.Model.Told.{told_legal}
+use Rattle.tp_laws.specs.Agrees.{is_gone_place}
 use Rattle.tp_laws.proofs.Completed.{AreAway, finished, finished_counted, finished_away}
 use Rattle.tp_laws.proofs.Sizes.{largest_few}
 use Rattle.tp_parts.specs.declared.parts.Parts.{Parts}

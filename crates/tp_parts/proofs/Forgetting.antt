@@ -21,10 +21,10 @@ use Rattle.tp_record.specs.Fields.{is_done, kind, is_cancelled, submitted, done,
 use Rattle.tp_record.specs.Left.{mark, MayRelease}
 use Rattle.tp_record.specs.State.{state, task_at, fate_of}
 use Rattle.tp_record.specs.Step.{Legal, is_known, is_of_group}
-use Rattle.tp_model.proofs.Fated.{gone_fated}
-use Rattle.tp_model.proofs.Readings.{tasks_counted, row_read}
-use Rattle.tp_model.proofs.Queues.{among-done, among-filter, among-queue}
-use Rattle.tp_model.proofs.Told.{told_legal}
+use Rattle.tp_laws.proofs.Model.Fated.{gone_fated}
+use Rattle.tp_laws.proofs.Model.Readings.{tasks_counted, row_read}
+use Rattle.tp_laws.proofs.Model.Queues.{among-done, among-filter, among-queue}
+use Rattle.tp_laws.proofs.Model.Told.{told_legal}
 use Rattle.tp_queue.specs.Queues.{waiting_of}
 use Rattle.tp_tasks.specs.Tasks.{row_of, done_of, IsListed}
 use Rattle.tp_parts.specs.declared.parts.Parts.{Parts}

@@ -6,7 +6,7 @@ use Rattle.std.proofs.lemmas.Bool.{eq-eqb, ne_eqb, eqb-true, cases_eq, cases_lt,
 use Rattle.std.proofs.lemmas.List.{length-append}
 use Rattle.std.proofs.lemmas.Map.Steps.{length-le_from_distinct_below}
 use Rattle.tp_record.specs.Lists.{is_among, IsOnce, without, count_from}
-use Rattle.tp_model.proofs.Queues.{among-append, among-filter, once-filter}
+use Rattle.tp_laws.proofs.Model.Queues.{among-append, among-filter, once-filter}
 use Rattle.tp_tasks.specs.declared.tasks.Tasks.{Tasks}
 use Rattle.tp_tasks.specs.declared.table.Task.{Task}
 use Rattle.tp_tasks.specs.Table.{row_of_task}

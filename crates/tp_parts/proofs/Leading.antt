@@ -10,9 +10,9 @@ use Rattle.tp_record.specs.Fields.{is_live}
 use Rattle.tp_record.specs.State.{State, state, next, due}
 use Rattle.tp_record.specs.Left.{mark, MayAll}
 use Rattle.tp_record.specs.Step.{Legal}
-use Rattle.tp_model.proofs.Given.{Given}
+use Rattle.tp_laws.proofs.Model.Given.{Given}
 use Rattle.tp_parts.specs.declared.parts.Parts.{Parts}
-use Rattle.tp_shapes.specs.View.{View, view, is_held, Reads, Effect}
+use Rattle.tp_laws.specs.View.{View, view, is_held, Reads, Effect}
 use Rattle.tp_parts.specs.Shows.{Views, Shows}
 use Rattle.tp_parts.specs.Tied.{IsTied}
 use Rattle.tp_parts.specs.Steps.{Stands, Fits, Leads}

@@ -14,8 +14,8 @@ use Rattle.tp_record.specs.Fields.{is_live}
 use Rattle.tp_record.specs.Left.{left, mark, MayAll}
 use Rattle.tp_record.specs.State.{State, state, task_at, slot_at, fated}
 use Rattle.tp_record.specs.Step.{Legal, is_known, done_of, is_of_group}
-use Rattle.tp_left.proofs.LeftOut.{left_out_of, left_length, left_row, counts_legal, due_legal}
-use Rattle.tp_left.proofs.Marks.{known_marked, row_marked, left_else}
+use Rattle.tp_laws.proofs.Left.LeftOut.{left_out_of, left_length, left_row, counts_legal, due_legal}
+use Rattle.tp_laws.proofs.Left.Marks.{known_marked, row_marked, left_else}
 use Rattle.tp_parts.specs.declared.parts.Parts.{Parts}
 use Rattle.tp_parts.specs.Shows.{Shows}
 

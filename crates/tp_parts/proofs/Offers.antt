@@ -22,7 +22,7 @@ use Rattle.tp_tasks.specs.Table.{row_of_task, promise_of_task, payload_of_task}
 use Rattle.tp_tasks.specs.Tasks.{task_of, row_of, promise_of, number_of, payload_of, KeepsOthers}
 use Rattle.tp_parts.specs.declared.parts.Parts.{Parts}
 use Rattle.tp_parts.proofs.Keeping.{fewer_but, most_fewer, most_more}
-use Rattle.tp_shapes.specs.View.{View, is_held}
+use Rattle.tp_laws.specs.View.{View, is_held}
 use Rattle.tp_parts.specs.Shows.{Views, numbers}
 use Rattle.tp_parts.specs.Tied.{AreKeyed, IsTied, is_before, is_waiting, priority_in, waits, KeepsPromise}
 use Rattle.tp_parts.proofs.Joins.{Keyed, keyed_all}

@@ -10,13 +10,13 @@ use Rattle.tp_types.specs.declared.tasks.Place.TheVariants as at
 use Rattle.tp_record.specs.declared.rows.TaskRow.{TaskRow}
 use Rattle.tp_record.specs.Lists.{is_among, without}
 use Rattle.tp_record.specs.Fields.{is_queued_place}
-use Rattle.tp_model.proofs.Queues.{among-filter, once-filter, Contains-from_among, among_from_Contains}
+use Rattle.tp_laws.proofs.Model.Queues.{among-filter, once-filter, Contains-from_among, among_from_Contains}
 use Rattle.tp_queue.specs.declared.queues.Queue.{Queue}
 use Rattle.tp_tasks.specs.Homes.{is_purgeable, passes}
 use Rattle.tp_tasks.specs.Tasks.{row_of, purgeable_of}
 use Rattle.tp_tasks.proofs.Away.{passing_counted}
-use Rattle.tp_shapes.specs.View.{View, is_held, put}
-use Rattle.tp_shapes.proofs.Controllers.Purge.{purged}
+use Rattle.tp_laws.specs.View.{View, is_held, put}
+use Rattle.tp_laws.proofs.Effects.Controllers.Purge.{purged}
 use Rattle.tp_parts.specs.declared.parts.Parts.{Parts}
 use Rattle.tp_parts.specs.Purges.{HoldsQueued}
 use Rattle.tp_parts.specs.Shows.{Views, numbers}

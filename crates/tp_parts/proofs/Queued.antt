@@ -13,7 +13,7 @@ use Rattle.tp_record.specs.Lists.{without}
 use Rattle.tp_queue.specs.declared.queues.Queue.{Queue}
 use Rattle.tp_queue.specs.Queues.{waiting_of}
 use Rattle.tp_queue.specs.Waiting.{Waiting, place_key}
-use Rattle.tp_shapes.specs.View.{View}
+use Rattle.tp_laws.specs.View.{View}
 use Rattle.tp_parts.specs.declared.parts.Parts.{Parts}
 use Rattle.tp_parts.proofs.Keeping.{most_more}
 use Rattle.tp_parts.specs.Shows.{Views, numbers}

@@ -17,7 +17,7 @@ use Rattle.tp_tasks.specs.declared.table.Task.{Task}
 use Rattle.tp_tasks.specs.declared.tasks.Tasks.{Tasks}
 use Rattle.tp_tasks.specs.Table.{row_of_task, number_of_task, payload_of_task, promise_of_task}
 use Rattle.tp_tasks.specs.Tasks.{task_of, row_of, done_of, fated_of, submissions, KeepsOthers}
-use Rattle.tp_shapes.specs.View.{View, is_held, put}
+use Rattle.tp_laws.specs.View.{View, is_held, put}
 use Rattle.tp_parts.specs.declared.parts.Parts.{Parts}
 use Rattle.tp_parts.proofs.Keeping.{fewer_but, most_fewer}
 use Rattle.tp_parts.specs.Shows.{Views}

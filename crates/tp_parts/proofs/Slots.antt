@@ -7,9 +7,9 @@ use Rattle.tp_record.specs.Fields.{idling, idled, is_idle}
 use Rattle.tp_record.specs.Lists.{without, is_among}
 use Rattle.tp_record.specs.State.{state}
 use Rattle.tp_record.specs.Step.{slot_count}
-use Rattle.tp_model.proofs.Queues.{among-filter}
-use Rattle.tp_shapes.proofs.Lists.{without_absent}
-use Rattle.tp_shapes.specs.View.{View, put}
+use Rattle.tp_laws.proofs.Model.Queues.{among-filter}
+use Rattle.tp_laws.proofs.Effects.Lists.{without_absent}
+use Rattle.tp_laws.specs.View.{View, put}
 use Rattle.tp_parts.specs.declared.parts.Parts.{Parts}
 use Rattle.tp_parts.specs.Shows.{Views}
 use Rattle.tp_parts.specs.Steps.{Stands}

@@ -15,23 +15,23 @@ use Rattle.tp_record.specs.Effects.{reserves}
 use Rattle.tp_record.specs.Lists.{is_among}
 use Rattle.tp_record.specs.Fields.{rank, submitted, is_cancelled, owes_second}
 use Rattle.tp_record.specs.Left.{mark, MayAll, asked, is_one_of}
-use Rattle.tp_left.proofs.Marks.{fits_whole}
+use Rattle.tp_laws.proofs.Left.Marks.{fits_whole}
 use Rattle.tp_record.specs.State.{State, state, next, slot_at, task_at, due}
 use Rattle.tp_record.specs.declared.rows.TaskRow.{TaskRow}
 use Rattle.tp_record.specs.Step.{Gives, Legal, fitting, within_room, leaves_room}
-use Rattle.tp_model.proofs.Weak.{within, has_room}
-use Rattle.tp_model.proofs.Given.{Given, IsAt, HasRow}
-use Rattle.tp_model.proofs.Readings.{tasks_counted, row_read, slot_read}
-use Rattle.tp_model.proofs.Told.{given_answer, sound_legal}
-use Rattle.tp_room.specs.Room.{lowers}
-use Rattle.tp_room.proofs.OwedLaws.{owed_falls, room_is_enough}
+use Rattle.tp_laws.proofs.Model.Weak.{within, has_room}
+use Rattle.tp_laws.proofs.Model.Given.{Given, IsAt, HasRow}
+use Rattle.tp_laws.proofs.Model.Readings.{tasks_counted, row_read, slot_read}
+use Rattle.tp_laws.proofs.Model.Told.{given_answer, sound_legal}
+use Rattle.tp_laws.specs.Room.{lowers}
+use Rattle.tp_laws.proofs.OwedLaws.{owed_falls, room_is_enough}
 use Rattle.tp_parts.specs.declared.parts.Parts.{Parts}
 use Rattle.tp_tasks.specs.declared.tasks.Tasks.{Tasks}
 use Rattle.tp_tasks.specs.Tasks.{row_of}
-use Rattle.tp_shapes.specs.View.{View, Effect}
+use Rattle.tp_laws.specs.View.{View, Effect}
 use Rattle.tp_parts.specs.Tied.{is_before, is_waiting, IsTied}
-use Rattle.tp_shapes.proofs.Invariants.{is_gone}
-use Rattle.tp_shapes.proofs.Facts.{open_row}
+use Rattle.tp_laws.proofs.Effects.Invariants.{is_gone}
+use Rattle.tp_laws.proofs.Effects.Facts.{open_row}
 use Rattle.tp_parts.specs.Shows.{Shows}
 use Rattle.tp_parts.specs.Steps.{Stands, Fits, Accepts, IsFitting}
 use Rattle.tp_parts.specs.Terms.{terms}

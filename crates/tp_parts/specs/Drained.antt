@@ -11,7 +11,7 @@ use Rattle.tp_record.specs.State.{is_fate}
 use Rattle.tp_queue.specs.Queues.{waiting_of}
 use Rattle.tp_tasks.specs.declared.tasks.Tasks.{Tasks}
 use Rattle.tp_tasks.specs.Tasks.{payload_of, promise_of}
-use Rattle.tp_shapes.specs.View.{View, is_held, put}
+use Rattle.tp_laws.specs.View.{View, is_held, put}
 use Rattle.tp_parts.specs.declared.parts.Parts.{Parts}
 use Rattle.tp_parts.specs.Payloads.{HandsOut}
 use Rattle.tp_parts.specs.Shows.{Views}

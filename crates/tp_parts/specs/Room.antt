@@ -4,7 +4,7 @@ use Rattle.tp_record.specs.declared.entries.Did.{Did}
 use Rattle.tp_record.specs.State.{State}
 use Rattle.tp_record.specs.Step.{leaves_room}
 use Rattle.tp_parts.specs.declared.parts.Parts.{Parts}
-use Rattle.tp_shapes.specs.View.{View, Effect}
+use Rattle.tp_laws.specs.View.{View, Effect}
 use Rattle.tp_parts.specs.Shows.{Shows}
 use Rattle.tp_parts.specs.Terms.{terms}
 

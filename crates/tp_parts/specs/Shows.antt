@@ -9,7 +9,7 @@ use Rattle.tp_record.specs.State.{State, due, slot_at}
 use Rattle.tp_queue.specs.Queues.{waiting_of}
 use Rattle.tp_tasks.specs.Tasks.{row_of, done_of, fated_of, submissions}
 use Rattle.tp_parts.specs.declared.parts.Parts.{Parts}
-use Rattle.tp_shapes.specs.View.{View, view, is_held}
+use Rattle.tp_laws.specs.View.{View, view, is_held}
 
 -- the tasks that wait, by their numbers
 abbrev pub numbers : List (TaskId × ℕ) → List ℕ

@@ -3,7 +3,7 @@
 ghost use Rattle.std.specs.Prelude.{ℕ, ◌≡◌, ◌+◌, ◌≤◌, ◌++◌, [], length, vec_len, vec_capacity, IfSome, IfNone};
 ghost use Rattle.tp_types.specs.declared.configs.Config.{Config};
 ghost use Rattle.tp_queue.specs.Queues.{waiting_of};
-ghost use Rattle.tp_shapes.specs.View.{View};
+ghost use Rattle.tp_laws.specs.View.{View};
 ghost use Rattle.tp_parts.specs.Drained.{CanDrain, DrainsHead, HandsOutAll, drained as after_drain, handed_back};
 ghost use Rattle.tp_parts.specs.Shows.{Views, numbers};
 ghost use Rattle.tp_parts.specs.Tied.{IsTied};

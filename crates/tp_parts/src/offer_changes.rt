@@ -8,7 +8,7 @@ ghost use Rattle.tp_record.specs.declared.rows.TaskRow.{TaskRow};
 ghost use Rattle.tp_record.specs.Lists.{join_line, without};
 ghost use Rattle.tp_queue.specs.Queues.{waiting_of};
 ghost use Rattle.tp_tasks.specs.Tasks.{row_of};
-ghost use Rattle.tp_shapes.specs.View.{View, put};
+ghost use Rattle.tp_laws.specs.View.{View, put};
 ghost use Rattle.tp_parts.specs.Offers.{HasRoom};
 ghost use Rattle.tp_parts.specs.Payloads.{Keeps};
 ghost use Rattle.tp_parts.specs.Shows.{Views, numbers};

@@ -7,7 +7,7 @@ ghost use Rattle.tp_record.specs.declared.rows.TaskRow.{TaskRow};
 ghost use Rattle.tp_record.specs.State.{fate_of};
 ghost use Rattle.tp_queue.specs.Queues.{waiting_of};
 ghost use Rattle.tp_tasks.specs.Tasks.{task_of, row_of, IsListed, KeepsOthers};
-ghost use Rattle.tp_shapes.specs.View.{View};
+ghost use Rattle.tp_laws.specs.View.{View};
 ghost use Rattle.tp_parts.specs.Releases.{OwesNothing};
 ghost use Rattle.tp_parts.specs.Shows.{Views};
 ghost use Rattle.tp_parts.specs.Tied.{IsTied};

@@ -10,7 +10,7 @@ ghost use Rattle.tp_record.specs.State.{fate_of, is_fate};
 ghost use Rattle.tp_record.specs.Step.{is_of_group};
 ghost use Rattle.tp_tasks.specs.Homes.{is_purgeable, passes};
 ghost use Rattle.tp_tasks.specs.Tasks.{row_of, done_of, purgeable_of};
-ghost use Rattle.tp_shapes.specs.View.{View, put};
+ghost use Rattle.tp_laws.specs.View.{View, put};
 ghost use Rattle.tp_parts.specs.Payloads.{Keeps, HandsOut};
 ghost use Rattle.tp_parts.specs.Purges.{HoldsQueued};
 ghost use Rattle.tp_parts.specs.Shows.{Views};

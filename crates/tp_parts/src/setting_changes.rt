@@ -5,7 +5,7 @@ ghost use Rattle.tp_types.specs.declared.configs.Config.{Config};
 ghost use Rattle.tp_types.specs.RunState.{state_rank};
 ghost use Rattle.tp_record.specs.State.{State};
 ghost use Rattle.tp_slots.specs.Table.{woken_row};
-ghost use Rattle.tp_shapes.specs.View.{View};
+ghost use Rattle.tp_laws.specs.View.{View};
 ghost use Rattle.tp_parts.specs.Shows.{Views, Shows};
 ghost use Rattle.tp_parts.specs.Tied.{IsTied};
 

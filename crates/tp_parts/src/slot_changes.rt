@@ -7,7 +7,7 @@ ghost use Rattle.tp_record.specs.Lists.{without};
 ghost use Rattle.tp_record.specs.State.{slot_at};
 ghost use Rattle.tp_record.specs.Step.{is_reserved};
 ghost use Rattle.tp_slots.specs.Table.{is_awake, is_reserved_row, working_row};
-ghost use Rattle.tp_shapes.specs.View.{View, put};
+ghost use Rattle.tp_laws.specs.View.{View, put};
 ghost use Rattle.tp_parts.specs.Shows.{Views};
 ghost use Rattle.tp_parts.specs.Tied.{IsTied};
 

@@ -6,7 +6,7 @@ ghost use Rattle.tp_types.specs.declared.refusals.PoolError.TheVariants as refus
 ghost use Rattle.tp_record.specs.declared.rows.TaskRow.{TaskRow};
 ghost use Rattle.tp_record.specs.State.{State, no_row};
 ghost use Rattle.tp_tasks.specs.Tasks.{row_of, submissions};
-ghost use Rattle.tp_shapes.specs.View.{View, put};
+ghost use Rattle.tp_laws.specs.View.{View, put};
 ghost use Rattle.tp_parts.specs.Memory.{HasMemory};
 ghost use Rattle.tp_parts.specs.Payloads.{Keeps, PutsIn};
 ghost use Rattle.tp_parts.specs.Shows.{Views, Shows};

@@ -7,7 +7,7 @@ ghost use Rattle.tp_record.specs.declared.rows.TaskRow.{TaskRow};
 ghost use Rattle.tp_record.specs.State.{is_fate};
 ghost use Rattle.tp_record.specs.Step.{is_of_group};
 ghost use Rattle.tp_tasks.specs.Tasks.{row_of, payload_of, promise_of};
-ghost use Rattle.tp_shapes.specs.View.{View, put};
+ghost use Rattle.tp_laws.specs.View.{View, put};
 ghost use Rattle.tp_parts.specs.Payloads.{Keeps, HandsOut};
 ghost use Rattle.tp_parts.specs.Shows.{Views};
 ghost use Rattle.tp_parts.specs.Tied.{IsTied, is_before, is_waiting};

@@ -285,10 +285,6 @@ pub answer_gives : (c : Config) (r : Answer) (s : State) (a : Ask) → IsAnswer 
 answer_gives c (Ok d) s a answered = gives_at_least c s a d answered
 answer_gives c (Err e) s a answered = tt
 
--- an answer over a snapshot, at a number of the caller's choice
-pub answer_at_number : (c : Config) (r : Answer) (p s : State) (w : ℕ) (a : Ask) → p ≡ s → IsAnswer ⊤ r (steps.step c p w a) → IsAnswer ⊤ r (steps.step c s w a)
-answer_at_number c r p s w a same answered = let P : State → Type 0 = λ q. IsAnswer ⊤ r (steps.step c q w a) in subst P same answered
-
 -- each entry that a program answers at a number that the step may use is one that a record may have
 pub answer_at_gives : (c : Config) (r : Answer) (s : State) (w : ℕ) (a : Ask) → steps.IsFreeTo s a w → IsAnswer ⊤ r (steps.step c s w a) → IfOk r (λ d. Gives c s a d)
 answer_at_gives c (Ok d) s w a free answered = gives_at_free_to c s w a d free answered

@@ -29,27 +29,6 @@ pub fn free_slot(state: &Snapshot) -> SlotId
     SlotId(free)
 }
 
-/// The answer to an ask after these entries of a pool that was made with `config`. A slot that is made gets the number
-/// `w`, which is no slot, or is freed by the ask. The step gives each entry that is answered: under another slot's number
-/// an answer would be no entry of any record.
-pub fn answer_at(
-    alloc: Global,
-    config: &Config,
-    entries: &[Entry],
-    w: SlotId,
-    ask: Ask,
-) -> Result<Did, PoolError>
-    requires short { length entries.now ≤ 1048576 }
-    requires free { steps.IsFreeTo (state config.now (reverse entries.now)) ask w.0 }
-    ensures answer { IsAnswer ⊤ result (steps.step config.now (state config.now (reverse entries.now)) w.0 ask) }
-    ensures gives { IfOk result (λ d. steps.Gives config.now (state config.now (reverse entries.now)) ask d) }
-{
-    match snapshot(alloc, config, entries) {
-        Ok(now) => step(alloc, config, &now, w, ask),
-        Err(error) => Err(error),
-    }
-}
-
 /// The answer to an ask after these entries of a pool that was made with `config`, where a slot that is made gets the
 /// least number that is no slot. The step gives each entry that is answered.
 pub fn answer(alloc: Global, config: &Config, entries: &[Entry], ask: Ask) -> Result<Did, PoolError>

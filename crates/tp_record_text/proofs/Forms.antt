@@ -26,8 +26,8 @@ use Rattle.tp_record.specs.Effects.{Outcome, is_plain, reserves}
 use Rattle.tp_record.specs.Fields.{is_idle_stage, is_queued_place}
 use Rattle.tp_record.specs.State.{State, slot_at, state, task_at}
 use Rattle.tp_record.specs.Step.{Answer, Legal, allows, begin_answer, begin_task, caller_end_answer, cancel_answer, done_of, end_answer, end_task, fail_answer, first_done, fitting, grow_answer, hand_answer, held_answer, is_refused_place, is_reserved, leave_answer, look_answer, next_of_queue, of_row, of_slot, of_task, offer_answer, offer_to, open_answer, second_answer, slot_count, take_answer, take_next, timed_out, verdict_answer, wants_worker, is_known}
-use Rattle.tp_model.proofs.Weak.{within}
-use Rattle.tp_room.proofs.OwedLaws.{room_is_enough}
+use Rattle.tp_laws.proofs.Model.Weak.{within}
+use Rattle.tp_laws.proofs.OwedLaws.{room_is_enough}
 use Rattle.tp_text.specs.Fits.{Fits32, Fits64}
 use Rattle.tp_text.specs.Pools.{FitsQueue}
 use Rattle.tp_record_text.specs.declared.versions.Version.TheVariants as version

@@ -11,8 +11,8 @@ use Rattle.tp_record.specs.Effects.{reserves}
 use Rattle.tp_record.specs.Left.{left, asked, is_one_of, MayAll}
 use Rattle.tp_record.specs.State.{state, next}
 use Rattle.tp_record.specs.Step.{Gives, IsRefused, Legal, RunFrom}
-use Rattle.tp_model.proofs.NextState.{next_is_state}
-use Rattle.tp_left.proofs.LeftOut.{may_legal, may_more}
+use Rattle.tp_laws.proofs.Model.NextState.{next_is_state}
+use Rattle.tp_laws.proofs.Left.LeftOut.{may_legal, may_more}
 use Rattle.tp_machine.proofs.Released.{gives_unnamed, gives_whole, never_named, refused_named, refused_whole}
 use Rattle.tp_runs.specs.declared.tallies.TallyAsk.{TallyAsk}
 use Rattle.tp_runs.specs.declared.tallies.TallyAsk.TheVariants as asks

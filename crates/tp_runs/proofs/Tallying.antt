@@ -15,8 +15,8 @@ use Rattle.tp_record.specs.declared.recorders.Tally.{Tally}
 use Rattle.tp_record.specs.Left.{left, MayRelease, MayAll}
 use Rattle.tp_record.specs.State.{State, state, counts as counts_of}
 use Rattle.tp_record.specs.Step.{Legal}
-use Rattle.tp_left.proofs.LeftOut.{counts_legal}
-use Rattle.tp_left.proofs.Marks.{left_else}
+use Rattle.tp_laws.proofs.Left.LeftOut.{counts_legal}
+use Rattle.tp_laws.proofs.Left.Marks.{left_else}
 use Rattle.tp_tasks.specs.declared.table.Task.{Task}
 use Rattle.tp_tasks.specs.declared.tasks.Tasks.{Tasks}
 use Rattle.tp_tasks.specs.Table.{promise_of_task}

@@ -12,9 +12,9 @@ use Rattle.tp_types.specs.Queues.{is_open}
 use Rattle.tp_record.specs.Lists.{is_among}
 use Rattle.tp_record.specs.Fields.{queue, is_queued_place}
 use Rattle.tp_queue.specs.Queues.{waiting_of}
-use Rattle.tp_model.proofs.Given.{HasQueueRoom, IsAt}
-use Rattle.tp_model.proofs.Places.{queue_at}
-use Rattle.tp_model.proofs.Queues.{once-queue, among-queue, Contains-from_among}
+use Rattle.tp_laws.proofs.Model.Given.{HasQueueRoom, IsAt}
+use Rattle.tp_laws.proofs.Model.Places.{queue_at}
+use Rattle.tp_laws.proofs.Model.Queues.{once-queue, among-queue, Contains-from_among}
 use Rattle.tp_tasks.specs.Tasks.{row_of}
 use Rattle.tp_parts.specs.declared.parts.Parts.{Parts}
 use Rattle.tp_parts.specs.Offers.{RoomBy, HasRoom}

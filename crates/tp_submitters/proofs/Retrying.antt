@@ -4,8 +4,8 @@ use Rattle.std.proofs.lemmas.Bool.{ne_eqb}
 use Rattle.tp_types.specs.declared.tasks.Place.{Place}
 use Rattle.tp_record.specs.declared.entries.Entry.{Entry}
 use Rattle.tp_record.specs.Fields.{place}
-use Rattle.tp_model.proofs.Given.{IsAt}
-use Rattle.tp_shapes.specs.View.{put}
+use Rattle.tp_laws.proofs.Model.Given.{IsAt}
+use Rattle.tp_laws.specs.View.{put}
 
 -- tasks in different places are two tasks
 pub places_apart : (h : List Entry) (t u : ℕ) (a b : Place) → IsAt h t a → IsAt h u b → (a ≡ b → ⊥) → t ≡ u → ⊥

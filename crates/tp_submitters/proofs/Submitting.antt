@@ -15,10 +15,10 @@ use Rattle.tp_record.specs.declared.entries.Looked.TheVariants as looked
 use Rattle.tp_record.specs.Effects.{reserved_looked}
 use Rattle.tp_record.specs.State.{State, state, slot_at}
 use Rattle.tp_record.specs.Step.{Legal, look, slot_count, fitting}
-use Rattle.tp_model.proofs.Given.{Given}
+use Rattle.tp_laws.proofs.Model.Given.{Given}
 use Rattle.tp_tasks.specs.Tasks.{submissions}
-use Rattle.tp_shapes.specs.View.{View, Effect}
-use Rattle.tp_shapes.proofs.Submitters.Submit.{submit_reserve, submit_queue, submit_refuse}
+use Rattle.tp_laws.specs.View.{View, Effect}
+use Rattle.tp_laws.proofs.Effects.Submitters.Submit.{submit_reserve, submit_queue, submit_refuse}
 use Rattle.tp_parts.specs.declared.parts.Parts.{Parts}
 use Rattle.tp_parts.specs.Shows.{Shows}
 use Rattle.tp_parts.specs.Steps.{Stands, Fits}

@@ -21,13 +21,13 @@ use Rattle.tp_record.specs.Effects.{is_retry}
 use Rattle.tp_record.specs.Fields.{rank, submitted, retries, queue}
 use Rattle.tp_record.specs.State.{State, state}
 use Rattle.tp_record.specs.Step.{Legal, leaves_room, within_room, retry_of, retried, rule, allows, is_refused_place, verdict_answer}
-use Rattle.tp_model.proofs.Given.{IsAt}
-use Rattle.tp_model.proofs.Readings.{row_read, tasks_counted}
-use Rattle.tp_model.proofs.Inversion.{head_at}
-use Rattle.tp_model.proofs.Told.{sound_legal}
+use Rattle.tp_laws.proofs.Model.Given.{IsAt}
+use Rattle.tp_laws.proofs.Model.Readings.{row_read, tasks_counted}
+use Rattle.tp_laws.proofs.Model.Inversion.{head_at}
+use Rattle.tp_laws.proofs.Model.Told.{sound_legal}
 use Rattle.tp_tasks.specs.Tasks.{row_of}
-use Rattle.tp_shapes.specs.View.{View, Effect}
-use Rattle.tp_shapes.proofs.Submitters.Verdict.{verdict_retry, verdict_retry_drop}
+use Rattle.tp_laws.specs.View.{View, Effect}
+use Rattle.tp_laws.proofs.Effects.Submitters.Verdict.{verdict_retry, verdict_retry_drop}
 use Rattle.tp_parts.specs.declared.parts.Parts.{Parts}
 use Rattle.tp_parts.specs.Room.{TellsRoom}
 use Rattle.tp_parts.specs.Shows.{Shows}

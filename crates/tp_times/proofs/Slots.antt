@@ -14,10 +14,10 @@ use Rattle.tp_record.specs.Fields.{slot_rows}
 use Rattle.tp_record.specs.Lists.{is_it}
 use Rattle.tp_record.specs.State.{State, state, slot_at, slot_after}
 use Rattle.tp_record.specs.Step.{Legal}
-use Rattle.tp_model.proofs.Told.{given_legal}
-use Rattle.tp_shapes.proofs.Names.{is_wide, seats, replaces, other_slot}
-use Rattle.tp_model.proofs.NextState.{next_is_state}
-use Rattle.tp_shapes.proofs.Next.{slot_next}
+use Rattle.tp_laws.proofs.Model.Told.{given_legal}
+use Rattle.tp_laws.proofs.Effects.Names.{is_wide, seats, replaces, other_slot}
+use Rattle.tp_laws.proofs.Model.NextState.{next_is_state}
+use Rattle.tp_laws.proofs.Effects.Next.{slot_next}
 use Rattle.tp_times.specs.declared.times.SlotTime.{SlotTime}
 use Rattle.tp_times.specs.declared.times.Times.{Times}
 use Rattle.tp_times.specs.Since.{Timed, latest, turning, slot_time}

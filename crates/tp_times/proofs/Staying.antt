@@ -15,9 +15,9 @@ use Rattle.tp_record.specs.Effects.{is_submit}
 use Rattle.tp_record.specs.Fields.{place, submitted, swept, sweeps, is_cancelled}
 use Rattle.tp_record.specs.Lists.{is_it, said_of}
 use Rattle.tp_record.specs.Step.{Legal}
-use Rattle.tp_model.proofs.Told.{given_legal}
-use Rattle.tp_model.proofs.Given.{Given}
-use Rattle.tp_shapes.proofs.Names.{drops}
+use Rattle.tp_laws.proofs.Model.Told.{given_legal}
+use Rattle.tp_laws.proofs.Model.Given.{Given}
+use Rattle.tp_laws.proofs.Effects.Names.{drops}
 use Rattle.tp_times.specs.declared.times.Since.{Since}
 use Rattle.tp_times.specs.declared.times.TaskTime.{TaskTime}
 use Rattle.tp_times.specs.Since.{latest, moved, no_time, moved_at, submitted_at, task_times, task_since, front}

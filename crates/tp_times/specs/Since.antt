@@ -12,7 +12,7 @@ use Rattle.tp_record.specs.Fields.{now, place, slot_rows}
 use Rattle.tp_record.specs.Lists.{is_it}
 use Rattle.tp_record.specs.State.{slot_at}
 use Rattle.tp_record.specs.Words.{wakes}
-use Rattle.tp_shapes.proofs.Names.{names, drops, seats, replaces}
+use Rattle.tp_laws.proofs.Effects.Names.{names, drops, seats, replaces}
 use Rattle.tp_auditor.specs.Changed.{change_at}
 use Rattle.tp_times.specs.declared.times.Since.{Since}
 use Rattle.tp_times.specs.declared.times.TaskTime.{TaskTime}

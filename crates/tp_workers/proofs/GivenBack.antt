@@ -13,11 +13,11 @@ use Rattle.tp_record.specs.declared.rows.Stage.TheVariants as stages
 use Rattle.tp_record.specs.State.{state, task_at, slot_at}
 use Rattle.tp_record.specs.Step.{Legal, slot_count}
 use Rattle.tp_slots.specs.Table.{is_reserved_row}
-use Rattle.tp_model.proofs.Given.{Given, IsAt, HasRow, ReservedWith}
-use Rattle.tp_shapes.specs.View.{view, Effect, put}
-use Rattle.tp_shapes.proofs.Rows.{moved_to, for_core, for_maximum}
-use Rattle.tp_shapes.proofs.Workers.Fail.{fail_bare, fail_refuse_core, fail_refuse_maximum}
-use Rattle.tp_shapes.proofs.Workers.Open.{open_given_up, open_refuse_core, open_refuse_maximum}
+use Rattle.tp_laws.proofs.Model.Given.{Given, IsAt, HasRow, ReservedWith}
+use Rattle.tp_laws.specs.View.{view, Effect, put}
+use Rattle.tp_laws.proofs.Effects.Rows.{moved_to, for_core, for_maximum}
+use Rattle.tp_laws.proofs.Effects.Workers.Fail.{fail_bare, fail_refuse_core, fail_refuse_maximum}
+use Rattle.tp_laws.proofs.Effects.Workers.Open.{open_given_up, open_refuse_core, open_refuse_maximum}
 use Rattle.tp_workers.specs.Freed.{GivesBack, TurnsAway, first_weight}
 use Rattle.tp_workers.proofs.Reserved.{IsFor}
 

@@ -4,8 +4,8 @@ use Rattle.tp_types.specs.declared.ids.TaskId.{TaskId}
 use Rattle.tp_record.specs.declared.rows.SlotRow.{SlotRow}
 use Rattle.tp_record.specs.declared.rows.Stage.TheVariants as stages
 use Rattle.tp_record.specs.State.{slot_at}
-use Rattle.tp_model.proofs.Given.{ReservedWith}
-use Rattle.tp_shapes.proofs.Rows.{for_core, for_maximum, bare}
+use Rattle.tp_laws.proofs.Model.Given.{ReservedWith}
+use Rattle.tp_laws.proofs.Effects.Rows.{for_core, for_maximum, bare}
 use Rattle.tp_parts.specs.declared.parts.Parts.{Parts}
 use Rattle.tp_parts.specs.Steps.{Stands}
 use Rattle.tp_parts.proofs.Standing.{seat_here}

@@ -4,8 +4,8 @@ use Rattle.std.proofs.lemmas.Bool.{false≢true}
 use Rattle.tp_record.specs.declared.rows.Stage.TheVariants as stages
 use Rattle.tp_record.specs.Fields.{is_idle_row}
 use Rattle.tp_record.specs.State.{slot_at}
-use Rattle.tp_model.proofs.Given.{Waits}
-use Rattle.tp_shapes.proofs.Rows.{at_take, idle_since}
+use Rattle.tp_laws.proofs.Model.Given.{Waits}
+use Rattle.tp_laws.proofs.Effects.Rows.{at_take, idle_since}
 use Rattle.tp_parts.specs.declared.parts.Parts.{Parts}
 use Rattle.tp_parts.specs.Steps.{Stands}
 use Rattle.tp_parts.proofs.Standing.{seat_here}

@@ -1,14 +1,14 @@
 use Rattle.std.proofs.Common.{true, suc, arith, ap, ◌∙◌, Some}
 use Rattle.tp_record.specs.declared.entries.Ask.TheVariants as ask
 use Rattle.tp_record.specs.declared.entries.Did.TheVariants as did
-use Rattle.tp_shapes.proofs.Controllers.Cancel.{cancel}
+use Rattle.tp_laws.proofs.Effects.Controllers.Cancel.{cancel}
 use Rattle.tp_parts.proofs.Ties.{tied_more}
 use Rattle.tp_parts.proofs.Standing.{few_steps, given_here, row_here, named_here, fits_accepted}
 use Rattle.tp_parts.proofs.Leading.{leads_by}
 use Rattle.std.specs.Prelude.{if◌then◌else◌}
 use Rattle.tp_record.specs.Fields.{ending}
 use Rattle.tp_record.specs.State.{state, task_at, fate_of}
-use Rattle.tp_model.proofs.Readings.{row_read}
+use Rattle.tp_laws.proofs.Model.Readings.{row_read}
 use Rattle.tp_tasks.specs.Tasks.{row_of}
 use Rattle.tp_types.specs.declared.tasks.Fate.TheVariants as fate
 use Rattle.tp_parts.specs.Terms.{terms}

@@ -9,7 +9,7 @@ use Rattle.tp_record.specs.Left.{mark}
 use Rattle.tp_record.specs.State.{state}
 use Rattle.tp_record.specs.Step.{added}
 use Rattle.tp_queue.specs.Queues.{waiting_of}
-use Rattle.tp_shapes.proofs.Controllers.Settings.{core as core_effect}
+use Rattle.tp_laws.proofs.Effects.Controllers.Settings.{core as core_effect}
 use Rattle.tp_parts.specs.declared.parts.Parts.{Parts}
 use Rattle.tp_parts.specs.Steps.{Fits, Accepts}
 use Rattle.tp_parts.specs.Terms.{terms}

@@ -1,7 +1,7 @@
 use Rattle.std.proofs.Common.{suc, ap, ◌∙◌}
 use Rattle.tp_record.specs.declared.entries.Ask.TheVariants as ask
 use Rattle.tp_record.specs.declared.entries.Did.TheVariants as did
-use Rattle.tp_shapes.proofs.Controllers.Settings.{core_timeout as core_timeout_effect}
+use Rattle.tp_laws.proofs.Effects.Controllers.Settings.{core_timeout as core_timeout_effect}
 use Rattle.tp_parts.proofs.Standing.{few_steps}
 use Rattle.tp_controllers.proofs.Settings.{setting_leads}
 use Rattle.tp_parts.specs.Terms.{terms}

@@ -3,8 +3,8 @@ use Rattle.tp_record.specs.declared.entries.Ask.TheVariants as ask
 use Rattle.tp_record.specs.declared.entries.Did.TheVariants as did
 use Rattle.tp_record.specs.Left.{mark}
 use Rattle.tp_record.specs.State.{state}
-use Rattle.tp_shapes.specs.View.{view}
-use Rattle.tp_shapes.proofs.Controllers.Tidy.{ended as ended_effect}
+use Rattle.tp_laws.specs.View.{view}
+use Rattle.tp_laws.proofs.Effects.Controllers.Tidy.{ended as ended_effect}
 use Rattle.tp_parts.specs.Shows.{Views}
 use Rattle.tp_parts.specs.Terms.{terms}
 use Rattle.tp_parts.proofs.Standing.{entry_here}

@@ -4,7 +4,7 @@ use Rattle.std.proofs.lemmas.Bool.Decides.{nat_tests}
 use Rattle.tp_record.specs.declared.entries.Ask.TheVariants as ask
 use Rattle.tp_record.specs.declared.entries.Did.TheVariants as did
 use Rattle.tp_types.specs.declared.refusals.PoolError.TheVariants.{KeepZero}
-use Rattle.tp_shapes.proofs.Controllers.Settings.{keep as keep_effect}
+use Rattle.tp_laws.proofs.Effects.Controllers.Settings.{keep as keep_effect}
 use Rattle.tp_parts.specs.declared.parts.Parts.{Parts}
 use Rattle.tp_parts.specs.Steps.{Fits}
 use Rattle.tp_parts.specs.Terms.{terms}

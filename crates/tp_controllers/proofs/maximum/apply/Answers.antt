@@ -1,7 +1,7 @@
 use Rattle.std.proofs.Common.{suc, arith, ap, ◌∙◌}
 use Rattle.tp_record.specs.declared.entries.Ask.TheVariants as ask
 use Rattle.tp_record.specs.declared.entries.Did.TheVariants as did
-use Rattle.tp_shapes.proofs.Controllers.Settings.{maximum as maximum_effect}
+use Rattle.tp_laws.proofs.Effects.Controllers.Settings.{maximum as maximum_effect}
 use Rattle.tp_controllers.proofs.Settings.{setting_leads}
 use Rattle.tp_parts.proofs.Standing.{given_here, fits_accepted, few_steps}
 use Rattle.tp_parts.specs.Terms.{terms}

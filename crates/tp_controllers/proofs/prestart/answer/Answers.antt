@@ -5,7 +5,7 @@ use Rattle.tp_record.specs.declared.entries.Did.TheVariants as did
 use Rattle.tp_record.specs.Left.{mark}
 use Rattle.tp_record.specs.State.{State, state, slot_at}
 use Rattle.tp_record.specs.Step.{Answer, slot_count, wants_worker, fitting, is_free_for, IsFreeTo}
-use Rattle.tp_shapes.proofs.Controllers.Prestart.{prestart as prestart_effect, prestart_none}
+use Rattle.tp_laws.proofs.Effects.Controllers.Prestart.{prestart as prestart_effect, prestart_none}
 use Rattle.tp_parts.specs.declared.parts.Parts.{Parts}
 use Rattle.tp_parts.specs.Shows.{Shows}
 use Rattle.tp_parts.specs.Steps.{Fits}

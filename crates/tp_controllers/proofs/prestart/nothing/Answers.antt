@@ -1,7 +1,7 @@
 use Rattle.std.proofs.Common.{None, suc, refl}
 use Rattle.tp_record.specs.declared.entries.Ask.TheVariants as ask
 use Rattle.tp_record.specs.declared.entries.Did.TheVariants as did
-use Rattle.tp_shapes.proofs.Controllers.Prestart.{prestart_none}
+use Rattle.tp_laws.proofs.Effects.Controllers.Prestart.{prestart_none}
 use Rattle.tp_parts.proofs.Standing.{few_steps, fits_accepted}
 use Rattle.tp_parts.proofs.Leading.{leads_from}
 use Rattle.tp_parts.specs.Terms.{terms}

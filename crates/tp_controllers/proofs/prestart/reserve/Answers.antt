@@ -5,9 +5,9 @@ use Rattle.tp_record.specs.declared.entries.Did.TheVariants as did
 use Rattle.tp_record.specs.Left.{mark}
 use Rattle.tp_record.specs.State.{state, slot_at}
 use Rattle.tp_record.specs.Step.{slot_count}
-use Rattle.tp_shapes.specs.View.{view, put}
-use Rattle.tp_shapes.proofs.Rows.{bare}
-use Rattle.tp_shapes.proofs.Controllers.Prestart.{prestart as prestart_effect}
+use Rattle.tp_laws.specs.View.{view, put}
+use Rattle.tp_laws.proofs.Effects.Rows.{bare}
+use Rattle.tp_laws.proofs.Effects.Controllers.Prestart.{prestart as prestart_effect}
 use Rattle.tp_parts.specs.Shows.{Views}
 use Rattle.tp_parts.specs.Terms.{terms}
 use Rattle.tp_parts.proofs.Ties.{tied_more}

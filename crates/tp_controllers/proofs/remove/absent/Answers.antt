@@ -1,7 +1,7 @@
 use Rattle.std.proofs.Common.{false, suc, arith, ap}
 use Rattle.tp_record.specs.declared.entries.Ask.TheVariants as ask
 use Rattle.tp_record.specs.declared.entries.Did.TheVariants as did
-use Rattle.tp_shapes.proofs.Controllers.Remove.{remove_absent}
+use Rattle.tp_laws.proofs.Effects.Controllers.Remove.{remove_absent}
 use Rattle.tp_parts.proofs.Ties.{tied_more}
 use Rattle.tp_parts.proofs.Standing.{few_steps, fits_accepted}
 use Rattle.tp_parts.proofs.Leading.{leads_by}

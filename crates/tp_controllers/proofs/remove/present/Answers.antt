@@ -1,7 +1,7 @@
 use Rattle.std.proofs.Common.{true, suc, Contains, arith, refl, sym, ap, subst, ◌∙◌}
 use Rattle.tp_record.specs.declared.entries.Ask.TheVariants as ask
 use Rattle.tp_record.specs.declared.entries.Did.TheVariants as did
-use Rattle.tp_shapes.proofs.Controllers.Remove.{remove}
+use Rattle.tp_laws.proofs.Effects.Controllers.Remove.{remove}
 use Rattle.tp_parts.specs.declared.parts.Parts.{Parts}
 use Rattle.tp_parts.specs.Shows.{numbers}
 use Rattle.tp_parts.specs.Tied.{AreKeyed}

@@ -3,7 +3,7 @@ use Rattle.tp_record.specs.declared.entries.Ask.TheVariants as ask
 use Rattle.tp_record.specs.declared.entries.Did.TheVariants as did
 use Rattle.tp_record.specs.Left.{mark}
 use Rattle.tp_record.specs.State.{state}
-use Rattle.tp_shapes.proofs.Controllers.Shutdown.{shutdown as shutdown_effect}
+use Rattle.tp_laws.proofs.Effects.Controllers.Shutdown.{shutdown as shutdown_effect}
 use Rattle.tp_parts.proofs.Standing.{fits_accepted, falling_here}
 use Rattle.tp_parts.proofs.Leading.{leads_from}
 use Rattle.tp_parts.proofs.Falls.{owed_read, effect_by}

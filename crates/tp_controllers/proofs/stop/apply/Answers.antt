@@ -5,8 +5,8 @@ use Rattle.tp_record.specs.declared.entries.Did.TheVariants as did
 use Rattle.tp_record.specs.declared.rows.TaskRow.{TaskRow}
 use Rattle.tp_record.specs.Left.{mark}
 use Rattle.tp_record.specs.State.{state}
-use Rattle.tp_shapes.specs.View.{View, view}
-use Rattle.tp_shapes.proofs.Controllers.Shutdown.{woken_slot}
+use Rattle.tp_laws.specs.View.{View, view}
+use Rattle.tp_laws.proofs.Effects.Controllers.Shutdown.{woken_slot}
 use Rattle.tp_record.specs.State.{slot_at}
 use Rattle.tp_parts.specs.Drained.{drained}
 use Rattle.tp_parts.specs.Shows.{Views}
@@ -15,7 +15,7 @@ use Rattle.tp_parts.proofs.Standing.{fits_accepted, falling_here}
 use Rattle.tp_parts.proofs.Leading.{leads_from}
 use Rattle.tp_parts.proofs.Drains.{queued_once, queued_open, gone_queued}
 use Rattle.tp_parts.proofs.Falls.{effect_by}
-use Rattle.tp_shapes.proofs.Controllers.Stop.{stop as stop_effect}
+use Rattle.tp_laws.proofs.Effects.Controllers.Stop.{stop as stop_effect}
 use Rattle.tp_controllers.proofs.Stopping.{stop_read}
 use Rattle.tp_controllers.proofs.stop.apply.Goals as goal
 

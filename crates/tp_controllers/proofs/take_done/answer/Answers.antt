@@ -1,7 +1,7 @@
 use Rattle.std.proofs.Common.{refl}
 use Rattle.tp_record.specs.declared.entries.Ask.TheVariants as ask
 use Rattle.tp_record.specs.declared.entries.Did.TheVariants as did
-use Rattle.tp_shapes.proofs.Controllers.TakeDone.{take_done}
+use Rattle.tp_laws.proofs.Effects.Controllers.TakeDone.{take_done}
 use Rattle.tp_parts.proofs.Answering.{accepts_room, refuses_fitting}
 use Rattle.tp_parts.specs.Terms.{terms}
 use Rattle.tp_controllers.proofs.take_done.answer.Goals as goal

@@ -5,7 +5,7 @@ use Rattle.tp_record.specs.declared.entries.Did.TheVariants as did
 use Rattle.tp_types.specs.declared.refusals.PoolError.TheVariants.{ClockBack}
 use Rattle.tp_record.specs.Left.{mark}
 use Rattle.tp_record.specs.State.{state}
-use Rattle.tp_shapes.proofs.Controllers.Settings.{tick as tick_effect}
+use Rattle.tp_laws.proofs.Effects.Controllers.Settings.{tick as tick_effect}
 use Rattle.tp_parts.specs.declared.parts.Parts.{Parts}
 use Rattle.tp_parts.specs.Steps.{Fits}
 use Rattle.tp_parts.specs.Terms.{terms}

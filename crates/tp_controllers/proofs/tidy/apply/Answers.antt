@@ -9,8 +9,8 @@ use Rattle.tp_record.specs.Fields.{rank, queue}
 use Rattle.tp_record.specs.Left.{mark}
 use Rattle.tp_record.specs.State.{state}
 use Rattle.tp_slots.specs.Table.{is_at_take}
-use Rattle.tp_shapes.specs.View.{view}
-use Rattle.tp_shapes.proofs.Controllers.Tidy.{tidy as tidy_effect}
+use Rattle.tp_laws.specs.View.{view}
+use Rattle.tp_laws.proofs.Effects.Controllers.Tidy.{tidy as tidy_effect}
 use Rattle.tp_parts.specs.Shows.{Views}
 use Rattle.tp_parts.specs.Terms.{terms}
 use Rattle.tp_parts.proofs.Standing.{entry_here, given_here}

@@ -1,4 +1,4 @@
-use Rattle.tp_model.proofs.Told.{told_legal}
+use Rattle.tp_laws.proofs.Model.Told.{told_legal}
 use Rattle.tp_laws.proofs.Fates.{never_changes}
 use Rattle.tp_laws.proofs.outcomes.fate_never_changes.Goals as goal
 

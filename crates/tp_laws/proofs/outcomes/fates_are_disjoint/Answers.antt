@@ -1,4 +1,4 @@
-use Rattle.tp_model.proofs.Told.{told_legal}
+use Rattle.tp_laws.proofs.Model.Told.{told_legal}
 use Rattle.tp_laws.proofs.Fates.{disjoint}
 use Rattle.tp_laws.proofs.outcomes.fates_are_disjoint.Goals as goal
 

@@ -1,4 +1,4 @@
-use Rattle.tp_model.proofs.Told.{told_legal}
+use Rattle.tp_laws.proofs.Model.Told.{told_legal}
 use Rattle.tp_laws.proofs.Ranks.{none_idle, none_idling}
 use Rattle.tp_laws.proofs.shutdown.no_idle_after_shutdown.Goals as goal
 

@@ -1,4 +1,4 @@
-use Rattle.tp_model.proofs.Told.{told_legal}
+use Rattle.tp_laws.proofs.Model.Told.{told_legal}
 use Rattle.tp_laws.proofs.Slots.{none_after_tidy}
 use Rattle.tp_laws.proofs.shutdown.no_slots_after_tidy.Goals as goal
 

@@ -1,4 +1,4 @@
-use Rattle.tp_model.proofs.Told.{told_legal}
+use Rattle.tp_laws.proofs.Model.Told.{told_legal}
 use Rattle.tp_laws.proofs.Late.{none_after_shutdown}
 use Rattle.tp_laws.proofs.shutdown.nothing_begins_after_shutdown.Goals as goal
 

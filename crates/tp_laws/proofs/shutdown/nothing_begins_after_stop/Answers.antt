@@ -1,4 +1,4 @@
-use Rattle.tp_model.proofs.Told.{told_legal}
+use Rattle.tp_laws.proofs.Model.Told.{told_legal}
 use Rattle.tp_laws.proofs.Late.{stopped_never, queued_late_never}
 use Rattle.tp_laws.proofs.shutdown.nothing_begins_after_stop.Goals as goal
 

@@ -1,4 +1,4 @@
-use Rattle.tp_model.proofs.Told.{told_legal}
+use Rattle.tp_laws.proofs.Model.Told.{told_legal}
 use Rattle.tp_laws.proofs.Seconds.{second_look_owed}
 use Rattle.tp_laws.proofs.shutdown.second_look_owed_after_stop.Goals as goal
 

@@ -1,4 +1,4 @@
-use Rattle.tp_model.proofs.Told.{told_legal}
+use Rattle.tp_laws.proofs.Model.Told.{told_legal}
 use Rattle.tp_laws.proofs.Begins as laws
 use Rattle.tp_laws.proofs.tasks.begins_once.Goals as goal
 

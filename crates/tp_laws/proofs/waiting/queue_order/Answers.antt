@@ -1,5 +1,5 @@
 use Rattle.std.specs.Prelude.{◌∷◌, ◌++◌}
-use Rattle.tp_model.proofs.Told.{told_legal}
+use Rattle.tp_laws.proofs.Model.Told.{told_legal}
 use Rattle.tp_laws.proofs.Order as laws
 use Rattle.tp_laws.proofs.waiting.queue_order.Goals as goal
 

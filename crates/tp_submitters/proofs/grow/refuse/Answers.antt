@@ -2,7 +2,7 @@ use Rattle.std.proofs.Common.{◌≡◌, ◌-◌, suc, arith, refl, ap, ◌∙�
 use Rattle.tp_record.specs.declared.entries.Ask.TheVariants as ask
 use Rattle.tp_record.specs.declared.entries.Did.TheVariants as did
 use Rattle.tp_record.specs.declared.entries.Grown.TheVariants as grown
-use Rattle.tp_shapes.proofs.Submitters.Grow.{grow_refuse}
+use Rattle.tp_laws.proofs.Effects.Submitters.Grow.{grow_refuse}
 use Rattle.tp_parts.proofs.Ties.{tied_more}
 use Rattle.tp_parts.proofs.Standing.{entry_here, given_here, known_here, fall_here}
 use Rattle.tp_parts.proofs.Leading.{leads_by}

@@ -7,9 +7,9 @@ use Rattle.tp_record.specs.declared.entries.Grown.TheVariants as grown
 use Rattle.tp_record.specs.Left.{mark}
 use Rattle.tp_record.specs.State.{state, task_at}
 use Rattle.tp_record.specs.Step.{slot_count}
-use Rattle.tp_shapes.specs.View.{view, put}
-use Rattle.tp_shapes.proofs.Rows.{moved_to, for_maximum}
-use Rattle.tp_shapes.proofs.Submitters.Grow.{grow_reserve}
+use Rattle.tp_laws.specs.View.{view, put}
+use Rattle.tp_laws.proofs.Effects.Rows.{moved_to, for_maximum}
+use Rattle.tp_laws.proofs.Effects.Submitters.Grow.{grow_reserve}
 use Rattle.tp_parts.proofs.Ties.{tied_more}
 use Rattle.tp_parts.proofs.Standing.{entry_here, given_here, known_here, fall_here}
 use Rattle.tp_parts.proofs.Leading.{leads_by}

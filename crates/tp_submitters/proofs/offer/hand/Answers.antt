@@ -5,9 +5,9 @@ use Rattle.tp_record.specs.declared.entries.Offered.TheVariants as offered
 use Rattle.tp_record.specs.declared.rows.Stage.TheVariants as stages
 use Rattle.tp_record.specs.Fields.{idling, is_idle_row}
 use Rattle.tp_record.specs.State.{slot_at, state, task_at}
-use Rattle.tp_model.proofs.Queues.{once-idling}
-use Rattle.tp_shapes.proofs.Lists.{without_head}
-use Rattle.tp_shapes.proofs.Submitters.Offer.{offer_hand}
+use Rattle.tp_laws.proofs.Model.Queues.{once-idling}
+use Rattle.tp_laws.proofs.Effects.Lists.{without_head}
+use Rattle.tp_laws.proofs.Effects.Submitters.Offer.{offer_hand}
 use Rattle.tp_parts.proofs.Slots.{views_slots}
 use Rattle.tp_parts.proofs.Standing.{entry_here, given_here, seat_here, task_here}
 use Rattle.tp_parts.proofs.Leading.{leads_from}

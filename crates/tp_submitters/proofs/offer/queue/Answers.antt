@@ -9,8 +9,8 @@ use Rattle.tp_record.specs.Lists.{join_line}
 use Rattle.tp_record.specs.Left.{mark}
 use Rattle.tp_record.specs.State.{State, state, task_at}
 use Rattle.tp_queue.specs.Queues.{waiting_of}
-use Rattle.tp_shapes.specs.View.{View, view, put}
-use Rattle.tp_shapes.proofs.Submitters.Offer.{offer_queued}
+use Rattle.tp_laws.specs.View.{View, view, put}
+use Rattle.tp_laws.proofs.Effects.Submitters.Offer.{offer_queued}
 use Rattle.tp_parts.specs.Offers.{HasRoom}
 use Rattle.tp_parts.specs.Shows.{Views, numbers}
 use Rattle.tp_parts.proofs.Ties.{tied_more}

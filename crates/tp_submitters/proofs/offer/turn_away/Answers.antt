@@ -2,7 +2,7 @@ use Rattle.std.proofs.Common.{refl, ap, ◌∙◌, arith}
 use Rattle.tp_record.specs.declared.entries.Ask.TheVariants as ask
 use Rattle.tp_record.specs.declared.entries.Did.TheVariants as did
 use Rattle.tp_record.specs.declared.entries.Offered.TheVariants as offered
-use Rattle.tp_shapes.proofs.Submitters.Offer.{offer_full}
+use Rattle.tp_laws.proofs.Effects.Submitters.Offer.{offer_full}
 use Rattle.tp_parts.proofs.Standing.{entry_here, given_here, known_here}
 use Rattle.tp_parts.proofs.Leading.{leads_from}
 use Rattle.tp_types.specs.declared.tasks.Place.TheVariants as at

@@ -7,9 +7,9 @@ use Rattle.tp_record.specs.declared.entries.Seconded.TheVariants as seconded
 use Rattle.tp_record.specs.Step.{slot_count}
 use Rattle.tp_record.specs.State.{state, task_at}
 use Rattle.tp_record.specs.Left.{mark}
-use Rattle.tp_shapes.specs.View.{view, put}
-use Rattle.tp_shapes.proofs.Rows.{bare}
-use Rattle.tp_shapes.proofs.Submitters.Second.{second_reserve}
+use Rattle.tp_laws.specs.View.{view, put}
+use Rattle.tp_laws.proofs.Effects.Rows.{bare}
+use Rattle.tp_laws.proofs.Effects.Submitters.Second.{second_reserve}
 use Rattle.tp_parts.proofs.Slots.{seats_left, views_numbered}
 use Rattle.tp_parts.proofs.Standing.{entry_here, given_here, row_here, owing_here}
 use Rattle.tp_parts.proofs.Leading.{leads_from}

@@ -2,7 +2,7 @@ use Rattle.std.proofs.Common.{refl, ap, ◌∙◌, arith}
 use Rattle.tp_record.specs.declared.entries.Ask.TheVariants as ask
 use Rattle.tp_record.specs.declared.entries.Did.TheVariants as did
 use Rattle.tp_record.specs.declared.entries.Seconded.TheVariants as seconded
-use Rattle.tp_shapes.proofs.Submitters.Second.{second_stay}
+use Rattle.tp_laws.proofs.Effects.Submitters.Second.{second_stay}
 use Rattle.tp_record.specs.State.{state, task_at}
 use Rattle.tp_tasks.specs.Tasks.{row_of}
 use Rattle.tp_parts.proofs.Standing.{entry_here, given_here, row_here, owing_here}

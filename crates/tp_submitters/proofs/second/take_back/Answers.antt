@@ -4,8 +4,8 @@ use Rattle.tp_record.specs.declared.entries.Ask.TheVariants as ask
 use Rattle.tp_record.specs.declared.entries.Did.TheVariants as did
 use Rattle.tp_record.specs.declared.entries.Seconded.TheVariants as seconded
 use Rattle.tp_queue.specs.Queues.{waiting_of}
-use Rattle.tp_model.proofs.Places.{queued_in}
-use Rattle.tp_shapes.proofs.Submitters.Second.{second_back}
+use Rattle.tp_laws.proofs.Model.Places.{queued_in}
+use Rattle.tp_laws.proofs.Effects.Submitters.Second.{second_back}
 use Rattle.tp_types.specs.declared.tasks.Place.TheVariants as at
 use Rattle.tp_record.specs.State.{task_at, state}
 use Rattle.tp_tasks.specs.Tasks.{row_of}

@@ -7,7 +7,7 @@ use Rattle.tp_record.specs.Effects.{reserved_looked}
 use Rattle.tp_record.specs.State.{state}
 use Rattle.tp_record.specs.Step.{look}
 use Rattle.tp_tasks.specs.Tasks.{submissions}
-use Rattle.tp_shapes.specs.View.{View, Effect}
+use Rattle.tp_laws.specs.View.{View, Effect}
 use Rattle.tp_parts.specs.Room.{TellsRoom}
 use Rattle.tp_parts.specs.Terms.{terms}
 use Rattle.tp_parts.proofs.Answering.{accepts_room, refuses_room}

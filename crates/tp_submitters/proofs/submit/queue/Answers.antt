@@ -3,7 +3,7 @@ use Rattle.tp_record.specs.declared.entries.Ask.TheVariants as ask
 use Rattle.tp_record.specs.declared.entries.Did.TheVariants as did
 use Rattle.tp_record.specs.declared.entries.Looked.TheVariants as looked
 use Rattle.tp_tasks.specs.Tasks.{submissions}
-use Rattle.tp_shapes.proofs.Submitters.Submit.{submit_queue}
+use Rattle.tp_laws.proofs.Effects.Submitters.Submit.{submit_queue}
 use Rattle.tp_parts.specs.Memory.{HasMemory}
 use Rattle.tp_parts.specs.Steps.{Fits}
 use Rattle.tp_parts.specs.Terms.{terms}

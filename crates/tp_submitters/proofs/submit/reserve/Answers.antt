@@ -8,9 +8,9 @@ use Rattle.tp_record.specs.Left.{mark}
 use Rattle.tp_record.specs.State.{state, task_at}
 use Rattle.tp_record.specs.Step.{slot_count}
 use Rattle.tp_tasks.specs.Tasks.{submissions}
-use Rattle.tp_shapes.specs.View.{view, put}
-use Rattle.tp_shapes.proofs.Rows.{new_row, for_core}
-use Rattle.tp_shapes.proofs.Submitters.Submit.{submit_reserve}
+use Rattle.tp_laws.specs.View.{view, put}
+use Rattle.tp_laws.proofs.Effects.Rows.{new_row, for_core}
+use Rattle.tp_laws.proofs.Effects.Submitters.Submit.{submit_reserve}
 use Rattle.tp_parts.specs.Memory.{HasMemory}
 use Rattle.tp_parts.specs.Steps.{Fits}
 use Rattle.tp_parts.specs.Terms.{terms}

@@ -5,9 +5,9 @@ use Rattle.tp_record.specs.declared.entries.Did.TheVariants as did
 use Rattle.tp_record.specs.declared.entries.Ruled.TheVariants as ruled
 use Rattle.tp_record.specs.State.{state, task_at}
 use Rattle.tp_tasks.specs.Tasks.{row_of}
-use Rattle.tp_shapes.proofs.Invariants.{is_gone}
-use Rattle.tp_shapes.proofs.Facts.{open_row}
-use Rattle.tp_shapes.proofs.Submitters.Verdict.{verdict_rejected}
+use Rattle.tp_laws.proofs.Effects.Invariants.{is_gone}
+use Rattle.tp_laws.proofs.Effects.Facts.{open_row}
+use Rattle.tp_laws.proofs.Effects.Submitters.Verdict.{verdict_rejected}
 use Rattle.tp_parts.proofs.Ties.{tied_more}
 use Rattle.tp_parts.proofs.Standing.{given_here, task_here, fits_accepted, fall_here, falling_here}
 use Rattle.tp_parts.proofs.Leading.{leads_by}

@@ -10,12 +10,12 @@ use Rattle.tp_record.specs.declared.entries.Ruled.TheVariants as ruled
 use Rattle.tp_record.specs.declared.rows.TaskRow.{TaskRow}
 use Rattle.tp_record.specs.Left.{mark}
 use Rattle.tp_record.specs.State.{state, task_at, fated, is_fate}
-use Rattle.tp_model.proofs.Readings.{row_read, tasks_counted}
+use Rattle.tp_laws.proofs.Model.Readings.{row_read, tasks_counted}
 use Rattle.tp_tasks.specs.Tasks.{row_of}
-use Rattle.tp_shapes.specs.View.{view, put}
-use Rattle.tp_shapes.proofs.Invariants.{is_gone}
-use Rattle.tp_shapes.proofs.Facts.{open_row}
-use Rattle.tp_shapes.proofs.Submitters.Verdict.{verdict_retry_drop}
+use Rattle.tp_laws.specs.View.{view, put}
+use Rattle.tp_laws.proofs.Effects.Invariants.{is_gone}
+use Rattle.tp_laws.proofs.Effects.Facts.{open_row}
+use Rattle.tp_laws.proofs.Effects.Submitters.Verdict.{verdict_retry_drop}
 use Rattle.tp_parts.specs.Shows.{Views}
 use Rattle.tp_parts.specs.Tied.{is_before}
 use Rattle.tp_parts.specs.Terms.{terms}

@@ -6,7 +6,7 @@ use Rattle.tp_record.specs.declared.entries.Did.TheVariants as did
 use Rattle.tp_record.specs.declared.entries.Ruled.TheVariants as ruled
 use Rattle.tp_record.specs.State.{state, task_at}
 use Rattle.tp_tasks.specs.Tasks.{row_of, payload_of}
-use Rattle.tp_shapes.proofs.Submitters.Verdict.{verdict_caller}
+use Rattle.tp_laws.proofs.Effects.Submitters.Verdict.{verdict_caller}
 use Rattle.tp_parts.specs.Tied.{is_before, waits}
 use Rattle.tp_parts.specs.Terms.{terms}
 use Rattle.tp_parts.proofs.Ties.{tied_more}

@@ -6,7 +6,7 @@ use Rattle.tp_record.specs.declared.entries.Did.TheVariants as did
 use Rattle.tp_record.specs.declared.entries.Started.TheVariants as started
 use Rattle.tp_record.specs.State.{task_at, state, slot_at}
 use Rattle.tp_tasks.specs.Tasks.{row_of}
-use Rattle.tp_shapes.proofs.Workers.Begin.{begin_skip}
+use Rattle.tp_laws.proofs.Effects.Workers.Begin.{begin_skip}
 use Rattle.tp_parts.specs.Tied.{is_before}
 use Rattle.tp_parts.specs.Terms.{terms}
 use Rattle.tp_parts.proofs.Standing.{entry_here, given_here, task_here, cancelled_here, seat_here}

@@ -5,7 +5,7 @@ use Rattle.tp_record.specs.declared.entries.Did.TheVariants as did
 use Rattle.tp_record.specs.State.{task_at, state, slot_at}
 use Rattle.tp_slots.specs.Table.{is_awake}
 use Rattle.tp_tasks.specs.Tasks.{row_of}
-use Rattle.tp_shapes.proofs.Workers.End.{end_dies}
+use Rattle.tp_laws.proofs.Effects.Workers.End.{end_dies}
 use Rattle.tp_parts.specs.Tied.{is_before}
 use Rattle.tp_parts.specs.Terms.{terms}
 use Rattle.tp_parts.proofs.Standing.{entry_here, given_here, seat_here, task_here, open_here}

@@ -3,7 +3,7 @@ use Rattle.tp_record.specs.declared.entries.Ask.TheVariants as ask
 use Rattle.tp_record.specs.declared.entries.Did.TheVariants as did
 use Rattle.tp_types.specs.declared.tasks.Place.TheVariants as at
 use Rattle.tp_record.specs.declared.entries.Failed.TheVariants as failed
-use Rattle.tp_shapes.proofs.Workers.Fail.{fail_offer}
+use Rattle.tp_laws.proofs.Effects.Workers.Fail.{fail_offer}
 use Rattle.tp_parts.proofs.Standing.{given_here, known_here, entry_here, seat_here}
 use Rattle.tp_parts.proofs.Leading.{leads_from}
 use Rattle.tp_record.specs.State.{slot_at}

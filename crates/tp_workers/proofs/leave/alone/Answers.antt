@@ -3,7 +3,7 @@ use Rattle.tp_record.specs.declared.entries.Ask.TheVariants as ask
 use Rattle.tp_record.specs.declared.entries.Did.TheVariants as did
 use Rattle.std.proofs.Common.{None}
 use Rattle.tp_record.specs.Fields.{is_idle_row, is_live}
-use Rattle.tp_shapes.proofs.Workers.Leave.{leave_alone}
+use Rattle.tp_laws.proofs.Effects.Workers.Leave.{leave_alone}
 use Rattle.tp_parts.proofs.Standing.{entry_here, seat_here, given_here}
 use Rattle.tp_parts.proofs.Leading.{leads_from}
 use Rattle.tp_parts.proofs.Slots.{views_slots, busy_order}

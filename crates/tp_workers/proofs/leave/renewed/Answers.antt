@@ -4,9 +4,9 @@ use Rattle.tp_record.specs.declared.entries.Ask.TheVariants as ask
 use Rattle.tp_record.specs.declared.entries.Did.TheVariants as did
 use Rattle.tp_record.specs.Fields.{is_idle_row, is_live}
 use Rattle.tp_record.specs.State.{state, slot_at}
-use Rattle.tp_shapes.specs.View.{put}
-use Rattle.tp_shapes.proofs.Rows.{bare}
-use Rattle.tp_shapes.proofs.Workers.Leave.{leave_renewed}
+use Rattle.tp_laws.specs.View.{put}
+use Rattle.tp_laws.proofs.Effects.Rows.{bare}
+use Rattle.tp_laws.proofs.Effects.Workers.Leave.{leave_renewed}
 use Rattle.tp_parts.proofs.Standing.{entry_here, given_here, seat_here}
 use Rattle.tp_parts.proofs.Leading.{leads_from}
 use Rattle.tp_parts.proofs.Slots.{views_slots, put_again, busy_order}

@@ -5,8 +5,8 @@ use Rattle.tp_record.specs.declared.entries.Ask.TheVariants as ask
 use Rattle.tp_record.specs.declared.entries.Did.TheVariants as did
 use Rattle.tp_record.specs.declared.entries.Opened.TheVariants as opened
 use Rattle.tp_record.specs.State.{slot_at}
-use Rattle.tp_model.proofs.Given.{Given}
-use Rattle.tp_shapes.proofs.Rows.{bare}
+use Rattle.tp_laws.proofs.Model.Given.{Given}
+use Rattle.tp_laws.proofs.Effects.Rows.{bare}
 use Rattle.tp_parts.specs.declared.parts.Parts.{Parts}
 use Rattle.tp_parts.specs.Steps.{Stands, Fits}
 use Rattle.tp_parts.specs.Terms.{terms}

@@ -6,8 +6,8 @@ use Rattle.tp_record.specs.declared.entries.Opened.TheVariants as opened
 use Rattle.tp_record.specs.Fields.{is_live}
 use Rattle.tp_record.specs.State.{state, slot_at}
 use Rattle.tp_slots.specs.Table.{working_row}
-use Rattle.tp_shapes.specs.View.{put}
-use Rattle.tp_shapes.proofs.Workers.Open.{open_maximum}
+use Rattle.tp_laws.specs.View.{put}
+use Rattle.tp_laws.proofs.Effects.Workers.Open.{open_maximum}
 use Rattle.tp_parts.proofs.Standing.{entry_here}
 use Rattle.tp_parts.proofs.Leading.{leads_from}
 use Rattle.tp_parts.proofs.Slots.{views_slots}

@@ -3,8 +3,8 @@ use Rattle.tp_record.specs.declared.entries.Ask.TheVariants as ask
 use Rattle.tp_record.specs.declared.entries.Did.TheVariants as did
 use Rattle.tp_record.specs.declared.entries.Took.TheVariants as took
 use Rattle.tp_record.specs.Fields.{is_idle_row, is_live}
-use Rattle.tp_model.proofs.Readings.{slot_read}
-use Rattle.tp_shapes.proofs.Workers.Take.{take_leave}
+use Rattle.tp_laws.proofs.Model.Readings.{slot_read}
+use Rattle.tp_laws.proofs.Effects.Workers.Take.{take_leave}
 use Rattle.tp_parts.proofs.Standing.{entry_here, given_here}
 use Rattle.tp_parts.proofs.Leading.{leads_from}
 use Rattle.tp_parts.proofs.Slots.{views_slots, busy_order}

@@ -2,7 +2,7 @@ use Rattle.std.proofs.Common.{refl, ap, ◌∙◌, arith}
 use Rattle.tp_record.specs.declared.entries.Ask.TheVariants as ask
 use Rattle.tp_record.specs.declared.entries.Did.TheVariants as did
 use Rattle.tp_record.specs.declared.entries.Took.TheVariants as took
-use Rattle.tp_shapes.proofs.Workers.Take.{take_leave_idle}
+use Rattle.tp_laws.proofs.Effects.Workers.Take.{take_leave_idle}
 use Rattle.tp_parts.proofs.Standing.{entry_here, given_here}
 use Rattle.tp_parts.proofs.Leading.{leads_from}
 use Rattle.tp_workers.proofs.Waiting.{idle_row}

@@ -4,7 +4,7 @@ use Rattle.tp_record.specs.declared.entries.Did.TheVariants as did
 use Rattle.tp_record.specs.declared.entries.Took.TheVariants as took
 use Rattle.tp_record.specs.declared.rows.Stage.TheVariants as stages
 use Rattle.tp_record.specs.State.{slot_at}
-use Rattle.tp_shapes.proofs.Workers.Take.{take_idle}
+use Rattle.tp_laws.proofs.Effects.Workers.Take.{take_idle}
 use Rattle.tp_parts.proofs.Standing.{entry_here, given_here, seat_here}
 use Rattle.tp_parts.proofs.Leading.{leads_from}
 use Rattle.tp_parts.specs.Terms.{terms}

@@ -1,5 +1,5 @@
 use Rattle.tp_record.specs.State.{counts}
-use Rattle.tp_left.proofs.LeftOut.{counts_legal}
+use Rattle.tp_laws.proofs.Left.LeftOut.{counts_legal}
 use Rattle.tp_machine.specs.Seen.{config_of}
 use Rattle.tp_book.proofs.Reading.{reads}
 use Rattle.tp_book.proofs.book.Book.counts.Goals as goal

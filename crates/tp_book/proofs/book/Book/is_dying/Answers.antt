@@ -2,7 +2,7 @@ use Rattle.std.proofs.Common.{◌≡◌, ◌↔◌, subst}
 use Rattle.std.specs.Prelude.{IsTrue, IsSomeAnd}
 use Rattle.tp_record.specs.declared.rows.Stage.TheVariants as stages
 use Rattle.tp_record.specs.State.{state, slot_at}
-use Rattle.tp_left.proofs.Marks.{left_slots}
+use Rattle.tp_laws.proofs.Left.Marks.{left_slots}
 use Rattle.tp_machine.specs.Readings.{IsDyingAt}
 use Rattle.tp_machine.specs.Seen.{config_of}
 use Rattle.tp_book.proofs.Reading.{holds}

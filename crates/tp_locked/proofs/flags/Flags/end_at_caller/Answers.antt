@@ -1,7 +1,7 @@
 use Rattle.std.proofs.Common.{◌≡◌, rules, map, not, ap, sym, subst, ◌∙◌}
 use Rattle.std.specs.Prelude.{filter, nat_eq}
 use Rattle.std.proofs.lemmas.Fn.{filter_same}
-use Rattle.tp_model.proofs.ListLaws.{map-filter_of_map}
+use Rattle.tp_laws.proofs.Model.ListLaws.{map-filter_of_map}
 use Rattle.tp_locked.specs.Flagged.{FlagsView}
 use Rattle.tp_locked.proofs.flags.Flags.end_at_caller.Goals as goal
 

@@ -2,7 +2,7 @@ use Rattle.std.proofs.Common.{◌≡◌, ℕ, ◌+◌, ◌≤◌, ◌++◌, cond
 use Rattle.tp_types.specs.declared.configs.Config.{Config}
 use Rattle.tp_queue.specs.Queues.{waiting_of}
 use Rattle.tp_tasks.specs.Tasks.{payload_of, promise_of}
-use Rattle.tp_shapes.specs.View.{View}
+use Rattle.tp_laws.specs.View.{View}
 use Rattle.tp_record.specs.Lists.{is_among}
 use Rattle.tp_parts.specs.Drained.{CanDrain, handed_back, drained}
 use Rattle.tp_parts.specs.Shows.{Views, numbers}

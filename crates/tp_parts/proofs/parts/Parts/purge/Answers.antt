@@ -1,8 +1,8 @@
 use Rattle.std.proofs.Common.{◌≡◌, ℕ, List, Contains, length, arith, refl, sym, ap, subst, ◌∙◌}
-use Rattle.tp_model.proofs.Queues.{Contains-from_among}
+use Rattle.tp_laws.proofs.Model.Queues.{Contains-from_among}
 use Rattle.tp_queue.specs.Queues.{waiting_of}
 use Rattle.tp_tasks.specs.Tasks.{row_of, payload_of, promise_of}
-use Rattle.tp_shapes.specs.View.{View}
+use Rattle.tp_laws.specs.View.{View}
 use Rattle.tp_parts.specs.Shows.{Views}
 use Rattle.tp_parts.proofs.Purging.{without_one, taken_seen, still_waiting, purged_on, holds_on, views_end, without_shorter, numbers_long, rest_on}
 use Rattle.tp_parts.proofs.parts.Parts.purge.Goals as goal

@@ -1,7 +1,7 @@
 use Rattle.std.proofs.Common.{◌≡◌, ℕ, length}
 use Rattle.tp_types.specs.declared.configs.Config.{Config}
 use Rattle.tp_queue.specs.Queues.{waiting_of}
-use Rattle.tp_shapes.specs.View.{View}
+use Rattle.tp_laws.specs.View.{View}
 use Rattle.tp_parts.specs.Payloads.{Keeps}
 use Rattle.tp_parts.specs.Purges.{HoldsQueued}
 use Rattle.tp_parts.specs.Shows.{Views}
