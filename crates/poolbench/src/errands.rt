@@ -5,8 +5,8 @@ use crate::watches::Watch;
 use std::alloc::{AllocError, Global};
 use std::hint::spin_loop;
 use std::time::Clock;
-use tp_callbacks::flags::CancelFlag;
-use tp_callbacks::jobs::Job;
+use tp_protocols::flags::CancelFlag;
+use tp_protocols::jobs::Job;
 use tp_types::tasks::{Outcome, Promise, WIDEST, as_widest};
 
 // What lies in the box.

@@ -8,8 +8,8 @@ use std::sync::{Arc, Condvar, Mutex, Wait};
 use std::thread;
 use std::thread::{JoinHandle, Threads};
 use std::time::Clock;
-use tp_callbacks::flags::CancelFlag;
-use tp_callbacks::jobs::Job;
+use tp_protocols::flags::CancelFlag;
+use tp_protocols::jobs::Job;
 use tp_types::refusals::PoolError;
 
 // What lies under the lock.

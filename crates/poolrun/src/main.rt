@@ -17,7 +17,7 @@ use program::{program, without_memory, without_words};
 use std::env;
 use std::io::IsTerminal;
 use std::process::ExitCode;
-use tp_reasons::messages::Style;
+use tp_messages::messages::Style;
 
 fn main(rt: HostRuntime) -> ExitCode {
     let alloc = rt.alloc();

@@ -15,7 +15,7 @@ use tp_commands::questions::run_asked;
 use tp_commands::statuses::finish;
 use tp_commands::steps::run_steps;
 use tp_commands::telling::{name_of, tell};
-use tp_reasons::messages::Style;
+use tp_messages::messages::Style;
 use tp_text::watched::{WatchedReader, WatchedWriter};
 use tp_types::refusals::PoolError;
 

@@ -5,8 +5,8 @@ use std::hint::spin_loop;
 use std::sync::Arc;
 use std::sync::atomic::{AtomicU64, Ordering};
 use std::thread;
-use tp_callbacks::flags::CancelFlag;
-use tp_callbacks::jobs::Job;
+use tp_protocols::flags::CancelFlag;
+use tp_protocols::jobs::Job;
 use tp_types::tasks::{Outcome, Promise, WIDEST, as_widest};
 
 /// A count that threads share.

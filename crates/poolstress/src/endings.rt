@@ -5,11 +5,11 @@ use std::alloc::Global;
 use std::sync::{Arc, Wait};
 use std::thread;
 use tp_book::passes::Pass;
-use tp_callbacks::jobs::Job;
 use tp_pool::closing::{Reporter, sole};
 use tp_pool::edges::Edge;
 use tp_pool::names::PoolNaming;
 use tp_pool::pool::PoolOf;
+use tp_protocols::jobs::Job;
 use tp_types::refusals::PoolError;
 
 /// How often a pool is closed that a caller has seen terminated.

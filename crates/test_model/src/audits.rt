@@ -8,9 +8,9 @@ use crate::streams::{FailsOnce, Full, Long, last_line};
 use std::alloc::Global;
 use std::io::{self, Read};
 use std::process::Abort;
-use tp_audit_text::audits::audit_text;
 use tp_text::ends::refusal_line;
 use tp_text::watched::{WatchedReader, WatchedWriter};
+use tp_text_record::audits::audit_text;
 use tp_types::limits::MAX_TEXT_BYTES;
 use tp_types::refusals::PoolError;
 

@@ -7,9 +7,9 @@ use crate::rows::parts;
 use crate::streams::last_line;
 use std::alloc::{AllocError, Global};
 use tp_record::entries::{Ask, Did};
-use tp_record_text::records::{Record, read_record};
-use tp_record_text::versions::Version;
-use tp_record_text::writing::record_text;
+use tp_text_record::records::{Record, read_record};
+use tp_text_record::versions::Version;
+use tp_text_record::writing::record_text;
 use tp_types::limits::MAX_TEXT_BYTES;
 use tp_types::refusals::PoolError;
 

@@ -11,8 +11,8 @@ use tp_auditor::audits::audit;
 use tp_record::entries::{
     Ask, Did, Entry, Failed, Grown, Looked, Offered, Opened, Seconded, Started, Took,
 };
-use tp_record_text::entries::read_entry;
-use tp_record_text::versions::Version;
+use tp_text_record::entries::read_entry;
+use tp_text_record::versions::Version;
 use tp_types::configs::{Config, Policy, QueueKind, Verdict};
 use tp_types::ids::{SlotId, TaskId};
 use tp_types::refusals::PoolError;

@@ -11,9 +11,9 @@ pub mod working;
 
 use std::alloc::{AllocError, Global};
 use tp_record::entries::Entry;
-use tp_record_text::entries::read_entry;
-use tp_record_text::versions::Version;
 use tp_text::pools::pool_of;
+use tp_text_record::entries::read_entry;
+use tp_text_record::versions::Version;
 use tp_types::configs::Config;
 use tp_types::refusals::PoolError;
 

@@ -5,7 +5,7 @@ ghost use Rattle.std.specs.Prelude.{IfOk};
 ghost use Rattle.tp_types.specs.Config.{IsConfig};
 
 use std::alloc::Global;
-use tp_record_text::records::{Record, read_record};
+use tp_text_record::records::{Record, read_record};
 use tp_types::limits::MAX_TEXT_BYTES;
 use tp_types::refusals::PoolError;
 

@@ -4,10 +4,10 @@
 use std::fmt::Debug;
 use std::process::Abort;
 use tp_record::rows::{SlotRow, TaskRow};
-use tp_sleepers::sleepers::Rest;
 use tp_types::ids::{SlotId, TaskId};
 use tp_types::refusals::PoolError;
 use tp_types::tasks::{Fate, Promise};
+use tp_waking::sleepers::Rest;
 
 /// What is seen at this line of a table is what is wanted there.
 pub fn same<T: Debug + PartialEq>(rt: &impl Abort, line: usize, seen: &T, wanted: &T) {

@@ -1,7 +1,7 @@
 //! A submission's path, from its first answer to its end.
 
 use crate::compare::same;
-use tp_paths::paths::{Ending, Next, follows};
+use tp_protocols::paths::{Ending, Next, follows};
 use tp_record::entries::{Did, Looked, Offered, Opened, Ruled, Seconded};
 use tp_types::configs::Verdict;
 use tp_types::ids::{SlotId, TaskId};

@@ -3,8 +3,8 @@
 use crate::compare::Answer::{self, Count, Done, Holds, Rests, Slot};
 use crate::compare::{Tested, asks, play, same};
 use std::process::Abort;
-use tp_sleepers::sleepers::{Rest, Sleepers};
 use tp_types::ids::SlotId;
+use tp_waking::sleepers::{Rest, Sleepers};
 
 /// A call of the sleepers, with the slot that it names.
 #[derive(Clone, Copy)]

@@ -7,5 +7,5 @@ pub mod Rooms
 pub mod Statuses
 pub mod Texts
 pub mod Views
-pub use Rattle.tp_audit_text.specs.AuditText
+pub use Rattle.tp_text_record.specs.AuditText
 pub use Rattle.tp_scenario.specs.Played

@@ -3,8 +3,8 @@ use Rattle.std.specs.Prelude.{◌≡◌, ◌⊎◌, ℕ, ◌≤◌, ◌<◌, Boo
 use Rattle.tp_types.specs.declared.refusals.PoolError.{PoolError}
 use Rattle.tp_types.specs.declared.refusals.PoolError.TheVariants.{ReadFailed}
 use Rattle.tp_text.specs.EndLines.{refusal_line}
-use Rattle.tp_record_text.specs.ReadRecord.{IsRefusedText}
-use Rattle.tp_audit_text.specs.AuditText.{IsJudgedText}
+use Rattle.tp_text_record.specs.ReadRecord.{IsRefusedText}
+use Rattle.tp_text_record.specs.AuditText.{IsJudgedText}
 use Rattle.tp_scenario.specs.Played.{IsPlayed}
 
 -- a text that is too long is refused, and else its scenario is played: these lines are written, and behind them that of the refusal

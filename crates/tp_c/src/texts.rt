@@ -11,9 +11,9 @@ ghost use Rattle.tp_c.specs.Texts.{Audits, Plays};
 use crate::rooms::{lay, lay_closed};
 use crate::statuses::Status;
 use std::alloc::Global;
-use tp_audit_text::judgments::judge_text;
 use tp_scenario::play::play;
 use tp_text::ends::refusal_line;
+use tp_text_record::judgments::judge_text;
 use tp_types::limits::MAX_TEXT_BYTES;
 use tp_types::refusals::PoolError;
 

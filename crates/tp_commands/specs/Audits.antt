@@ -5,7 +5,7 @@ use Rattle.tp_types.specs.declared.refusals.PoolError.TheVariants.{NoMemory, Rea
 use Rattle.tp_text.specs.declared.watched.WatchedReader.{WatchedReader}
 use Rattle.tp_text.specs.declared.watched.WatchedWriter.{WatchedWriter}
 use Rattle.tp_text.specs.Watching.{TellsReader, TellsWriter, sink, source}
-use Rattle.tp_audit_text.specs.AuditText.{IsAudit}
+use Rattle.tp_text_record.specs.AuditText.{IsAudit}
 
 -- the audit of the record that a reader gives. Where it may not have any length, a text that is too long is not read whole
 module _ {R W : Type 0} (remaining : R → Option (List ℕ)) (contents : W → Option (List ℕ)) where

@@ -6,8 +6,8 @@ use Rattle.tp_types.specs.declared.refusals.PoolError.TheVariants.{BadLine, NoMe
 use Rattle.tp_text.specs.declared.watched.WatchedReader.{WatchedReader}
 use Rattle.tp_text.specs.declared.watched.WatchedWriter.{WatchedWriter}
 use Rattle.tp_text.specs.Watching.{TellsReader, TellsWriter, sink, source}
-use Rattle.tp_record_text.specs.declared.versions.Version.TheVariants as version
-use Rattle.tp_record_text.specs.RecordText.{record_text}
+use Rattle.tp_text_record.specs.declared.versions.Version.TheVariants as version
+use Rattle.tp_text_record.specs.RecordText.{record_text}
 use Rattle.tp_scenario.specs.Played.{Ending, IsRun}
 use Rattle.tp_replay.specs.declared.plays.Play.{Play}
 use Rattle.tp_replay.specs.Plays.{IsPlayIn, RefusesPlay, entries_in, refusals_in}

@@ -9,11 +9,11 @@ use crate::telling::{finding_in, tell_finding, tell_flaw, tell_refusal, tell_unr
 use crate::texts::whole_text;
 use std::alloc::Global;
 use std::io::{Read, Write};
-use tp_audit_text::audits::write_judgment;
-use tp_audit_text::judgments::{Judgment, judge_stream, judge_text};
-use tp_reasons::messages::Style;
-use tp_reasons::mistakes::Kind;
+use tp_messages::messages::Style;
+use tp_messages::mistakes::Kind;
 use tp_text::watched::{WatchedReader, WatchedWriter};
+use tp_text_record::audits::write_judgment;
+use tp_text_record::judgments::{Judgment, judge_stream, judge_text};
 use tp_types::refusals::PoolError;
 
 /// Tells why a record has a flaw, where it has one.

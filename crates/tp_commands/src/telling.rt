@@ -2,12 +2,12 @@
 
 use std::alloc::Global;
 use std::io::{self, Write};
-use tp_reasons::lines::Line;
-use tp_reasons::messages::{Style, write_message};
-use tp_reasons::mistakes::{Finding, Kind};
-use tp_reasons::reasons::{reason, reason_of_line};
-use tp_record_text::reading::RefusedLine;
+use tp_messages::lines::Line;
+use tp_messages::messages::{Style, write_message};
+use tp_messages::mistakes::{Finding, Kind};
+use tp_messages::reasons::{reason, reason_of_line};
 use tp_text::watched::WatchedReader;
+use tp_text_record::reading::RefusedLine;
 use tp_types::refusals::PoolError;
 
 /// What is told of a text that is too long to be read.

@@ -6,7 +6,7 @@ ghost use Rattle.tp_text.specs.Watching.{TellsReader, source};
 use crate::telling::tell_unread;
 use std::alloc::Global;
 use std::io::{Read, Write};
-use tp_reasons::mistakes::Kind;
+use tp_messages::mistakes::Kind;
 use tp_text::inputs::read_text;
 use tp_text::watched::WatchedReader;
 use tp_types::refusals::PoolError;

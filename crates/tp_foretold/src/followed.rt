@@ -8,7 +8,7 @@ use tp_ends::witnesses::witness;
 use tp_explore::deeds::Mover;
 use tp_explore::moves::Move;
 use tp_explore_text::explored::Explored;
-use tp_paths::paths::{Next, follows};
+use tp_protocols::paths::{Next, follows};
 use tp_record::entries::Did;
 use tp_types::ids::TaskId;
 

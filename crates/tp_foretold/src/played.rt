@@ -4,12 +4,12 @@ ghost use Rattle.tp_explore_text.specs.Explored.{IsExplored};
 
 use std::alloc::Global;
 use std::test::Fail;
-use tp_audit_text::judgments::{Judgment, judge_text};
 use tp_explore_text::ends::End;
 use tp_explore_text::explored::Explored;
 use tp_explore_text::texts::witness_text;
 use tp_replay::plays::{Play, play_text};
 use tp_text::watched::WatchedWriter;
+use tp_text_record::judgments::{Judgment, judge_text};
 
 const FATES: [&str; 7] = [
     "run",

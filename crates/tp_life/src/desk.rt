@@ -2,11 +2,11 @@
 
 use std::sync::{Condvar, Mutex, Wait};
 use std::thread::Threads;
-use tp_callbacks::jobs::Job;
 use tp_locked::names::PoolNaming;
 use tp_machine::machine::releases::Keeper;
 use tp_pool::PoolOf;
 use tp_pool::orders::Order;
+use tp_protocols::jobs::Job;
 use tp_shared::edges::Edge;
 
 // Where the desk stands: one order at a time.

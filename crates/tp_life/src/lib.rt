@@ -18,8 +18,8 @@ pub mod prelude {
     pub use tp_advice::reasons::Reason;
     pub use tp_advice::sizes::for_jobs;
     pub use tp_book::reports::{Report, TallyReport};
-    pub use tp_callbacks::flags::CancelFlag;
     pub use tp_locked::answers::{Admitted, Drained, Refused};
+    pub use tp_protocols::flags::CancelFlag;
     pub use tp_shared::defaults::Defaults;
     pub use tp_shared::edges::Edge;
     pub use tp_types::configs::{Config, Policy, QueueKind, Verdict};

@@ -2,8 +2,8 @@
 use Rattle.std.specs.Prelude.{◌≡◌, ◌⊎◌, ◌<◌, length}
 use Rattle.tp_record.specs.State.{State}
 use Rattle.tp_record.specs.Step.{slot_count}
-use Rattle.tp_turns.specs.declared.rescues.Remains.{Remains}
-use Rattle.tp_turns.specs.declared.rescues.Remains.TheVariants as remains
+use Rattle.tp_protocols.specs.declared.rescues.Remains.{Remains}
+use Rattle.tp_protocols.specs.declared.rescues.Remains.TheVariants as remains
 
 -- the pool can end: it is stopped, or shut down with no task in its queue
 pub record CanEnd (s : State) : Type 0 where

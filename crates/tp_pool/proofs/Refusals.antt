@@ -8,8 +8,8 @@ use Rattle.tp_types.specs.declared.ids.TaskId.{TaskId}
 use Rattle.tp_types.specs.declared.refusals.PoolError.{PoolError}
 use Rattle.tp_record.specs.declared.entries.Ask.{Ask}
 use Rattle.tp_record.specs.declared.entries.Did.{Did}
-use Rattle.tp_paths.specs.Fronts.{follow_of}
-use Rattle.tp_paths.specs.declared.paths.Next.TheVariants as next
+use Rattle.tp_protocols.specs.Fronts.{follow_of}
+use Rattle.tp_protocols.specs.declared.paths.Next.TheVariants as next
 use Rattle.tp_book.specs.PassView.{PassView}
 use Rattle.tp_locked.specs.Passes.{IsRefusal, opening}
 use Rattle.tp_pool.specs.Admissions.{Awaits, IsUndone}

@@ -12,7 +12,7 @@ use Rattle.tp_record.specs.declared.entries.Did.TheVariants as did
 use Rattle.tp_record.specs.declared.entries.Entry.{Entry}
 use Rattle.tp_record.specs.Fields.{is_cancelled}
 use Rattle.tp_record.specs.Paths.{Admission, Rejected, Astray}
-use Rattle.tp_paths.specs.Fronts.{follow_of, goes}
+use Rattle.tp_protocols.specs.Fronts.{follow_of, goes}
 use Rattle.tp_glance.specs.Word.{IsFrontOf}
 use Rattle.tp_glance.proofs.Fronts.{IsFrontOf_trans}
 use Rattle.tp_book.specs.PassView.{PassView}

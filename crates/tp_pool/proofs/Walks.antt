@@ -17,11 +17,11 @@ use Rattle.tp_record.specs.declared.entries.Looked.{Looked}
 use Rattle.tp_record.specs.declared.entries.Looked.TheVariants as looked
 use Rattle.tp_record.specs.Paths.{Admission, Rejected, Follow, Ends, Astray, IsPath, after_look, follows}
 use Rattle.tp_parts.specs.Payloads.{PutsIn}
-use Rattle.tp_paths.specs.Fronts.{is_submit_of, admission_of, follow_of, goes, IsFront}
-use Rattle.tp_paths.specs.declared.paths.Next.{Next}
-use Rattle.tp_paths.specs.declared.paths.Next.TheVariants as next
-use Rattle.tp_paths.specs.declared.paths.Ending.{Ending}
-use Rattle.tp_paths.specs.declared.paths.Ending.TheVariants as ending
+use Rattle.tp_protocols.specs.Fronts.{is_submit_of, admission_of, follow_of, goes, IsFront}
+use Rattle.tp_protocols.specs.declared.paths.Next.{Next}
+use Rattle.tp_protocols.specs.declared.paths.Next.TheVariants as next
+use Rattle.tp_protocols.specs.declared.paths.Ending.{Ending}
+use Rattle.tp_protocols.specs.declared.paths.Ending.TheVariants as ending
 use Rattle.tp_glance.specs.Word.{IsFrontOf}
 use Rattle.tp_glance.proofs.Fronts.{IsFrontOf_refl}
 use Rattle.tp_book.specs.PassView.{PassView}

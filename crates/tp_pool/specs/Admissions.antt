@@ -15,9 +15,9 @@ use Rattle.tp_record.specs.declared.entries.Looked.{Looked}
 use Rattle.tp_record.specs.Paths.{Admission, Accepted, RanHere, Discarded, Rejected, Follow, Then, Astray, IsPath}
 use Rattle.tp_record.specs.Step.{allows}
 use Rattle.tp_parts.specs.Payloads.{PutsIn}
-use Rattle.tp_paths.specs.Fronts.{IsFront, follow_of, goes}
-use Rattle.tp_paths.specs.declared.paths.Next.{Next}
-use Rattle.tp_paths.specs.declared.paths.Next.TheVariants as next
+use Rattle.tp_protocols.specs.Fronts.{IsFront, follow_of, goes}
+use Rattle.tp_protocols.specs.declared.paths.Next.{Next}
+use Rattle.tp_protocols.specs.declared.paths.Next.TheVariants as next
 use Rattle.tp_machine.specs.Answers.{ComesBack}
 use Rattle.tp_glance.specs.Word.{IsFrontOf}
 use Rattle.tp_book.specs.PassView.{PassView}

@@ -1,8 +1,8 @@
 //! Jobs without a promise of their own.
 ghost use Rattle.std.specs.Prelude.{◌≡◌, ◌⊎◌};
 
-use tp_callbacks::flags::CancelFlag;
-use tp_callbacks::jobs::Job;
+use tp_protocols::flags::CancelFlag;
+use tp_protocols::jobs::Job;
 use tp_types::tasks::{Outcome, Promise, WIDEST, as_widest};
 
 /// A body that promises nothing of its outcome, as a `Callable<Long>`. In an `Any` it is a job.

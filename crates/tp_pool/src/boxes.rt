@@ -4,12 +4,12 @@
 //! such an object: `Pool::new` would then be proved of the objects alone that it makes.
 
 use std::sync::{Mutex, Wait};
-use tp_callbacks::factories::ThreadFactory;
-use tp_callbacks::flags::CancelFlag;
-use tp_callbacks::gates::{Gate, Point};
-use tp_callbacks::handlers::RejectionHandler;
-use tp_callbacks::hooks::Hooks;
-use tp_callbacks::jobs::Job;
+use tp_protocols::factories::ThreadFactory;
+use tp_protocols::flags::CancelFlag;
+use tp_protocols::gates::{Gate, Point};
+use tp_protocols::handlers::RejectionHandler;
+use tp_protocols::hooks::Hooks;
+use tp_protocols::jobs::Job;
 use tp_shared::edges::Edge;
 use tp_types::configs::Verdict;
 use tp_types::ids::{SlotId, TaskId};

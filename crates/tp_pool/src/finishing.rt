@@ -10,12 +10,12 @@ use crate::pool::{Hold, PoolOf};
 use std::sync::Wait;
 use std::thread;
 use tp_book::passes::Pass;
-use tp_callbacks::jobs::Job;
 use tp_locked::names::PoolNaming;
 use tp_machine::machine::releases::Keeper;
 use tp_machine::typed::controllers::Shutdown;
+use tp_protocols::jobs::Job;
+use tp_protocols::rescues::Remains;
 use tp_shared::edges::Edge;
-use tp_turns::rescues::Remains;
 use tp_types::refusals::PoolError;
 use tp_types::states::RunState;
 

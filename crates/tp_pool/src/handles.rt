@@ -8,9 +8,9 @@ use crate::closing::{CloseFault, Reporter};
 use crate::pool::{Hold, PoolOf};
 use std::sync::{Arc, Wait};
 use tp_book::passes::Pass;
-use tp_callbacks::jobs::Job;
 use tp_locked::names::PoolNaming;
 use tp_machine::machine::releases::Keeper;
+use tp_protocols::jobs::Job;
 use tp_shared::edges::Edge;
 use tp_types::refusals::PoolError;
 

@@ -41,11 +41,11 @@ pub use reports::{faulted, outcome_of};
 pub use snapshots::{Busy, Snapshot};
 pub use tp_book::passes::Pass;
 pub use tp_book::sights::Sight;
-pub use tp_callbacks::flags::CancelFlag;
-pub use tp_callbacks::jobs::Job;
-pub use tp_callbacks::{factories, gates, handlers, hooks};
 pub use tp_locked::answers::{Admitted, Drained, Refused, Removal};
 pub use tp_locked::{answers, names};
+pub use tp_protocols::flags::CancelFlag;
+pub use tp_protocols::jobs::Job;
+pub use tp_protocols::{factories, gates, handlers, hooks};
 pub use tp_record::entries::{Ask, Did, Entry, Ruled};
 pub use tp_record::recorders::{Full, Tally};
 pub use tp_shared::defaults::Defaults;
@@ -66,7 +66,7 @@ pub mod edges {
 /// The bodies that a pool runs.
 pub mod jobs {
     pub use crate::boxes::Boxed;
-    pub use tp_callbacks::jobs::Job;
+    pub use tp_protocols::jobs::Job;
 }
 
 /// What a first program names: `use tp_pool::prelude::*;`.
@@ -79,9 +79,9 @@ pub mod prelude {
     pub use crate::reports::outcome_of;
     pub use tp_book::opening::Unopened;
     pub use tp_book::passes::Pass;
-    pub use tp_callbacks::flags::CancelFlag;
-    pub use tp_callbacks::jobs::Job;
     pub use tp_locked::answers::{Admitted, Refused};
+    pub use tp_protocols::flags::CancelFlag;
+    pub use tp_protocols::jobs::Job;
     pub use tp_record::entries::{Did, Entry, Ruled};
     pub use tp_record::recorders::{Full, Tally};
     pub use tp_shared::defaults::Defaults;

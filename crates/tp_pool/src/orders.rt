@@ -1,7 +1,7 @@
 //! What a call asks of who makes the workers. A call that starts a thread is for callers of whom it is known that the pool may cross
 //! to one. Of others nothing is known: they have another thread do it.
 
-use tp_turns::rescues::Remains;
+use tp_protocols::rescues::Remains;
 use tp_types::ids::SlotId;
 
 /// What is asked.

@@ -10,11 +10,11 @@ use Rattle.tp_text.specs.declared.watched.WatchedWriter.{WatchedWriter}
 use Rattle.tp_text.specs.Watching.{TellsReader, TellsWriter}
 use Rattle.tp_text.proofs.Refusals.{is_outer, outer_err}
 use Rattle.tp_text.proofs.Watchings.{none_written, not_written, read_refused}
-use Rattle.tp_record_text.specs.declared.reading.Body.{Body}
-use Rattle.tp_record_text.specs.declared.versions.Version.{Version}
-use Rattle.tp_record_text.specs.ReadRecord.{IsRefusedText}
-use Rattle.tp_record_text.specs.Reading.{IsTaken, OfReader}
-use Rattle.tp_record_text.proofs.LinesRead.{refused_inner}
+use Rattle.tp_text_record.specs.declared.reading.Body.{Body}
+use Rattle.tp_text_record.specs.declared.versions.Version.{Version}
+use Rattle.tp_text_record.specs.ReadRecord.{IsRefusedText}
+use Rattle.tp_text_record.specs.Reading.{IsTaken, OfReader}
+use Rattle.tp_text_record.proofs.LinesRead.{refused_inner}
 use Rattle.tp_telling.specs.declared.forms.Form.{Form}
 use Rattle.tp_questions.specs.declared.accounts.Said.{Said}
 use Rattle.tp_questions.specs.declared.asking.Asking.{Asking}

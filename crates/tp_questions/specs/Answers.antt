@@ -10,10 +10,10 @@ use Rattle.tp_record.specs.declared.entries.Entry.{Entry}
 use Rattle.tp_text.specs.Lines.{HasNoLineFeed, ended}
 use Rattle.tp_text.specs.Watching.{FailsOnce, sink}
 use Rattle.tp_text.specs.declared.watched.WatchedWriter.{WatchedWriter}
-use Rattle.tp_record_text.specs.declared.versions.Version.{Version}
-use Rattle.tp_record_text.specs.ReadRecord.{IsRefusedText}
-use Rattle.tp_record_text.specs.Reading.{OfReader, lines_to}
-use Rattle.tp_record_text.specs.RecordText.{HasText}
+use Rattle.tp_text_record.specs.declared.versions.Version.{Version}
+use Rattle.tp_text_record.specs.ReadRecord.{IsRefusedText}
+use Rattle.tp_text_record.specs.Reading.{OfReader, lines_to}
+use Rattle.tp_text_record.specs.RecordText.{HasText}
 use Rattle.tp_telling.specs.declared.forms.Form.{Form}
 use Rattle.tp_questions.specs.declared.accounts.Said.{Said}
 use Rattle.tp_questions.specs.Asking.{IsAskedOf, IsToldAll, SaysOfAll}

@@ -7,11 +7,11 @@ ghost use Rattle.tp_questions.specs.Asking.{IsToldAll, SaysOfAll};
 use crate::accounts::{Account, Said};
 use std::alloc::Global;
 use tp_audit::summary::Flaw;
-use tp_causes::flaws::flaw_text;
+use tp_messages::flaws::flaw_text;
 use tp_record::entries::Entry;
-use tp_record_text::reading::Taker;
-use tp_record_text::versions::Version;
 use tp_telling::forms::Form;
+use tp_text_record::reading::Taker;
+use tp_text_record::versions::Version;
 use tp_types::configs::Config;
 use tp_types::refusals::PoolError;
 

@@ -2,18 +2,18 @@
 
 ghost use Rattle.std.specs.Prelude.{◌≡◌, ◌⊎◌, IfErr, IfOk};
 ghost use Rattle.tp_text.specs.Watching.{TellsReader, TellsWriter, sink, source};
-ghost use Rattle.tp_record_text.specs.ReadRecord.{IsRefusedText};
-ghost use Rattle.tp_record_text.specs.Reading.{OfReader};
+ghost use Rattle.tp_text_record.specs.ReadRecord.{IsRefusedText};
+ghost use Rattle.tp_text_record.specs.Reading.{OfReader};
 ghost use Rattle.tp_questions.specs.Answers.{AnswersFrom, IsAsked, IsWritten};
 
 use crate::accounts::{Account, Said};
 use crate::asking::Asking;
 use std::alloc::Global;
 use std::io::{Read, Write};
-use tp_record_text::reading::{Ending, RefusedLine, read_stream};
 use tp_telling::forms::Form;
 use tp_text::watched::{WatchedReader, WatchedWriter};
 use tp_text::writing::write_text;
+use tp_text_record::reading::{Ending, RefusedLine, read_stream};
 use tp_types::refusals::PoolError;
 
 /// What is told beside an answer.

@@ -5,17 +5,17 @@ ghost use Rattle.std.specs.Option.{option_to_list};
 ghost use Rattle.std.specs.Result.{result_ok};
 ghost use Rattle.std.specs.Io.KnownBytes.{Appends};
 ghost use Rattle.tp_text.specs.Watching.{TellsWriter, sink};
-ghost use Rattle.tp_record_text.specs.declared.versions.Version.{Version};
-ghost use Rattle.tp_record_text.specs.RecordText.{record_text};
+ghost use Rattle.tp_text_record.specs.declared.versions.Version.{Version};
+ghost use Rattle.tp_text_record.specs.RecordText.{record_text};
 ghost use Rattle.tp_replay.specs.Plays.{entries_in};
 
 use crate::plays::{Answered, Play};
 use std::alloc::{AllocError, Global};
 use std::io::Write;
 use tp_record::entries::Entry;
-use tp_record_text::writing::record_text;
 use tp_text::watched::WatchedWriter;
 use tp_text::writing::write_text;
+use tp_text_record::writing::record_text;
 use tp_types::refusals::PoolError;
 
 /// Puts the entry behind the others, where the answer is one.

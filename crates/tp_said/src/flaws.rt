@@ -5,8 +5,8 @@ use std::alloc::Global;
 use std::io::Read;
 use std::process::Abort;
 use std::test::Fail;
-use tp_audit_text::judgments::{Judgment, judge_stream, judge_text};
 use tp_text::watched::WatchedReader;
+use tp_text_record::judgments::{Judgment, judge_stream, judge_text};
 use tp_types::limits::MAX_TEXT_BYTES;
 use tp_types::refusals::PoolError;
 

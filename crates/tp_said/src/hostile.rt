@@ -5,8 +5,8 @@ use crate::reasons::refusal_of;
 use std::alloc::Global;
 use std::process::Abort;
 use std::test::Fail;
-use tp_reasons::mistakes::{Kind, Mistake};
-use tp_reasons::reasons::reason;
+use tp_messages::mistakes::{Kind, Mistake};
+use tp_messages::reasons::reason;
 use tp_types::refusals::PoolError;
 
 const SCENARIO: &[u8] =

@@ -4,14 +4,14 @@ use crate::compare::same;
 use std::alloc::Global;
 use std::process::Abort;
 use std::test::Fail;
-use tp_audit_text::audits::audit_text;
 use tp_explore_text::files::read_plan;
-use tp_reasons::messages::{Style, write_message};
-use tp_reasons::mistakes::Kind;
-use tp_reasons::reasons::reason;
+use tp_messages::messages::{Style, write_message};
+use tp_messages::mistakes::Kind;
+use tp_messages::reasons::reason;
 use tp_scenario::jobs::read_jobs;
 use tp_scenario::run::run;
 use tp_text::watched::{WatchedReader, WatchedWriter};
+use tp_text_record::audits::audit_text;
 use tp_types::refusals::PoolError;
 
 /// A text, the place that is told (`2:8`), the sentence, and what is said under the line or in a note.

@@ -15,9 +15,9 @@ use Rattle.tp_tasks.specs.declared.tasks.Tasks.{Tasks}
 use Rattle.tp_parts.specs.Payloads.{Keeps}
 use Rattle.tp_glance.specs.Word.{IsFrontOf}
 use Rattle.tp_glance.proofs.Fronts.{IsFrontOf_trans}
-use Rattle.tp_turns.specs.Turns.{told}
-use Rattle.tp_turns.specs.declared.turns.Begun.{Begun}
-use Rattle.tp_turns.specs.declared.turns.Begun.TheVariants as begun
+use Rattle.tp_protocols.specs.Turns.{told}
+use Rattle.tp_protocols.specs.declared.turns.Begun.{Begun}
+use Rattle.tp_protocols.specs.declared.turns.Begun.TheVariants as begun
 use Rattle.tp_locked.specs.Steps.{Makes, Refused, Asks, begun_of}
 use Rattle.tp_locked.specs.declared.tasks.Task.{Task}
 use Rattle.tp_shared.specs.Deeds.{BeginsAt, EndsLast, EndsPool, Takes, IsDone, heir_after}

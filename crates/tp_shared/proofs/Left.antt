@@ -7,7 +7,7 @@ use Rattle.tp_record.specs.declared.entries.Ask.{Ask}
 use Rattle.tp_record.specs.declared.entries.Entry.{Entry}
 use Rattle.tp_record.specs.State.{state}
 use Rattle.tp_machine.specs.Readings.{IsDyingAt}
-use Rattle.tp_turns.specs.declared.rescues.Remains.{Remains}
+use Rattle.tp_protocols.specs.declared.rescues.Remains.{Remains}
 use Rattle.tp_locked.specs.CoreView.{CoreView}
 use Rattle.tp_locked.specs.Holds.{Denies}
 use Rattle.tp_locked.specs.Left.{IsLeft}

@@ -19,9 +19,9 @@ use Rattle.tp_record.specs.declared.entries.Failed.TheVariants as failed
 use Rattle.tp_record.specs.declared.entries.Ruled.TheVariants as ruled
 use Rattle.tp_record.specs.Fields.{is_cancelled}
 use Rattle.tp_record.specs.Paths.{Follow, Then, Ends, Astray, Rejected, follows, is_offer_of, is_verdict_of}
-use Rattle.tp_paths.specs.Fronts.{follow_of, goes, is_awaited}
-use Rattle.tp_paths.specs.declared.paths.Next.{Next}
-use Rattle.tp_paths.specs.declared.paths.Next.TheVariants as next
+use Rattle.tp_protocols.specs.Fronts.{follow_of, goes, is_awaited}
+use Rattle.tp_protocols.specs.declared.paths.Next.{Next}
+use Rattle.tp_protocols.specs.declared.paths.Next.TheVariants as next
 use Rattle.tp_tasks.specs.declared.tasks.Tasks.{Tasks}
 use Rattle.tp_machine.specs.declared.answers.Judged.{Judged}
 use Rattle.tp_machine.specs.Answers.{ComesBack, IsJudged, Judges, ruled_of, ReturnsAt}

@@ -4,7 +4,7 @@ use Rattle.tp_types.specs.declared.configs.Config.{Config}
 use Rattle.tp_types.specs.declared.ids.SlotId.{SlotId}
 use Rattle.tp_types.specs.declared.ids.TaskId.{TaskId}
 use Rattle.tp_types.specs.declared.refusals.PoolError.{PoolError}
-use Rattle.tp_callbacks.specs.declared.flags.CancelFlag.{CancelFlag}
+use Rattle.tp_protocols.specs.declared.flags.CancelFlag.{CancelFlag}
 use Rattle.tp_record.specs.declared.entries.Ask.TheVariants as ask
 use Rattle.tp_record.specs.declared.entries.Did.TheVariants as did
 use Rattle.tp_record.specs.declared.entries.Entry.{Entry}
@@ -15,11 +15,11 @@ use Rattle.tp_parts.specs.Payloads.{Keeps}
 use Rattle.tp_workers.specs.Begun.{Begins}
 use Rattle.tp_machine.specs.declared.answers.Begun.{Begun as Started}
 use Rattle.tp_machine.specs.Answers.{started_of, payload_begun}
-use Rattle.tp_turns.specs.declared.deeds.Deed.{Deed}
-use Rattle.tp_turns.specs.declared.deeds.Deed.TheVariants as deed
-use Rattle.tp_turns.specs.declared.deeds.Taken.{Taken}
-use Rattle.tp_turns.specs.declared.deeds.Taken.TheVariants as taken
-use Rattle.tp_turns.specs.Turns.{told}
+use Rattle.tp_protocols.specs.declared.deeds.Deed.{Deed}
+use Rattle.tp_protocols.specs.declared.deeds.Deed.TheVariants as deed
+use Rattle.tp_protocols.specs.declared.deeds.Taken.{Taken}
+use Rattle.tp_protocols.specs.declared.deeds.Taken.TheVariants as taken
+use Rattle.tp_protocols.specs.Turns.{told}
 use Rattle.tp_locked.specs.Steps.{Asks, taking_of, begun_of, departed_of, IsEndOf}
 use Rattle.tp_locked.specs.declared.locked.workers.Taking.{Taking}
 use Rattle.tp_locked.specs.declared.locked.workers.Taking.TheVariants as taking

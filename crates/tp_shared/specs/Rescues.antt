@@ -7,8 +7,8 @@ use Rattle.tp_record.specs.declared.entries.Ask.TheVariants as ask
 use Rattle.tp_record.specs.declared.entries.Did.TheVariants as did
 use Rattle.tp_record.specs.declared.entries.Entry.{Entry}
 use Rattle.tp_parts.specs.Payloads.{Keeps}
-use Rattle.tp_turns.specs.declared.rescues.Deed.{Deed}
-use Rattle.tp_turns.specs.declared.rescues.Deed.TheVariants as deed
+use Rattle.tp_protocols.specs.declared.rescues.Deed.{Deed}
+use Rattle.tp_protocols.specs.declared.rescues.Deed.TheVariants as deed
 use Rattle.tp_locked.specs.Steps.{Asks}
 use Rattle.tp_shared.specs.Deeds.{Tidies, EndsLast}
 

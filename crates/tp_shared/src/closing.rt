@@ -11,13 +11,13 @@ use crate::shared::{Around, Shared};
 use tp_book::book::Unclosed;
 use tp_book::passes::Pass;
 use tp_book::reports::Reporter;
-use tp_callbacks::jobs::Job;
 use tp_laws::lawful::law_legal_is_lawful;
 use tp_locked::locked::Beside;
 use tp_locked::locks::PoolLock;
 use tp_locked::names::PoolNaming;
 use tp_locked::tasks::Task;
 use tp_machine::machine::releases::Keeper;
+use tp_protocols::jobs::Job;
 use tp_record::recorders::Full;
 use tp_types::refusals::PoolError;
 

@@ -2,7 +2,7 @@
 
 use std::alloc::Global;
 use std::sync::Wait;
-use tp_callbacks::gates::Point;
+use tp_protocols::gates::Point;
 use tp_types::configs::Verdict;
 use tp_types::ids::{SlotId, TaskId};
 use tp_types::states::RunState;

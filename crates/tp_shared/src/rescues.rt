@@ -7,12 +7,12 @@ use crate::staffing::save;
 use std::sync::{Arc, Wait};
 use std::thread::Threads;
 use tp_book::passes::WorkerPass;
-use tp_callbacks::jobs::Job;
 use tp_locked::names::PoolNaming;
 use tp_machine::machine::releases::Keeper;
 use tp_machine::typed::controllers::{Ended, Tidy};
 use tp_machine::typed::settings::Prestart;
-use tp_turns::rescues::{House, Remains, rescue};
+use tp_protocols::jobs::Job;
+use tp_protocols::rescues::{House, Remains, rescue};
 use tp_types::ids::SlotId;
 
 impl<G: PoolNaming, J: Drop, E: Edge, K: Keeper, R: Wait> House<R> for Shared<G, J, E, K> {

@@ -15,8 +15,8 @@ use tp_locked::locked::Core;
 use tp_locked::names::PoolNaming;
 use tp_machine::machine::releases::Keeper;
 use tp_machine::typed::workers::Fail;
+use tp_protocols::rescues::Remains;
 use tp_record::entries::{Ask, Did};
-use tp_turns::rescues::Remains;
 use tp_types::ids::SlotId;
 use tp_types::refusals::PoolError;
 

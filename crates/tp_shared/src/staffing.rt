@@ -8,10 +8,10 @@ use std::alloc::Global;
 use std::sync::{Arc, Mutex, Wait};
 use std::thread::{Builder, Threads};
 use tp_book::passes::WorkerPass;
-use tp_callbacks::jobs::Job;
 use tp_locked::names::PoolNaming;
 use tp_machine::machine::releases::Keeper;
-use tp_turns::rescues::{Remains, rescue};
+use tp_protocols::jobs::Job;
+use tp_protocols::rescues::{Remains, rescue};
 use tp_types::ids::SlotId;
 
 // A worker's pass, kept for its thread, which takes it as it begins. Where no thread can be made, whoever wanted one

@@ -1,7 +1,7 @@
 //! A worker's thread: its turns, and its end.
 ghost use Rattle.std.specs.Prelude.{◌≡◌, IfSome, IfNone};
 ghost use Rattle.tp_record.specs.State.{state};
-ghost use Rattle.tp_turns.specs.Turns.{told};
+ghost use Rattle.tp_protocols.specs.Turns.{told};
 ghost use Rattle.tp_locked.specs.Steps.{taking_of, begun_of, departed_of, IsEndOf};
 ghost use Rattle.tp_shared.specs.Deeds.{Takes, BeginsAt, Ends, Leaves, EndsPool};
 
@@ -11,18 +11,18 @@ use crate::shared::Shared;
 use std::sync::{Arc, MutexGuard, Wait};
 use std::thread::{Threads, yield_now};
 use tp_book::passes::WorkerPass;
-use tp_callbacks::flags::CancelFlag;
-use tp_callbacks::gates::Point;
-use tp_callbacks::jobs::Job;
 use tp_locked::locked::{Core, Taking};
 use tp_locked::names::PoolNaming;
 use tp_locked::roster::Start;
 use tp_machine::machine::releases::Keeper;
 use tp_machine::typed::controllers;
 use tp_machine::typed::workers::{End, Leave};
+use tp_protocols::deeds::{Departed, Ended, Taken};
+use tp_protocols::flags::CancelFlag;
+use tp_protocols::gates::Point;
+use tp_protocols::jobs::Job;
+use tp_protocols::turns::{Begun, Workplace, one_turn};
 use tp_record::recorders::Full;
-use tp_turns::deeds::{Departed, Ended, Taken};
-use tp_turns::turns::{Begun, Workplace, one_turn};
 use tp_types::ids::{SlotId, TaskId};
 use tp_types::tasks::Outcome;
 

@@ -2,7 +2,7 @@
 //! run state and the counters. Each function gives one whole line, exactly as `specs/` has it.
 //!
 //! Numbers, words, lines, pool lines and printed lines are read and written here alone, and each word stands once. Record texts are
-//! read in `tp_record_text`, which stands on this crate. `tp_record` has no texts: all crates above cite its definitions, and would be
+//! read in `tp_text_record`, which stands on this crate. `tp_record` has no texts: all crates above cite its definitions, and would be
 //! checked again with each change of a text.
 #![tactic(auto)]
 

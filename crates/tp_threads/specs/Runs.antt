@@ -18,8 +18,8 @@ use Rattle.tp_record.specs.Paths.{Admission, IsPath, own}
 use Rattle.tp_record.specs.State.{state, counts}
 use Rattle.tp_record.specs.Step.{Legal}
 use Rattle.tp_text.specs.EndLines.{state_line, counts_line}
-use Rattle.tp_record_text.specs.declared.versions.Version.TheVariants as version
-use Rattle.tp_record_text.specs.RecordText.{record_text}
+use Rattle.tp_text_record.specs.declared.versions.Version.TheVariants as version
+use Rattle.tp_text_record.specs.RecordText.{record_text}
 use Rattle.tp_scenario.specs.Jobs.{IsRead}
 use Rattle.tp_scenario.specs.declared.jobs.JobLine.{JobLine}
 use Rattle.tp_scenario.specs.declared.jobs.Jobs.{Jobs}

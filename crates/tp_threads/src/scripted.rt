@@ -3,8 +3,8 @@ ghost use Rattle.std.specs.Prelude.{◌≡◌};
 ghost use Rattle.tp_types.specs.Promise.{FitsPromise};
 ghost use Rattle.tp_types.specs.declared.tasks.TheConstants.{WIDEST};
 
-use tp_callbacks::flags::CancelFlag;
-use tp_callbacks::jobs::Job;
+use tp_protocols::flags::CancelFlag;
+use tp_protocols::jobs::Job;
 use tp_types::tasks::{Outcome, Promise, WIDEST, as_widest};
 
 /// A job that ends at once, with this outcome. It promises any, so that its promise tells nothing of it.

@@ -10,10 +10,10 @@ use std::sync::Wait;
 use std::thread::Threads;
 use tp_pool::closing::Report;
 use tp_record::entries::{Did, Entry};
-use tp_record_text::writing::record_text;
 use tp_scenario::read_jobs;
 use tp_text::watched::{WatchedReader, WatchedWriter};
 use tp_text::writing::write_text;
+use tp_text_record::writing::record_text;
 use tp_types::configs::Config;
 use tp_types::refusals::PoolError;
 

@@ -9,7 +9,7 @@ use tp_commands::explores::{Callers, run_explore};
 use tp_commands::questions::run_asked;
 use tp_commands::steps::run_steps;
 use tp_commands::telling::name_of;
-use tp_reasons::messages::Style;
+use tp_messages::messages::Style;
 use tp_text::watched::{WatchedReader, WatchedWriter};
 
 /// What a call gave.

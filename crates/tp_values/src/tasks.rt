@@ -7,8 +7,8 @@ use crate::oneshot::{Receiver, Sender, oneshot};
 use std::alloc::Global;
 use std::marker::Model;
 use std::sync::Wait;
-use tp_callbacks::flags::CancelFlag;
-use tp_callbacks::jobs::Job;
+use tp_protocols::flags::CancelFlag;
+use tp_protocols::jobs::Job;
 use tp_types::tasks::{Outcome, Promise};
 
 /// A body that answers a value of its own type, as a `Callable<V>`. It is run at most once.

@@ -1,8 +1,8 @@
 -- Who was told of one change is told of two.
 use Rattle.std.proofs.Common.{◌≡◌, ◌≢◌, ◌⊎◌, inl, inr, refl}
-use Rattle.tp_sleepers.specs.declared.sleepers.Rest.{Rest}
-use Rattle.tp_sleepers.specs.declared.sleepers.Rest.TheVariants as rests
-use Rattle.tp_sleepers.specs.Rests.{rest_at}
+use Rattle.tp_waking.specs.declared.sleepers.Rest.{Rest}
+use Rattle.tp_waking.specs.declared.sleepers.Rest.TheVariants as rests
+use Rattle.tp_waking.specs.Rests.{rest_at}
 use Rattle.tp_waking.specs.declared.waking.Waking.{Waking}
 use Rattle.tp_waking.specs.Told.{IsTold}
 

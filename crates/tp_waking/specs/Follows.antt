@@ -7,8 +7,8 @@ use Rattle.tp_record.specs.declared.entries.Ask.{Ask}
 use Rattle.tp_record.specs.declared.entries.Did.{Did}
 use Rattle.tp_record.specs.declared.entries.Did.TheVariants as did
 use Rattle.tp_record.specs.declared.entries.Offered.TheVariants as offered
-use Rattle.tp_sleepers.specs.declared.sleepers.Rest.TheVariants as rests
-use Rattle.tp_sleepers.specs.Rests.{rest_at}
+use Rattle.tp_waking.specs.declared.sleepers.Rest.TheVariants as rests
+use Rattle.tp_waking.specs.Rests.{rest_at}
 use Rattle.tp_waking.specs.declared.waking.Waking.{Waking}
 use Rattle.tp_waking.specs.Heard.{IsHeard}
 use Rattle.tp_waking.specs.Told.{IsTold, EndsIdling}

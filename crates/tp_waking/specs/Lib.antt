@@ -5,3 +5,5 @@ pub mod Heard
 pub mod Quiet
 pub mod Results
 pub mod Told
+pub mod Rests
+pub mod Tied

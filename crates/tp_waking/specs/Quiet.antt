@@ -1,6 +1,6 @@
 -- When no step concerns anybody.
 use Rattle.std.specs.Prelude.{◌≡◌}
-use Rattle.tp_sleepers.specs.Rests.{sleeping}
+use Rattle.tp_waking.specs.Rests.{sleeping}
 use Rattle.tp_waking.specs.declared.calls.TheConstants.{NO_WAITERS}
 use Rattle.tp_waking.specs.declared.waking.Waking.{Waking}
 

@@ -1,4 +1,5 @@
-//! Who is woken by which step of a pool: the table of `docs/inside/WAKING.md`.
+//! Who is woken by which step of a pool: the table of `docs/inside/WAKING.md`. Which workers sleep, and which were woken and look
+//! for a task, is in `sleepers`.
 //!
 //! To wake all who wait at each step would cost more than the steps. Who is not woken would have looked, found
 //! what was there before, and slept again: a thread looks and begins to wait in one hold, so no step falls between.
@@ -7,4 +8,6 @@
 pub mod calls;
 pub mod ends;
 pub mod results;
+mod seats;
+pub mod sleepers;
 pub mod waking;

@@ -2,7 +2,7 @@
 ghost use Rattle.std.specs.Prelude.{ℕ, ◌≡◌, ◌≢◌, ◌⊎◌, ◌<◌, Some, length, replicate, IfOk, IsTrue, true, nat_lt, ⊤};
 ghost use Rattle.tp_types.specs.declared.ids.SlotId.{SlotId};
 ghost use Rattle.tp_types.specs.declared.ids.TaskId.{TaskId};
-ghost use Rattle.tp_sleepers.specs.Rests.{rest_at, IsSettled};
+ghost use Rattle.tp_waking.specs.Rests.{rest_at, IsSettled};
 ghost use Rattle.tp_waking.specs.declared.calls.TheConstants.{NO_WAITERS, NOBODY};
 ghost use Rattle.tp_waking.specs.Calls.{IsCalled};
 ghost use Rattle.tp_waking.specs.Follows.{Follows};
@@ -13,9 +13,9 @@ ghost use Rattle.tp_waking.specs.Told.{IsTold, EndsIdling, HasLooked};
 use crate::calls::{Calls, NO_WAITERS, NOBODY, Waiters};
 use crate::ends::changes_end;
 use crate::results::changes_results;
+use crate::sleepers::{Rest, Sleepers};
 use std::alloc::{AllocError, Global};
 use tp_record::entries::{Ask, Did, Offered};
-use tp_sleepers::sleepers::{Rest, Sleepers};
 use tp_types::ids::SlotId;
 use tp_types::states::RunState;
 

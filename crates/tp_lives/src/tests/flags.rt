@@ -2,7 +2,7 @@
 
 use super::compare::same;
 use std::test::Fail;
-use tp_callbacks::flags::{CancelFlag, FlagPair};
+use tp_protocols::flags::{CancelFlag, FlagPair};
 
 #[test]
 fn all_holds_see_a_flag_set(rt: HostRuntime) -> Result<(), Fail> {

@@ -3,13 +3,13 @@
 use super::compare::same;
 use std::process::Abort;
 use std::test::Fail;
-use tp_callbacks::flags::CancelFlag;
 use tp_pool::factories::{Consenting, ThreadFactory};
 use tp_pool::gates::{Gate, OpenGate, Point};
 use tp_pool::handlers::{OneVerdict, RejectionHandler};
 use tp_pool::hooks::{Hooks, NoHooks};
 use tp_pool::jobs::{Boxed, Job};
 use tp_pool::{Any, Body};
+use tp_protocols::flags::CancelFlag;
 use tp_types::configs::Verdict;
 use tp_types::ids::{SlotId, TaskId};
 use tp_types::states::RunState;

@@ -15,7 +15,6 @@ use crate::flags::Flags;
 use crate::names::PoolNaming;
 use crate::tasks::Task;
 use tp_book::book::Book;
-use tp_callbacks::flags::CancelFlag;
 use tp_glance::glance::Glance;
 use tp_machine::answers::{Begun, Judged};
 use tp_machine::machine::releases::Keeper;
@@ -26,6 +25,7 @@ use tp_machine::typed::controllers::{
 use tp_machine::typed::settings::{Core, CoreTimeout, Keep, Maximum, Prestart, Tick};
 use tp_machine::typed::submitters::{CallerEnd, Grow, Judge, Look, Offer, Second, Submit};
 use tp_machine::typed::workers::{Begin, End, Fail, Leave, Open, Take};
+use tp_protocols::flags::CancelFlag;
 use tp_record::entries::{Did, Failed, Grown, Looked, Offered, Opened, Ruled, Seconded, Took};
 use tp_types::ids::{SlotId, TaskId};
 use tp_types::limits::MAX_WORKERS;

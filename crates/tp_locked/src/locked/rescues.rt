@@ -12,7 +12,7 @@ use crate::names::PoolNaming;
 use tp_book::passes::WorkerPass;
 use tp_glance::glance::Glance;
 use tp_machine::machine::releases::Keeper;
-use tp_turns::rescues::Remains;
+use tp_protocols::rescues::Remains;
 use tp_types::refusals::PoolError;
 use tp_types::states::RunState;
 

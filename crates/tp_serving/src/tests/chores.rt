@@ -1,8 +1,8 @@
 // Jobs that tests hand in.
 
 use std::sync::Arc;
-use tp_callbacks::flags::CancelFlag;
 use tp_pool::jobs::Job;
+use tp_protocols::flags::CancelFlag;
 use tp_stage::boards::{Board, Signal};
 use tp_types::tasks::{Outcome, Promise, WIDEST, as_widest};
 

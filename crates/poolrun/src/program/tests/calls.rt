@@ -9,7 +9,7 @@ use std::rt::Files;
 use std::sync::Wait;
 use std::test::Fail;
 use std::thread::Threads;
-use tp_reasons::messages::Style;
+use tp_messages::messages::Style;
 
 /// What a text is to be.
 #[derive(Clone, Copy)]

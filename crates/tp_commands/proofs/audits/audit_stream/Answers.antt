@@ -1,4 +1,4 @@
-use Rattle.tp_audit_text.proofs.Written.{judged_tells}
+use Rattle.tp_text_record.proofs.Written.{judged_tells}
 use Rattle.tp_commands.proofs.audits.audit_stream.Goals as goal
 
 pub returns-clause-audits : goal.returns-clause-audits

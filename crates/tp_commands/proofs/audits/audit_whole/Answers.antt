@@ -1,7 +1,7 @@
 use Rattle.std.proofs.Common.{◌≡◌, Err, sym, subst}
 use Rattle.std.specs.Prelude.{IfSome}
 use Rattle.tp_text.proofs.Watchings.{none_written, not_unwritten, read_refused, read_unwritten}
-use Rattle.tp_audit_text.proofs.Written.{judged_from, judged_read, unread}
+use Rattle.tp_text_record.proofs.Written.{judged_from, judged_read, unread}
 use Rattle.tp_commands.proofs.Ends.{not_long, not_read_long}
 use Rattle.tp_commands.proofs.audits.audit_whole.Goals as goal
 

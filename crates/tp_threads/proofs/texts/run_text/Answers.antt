@@ -1,7 +1,7 @@
 use Rattle.std.proofs.Common.{inl, inr, refl, ap, ◌∙◌, subst}
 use Rattle.std.specs.Io.KnownBytes.{Appends}
-use Rattle.tp_record_text.specs.declared.versions.Version.TheVariants as version
-use Rattle.tp_record_text.specs.RecordText.{record_text as text_of}
+use Rattle.tp_text_record.specs.declared.versions.Version.TheVariants as version
+use Rattle.tp_text_record.specs.RecordText.{record_text as text_of}
 use Rattle.tp_scenario.specs.declared.jobs.Jobs.{Jobs}
 use Rattle.tp_text.proofs.Refusals.{is_outer}
 use Rattle.tp_text.proofs.Watchings.{none_written, not_written, read_refused, read_unwritten, read_well}

@@ -3,7 +3,7 @@ use Rattle.std.specs.Prelude.{Option, None}
 use Rattle.std.specs.List.{FoldsTo}
 use Rattle.std.proofs.Math.Seq.{take-nil}
 use Rattle.tp_types.specs.declared.ids.TaskId.{TaskId}
-use Rattle.tp_callbacks.specs.declared.flags.CancelFlag.{CancelFlag}
+use Rattle.tp_protocols.specs.declared.flags.CancelFlag.{CancelFlag}
 use Rattle.tp_locked.specs.Flagged.{FlagsView}
 use Rattle.tp_locked.proofs.flags.Flags.new.Goals as goal
 

@@ -1,7 +1,7 @@
 use Rattle.std.proofs.Common.{ℕ, ap, subst}
 use Rattle.std.specs.Prelude.{nat_lt}
 use Rattle.tp_types.specs.declared.states.Counts.{Counts}
-use Rattle.tp_sleepers.specs.Rests.{IsSettled}
+use Rattle.tp_waking.specs.Rests.{IsSettled}
 use Rattle.tp_locked.proofs.locked.Core.again.Goals as goal
 
 -- who sleeps is settled by the count of tasks that wait, which is the book's

@@ -1,7 +1,7 @@
 use Rattle.std.proofs.Common.{sym, subst}
 use Rattle.std.specs.Prelude.{IfNone}
 use Rattle.std.specs.Result.{result_ok}
-use Rattle.tp_paths.specs.Fronts.{follow_of}
+use Rattle.tp_protocols.specs.Fronts.{follow_of}
 use Rattle.tp_pool.specs.Admissions.{Awaits, IsUndone}
 use Rattle.tp_pool.proofs.Refusals.{unstaffed}
 use Rattle.tp_pool.proofs.pool.PoolOf.advance.Goals as goal

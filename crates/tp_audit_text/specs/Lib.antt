@@ -1,2 +1,0 @@
-pub mod AuditText
-pub mod Judging

@@ -1,5 +1,0 @@
-use Rattle.tp_reasons.proofs.Reached.{Reached}
-use Rattle.tp_reasons.proofs.lines.line_at.Given as goal
-
-abbrev pub invariant-loop-next : goal.invariant-loop-next
-invariant-loop-next l = Reached l.text l.rest l.next

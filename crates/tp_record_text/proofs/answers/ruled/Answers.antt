@@ -1,5 +1,0 @@
-use Rattle.tp_record_text.proofs.AnswerLaws.{no_ruled}
-use Rattle.tp_record_text.proofs.answers.ruled.Goals as goal
-
-pub returns-in_err-dropped-in-retry : goal.returns-in_err-dropped-in-retry
-returns-in_err-dropped-in-retry c = rw c.from_residual-in_err-dropped-in-retry.ensures (no_ruled _ _ _ c.in_ok-word.ensures c.in-retry.is c.in_err-dropped-in-retry.ensures)

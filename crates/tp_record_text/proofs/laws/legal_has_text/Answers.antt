@@ -1,5 +1,0 @@
-use Rattle.tp_record_text.proofs.Forms.{legal_has_text}
-use Rattle.tp_record_text.proofs.laws.legal_has_text.Goals as goal
-
-pub returns : goal.returns
-returns c = legal_has_text

@@ -1,7 +1,0 @@
-use Rattle.std.proofs.Common.{◌∙◌, ap}
-use Rattle.tp_record_text.specs.Rests.{left}
-use Rattle.tp_record_text.proofs.Splitting.{first_taken}
-use Rattle.tp_record_text.proofs.words.next_word.Goals as goal
-
-pub returns : goal.returns
-returns c = ap left c.in_ok-text.was ∙ first_taken _ _ _ c.first_word.ensures

@@ -1,5 +1,0 @@
-pub mod Rests
-pub mod EntryFits
-pub mod RecordText
-pub mod ReadRecord
-pub mod Reading

@@ -1,2 +1,0 @@
-pub mod Rescues
-pub mod Turns
