@@ -7,7 +7,7 @@ ghost use Rattle.tp_questions.specs.Asking.{IsToldAll, SaysOfAll};
 use crate::accounts::{Account, Said};
 use std::alloc::Global;
 use tp_audit::summary::Flaw;
-use tp_messages::flaws::flaw_text;
+use tp_causes::flaws::flaw_text;
 use tp_record::entries::Entry;
 use tp_telling::forms::Form;
 use tp_text_record::reading::Taker;

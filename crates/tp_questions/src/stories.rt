@@ -4,7 +4,7 @@ use crate::accounts::{Account, Said};
 use std::alloc::{AllocError, Global};
 use tp_audit::summary::Flaw;
 use tp_auditor::auditor::Auditor;
-use tp_messages::rows::{ShownSlots, ShownTasks};
+use tp_causes::rows::{ShownSlots, ShownTasks};
 use tp_record::entries::Entry;
 use tp_story::stories::Story;
 use tp_story::subjects::Subject;

@@ -5,7 +5,7 @@ use std::alloc::Global;
 use std::io::Write;
 use tp_audit::summary::Flaw;
 use tp_auditor::auditor::Auditor;
-use tp_messages::causes::Cause;
+use tp_causes::causes::Cause;
 use tp_record::entries::Entry;
 use tp_scenario::step::Refusal;
 use tp_text::lines::{is_skipped, next_line};

@@ -10,7 +10,7 @@ use std::alloc::{AllocError, Global};
 use std::fmt;
 use std::io::{self, Write};
 use tp_auditor::tables::Tables;
-use tp_messages::rows::{ShownSlot, ShownTask};
+use tp_causes::rows::{ShownSlot, ShownTask};
 use tp_now::fronts::Front;
 use tp_times::times::Since;
 use tp_types::configs::{Config, QueueKind};

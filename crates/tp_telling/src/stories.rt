@@ -14,7 +14,7 @@ use crate::words::{Earlier, ShownEvent, ShownKind};
 use std::alloc::{AllocError, Global};
 use std::fmt;
 use tp_auditor::tables::Tables;
-use tp_messages::rows::{ShownSlot, ShownTask};
+use tp_causes::rows::{ShownSlot, ShownTask};
 use tp_record::rows::TaskRow;
 use tp_story::events::Event;
 use tp_story::stories::Story;

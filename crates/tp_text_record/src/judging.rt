@@ -8,7 +8,7 @@ use crate::versions::Version;
 use std::alloc::Global;
 use tp_audit::summary::Flaw;
 use tp_auditor::auditor::Auditor;
-use tp_messages::flaws::flaw_text;
+use tp_causes::flaws::flaw_text;
 use tp_record::entries::Entry;
 use tp_types::configs::Config;
 use tp_types::refusals::PoolError;

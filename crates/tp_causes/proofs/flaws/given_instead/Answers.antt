@@ -1,7 +1,7 @@
 use Rattle.std.proofs.Common.{ℕ, Result, Ok, Err, IfErr}
 use Rattle.tp_record.specs.State.{state}
 use Rattle.tp_auditor.specs.Audited.{settings, Judged, IsDenied}
-use Rattle.tp_messages.proofs.flaws.given_instead.Goals as goal
+use Rattle.tp_causes.proofs.flaws.given_instead.Goals as goal
 
 -- the number that was asked with is told
 numbered : {D E H : Type 0} (J : H → Type 0) (P : H → ℕ → E → Type 0) (w : ℕ) (r : Result D E) → IfErr r (λ e. (h : H) → J h → P h w e) → IfErr r (λ e. (h : H) → J h → (v : ℕ) × P h v e)
