@@ -14,16 +14,25 @@ mod jobs;
 mod program;
 
 use program::{program, without_memory, without_words};
-use std::env;
+use std::alloc::Alloc;
+use std::env::{self, Env};
 use std::io::IsTerminal;
 use std::process::ExitCode;
 use tp_messages::messages::Style;
+
+/// Whether the variable `NO_COLOR` is set, and not empty: its user wants no colours.
+fn forbids_colours<R: Env + Alloc>(rt: &R) -> bool {
+    match env::var(rt, "NO_COLOR") {
+        Ok(value) => !value.is_empty(),
+        Err(_) => false,
+    }
+}
 
 fn main(rt: HostRuntime) -> ExitCode {
     let alloc = rt.alloc();
     let mut out = rt.stdout();
     let mut errors = rt.stderr();
-    let style = if errors.is_terminal() {
+    let style = if errors.is_terminal() && !forbids_colours(&rt) {
         Style::Coloured
     } else {
         Style::Plain

@@ -3,6 +3,7 @@
 use crate::jobs::{run_tally, run_threads};
 use clap::error::ErrorKind;
 use std::alloc::Global;
+use std::fmt::Display;
 use std::fs;
 use std::io::{self, Read, Write};
 use std::rt::Files;
@@ -57,8 +58,8 @@ fn run_reader<
         Choice::Ask(_, question, format) => {
             run_asked(alloc, *question, *format, name, reader, out, errors, style)
         }
-        Choice::Audit(_, has_any_length) => {
-            run_audit(alloc, *has_any_length, name, reader, out, errors, style)
+        Choice::Audit(_, auditing) => {
+            run_audit(alloc, *auditing, name, reader, out, errors, style)
         }
     }
 }
@@ -85,17 +86,22 @@ fn run_choice<H: Files + Input + Threads + Wait + Copy + Send + 'static, W: Writ
     }
 }
 
+/// Prints a text that the command line itself asks for: status 0, or 1 where it can't be written.
+fn show<T: Display, W: Write>(text: &T, out: &mut W) -> u8 {
+    if write!(out, "{text}").is_ok() && out.flush().is_ok() {
+        0
+    } else {
+        1
+    }
+}
+
 /// Gives the parser's text: the version on `out`, status 0; anything else on `errors`, status 2.
 fn show_usage<W: Write, E: Write>(error: &clap::Error, out: &mut W, errors: &mut E) -> u8 {
     if error.kind() != ErrorKind::DisplayVersion {
         let _ = write!(errors, "{error}");
         return 2;
     }
-    if write!(out, "{error}").is_ok() && out.flush().is_ok() {
-        0
-    } else {
-        1
-    }
+    show(error, out)
 }
 
 /// The status of the program by the words of its command line, its own name first. The output goes to
@@ -114,6 +120,7 @@ pub fn program<H: Files + Input + Threads + Wait + Copy + Send + 'static, W: Wri
         Ok(choice) => run_choice(rt, alloc, &choice, &mut out, errors, style),
         Err(Unchosen::NoMemory) => finish(&mut out, &Err(PoolError::NoMemory)),
         Err(Unchosen::Usage(error)) => show_usage(&error, &mut out, errors),
+        Err(Unchosen::Completions(script)) => show(&script, &mut out),
         Err(Unchosen::Unnamed(word)) => {
             let _ = writeln!(
                 errors,

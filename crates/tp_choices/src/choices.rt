@@ -1,9 +1,11 @@
 //! The words of a command line, and what they choose.
 
+use crate::completions::{SHELLS, script, shell_of};
 use clap::builder::ValueParser;
 use clap::error::ErrorKind;
 use clap::{Arg, ArgAction, ArgMatches, Command, Error};
 use std::alloc::{AllocError, Global};
+use tp_telling::forms::Form;
 
 /// What a run of a scenario is to write, and how it is to end.
 #[derive(Clone, Copy, Debug, PartialEq, Eq)]
@@ -14,6 +16,15 @@ pub struct Playing {
     pub is_strict: bool,
     /// The record's text is printed in place of the output.
     pub prints_record: bool,
+}
+
+/// How a record is to be judged.
+#[derive(Clone, Copy, Debug, PartialEq, Eq)]
+pub struct Auditing {
+    /// The record may have any length: it is read line by line.
+    pub has_any_length: bool,
+    /// Why the record turned tasks away is told on the standard error.
+    pub explains: bool,
 }
 
 /// What is to be told of the interleavings of callers.
@@ -59,15 +70,6 @@ pub enum Question {
     Cut,
 }
 
-/// In what form a question is to be answered.
-#[derive(Clone, Copy, Debug, PartialEq, Eq)]
-pub enum Format {
-    /// In words.
-    Words,
-    /// As JSON.
-    Json,
-}
-
 /// What the program is to do. A path `-` is the standard input.
 #[derive(Debug, PartialEq, Eq, Drop)]
 pub enum Choice {
@@ -77,12 +79,12 @@ pub enum Choice {
     Threads(String, Option<String>),
     /// Run the jobs in the file at this path by threads, on a pool that keeps no record.
     Tally(String),
-    /// Judge the record in the file at this path, which may have any length where the flag says so.
-    Audit(String, bool),
+    /// Judge the record in the file at this path.
+    Audit(String, Auditing),
     /// Explore all interleavings of the callers in the file at this path.
     Explore(String, Exploring),
     /// Answer a question about the record in the file at this path.
-    Ask(String, Question, Format),
+    Ask(String, Question, Form),
 }
 
 impl Choice {
@@ -104,6 +106,8 @@ pub enum Unchosen {
     Usage(Error),
     /// This word names no task, as `t4`, and no slot, as `w0`. Status 2.
     Unnamed(String),
+    /// A shell's completions are asked for, which this script makes. It is printed, with status 0.
+    Completions(String),
     /// There was no memory to read it. Status 1, as refusal 4.
     NoMemory,
 }
@@ -246,6 +250,13 @@ fn audit_command<'a>(alloc: Global) -> Result<Command<'a>, AllocError> {
         "Tells how far a record is legal that may be cut off, of any length",
     );
     let json = json_flag(alloc).requires_arg("cut")?;
+    let explain = flag(
+        alloc,
+        "explain",
+        "Tells on the standard error which entries turn a task away, and why",
+    )
+    .conflicts_with("any-length")?
+    .conflicts_with("cut")?;
     with_file(
         alloc,
         "audit",
@@ -254,6 +265,7 @@ fn audit_command<'a>(alloc: Global) -> Result<Command<'a>, AllocError> {
     )?
     .arg(any_length)?
     .arg(cut)?
+    .arg(explain)?
     .arg(json)
 }
 
@@ -398,6 +410,18 @@ fn explore_command<'a>(alloc: Global) -> Result<Command<'a>, AllocError> {
     with_formats(alloc, command)?.arg(most)
 }
 
+/// The command `completions`.
+fn completions_command<'a>(alloc: Global) -> Result<Command<'a>, AllocError> {
+    let shell = Arg::new(alloc, "SHELL")
+        .required(true)
+        .action(ArgAction::Set)
+        .value_parser(SHELLS.as_slice())
+        .help("the shell that completes");
+    Command::new(alloc, "completions")
+        .about("Prints the script by which a shell completes commands and flags")
+        .arg(shell)
+}
+
 /// The program's command line.
 fn program_command<'a>(alloc: Global) -> Result<Command<'a>, AllocError> {
     Command::new(alloc, "poolrun")
@@ -411,7 +435,8 @@ fn program_command<'a>(alloc: Global) -> Result<Command<'a>, AllocError> {
         .subcommand(explore_command(alloc)?)?
         .subcommand(why_command(alloc)?)?
         .subcommand(now_command(alloc)?)?
-        .subcommand(stats_command(alloc)?)
+        .subcommand(stats_command(alloc)?)?
+        .subcommand(completions_command(alloc)?)
 }
 
 /// Copies of the values of a flag; None where it is not there.
@@ -488,11 +513,11 @@ fn question_of(
 }
 
 /// The form of an answer.
-fn format_of(inner: &ArgMatches<'_>) -> Format {
+fn form_of(inner: &ArgMatches<'_>) -> Form {
     if inner.get_flag("json") {
-        Format::Json
+        Form::Json
     } else {
-        Format::Words
+        Form::Words
     }
 }
 
@@ -508,7 +533,13 @@ fn chosen_by(alloc: Global, name: &str, inner: &ArgMatches<'_>) -> Result<Choice
             };
             Ok(Choice::Threads(path, record))
         }
-        "audit" => Ok(Choice::Audit(path, inner.get_flag("any-length"))),
+        "audit" => Ok(Choice::Audit(
+            path,
+            Auditing {
+                has_any_length: inner.get_flag("any-length"),
+                explains: inner.get_flag("explain"),
+            },
+        )),
         "explore" => Ok(Choice::Explore(
             path,
             Exploring {
@@ -527,6 +558,20 @@ fn chosen_by(alloc: Global, name: &str, inner: &ArgMatches<'_>) -> Result<Choice
     }
 }
 
+/// The script of a shell's completions.
+fn completions(alloc: Global, inner: &ArgMatches<'_>) -> Unchosen {
+    let Some(shell) = shell_of(inner.get_str("SHELL").unwrap_or("")) else {
+        return Unchosen::NoMemory;
+    };
+    let Ok(command) = program_command(alloc) else {
+        return Unchosen::NoMemory;
+    };
+    match script(alloc, shell, command.get_subcommands()) {
+        Ok(script) => Unchosen::Completions(script),
+        Err(_) => Unchosen::NoMemory,
+    }
+}
+
 /// What the words of a command line choose, the first being the program's own name.
 pub fn chosen(alloc: Global, words: &[String]) -> Result<Choice, Unchosen> {
     let command = program_command(alloc)?;
@@ -534,10 +579,13 @@ pub fn chosen(alloc: Global, words: &[String]) -> Result<Choice, Unchosen> {
     let Some((name, inner)) = matches.subcommand() else {
         return Err(Unchosen::NoMemory);
     };
+    if name == "completions" {
+        return Err(completions(alloc, inner));
+    }
     match question_of(alloc, name, inner)? {
         Some(question) => {
             let path = String::from_str(alloc, inner.get_str("FILE").unwrap_or(""))?;
-            Ok(Choice::Ask(path, question, format_of(inner)))
+            Ok(Choice::Ask(path, question, form_of(inner)))
         }
         None => Ok(chosen_by(alloc, name, inner)?),
     }

@@ -2,3 +2,4 @@
 #![tactic(auto)]
 
 pub mod choices;
+pub mod completions;

@@ -11,6 +11,6 @@ module _ {R W : Type 0} (remaining : R → Option (List ℕ)) (contents : W → 
   abbrev pub Asked : Question → Form → Type 0
   Asked q f = Ends contents (AsksChosen remaining contents q f before after old) status new
 
-  -- what holds of a question and a form holds of those that are the same
-  pub chosen : (q p : Question) (f g : Form) → q ≡ p → g ≡ f → Asked p g → Asked q f
-  chosen q p f g same shown asked = subst (λ x. Asked x f) (sym same) (subst (Asked p) shown asked)
+  -- what holds of a question holds of one that is the same
+  pub chosen : (q p : Question) (f : Form) → q ≡ p → Asked p f → Asked q f
+  chosen q p f same asked = subst (λ x. Asked x f) (sym same) asked

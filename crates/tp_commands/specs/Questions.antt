@@ -12,19 +12,11 @@ use Rattle.tp_story.specs.declared.subjects.Subject.TheVariants as subject
 use Rattle.tp_now.specs.Fronts.{Followed, Follows}
 use Rattle.tp_stats.specs.Counted.{Counts}
 use Rattle.tp_telling.specs.declared.forms.Form.{Form}
-use Rattle.tp_telling.specs.declared.forms.Form.TheVariants as form
 use Rattle.tp_questions.specs.declared.numbers.Counted.{Counted}
 use Rattle.tp_questions.specs.Answers.{IsAsked}
 use Rattle.tp_questions.specs.Saying.{SaysCut, SaysFront, SaysStory}
-use Rattle.tp_choices.specs.declared.choices.Format.{Format}
-use Rattle.tp_choices.specs.declared.choices.Format.TheVariants as format
 use Rattle.tp_choices.specs.declared.choices.Question.{Question}
 use Rattle.tp_choices.specs.declared.choices.Question.TheVariants as question
-
--- the form that the command line calls for
-abbrev pub form_of : Format → Form
-form_of format.Words = form.Words
-form_of format.Json = form.Json
 
 module _ {R W : Type 0} (remaining : R → Option (List ℕ)) (contents : W → Option (List ℕ)) where
   -- a question about the record that a reader gives, by what its account is told and says

@@ -4,11 +4,13 @@ ghost use Rattle.std.specs.Prelude.{◌≤◌, false, true};
 ghost use Rattle.tp_commands.specs.Audits.{Audits};
 ghost use Rattle.tp_commands.specs.Status.{Ends};
 
+use crate::explains::explain_record;
 use crate::statuses::finish;
 use crate::telling::{finding_in, tell_finding, tell_flaw, tell_refusal, tell_unread};
-use crate::texts::whole_text;
+use crate::texts::text_or_status;
 use std::alloc::Global;
 use std::io::{Read, Write};
+use tp_choices::choices::Auditing;
 use tp_messages::messages::Style;
 use tp_messages::mistakes::Kind;
 use tp_text::watched::{WatchedReader, WatchedWriter};
@@ -23,9 +25,10 @@ fn tell_judged<E: Write>(errors: &mut E, name: &str, judgment: &Result<Judgment,
     }
 }
 
-/// Judges the record of a text that is read whole.
+/// Judges the record of a text that is read whole. Why it turned tasks away goes to `errors`, where that is asked for.
 fn audit_whole<R: Read, W: Write, E: Write>(
     alloc: Global,
+    explains: bool,
     name: &str,
     reader: &mut WatchedReader<R>,
     out: &mut WatchedWriter<W>,
@@ -35,14 +38,15 @@ fn audit_whole<R: Read, W: Write, E: Write>(
     ensures few { result ≤ 1 }
     ensures audits { Ends W.contents (Audits R.remaining W.contents false reader.old reader.new out.old) result out.new }
 {
-    let text = match whole_text(alloc, Kind::Record, name, reader, errors) {
+    let text = match text_or_status(alloc, Kind::Record, name, reader, out, errors) {
         Ok(text) => text,
-        Err(refusal) => return finish(out, &Err(refusal)),
+        Err(status) => return status,
     };
     let text = text.as_slice();
     let judgment = judge_text(alloc, text);
     let outcome = write_judgment(&judgment, out);
     let status = finish(out, &outcome);
+    explain_record(alloc, explains, text, errors);
     tell_judged(errors, name, &judgment);
     if let Err(refusal) = outcome {
         tell_refusal(alloc, errors, Kind::Record, name, text, refusal, style);
@@ -86,7 +90,7 @@ fn audit_stream<R: Read, W: Write, E: Write>(
 /// may have any length. Why it has a flaw, or is refused, goes to `errors`.
 pub fn run_audit<R: Read, W: Write, E: Write>(
     alloc: Global,
-    has_any_length: bool,
+    auditing: Auditing,
     name: &str,
     reader: &mut WatchedReader<R>,
     out: &mut WatchedWriter<W>,
@@ -94,11 +98,11 @@ pub fn run_audit<R: Read, W: Write, E: Write>(
     style: Style,
 ) -> u8
     ensures few { result ≤ 1 }
-    ensures audits { Ends W.contents (Audits R.remaining W.contents has_any_length reader.old reader.new out.old) result out.new }
+    ensures audits { Ends W.contents (Audits R.remaining W.contents auditing.has_any_length reader.old reader.new out.old) result out.new }
 {
-    if has_any_length {
+    if auditing.has_any_length {
         audit_stream(alloc, name, reader, out, errors, style)
     } else {
-        audit_whole(alloc, name, reader, out, errors, style)
+        audit_whole(alloc, auditing.explains, name, reader, out, errors, style)
     }
 }

@@ -10,7 +10,7 @@ ghost use Rattle.tp_commands.specs.Status.{Ends};
 
 use crate::statuses::finish;
 use crate::telling::tell_refusal;
-use crate::texts::whole_text;
+use crate::texts::text_or_status;
 use std::alloc::Global;
 use std::io::{Read, Write};
 use tp_choices::choices::{Exploring, Wish};
@@ -129,13 +129,22 @@ fn record_to(alloc: Global, explored: &Explored, place: usize) -> Result<Option<
     Ok(Some(record))
 }
 
-/// Tells that there is no end on this line.
-fn tell_no_line<E: Write>(errors: &mut E, name: &str, explored: &Explored, line: usize) {
-    let ends = explored.ends.len();
-    let _ = writeln!(
-        errors,
-        "poolrun: {name}: there is no end {line}: the ends are 1 to {ends}"
-    );
+/// The place of the state in which the interleavings end on this line, counted from 1. Where there is no such end, `errors` is told.
+fn place_on<E: Write>(explored: &Explored, line: usize, name: &str, errors: &mut E) -> Option<usize>
+    requires { IsExplored explored.now }
+    ensures { IfSome result (λ place. place < length explored.now.graph.states.items) }
+{
+    match explored.ends.get(line.wrapping_sub(1)) {
+        Some(end) => Some(end.place),
+        None => {
+            let ends = explored.ends.len();
+            let _ = writeln!(
+                errors,
+                "poolrun: {name}: there is no end {line}: the ends are 1 to {ends}"
+            );
+            None
+        }
+    }
 }
 
 /// The scenario of a shortest interleaving to the end on this line, counted from 1.
@@ -149,12 +158,9 @@ fn witness_on<E: Write>(
     requires { IsExplored explored.now }
     ensures { IfOk result (λ told. told.is_so ≡ false → told.text.items ≡ []) }
 {
-    match explored.ends.get(line.wrapping_sub(1)) {
-        Some(end) => Ok(so(witness_text(alloc, explored, end.place)?)),
-        None => {
-            tell_no_line(errors, name, explored, line);
-            Ok(not_so(alloc))
-        }
+    match place_on(explored, line, name, errors) {
+        Some(place) => Ok(so(witness_text(alloc, explored, place)?)),
+        None => Ok(not_so(alloc)),
     }
 }
 
@@ -169,11 +175,10 @@ fn record_on<E: Write>(
     requires { IsExplored explored.now }
     ensures { IfOk result (λ told. told.is_so ≡ false → told.text.items ≡ []) }
 {
-    let Some(end) = explored.ends.get(line.wrapping_sub(1)) else {
-        tell_no_line(errors, name, explored, line);
+    let Some(place) = place_on(explored, line, name, errors) else {
         return Ok(not_so(alloc));
     };
-    match record_to(alloc, explored, end.place)? {
+    match record_to(alloc, explored, place)? {
         Some(text) => Ok(Told { text, is_so: true }),
         None => {
             let _ = writeln!(
@@ -418,9 +423,9 @@ pub fn run_explore<P: Reading, R: Read, W: Write, E: Write>(
     ensures explores { Ends W.contents (λ r behind. Explores P.says exploring.now (R.remaining (source reader.old))
         (W.contents (sink out.old)) (W.contents (sink behind)) r) result out.new }
 {
-    let text = match whole_text(alloc, Kind::Callers, name, reader, errors) {
+    let text = match text_or_status(alloc, Kind::Callers, name, reader, out, errors) {
         Ok(text) => text,
-        Err(refusal) => return finish(out, &Err(refusal)),
+        Err(status) => return status,
     };
     let text = text.as_slice();
     let outcome = explore_text(alloc, reading, exploring, name, text, out, errors, style);

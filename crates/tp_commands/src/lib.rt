@@ -7,6 +7,7 @@
 #![tactic(auto)]
 
 pub mod audits;
+mod explains;
 pub mod explores;
 pub mod questions;
 pub mod statuses;

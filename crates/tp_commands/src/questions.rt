@@ -1,7 +1,7 @@
 //! The commands that ask a question of a record: `why`, `now`, `stats` and `audit --cut`.
 
-ghost use Rattle.std.specs.Prelude.{◌≡◌, ◌≤◌};
-ghost use Rattle.tp_commands.specs.Questions.{Asks, AsksChosen, form_of};
+ghost use Rattle.std.specs.Prelude.{◌≤◌};
+ghost use Rattle.tp_commands.specs.Questions.{Asks, AsksChosen};
 ghost use Rattle.tp_commands.specs.Status.{Ends};
 
 use crate::statuses::finish;
@@ -9,7 +9,7 @@ use crate::telling::{finding_in, tell_finding, tell_flaw, tell_unread};
 use std::alloc::Global;
 use std::io::{Read, Write};
 use tp_auditor::auditor::Auditor;
-use tp_choices::choices::{Format, Question};
+use tp_choices::choices::Question;
 use tp_messages::messages::Style;
 use tp_messages::mistakes::Kind;
 use tp_now::fronts::Front;
@@ -65,22 +65,12 @@ fn run_question<R: Read, W: Write, E: Write, T: Account + Drop>(
     status
 }
 
-/// The form that is called for.
-fn form_of(format: Format) -> Form
-    ensures { result ≡ form_of format }
-{
-    match format {
-        Format::Words => Form::Words,
-        Format::Json => Form::Json,
-    }
-}
-
 /// Answers a question about the record that a reader of this name gives, as `poolrun why`, `now`, `stats` and `audit --cut`, and gives
 /// the status of the program: 0 where what was asked for is there. Why it is not, and where the record is cut off, goes to `errors`.
 pub fn run_asked<R: Read, W: Write, E: Write>(
     alloc: Global,
     question: Question,
-    format: Format,
+    form: Form,
     name: &str,
     reader: &mut WatchedReader<R>,
     out: &mut WatchedWriter<W>,
@@ -88,9 +78,8 @@ pub fn run_asked<R: Read, W: Write, E: Write>(
     style: Style,
 ) -> u8
     ensures few { result ≤ 1 }
-    ensures asks { Ends W.contents (AsksChosen R.remaining W.contents question (form_of format) reader.old reader.new out.old) result out.new }
+    ensures asks { Ends W.contents (AsksChosen R.remaining W.contents question form reader.old reader.new out.old) result out.new }
 {
-    let form = form_of(format);
     match question {
         Question::Task(t) => {
             let subject = Subject::Task(TaskId(t));

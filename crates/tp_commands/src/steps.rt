@@ -6,9 +6,10 @@ ghost use Rattle.tp_replay.specs.Plays.{IsPlayIn, RefusesPlay, refusals_in};
 ghost use Rattle.tp_commands.specs.Status.{Ends};
 ghost use Rattle.tp_commands.specs.Steps.{IsPassed, IsRecordRun, Plays, RunsSteps};
 
+use crate::explains::explain_record;
 use crate::statuses::finish;
 use crate::telling::tell_refusal;
-use crate::texts::whole_text;
+use crate::texts::text_or_status;
 use std::alloc::Global;
 use std::io::{Read, Write};
 use tp_choices::choices::Playing;
@@ -137,14 +138,16 @@ pub fn run_steps<R: Read, W: Write, E: Write>(
     ensures few { result ≤ 1 }
     ensures runs { Ends W.contents (RunsSteps R.remaining W.contents playing reader.old reader.new out.old) result out.new }
 {
-    let text = match whole_text(alloc, Kind::Scenario, name, reader, errors) {
+    let text = match text_or_status(alloc, Kind::Scenario, name, reader, out, errors) {
         Ok(text) => text,
-        Err(refusal) => return finish(out, &Err(refusal)),
+        Err(status) => return status,
     };
     let text = text.as_slice();
     let outcome = play(alloc, playing, text, out, errors);
     let status = finish(out, &outcome);
     if let Err(refusal) = outcome {
+        // The text may be a record, which is explained all the same.
+        explain_record(alloc, playing.explains, text, errors);
         tell_refusal(alloc, errors, Kind::Scenario, name, text, refusal, style);
     }
     status

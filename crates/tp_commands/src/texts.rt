@@ -1,37 +1,41 @@
 //! The text that a command reads.
 
-ghost use Rattle.std.specs.Prelude.{◌≡◌, ◌⊎◌, ◌≤◌, length, IfErr, IfOk, IfSome};
+ghost use Rattle.std.specs.Prelude.{◌≡◌, ◌≤◌, length, Ok, IfErr, IfOk, IfSome, OnOk};
 ghost use Rattle.tp_text.specs.Watching.{TellsReader, source};
+ghost use Rattle.tp_commands.specs.Status.{EndsUnread};
 
+use crate::statuses::finish;
 use crate::telling::tell_unread;
 use std::alloc::Global;
 use std::io::{Read, Write};
 use tp_messages::mistakes::Kind;
 use tp_text::inputs::read_text;
-use tp_text::watched::WatchedReader;
+use tp_text::watched::{WatchedReader, WatchedWriter};
 use tp_types::refusals::PoolError;
 
-/// The whole text that a reader of this name gives. 25 `ReadFailed` comes just where the reader fails now, or gives more than
-/// 1,048,576 bytes: `errors` is told which. NoMemory (4) comes where the text finds no room.
-pub fn whole_text<R: Read, E: Write>(
+/// The whole text that a reader of this name gives; else the status of the program, with the refusal as the last line of the output.
+/// It is 25 `ReadFailed` just where the reader fails now, or gives more than 1,048,576 bytes, and `errors` is told which. It is
+/// NoMemory (4) where the text finds no room.
+pub fn text_or_status<R: Read, W: Write, E: Write>(
     alloc: Global,
     kind: Kind,
     name: &str,
     reader: &mut WatchedReader<R>,
+    out: &mut WatchedWriter<W>,
     errors: &mut E,
-) -> Result<Vec<u8>, PoolError>
+) -> Result<Vec<u8>, u8>
     ensures short { IfOk result (λ text. length text.items ≤ 1048576) }
     ensures whole { IfOk result (λ text. IfSome (R.remaining (source reader.old)) (λ xs. text.items ≡ xs)) }
-    ensures refused { IfErr result (λ e. (e ≡ PoolError.ReadFailed) ⊎ (e ≡ PoolError.NoMemory)) }
-    ensures unread { TellsReader reader.old result reader.new }
+    ensures tells_reader { IfOk result (λ text. TellsReader reader.old (Ok text) reader.new) }
+    ensures unwritten { OnOk result (out.new ≡ out.old) }
+    ensures ended { IfErr result (EndsUnread W.contents reader.old reader.new out.old out.new) }
 {
-    match read_text(alloc, reader) {
-        Ok(text) => Ok(text),
-        Err(refusal) => {
-            if refusal == PoolError::ReadFailed {
-                tell_unread(errors, kind, name, reader);
-            }
-            Err(refusal)
-        }
+    let refusal = match read_text(alloc, reader) {
+        Ok(text) => return Ok(text),
+        Err(refusal) => refusal,
+    };
+    if refusal == PoolError::ReadFailed {
+        tell_unread(errors, kind, name, reader);
     }
+    Err(finish(out, &Err(refusal)))
 }

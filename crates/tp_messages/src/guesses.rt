@@ -5,7 +5,7 @@ use crate::wordings::Wording;
 use std::alloc::{AllocError, Global};
 use strsim::osa_distance;
 
-/// Names of Java's, and what stands for each here.
+/// Names of Java's and other words, and what stands for each here.
 const JAVA: &[(&str, &str)] = &[
     ("shutdownNow", "stop"),
     ("setCorePoolSize", "core"),
@@ -14,6 +14,7 @@ const JAVA: &[(&str, &str)] = &[
     ("allowCoreThreadTimeOut", "coretimeout"),
     ("prestartCoreThread", "prestart"),
     ("poll", "takedone"),
+    ("run", "execute"),
     ("awaitTermination", "await"),
     ("thread", "caller"),
     ("SynchronousQueue", "handoff"),

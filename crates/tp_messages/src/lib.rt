@@ -17,6 +17,7 @@ pub mod records;
 pub mod scenarios;
 pub mod sentences;
 pub mod settings;
+mod shown;
 pub mod tellings;
 pub mod wordings;
 pub mod words;

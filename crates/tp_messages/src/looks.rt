@@ -1,5 +1,9 @@
-//! What a line looks like.
+//! What a line looks like, and a text.
 
+use crate::mistakes::Kind;
+use crate::places::fits;
+use crate::words::word_at;
+use tp_text::lines::{clean_text, next_line};
 use tp_text::numbers::number;
 use tp_text::words::{command, first_word};
 
@@ -43,4 +47,58 @@ pub fn look_of(text: &str) -> Look {
         _ if number(word).is_some() && rest.is_some() => Look::Entry,
         _ => Look::Other,
     }
+}
+
+/// The kinds of tasks, which a scenario says in its second words and a file of jobs does not.
+const TASK_KINDS: &[&str] = &["plain", "future", "group"];
+
+/// Whether a line's second word is a kind of task.
+pub fn has_kind(text: &str) -> bool {
+    match word_at(text, 1) {
+        Some(word) => TASK_KINDS.contains(&word),
+        None => false,
+    }
+}
+
+/// Whether a submission says at once how it ends, as a job does.
+fn is_job(text: &str) -> bool {
+    match word_at(text, 1) {
+        Some(word) => fits("V", word) || fits("!N", word),
+        None => false,
+    }
+}
+
+/// The kind of text in which alone a line stands, where its words say it.
+fn kind_of_line(text: &str) -> Option<Kind> {
+    match look_of(text) {
+        Look::Version | Look::Entry => Some(Kind::Record),
+        Look::Execute => Some(Kind::Jobs),
+        Look::Caller => Some(Kind::Callers),
+        Look::Step => Some(Kind::Scenario),
+        Look::Submit if has_kind(text) => Some(Kind::Scenario),
+        _ => None,
+    }
+}
+
+/// The kind of a text by its lines, where one of them says it. A submission that says no kind of task may be a job, or a step that
+/// lacks a word: so it counts only where no other line says what the text is.
+pub fn kind_of_text(text: &[u8]) -> Option<Kind> {
+    let mut rest = text;
+    let mut maybe = None;
+    for _ in text {
+        if rest.is_empty() {
+            return maybe;
+        }
+        let (line, behind) = next_line(rest).unwrap_or((rest, b""));
+        if let Some(words) = clean_text(line) {
+            if let Some(kind) = kind_of_line(words) {
+                return Some(kind);
+            }
+            if matches!(look_of(words), Look::Submit) && is_job(words) {
+                maybe = Some(Kind::Jobs);
+            }
+        }
+        rest = behind;
+    }
+    maybe
 }

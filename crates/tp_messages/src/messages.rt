@@ -1,9 +1,9 @@
 //! Messages, in the form of a compiler's.
 
 use crate::forms::POOL_SUMMARY;
-use crate::mistakes::{Finding, Mistake};
+use crate::mistakes::{Finding, Kind, Mistake};
+use crate::shown::Shown;
 use crate::wordings::{Wanted, Wording};
-use std::fmt;
 use std::io::{self, Write};
 
 /// How many bytes of a line are shown before the marked ones, and how many in all.
@@ -67,26 +67,15 @@ fn digits(number: u32) -> usize {
     digits
 }
 
-/// The bytes of a line, so that each takes one place: what can't be printed is a question mark.
-#[derive(Clone, Copy)]
-struct Shown<'a>(&'a [u8]);
-
-impl fmt::Display for Shown<'_> {
-    fn fmt<W: fmt::Write>(&self, f: &mut fmt::Formatter<W>) -> fmt::Result {
-        for byte in self.0 {
-            f.write_char(if byte.is_ascii_graphic() || *byte == b' ' {
-                char::from(*byte)
-            } else {
-                '?'
-            })?;
-        }
-        Ok(())
-    }
-}
-
 /// How many of a line's first bytes are not shown.
 fn hidden(finding: &Finding<'_>) -> usize {
     finding.start.saturating_sub(BEFORE)
+}
+
+/// The bytes of a line that are shown.
+fn shown<'a>(finding: &Finding<'a>) -> &'a [u8] {
+    let rest = finding.line.bytes.get(hidden(finding)..).unwrap_or(b"");
+    rest.get(..SHOWN).unwrap_or(rest)
 }
 
 /// Writes the line with its number.
@@ -94,11 +83,15 @@ fn write_line<W: Write>(out: &mut W, finding: &Finding<'_>) -> io::Result<()> {
     let number = finding.line.number;
     let margin = digits(number);
     let hidden = hidden(finding);
-    let rest = finding.line.bytes.get(hidden..).unwrap_or(b"");
-    let bytes = rest.get(..SHOWN).unwrap_or(rest);
-    let shown = Shown(bytes);
+    let bytes = shown(finding);
+    let end = hidden.saturating_add(bytes.len());
     let before = if hidden > 0 { CUT_BEFORE } else { "" };
-    let behind = if bytes.len() < rest.len() { " .." } else { "" };
+    let behind = if end < finding.line.bytes.len() {
+        " .."
+    } else {
+        ""
+    };
+    let shown = Shown(bytes);
     writeln!(out, "{:margin$} |\n{number} | {before}{shown}{behind}", "")
 }
 
@@ -106,14 +99,16 @@ fn write_line<W: Write>(out: &mut W, finding: &Finding<'_>) -> io::Result<()> {
 fn write_mark<W: Write>(out: &mut W, finding: &Finding<'_>, colours: &Colours) -> io::Result<()> {
     let margin = digits(finding.line.number);
     let hidden = hidden(finding);
-    let shown = finding.line.bytes.len().saturating_sub(hidden).min(SHOWN);
-    let start = finding.start.saturating_sub(hidden);
+    let bytes = shown(finding);
+    let start = finding.start.saturating_sub(hidden).min(bytes.len());
+    let (before, rest) = bytes.split_at_checked(start).unwrap_or((bytes, b""));
+    let marked = rest.get(..finding.width).unwrap_or(rest);
     let indent = if hidden > 0 {
-        start.saturating_add(CUT_BEFORE.len())
+        Shown(before).places().saturating_add(CUT_BEFORE.len())
     } else {
-        start
+        Shown(before).places()
     };
-    let width = finding.width.max(1).min(shown.saturating_sub(start).max(1));
+    let width = Shown(marked).places().max(1);
     let advice = finding.mistake.advice();
     let (bar, end) = (colours.bar, colours.end);
     write!(
@@ -180,7 +175,10 @@ fn write_notes<W: Write>(out: &mut W, finding: &Finding<'_>) -> io::Result<()> {
             write_legends(out, margin, wording)?;
             write_forms(out, margin, wording)
         }
-        Mistake::NoPoolLine | Mistake::EarlyLine(_) => write_pool_summary(out, margin),
+        Mistake::Empty(Kind::Record) => Ok(()),
+        Mistake::Empty(_) | Mistake::NoPoolLine | Mistake::EarlyLine(_) => {
+            write_pool_summary(out, margin)
+        }
         _ => Ok(()),
     }
 }

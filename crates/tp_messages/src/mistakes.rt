@@ -4,12 +4,13 @@ use crate::faults::{Fault, fault_in};
 use crate::forms::Forms;
 use crate::lines::Line;
 use crate::settings::Setting;
+use crate::tellings::Room;
 use crate::wordings::Wording;
 use crate::words::{start_of, word_at};
 use tp_types::refusals::PoolError;
 
 /// What a text may be of.
-#[derive(Clone, Copy)]
+#[derive(Clone, Copy, PartialEq, Eq)]
 pub enum Kind {
     /// A scenario, for `poolrun steps`.
     Scenario,
@@ -28,6 +29,8 @@ pub enum Mistake<'a> {
     Bytes(Fault),
     /// A tab within a line; words are divided by one space.
     Tab,
+    /// A text of this kind has no byte.
+    Empty(Kind),
     /// The text ends before its pool line.
     NoPoolLine,
     /// This word stands where the pool line is wanted.
@@ -36,6 +39,12 @@ pub enum Mistake<'a> {
     SecondPoolLine,
     /// A line of a text of another kind.
     OtherKind(Kind),
+    /// A text that is what `poolrun steps` printed, and no record.
+    Printed,
+    /// A pool line or a comment, where a record begins.
+    PoolFirst,
+    /// A record's first line says this, which is no form that is read.
+    OtherVersion(&'a str),
     /// A word that does not fit, one too many, or one too few.
     Words(Wording<'a>),
     /// A setting that no pool can have.
@@ -64,8 +73,8 @@ pub enum Mistake<'a> {
     NoEnd(u32),
     /// Something stands behind a record's last line.
     BehindEnd,
-    /// The submission of this job, counted from 1, is refused so.
-    Job(usize, PoolError),
+    /// The submission of this job, counted from 1, is refused so, where the record has this room.
+    Job(usize, PoolError, Room),
     /// A call stands in a line of its own, behind no `caller`.
     CallWithoutCaller,
     /// A second line says what the factory does.

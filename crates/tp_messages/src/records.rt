@@ -2,7 +2,7 @@
 
 use crate::forms::{BODY_FORMS, END_FORMS, ENTRY_FORMS, PASS_FORMS, POOL_FORMS};
 use crate::lines::{Line, line_at};
-use crate::looks::{Look, look_of};
+use crate::looks::{Look, kind_of_text, look_of};
 use crate::mistakes::{Finding, Kind, Mistake, of_bytes, of_line, of_word, of_words};
 use crate::words::count;
 use tp_text::lines::{clean_text, is_skipped};
@@ -14,8 +14,9 @@ use tp_types::limits::DEFAULT_RECORD_LIMIT;
 /// What is wrong with the first line.
 fn in_version<'a>(line: Line<'a>, text: &'a str) -> Finding<'a> {
     let mistake = match look_of(text) {
-        Look::Pool | Look::Comment => Mistake::OtherKind(Kind::Scenario),
+        Look::Pool | Look::Comment => Mistake::PoolFirst,
         Look::Entry => Mistake::Headless,
+        Look::Version => Mistake::OtherVersion(text),
         _ => Mistake::NoVersion,
     };
     of_line(line, mistake)
@@ -137,7 +138,7 @@ fn ends_record(text: &[u8], number: u32) -> bool {
 /// What a record lacks whose text ends before the line of this number.
 fn missing<'a>(number: u32) -> Mistake<'a> {
     match number {
-        1 => Mistake::NoVersion,
+        1 => Mistake::Empty(Kind::Record),
         2 => Mistake::NoPoolLine,
         _ => Mistake::NoEnd(number.saturating_sub(3)),
     }
@@ -170,8 +171,22 @@ pub fn in_refused(line: Line<'_>, is_behind_end: bool) -> Finding<'_> {
     }
 }
 
+/// What is wrong with the first line of a text that is of this kind, by its lines.
+fn in_first(line: Line<'_>, kind: Option<Kind>) -> Option<Finding<'_>> {
+    match kind? {
+        Kind::Record if is_skipped(line.bytes) => Some(of_line(line, Mistake::Skipped)),
+        Kind::Record => None,
+        other => Some(of_line(line, Mistake::OtherKind(other))),
+    }
+}
+
 /// What is wrong with the line of this number, which its reader refused.
 pub fn in_line(text: &[u8], number: u32) -> Finding<'_> {
+    if number == 1 {
+        if let Some(finding) = in_first(line_at(text, 1), kind_of_text(text)) {
+            return finding;
+        }
+    }
     let is_behind_end = ends_record(text, number.saturating_sub(1));
     in_refused(line_at(text, number), is_behind_end)
 }

@@ -3,12 +3,12 @@
 use crate::callers::{has_many_callers, in_caller_line};
 use crate::forms::{JOB_FORMS, POOL_FORMS, STEP_FORMS};
 use crate::lines::{Line, line_at};
-use crate::looks::{Look, look_of};
+use crate::looks::{Look, has_kind, kind_of_text, look_of};
 use crate::mistakes::{Finding, Kind, Mistake, of_bytes, of_line, of_word, of_words};
 use crate::settings::refused_setting;
-use crate::words::word_at;
+use crate::tellings::Room;
 use tp_text::lines::{clean_text, is_skipped, next_line};
-use tp_text::pools::pool_of;
+use tp_text::pools::{PoolLine, pool_of};
 use tp_text::words::first_word;
 use tp_types::refusals::PoolError;
 
@@ -31,6 +31,32 @@ fn line_behind(text: &[u8], lines: usize) -> u32 {
     u32::MAX
 }
 
+/// How many lines of a text say something.
+fn count_said(text: &[u8]) -> usize {
+    let mut count = 0usize;
+    let mut rest = text;
+    for _ in text {
+        let Some((line, behind)) = next_line(rest) else {
+            return count;
+        };
+        if !is_skipped(line) {
+            count = count.saturating_add(1);
+        }
+        rest = behind;
+    }
+    count
+}
+
+/// How many jobs a file of jobs has.
+pub fn count_jobs(text: &[u8]) -> usize {
+    count_said(text).saturating_sub(1)
+}
+
+/// The pool line of a text, where it has one.
+pub fn pool_line_of(text: &[u8]) -> Option<PoolLine> {
+    pool_of(clean_text(line_at(text, first_line(text)).bytes)?)
+}
+
 /// The number of the line that should be the pool line.
 pub fn first_line(text: &[u8]) -> u32 {
     line_behind(text, 0)
@@ -39,7 +65,6 @@ pub fn first_line(text: &[u8]) -> u32 {
 /// What is wrong with a line that should be the pool line.
 fn in_pool_line<'a>(line: Line<'a>, text: &'a str) -> Finding<'a> {
     match look_of(text) {
-        Look::Version | Look::Entry => of_line(line, Mistake::OtherKind(Kind::Record)),
         Look::Submit | Look::Execute | Look::Step | Look::End | Look::Caller => {
             of_word(line, text, 0, Mistake::EarlyLine(first_word(text).0))
         }
@@ -58,17 +83,6 @@ fn in_step<'a>(line: Line<'a>, text: &'a str) -> Finding<'a> {
     }
 }
 
-/// The kinds of tasks, which a scenario says in its second words and a file of jobs does not.
-const TASK_KINDS: &[&str] = &["plain", "future", "group"];
-
-/// Whether a line's second word is a kind of task.
-fn has_kind(text: &str) -> bool {
-    match word_at(text, 1) {
-        Some(word) => TASK_KINDS.contains(&word),
-        None => false,
-    }
-}
-
 /// What is wrong with a job.
 fn in_job<'a>(line: Line<'a>, text: &'a str) -> Finding<'a> {
     match look_of(text) {
@@ -81,6 +95,27 @@ fn in_job<'a>(line: Line<'a>, text: &'a str) -> Finding<'a> {
     }
 }
 
+/// Whether the first line of a text that says something is an entry.
+fn begins_with_entry(text: &[u8]) -> bool {
+    match clean_text(line_at(text, first_line(text)).bytes) {
+        Some(words) => matches!(look_of(words), Look::Entry),
+        None => false,
+    }
+}
+
+/// What a text is, where its lines say that it is of another kind than this one. A job is also a call that lacks its caller.
+fn other_text(kind: Kind, text: &[u8]) -> Option<Mistake<'static>> {
+    let found = kind_of_text(text)?;
+    if found == kind || (kind == Kind::Callers && found == Kind::Jobs) {
+        return None;
+    }
+    Some(if begins_with_entry(text) {
+        Mistake::Printed
+    } else {
+        Mistake::OtherKind(found)
+    })
+}
+
 /// What is wrong with the line of this number, which its reader refused.
 pub fn in_line(kind: Kind, text: &[u8], number: u32) -> Finding<'_> {
     let line = line_at(text, number);
@@ -89,8 +124,14 @@ pub fn in_line(kind: Kind, text: &[u8], number: u32) -> Finding<'_> {
             return of_line(line, Mistake::ManyCallers);
         }
     }
+    if text.is_empty() {
+        return of_line(line, Mistake::Empty(kind));
+    }
     if line.bytes.is_empty() {
         return of_line(line, Mistake::NoPoolLine);
+    }
+    if let Some(mistake) = other_text(kind, text) {
+        return of_line(line, mistake);
     }
     if let Some(finding) = of_bytes(line) {
         return finding;
@@ -113,11 +154,11 @@ pub fn in_settings(line: Line<'_>, refusal: PoolError) -> Option<Finding<'_>> {
     Some(of_word(line, words, word, Mistake::Setting(setting)))
 }
 
-/// The job, counted from 1, whose submission was refused so.
-pub fn in_job_refused(text: &[u8], job: usize, refusal: PoolError) -> Finding<'_> {
+/// The job, counted from 1, whose submission was refused so, in a pool whose record has this room.
+pub fn in_job_refused(text: &[u8], job: usize, refusal: PoolError, room: Room) -> Finding<'_> {
     of_line(
         // The pool line comes before the first job.
         line_at(text, line_behind(text, job)),
-        Mistake::Job(job, refusal),
+        Mistake::Job(job, refusal, room),
     )
 }

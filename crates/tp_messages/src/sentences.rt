@@ -3,12 +3,22 @@
 use crate::faults::Fault;
 use crate::mistakes::{Kind, Mistake};
 use crate::settings::Setting;
-use crate::tellings::{Saying, Telling, Value};
+use crate::tellings::{Saying, Telling, Value, plain};
 use tp_types::refusals::PoolError;
 
 const TAB: Saying = Saying {
     sentence: "a tab stands in the line",
     advice: " write one space between two words",
+};
+
+const EMPTY: Saying = Saying {
+    sentence: "the text is empty",
+    advice: " it begins with a pool line",
+};
+
+const EMPTY_RECORD: Saying = Saying {
+    sentence: "the text is empty",
+    advice: " a record begins with the line 'tprecord 2'",
 };
 
 const NO_POOL_LINE: Saying = Saying {
@@ -46,9 +56,24 @@ const A_FILE_OF_CALLERS: Saying = Saying {
     advice: " it is for `poolrun explore`",
 };
 
+const PRINTED: Saying = Saying {
+    sentence: "this is what `poolrun steps` prints",
+    advice: " `poolrun steps --record` prints a record, which `poolrun audit` reads",
+};
+
+const POOL_FIRST: Saying = Saying {
+    sentence: "no record begins so: a scenario, a file of jobs or a file of callers does",
+    advice: " `poolrun steps` reads a scenario, `poolrun threads` jobs, `poolrun explore` callers",
+};
+
+const OTHER_VERSION: Saying = Saying {
+    sentence: "a record that begins with '{}' is not read",
+    advice: " the forms 'tprecord 1' and 'tprecord 2' are",
+};
+
 const CALL_WITHOUT_CALLER: Saying = Saying {
     sentence: "a call stands without its caller",
-    advice: " write 'caller' and a space before it",
+    advice: " write 'caller' and a space before it; a file of jobs is for `poolrun threads`",
 };
 
 const SECOND_FACTORY: Saying = Saying {
@@ -141,16 +166,6 @@ const BEHIND_END: Saying = Saying {
     advice: " take it out",
 };
 
-const JOB_WITHOUT_ROOM: Saying = Saying {
-    sentence: "job {}",
-    advice: " the record has no room for it: set a greater limit in the pool line, 1048576 at most",
-};
-
-const JOB_WITHOUT_MEMORY: Saying = Saying {
-    sentence: "job {}",
-    advice: " there is no memory for it",
-};
-
 const JOB: Saying = Saying {
     sentence: "job {}",
     advice: " the record is torn there",
@@ -178,7 +193,12 @@ impl<'a> Mistake<'a> {
             Mistake::NameTwice(_) => &NAME_TWICE,
             Mistake::NoSuchName(_) => &NO_SUCH_NAME,
             Mistake::ManyCallers => &MANY_CALLERS,
+            Mistake::Printed => &PRINTED,
+            Mistake::PoolFirst => &POOL_FIRST,
+            Mistake::OtherVersion(_) => &OTHER_VERSION,
             Mistake::Tab => &TAB,
+            Mistake::Empty(Kind::Record) => &EMPTY_RECORD,
+            Mistake::Empty(_) => &EMPTY,
             Mistake::NoPoolLine => &NO_POOL_LINE,
             Mistake::EarlyLine(_) => &EARLY_LINE,
             Mistake::SecondPoolLine => &SECOND_POOL_LINE,
@@ -194,9 +214,7 @@ impl<'a> Mistake<'a> {
             Mistake::Miscounted(_) => &MISCOUNTED,
             Mistake::NoEnd(_) => &NO_END,
             Mistake::BehindEnd => &BEHIND_END,
-            Mistake::Job(_, PoolError::BookFull) => &JOB_WITHOUT_ROOM,
-            Mistake::Job(_, PoolError::NoMemory) => &JOB_WITHOUT_MEMORY,
-            Mistake::Job(_, _) => &JOB,
+            Mistake::Job(_, _, _) => &JOB,
             Mistake::Words(_) | Mistake::Unknown => &UNKNOWN,
         }
     }
@@ -205,6 +223,7 @@ impl<'a> Mistake<'a> {
     fn value(&self) -> Value<'a> {
         match self {
             Mistake::EarlyLine(word)
+            | Mistake::OtherVersion(word)
             | Mistake::BadName(word)
             | Mistake::NameTwice(word)
             | Mistake::NoSuchName(word) => Value::Word("", *word),
@@ -217,7 +236,7 @@ impl<'a> Mistake<'a> {
             | Mistake::Misnumbered(number)
             | Mistake::Miscounted(number)
             | Mistake::NoEnd(number) => Value::Number(*number),
-            Mistake::Job(job, refusal) => Value::Job(*job, *refusal),
+            Mistake::Job(job, refusal, _) => Value::Job(*job, *refusal),
             _ => Value::Nothing,
         }
     }
@@ -237,6 +256,11 @@ impl<'a> Mistake<'a> {
     pub fn advice(&self) -> Telling<'a> {
         match self {
             Mistake::Words(wording) => wording.advice(),
+            Mistake::Job(_, PoolError::BookFull, room) => Telling {
+                text: " the record has room for {}",
+                value: Value::Room(*room),
+            },
+            Mistake::Job(_, PoolError::NoMemory, _) => plain(" there is no memory for it"),
             _ => Telling {
                 text: self.saying().advice,
                 value: self.value(),

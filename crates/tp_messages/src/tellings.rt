@@ -1,5 +1,6 @@
 //! What is told: sentences of a table, and the values that stand in them.
 
+use crate::shown::Shown;
 use std::fmt;
 use tp_types::refusals::PoolError;
 
@@ -10,6 +11,31 @@ pub struct Saying {
     pub sentence: &'static str,
     /// How it is mended, behind a space; there may be nothing.
     pub advice: &'static str,
+}
+
+/// What room a record has, in entries.
+#[derive(Clone, Copy)]
+pub struct Room {
+    /// How many entries it may have.
+    pub limit: u32,
+    /// How many the jobs want at most, where that is known and a record may have so many.
+    pub wanted: Option<u32>,
+}
+
+impl fmt::Display for Room {
+    fn fmt<W: fmt::Write>(&self, f: &mut fmt::Formatter<W>) -> fmt::Result {
+        let limit = self.limit;
+        match self.wanted {
+            Some(wanted) => write!(
+                f,
+                "{limit} entries, and these jobs want {wanted} at most: write 'limit {wanted}' at the end of the pool line"
+            ),
+            None => write!(
+                f,
+                "{limit} entries: set a greater limit in the pool line, 1048576 at most, or keep no record with --tally"
+            ),
+        }
+    }
 }
 
 /// What stands for `{}`.
@@ -25,6 +51,10 @@ pub enum Value<'a> {
     Sizes(u32, u32),
     /// A job, counted from 1, and why its submission is refused.
     Job(usize, PoolError),
+    /// What room a record has, and what room the jobs want.
+    Room(Room),
+    /// A word of a form, and the word before which it is missing.
+    Missing(&'static str, &'a str),
 }
 
 impl fmt::Display for Value<'_> {
@@ -32,9 +62,14 @@ impl fmt::Display for Value<'_> {
         match self {
             Value::Nothing => Ok(()),
             Value::Number(number) => write!(f, "{number}"),
-            Value::Word(before, word) => write!(f, "{before}{word}"),
+            Value::Word(before, word) => {
+                let word = Shown(word.as_bytes());
+                write!(f, "{before}{word}")
+            }
             Value::Sizes(core, maximum) => write!(f, "{core} is above the MAX of {maximum}"),
             Value::Job(job, refusal) => write!(f, "{job} is {refusal}"),
+            Value::Room(room) => write!(f, "{room}"),
+            Value::Missing(place, word) => write!(f, "{place} is missing before '{word}'"),
         }
     }
 }

@@ -59,6 +59,14 @@ fn is_numeral(word: &str) -> bool {
     false
 }
 
+/// Whether a word of a form stands for a number.
+fn is_number(place: &str) -> bool {
+    match sign_of(place) {
+        Some(sign) => sign.is_number(),
+        None => false,
+    }
+}
+
 impl<'a> Wording<'a> {
     /// A text beside these forms.
     pub fn new(forms: Forms, text: &'a str) -> Wording<'a> {
@@ -162,6 +170,21 @@ impl<'a> Wording<'a> {
         found
     }
 
+    /// The number that is missing before the word that was found, where a form has that word behind it.
+    fn missing(&self) -> Option<&'static str> {
+        if self.found.is_empty() {
+            return None;
+        }
+        for form in self.forms {
+            let wanted = word_at(*form, self.fitting).unwrap_or("");
+            let behind = word_at(*form, self.fitting.saturating_add(1)).unwrap_or("");
+            if is_number(wanted) && !is_number(behind) && fits(behind, self.found) {
+                return Some(wanted);
+            }
+        }
+        None
+    }
+
     /// How the word that was found misspells a number.
     fn misspelling(&self) -> Option<Misspelling<'a>> {
         Some(misspelled(self.number_wanted()?, self.found))
@@ -169,6 +192,12 @@ impl<'a> Wording<'a> {
 
     /// What is wrong.
     pub fn sentence(&self) -> Telling<'a> {
+        if let Some(place) = self.missing() {
+            return Telling {
+                text: "{}",
+                value: Value::Missing(place, self.found),
+            };
+        }
         Telling {
             text: self.sentence_text(),
             value: Value::Word("", self.found),

@@ -67,7 +67,7 @@ fn tells(rt: &impl Abort, alloc: Global, kind: Kind, rows: &[Row]) -> Result<(),
     Ok(())
 }
 
-static WORDS: [Row; 25] = [
+static WORDS: [Row; 31] = [
     (
         b"pool 1 1 unbounded keep 0 abort\nsubmitt plain 5\n",
         "2:1",
@@ -81,7 +81,7 @@ static WORDS: [Row; 25] = [
         "did you mean 'stop'?",
     ),
     (
-        b"pool 1 1 unbounded keep 0 abort\nsubmit 5\n",
+        b"pool 1 1 unbounded keep 0 abort\nsubmit 5\nopen 0\n",
         "2:8",
         "'5' may not stand here",
         "= expected: plain, future or group\n",
@@ -218,14 +218,52 @@ static WORDS: [Row; 25] = [
         "a word is missing",
         "= ENTRIES is the record's limit, 64 to 1048576\n",
     ),
+    (
+        b"pool 1 1 bounded keep 0 abort\n",
+        "1:18",
+        "PLACES is missing before 'keep'",
+        "= PLACES is the queue's capacity in tasks, 1 to 65536\n",
+    ),
+    (
+        b"pool 1 unbounded keep 0 abort\n",
+        "1:8",
+        "MAX is missing before 'unbounded'",
+        "= expected: MAX\n",
+    ),
+    (
+        b"pool 1 1 unbounded keep abort\n",
+        "1:25",
+        "TICKS is missing before 'abort'",
+        "= expected: TICKS\n",
+    ),
+    // A file of jobs, all of which are futures.
+    (
+        b"pool 1 1 unbounded keep 0 abort\nsubmit 5\nsubmit !7 prio 2\n",
+        "2:1",
+        "this is a line of a file of jobs",
+        "it is for `poolrun threads`",
+    ),
+    // A record without its first line, and what `steps` printed.
+    (
+        b"# a part\npool 1 1 unbounded keep 0 abort\n\n1 submit t0 plain reserve w0\n",
+        "4:1",
+        "this is a line of a record",
+        "it is for `poolrun audit`",
+    ),
+    (
+        b"1 submit t0 plain reserve w0\nt0 open\n",
+        "1:1",
+        "this is what `poolrun steps` prints",
+        "`poolrun steps --record` prints a record, which `poolrun audit` reads",
+    ),
 ];
 
-static BYTES: [Row; 12] = [
+static BYTES: [Row; 17] = [
     (
         b"",
         "1:1",
-        "the text has no pool line",
-        "as: pool 1 4 bounded 16 keep 0 abort\n",
+        "the text is empty",
+        "^ it begins with a pool line\n  = form: pool CORE MAX QUEUE keep TICKS POLICY",
     ),
     (
         b"# nothing\n\n",
@@ -293,6 +331,38 @@ static BYTES: [Row; 12] = [
         "the line has more than 200 bytes",
         "the line should end before it",
     ),
+    (
+        b"pool 1 1 unbounded keep 0 abort\nsubmit\tplain 5\n",
+        "2:7",
+        "a tab stands in the line",
+        "2 | submit\\tplain 5\n  |       ^^ write",
+    ),
+    (
+        b"pool 1 1 unbounded keep 0 abort\n# caf\xC3\xA9 \xE9\x80\x9F \x1B[1m \x80\xC3\n",
+        "2:6",
+        "the byte 195 is above 127",
+        "2 | # caf\u{E9} \u{901F} ?[1m ??\n  |      ^ a text is ASCII",
+    ),
+    // A letter before the mark takes one place, and two bytes of the column. A sign that turns the line round is no letter.
+    (
+        b"\xC3\xA9\xE2\x80\xAE pool\r\n",
+        "1:1",
+        "the byte 195 is above 127",
+        "1 | \u{E9}??? pool\\r\n  | ^ a text is ASCII",
+    ),
+    (
+        b"pool 1 1 unbounded keep 0 abort\r\n",
+        "1:32",
+        "a carriage return ends the line, as on Windows",
+        "1 | pool 1 1 unbounded keep 0 abort\\r\n  |                                ^^ save",
+    ),
+    // What moves a terminal's cursor is shown nowhere, and not in the sentence.
+    (
+        b"pool 1 1 unbounded keep 0 abort\n\x1B[2J 5\n",
+        "2:1",
+        "no line begins with '?[2J'",
+        "2 | ?[2J 5\n  | ^^^^\n",
+    ),
 ];
 
 static SETTINGS: [Row; 6] = [
@@ -334,7 +404,7 @@ static SETTINGS: [Row; 6] = [
     ),
 ];
 
-static RECORDS: [Row; 21] = [
+static RECORDS: [Row; 29] = [
     (
         b"pool 1 1 unbounded keep 0 abort\nstop\n",
         "1:1",
@@ -344,14 +414,64 @@ static RECORDS: [Row; 21] = [
     (
         b"",
         "1:1",
-        "a record begins with the line 'tprecord 2'",
-        "write 'tprecord 2' here",
+        "the text is empty",
+        "^ a record begins with the line 'tprecord 2'\n",
     ),
     (
         b"tprecord 3\n",
         "1:1",
+        "a record that begins with 'tprecord 3' is not read",
+        "^^^^^^^^^^ the forms 'tprecord 1' and 'tprecord 2' are\n",
+    ),
+    (
+        b"tprecord\npool 1 1 unbounded keep 0 abort\n1 shutdown\nend 1\n",
+        "1:1",
+        "a record that begins with 'tprecord' is not read",
+        "the forms 'tprecord 1' and 'tprecord 2' are\n",
+    ),
+    (
+        b"\n",
+        "1:1",
         "a record begins with the line 'tprecord 2'",
         "write 'tprecord 2' here",
+    ),
+    // A file of jobs, of callers, a scenario behind a comment, and a record behind one.
+    (
+        b"pool 1 1 unbounded keep 0 abort\nexecute 5\n",
+        "1:1",
+        "this is a line of a file of jobs",
+        "it is for `poolrun threads`",
+    ),
+    (
+        b"# what a build does\npool 1 1 unbounded keep 0 abort\nsubmit 5\n",
+        "1:1",
+        "this is a line of a file of jobs",
+        "it is for `poolrun threads`",
+    ),
+    (
+        b"pool 1 1 unbounded keep 0 abort\ncaller stop\n",
+        "1:1",
+        "this is a line of a file of callers",
+        "it is for `poolrun explore`",
+    ),
+    (
+        b"# a life\npool 1 1 unbounded keep 0 abort\nsubmit plain 5\n",
+        "1:1",
+        "this is a line of a scenario",
+        "it is for `poolrun steps`",
+    ),
+    (
+        b"# a life\ntprecord 2\npool 1 1 unbounded keep 0 abort\nend 0\n",
+        "1:1",
+        "a record has no empty lines and no comments",
+        "take it out",
+    ),
+    // A pool line alone begins each text but a record.
+    (
+        b"pool 1 1 unbounded keep 0 abort\n",
+        "1:1",
+        "no record begins so: a scenario, a file of jobs or a file of callers does",
+        "`poolrun steps` reads a scenario, `poolrun threads` jobs, `poolrun explore` callers",
     ),
     (
         b"tprecord 1\npool 1 1 unbounded keep 0 abort limit 4096\nend 0\n",
@@ -463,7 +583,7 @@ static RECORDS: [Row; 21] = [
     ),
 ];
 
-static JOBS: [Row; 5] = [
+static JOBS: [Row; 8] = [
     (
         b"pool 1 1 unbounded keep 0 abort\nexecute\n",
         "2:9",
@@ -493,6 +613,24 @@ static JOBS: [Row; 5] = [
         "1:1",
         "'execute' stands before the pool line",
         "the pool line comes first",
+    ),
+    (
+        b"pool 1 1 unbounded keep 0 abort\nrun 5\n",
+        "2:1",
+        "no line begins with 'run'",
+        "^^^ did you mean 'execute'?\n",
+    ),
+    (
+        b"tprecord 2\npool 1 1 unbounded keep 0 abort\nend 0\n",
+        "1:1",
+        "this is a line of a record",
+        "it is for `poolrun audit`",
+    ),
+    (
+        b"",
+        "1:1",
+        "the text is empty",
+        "as: pool 1 4 bounded 16 keep 0 abort\n",
     ),
 ];
 

@@ -78,7 +78,9 @@ fn status_of<R: Read + Drop>(
         Choice::Steps(_path, playing) => {
             run_steps(alloc, *playing, name, reader, out, errors, plain)
         }
-        Choice::Audit(_path, any) => run_audit(alloc, *any, name, reader, out, errors, plain),
+        Choice::Audit(_path, auditing) => {
+            run_audit(alloc, *auditing, name, reader, out, errors, plain)
+        }
         Choice::Explore(_path, exploring) => {
             run_explore(alloc, &Callers, exploring, name, reader, out, errors, plain)
         }

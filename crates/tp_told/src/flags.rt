@@ -64,6 +64,67 @@ fn plays_with_flags(rt: HostRuntime) -> Result<(), Fail> {
     Ok(())
 }
 
+/// A record of a pool that is full. Its lines are counted from the first one on.
+const FULL: &str = "tprecord 2
+pool 1 1 bounded 1 keep 0 abort
+1 submit t0 plain reserve w0
+2 submit t1 plain queue
+3 offer t1 queued
+4 second t1 stay
+5 submit t2 future queue
+6 offer t2 full
+7 grow t2 refuse
+8 verdict t2 abort rejected
+9 remove t0 no
+end 9
+";
+
+const FULL_OUTPUT: &str = "legal 9
+state running
+counts submitted=3 run=0 caller=0 rejected=1 discarded=0 handedback=0 removed=0 cancelled=0 completed=0 queued=1 live=0 largest=0
+";
+
+const TURNED_AWAY: &str = "line 8: t2: the queue is full, with 1 task in it
+line 9: t2: grow: refused, with 1 of 1 slots taken and 1 task queued
+line 10: t2: rejected
+line 11: t0: pass 0 asks to remove it, but it is not in the queue
+";
+
+const TURNED_AWAY_FROM_STEPS: &str = "line 8: t2: the queue is full, with 1 task in it
+line 9: t2: grow: refused, with 1 of 1 slots taken and 1 task queued
+line 10: t2: rejected
+line 11: t0: pass 0 asks to remove it, but it is not in the queue
+error: this is a line of a record
+ --> a.txt:1:1
+  |
+1 | tprecord 2
+  | ^^^^^^^^^^ it is for `poolrun audit`
+";
+
+/// That record, and what is asked of it: a command, a status, the output, and the standard error.
+const EXPLAINED: [(&str, u8, &str, &str); 5] = [
+    ("audit", 0, FULL_OUTPUT, ""),
+    ("audit --explain", 0, FULL_OUTPUT, TURNED_AWAY),
+    (
+        "steps --explain",
+        1,
+        "refused 23 BadLine 1\n",
+        TURNED_AWAY_FROM_STEPS,
+    ),
+    ("audit --explain --any-length", 99, "", ""),
+    ("audit --explain --cut", 99, "", ""),
+];
+
+#[test]
+fn explains_a_record(rt: HostRuntime) -> Result<(), Fail> {
+    for (command, status, out, errors) in EXPLAINED {
+        let line = format!(in rt.alloc(); "{command} a.txt")?;
+        let told = call(rt.alloc(), line.as_str(), FULL.as_bytes())?;
+        assert!(rt; told.gave(status, out, errors), "{command}: {told:?}");
+    }
+    Ok(())
+}
+
 /// A command line, a text that is refused, what is printed, and a part of what is told. The status is 1.
 const REFUSED: [(&str, &str, &str, &str); 9] = [
     (
@@ -88,7 +149,7 @@ const REFUSED: [(&str, &str, &str, &str); 9] = [
         "steps --strict --explain -",
         "",
         "refused 23 BadLine 1\n",
-        "error: the text has no pool line\n",
+        "error: the text is empty\n",
     ),
     (
         "steps --record -",

@@ -39,11 +39,11 @@ const COPIED: [Row; 8] = [
         "steps",
         "1 submit t0 plain reserve w0\n2 open w0 live\n",
         "refused 23 BadLine 1\n",
-        "error: this is a line of a record
+        "error: this is what `poolrun steps` prints
  --> a.txt:1:1
   |
 1 | 1 submit t0 plain reserve w0
-  | ^^^^^^^^^^^^^^^^^^^^^^^^^^^^ it is for `poolrun audit`
+  | ^^^^^^^^^^^^^^^^^^^^^^^^^^^^ `poolrun steps --record` prints a record, which `poolrun audit` reads
 ",
     ),
     (
@@ -53,8 +53,8 @@ const COPIED: [Row; 8] = [
         "error: a carriage return ends the line, as on Windows
  --> a.txt:1:32
   |
-1 | pool 1 1 unbounded keep 0 abort?
-  |                                ^ save the file with the line ends of Unix (LF)
+1 | pool 1 1 unbounded keep 0 abort\\r
+  |                                ^^ save the file with the line ends of Unix (LF)
 ",
     ),
     (
@@ -75,8 +75,8 @@ const COPIED: [Row; 8] = [
         "error: a tab stands in the line
  --> a.txt:2:7
   |
-2 | submit?plain 5
-  |       ^ write one space between two words
+2 | submit\\tplain 5
+  |       ^^ write one space between two words
 ",
     ),
     (
@@ -86,7 +86,7 @@ const COPIED: [Row; 8] = [
         "error: the byte 195 is above 127
  --> a.txt:2:10
   |
-2 | # the caf??'s pool
+2 | # the caf\u{E9}'s pool
   |          ^ a text is ASCII, and its comments are too
 ",
     ),
@@ -94,11 +94,11 @@ const COPIED: [Row; 8] = [
         "steps",
         "",
         "refused 23 BadLine 1\n",
-        "error: the text has no pool line
+        "error: the text is empty
  --> a.txt:1:1
   |
 1 |\u{20}
-  | ^ the text ends here
+  | ^ it begins with a pool line
   = form: pool CORE MAX QUEUE keep TICKS POLICY, then maybe coretimeout, then maybe limit ENTRIES
   = QUEUE is handoff, unbounded, bounded PLACES or priority
   = as: pool 1 4 bounded 16 keep 0 abort
@@ -228,7 +228,7 @@ const STEPS: [Row; 6] = [
     ),
     (
         "steps",
-        "pool 1 1 unbounded keep 0 abort\nsubmit 5\n",
+        "pool 1 1 unbounded keep 0 abort\nsubmit 5\nopen 0\n",
         "refused 23 BadLine 2\n",
         "error: '5' may not stand here
  --> a.txt:2:8
@@ -378,6 +378,21 @@ const RECORDS: [Row; 9] = [
     ),
     (
         "audit",
+        "tprecord 3\npool 1 1 unbounded keep 0 abort\nend 0\n",
+        "refused 24 BadEntry 1\n",
+        "error: a record that begins with 'tprecord 3' is not read
+ --> a.txt:1:1
+  |
+1 | tprecord 3
+  | ^^^^^^^^^^ the forms 'tprecord 1' and 'tprecord 2' are
+",
+    ),
+];
+
+/// A text of each kind, handed to a command that reads another kind: the message says what it is, and which command reads it.
+const HANDED_ON: [Row; 6] = [
+    (
+        "audit",
         "pool 1 1 unbounded keep 0 abort\nstop\n",
         "refused 24 BadEntry 1\n",
         "error: this is a line of a scenario
@@ -385,6 +400,61 @@ const RECORDS: [Row; 9] = [
   |
 1 | pool 1 1 unbounded keep 0 abort
   | ^^^^^^^^^^^^^^^^^^^^^^^^^^^^^^^ it is for `poolrun steps`
+",
+    ),
+    (
+        "audit",
+        "# a build\npool 1 1 unbounded keep 0 abort\nsubmit 5\n",
+        "refused 24 BadEntry 1\n",
+        "error: this is a line of a file of jobs
+ --> a.txt:1:1
+  |
+1 | # a build
+  | ^^^^^^^^^ it is for `poolrun threads`
+",
+    ),
+    (
+        "audit --any-length",
+        "pool 1 1 unbounded keep 0 abort\nsubmit 5\n",
+        "refused 24 BadEntry 1\n",
+        "error: no record begins so: a scenario, a file of jobs or a file of callers does
+ --> a.txt:1:1
+  |
+1 | pool 1 1 unbounded keep 0 abort
+  | ^^^^^^^^^^^^^^^^^^^^^^^^^^^^^^^ `poolrun steps` reads a scenario, `poolrun threads` jobs, `poolrun explore` callers
+",
+    ),
+    (
+        "steps",
+        "tprecord 2\npool 1 1 unbounded keep 0 abort\nend 0\n",
+        "refused 23 BadLine 1\n",
+        "error: this is a line of a record
+ --> a.txt:1:1
+  |
+1 | tprecord 2
+  | ^^^^^^^^^^ it is for `poolrun audit`
+",
+    ),
+    (
+        "steps",
+        "pool 1 1 unbounded keep 0 abort\nsubmit 5\n",
+        "refused 23 BadLine 2\n",
+        "error: this is a line of a file of jobs
+ --> a.txt:2:1
+  |
+2 | submit 5
+  | ^^^^^^^^ it is for `poolrun threads`
+",
+    ),
+    (
+        "explore",
+        "pool 1 1 unbounded keep 0 abort\nsubmit 5\n",
+        "refused 23 BadLine 2\n",
+        "error: a call stands without its caller
+ --> a.txt:2:1
+  |
+2 | submit 5
+  | ^^^^^^^^ write 'caller' and a space before it; a file of jobs is for `poolrun threads`
 ",
     ),
 ];
@@ -408,6 +478,7 @@ fn tells_how_a_mistake_is_mended(rt: HostRuntime) -> Result<(), Fail> {
         ("", POOLS.as_slice()),
         ("", STEPS.as_slice()),
         ("", RECORDS.as_slice()),
+        ("", HANDED_ON.as_slice()),
         (" --any-length", RECORDS.as_slice()),
     ] {
         let other = first_other(rt.alloc(), flags, rows)?;

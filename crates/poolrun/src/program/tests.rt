@@ -95,7 +95,7 @@ static REFUSED: [Row; 3] = [
             Wanted::Text("refused 23 BadLine 1\n"),
             Wanted::Parts(
                 "",
-                &["error: the text has no pool line\n --> refused-run.txt:1:1\n"],
+                &["error: the text is empty\n --> refused-run.txt:1:1\n"],
             ),
         ),
     },
@@ -349,6 +349,67 @@ static VERSION: [Row; 2] = [
 #[test]
 fn tells_its_version(rt: HostRuntime) -> Result<(), Fail> {
     plays(&rt, rt.alloc(), &VERSION)
+}
+
+static COMPLETED: [Row; 4] = [
+    Row {
+        line: "poolrun completions bash",
+        file: None,
+        room: ALL,
+        gives: Gives(
+            0,
+            Wanted::Parts(
+                "_poolrun() {\n",
+                &[
+                    "        words=' steps threads audit explore why now stats completions help --help --version'\n",
+                    "            steps) words=' --explain --strict --record --help' ;;\n",
+                    "\n}\ncomplete -o default -F _poolrun poolrun\n",
+                ],
+            ),
+            NONE,
+        ),
+    },
+    Row {
+        line: "poolrun completions zsh",
+        file: None,
+        room: ALL,
+        gives: Gives(
+            0,
+            Wanted::Parts(
+                "#compdef poolrun\n",
+                &["            stats) compadd -- --json --top --help ;;\n"],
+            ),
+            NONE,
+        ),
+    },
+    Row {
+        line: "poolrun completions fish",
+        file: None,
+        room: ALL,
+        gives: Gives(
+            0,
+            Wanted::Parts(
+                "complete -c poolrun -f -n __fish_use_subcommand -a steps -d 'Runs a scenario",
+                &[
+                    "complete -c poolrun -n '__fish_seen_subcommand_from steps' -l strict -d 'Ends with status 1",
+                    "complete -c poolrun -n '__fish_seen_subcommand_from now' -l at -r -d 'Stands after entry N",
+                    "with this part, as \\'b rejected\\'; status 1",
+                ],
+            ),
+            NONE,
+        ),
+    },
+    Row {
+        line: "poolrun completions tcsh",
+        file: None,
+        room: ALL,
+        gives: Gives(2, NONE, Wanted::Parts("", &["bash, zsh, fish"])),
+    },
+];
+
+#[test]
+fn prints_completions(rt: HostRuntime) -> Result<(), Fail> {
+    plays(&rt, rt.alloc(), &COMPLETED)
 }
 
 /// The standard output has no room for the rest, and nothing is said of what it took.

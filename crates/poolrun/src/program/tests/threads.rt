@@ -243,7 +243,10 @@ static REFUSED: [Row; 5] = [
             Wanted::Text("refused 5 BookFull\n"),
             Wanted::Parts(
                 "",
-                &["^^^^^^^^^ the record has no room for it: set a greater limit in the pool line"],
+                &[
+                    "^^^^^^^^^ the record has room for 64 entries, and these jobs want 264 at most: write 'limit 264' at the end of the pool line\n",
+                    "poolrun: refused-jobs.txt: with --record PATH, the record of this run goes there\n",
+                ],
             ),
         ),
     },
@@ -254,7 +257,7 @@ static REFUSED: [Row; 5] = [
         gives: Gives(
             1,
             Wanted::Text("refused 23 BadLine 1\n"),
-            Wanted::Parts("", &["error: the text has no pool line\n"]),
+            Wanted::Parts("", &["error: the text is empty\n"]),
         ),
     },
     Row {
@@ -314,7 +317,10 @@ static KEPT: [Row; 2] = [
         gives: Gives(
             1,
             Wanted::Text("refused 5 BookFull\n"),
-            Wanted::Parts("", &["error: job "]),
+            Wanted::Parts(
+                "error: job ",
+                &["poolrun: full-jobs.txt: the record of this run is in kept-record.txt\n"],
+            ),
         ),
     },
     Row {

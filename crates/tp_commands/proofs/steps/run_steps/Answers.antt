@@ -1,6 +1,8 @@
 use Rattle.std.proofs.Common.{◌≡◌, Err, refl, sym, subst}
 use Rattle.std.specs.Prelude.{IfSome}
-use Rattle.tp_text.proofs.Watchings.{read_refused, read_unwritten}
+use Rattle.tp_text.proofs.Watchings.{read_unwritten}
+use Rattle.tp_commands.specs.Status.{Ends}
+use Rattle.tp_commands.specs.Steps.{RunsSteps}
 use Rattle.tp_commands.proofs.Ends.{not_long, not_read_long}
 use Rattle.tp_commands.proofs.Runs.{plays_from, plays_unread}
 use Rattle.tp_commands.proofs.steps.run_steps.Goals as goal
@@ -8,17 +10,18 @@ use Rattle.tp_commands.proofs.steps.run_steps.Goals as goal
 pub returns-in-Err-clause-runs : goal.returns-in-Err-clause-runs
 returns-in-Err-clause-runs g c =
     let input = g.R.Read.remaining c.args.reader.now.inner in
-    let e = c.in-Err.refusal in (
+    let ended = c.in-Err.ensures.ended in
+    let e = ended.refusal in (
       Err e,
       c.args.out.now,
       record {
-        plays = plays_unread g.W.Write.contents c.args.playing input c.args.out.now e c.in-Err.ensures.refused;
-        long = not_read_long input e c.in-Err.ensures.refused;
+        plays = plays_unread g.W.Write.contents c.args.playing input c.args.out.now e ended.reads;
+        long = not_read_long input e ended.reads;
         unread = λ is. refl;
-        tells_reader = read_refused c.args.reader.now c.whole_text.new.reader e c.in-Err.ensures.unread;
+        tells_reader = ended.tells_reader;
       },
-      c.finish.ensures.status,
-      c.finish.ensures.finished,
+      ended.status,
+      ended.finished,
     )
 
 pub returns-clause-runs : goal.returns-clause-runs
@@ -26,15 +29,18 @@ returns-clause-runs g c =
     let input = g.R.Read.remaining c.args.reader.now.inner in
     let text = c.as_slice-text.result.now in
     let known = subst (λ t. IfSome input (λ xs. t ≡ xs)) (sym c.as_slice-text.ensures.value) c.in-Ok.ensures.whole in
-    let played = c.play-outcome in (
+    let played = c.play-outcome in
+    let status = c.finish-status in
+    subst (λ old. Ends g.W.Write.contents (RunsSteps g.R.Read.remaining g.W.Write.contents c.args.playing c.args.reader.now c.text_or_status.new.reader old) status.result status.new.writer)
+    c.in-Ok.ensures.unwritten (
       played.result,
       played.new.out,
       record {
-        plays = plays_from g.W.Write.contents c.args.playing input text c.args.out.now played.new.out played.result known played.ensures.plays;
+        plays = plays_from g.W.Write.contents c.args.playing input text c.text_or_status.new.out played.new.out played.result known played.ensures.plays;
         long = not_long input c.in-Ok.text.items _ c.in-Ok.ensures.whole c.in-Ok.ensures.short;
         unread = λ is. absurd (played.ensures.reads is);
-        tells_reader = read_unwritten c.args.reader.now c.whole_text.new.reader c.in-Ok.text played.result c.in-Ok.ensures.unread played.ensures.reads;
+        tells_reader = read_unwritten c.args.reader.now c.text_or_status.new.reader c.in-Ok.text played.result c.in-Ok.ensures.tells_reader played.ensures.reads;
       },
-      c.finish-status.ensures.status,
-      c.finish-status.ensures.finished,
+      status.ensures.status,
+      status.ensures.finished,
     )
