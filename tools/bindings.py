@@ -14,7 +14,7 @@ elsewhere. A STEP is one of these; with none, all are made:
     futures    CPython's own tests of ThreadPoolExecutor, where they are there: the folder that PYTHON_TESTS names, which holds
                test_concurrent_futures.py of the python3 that runs (Debian: libpython3.11-testsuite)
 
-The rows are those of bindings/rows, and the worked ones of test_model, tp_foretold and test_stories, taken from their sources where
+The rows are those of bindings/rows, and the worked ones of test_model, test_program and test_stories, taken from their sources where
 bindings/rows has no such text. With --rate the Rust pool's rate is printed beside that of a textbook's pool. The exit status is 0
 where nothing failed.
 """
@@ -66,7 +66,7 @@ def worked_rows():
     for name, row in constants("test_model/src/rows").items():
         text, _, answer = row.partition("\n\n")
         yield f"{'steps' if text.startswith('pool') else 'audit'}-{name.lower().replace('_', '-')}", f"{text}\n", answer
-    callers = open(os.path.join(ROOT, "crates", "tp_foretold", "src", "rows.rt")).read()
+    callers = open(os.path.join(ROOT, "crates", "test_program", "src", "interleavings", "rows.rt")).read()
     for number, (text, ends) in enumerate(re.findall(r'callers: "([^"]*)",\s*ends: "([^"]*)"', callers)):
         yield f"explore-{number}", text, ends
     records = constants("test_stories/src")

@@ -3,7 +3,7 @@
 //!
 //! They stand over any reader and writers, and not on the pool's storeys: a change of those then costs the program a few functions.
 //! `poolrun` adds files, the command line and `threads`, which alone stands on the pool. Tests of the commands stand above them, in
-//! `tp_told`, and need no files.
+//! `test_program`, and need no files.
 #![tactic(auto)]
 
 pub mod audits;

@@ -11,7 +11,7 @@ use Rattle.tp_explore.specs.Situation.{Situation, seen}
 use Rattle.tp_explore.proofs.Lowering.{stays_in}
 use Rattle.tp_explore_text.specs.declared.explored.Explored.{Explored}
 use Rattle.tp_explore_text.specs.Explored.{IsExplored}
-use Rattle.tp_foretold.proofs.again.count_all.Goals as goal
+use Rattle.test_program.proofs.interleavings.again.count_all.Goals as goal
 
 first_holds : (e : Explored) → IsExplored e → Holds e.named.exploration.plan (spec.starts e.named.exploration.plan)
 first_holds e x =

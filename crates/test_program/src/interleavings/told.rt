@@ -2,10 +2,10 @@
 ghost use Rattle.std.specs.Prelude.{IfOk};
 ghost use Rattle.tp_explore_text.specs.Explored.{IsExplored};
 
-use crate::again::same_again;
-use crate::followed::same_followed;
-use crate::played::same_played;
-use crate::rows::ROWS;
+use crate::interleavings::again::same_again;
+use crate::interleavings::followed::same_followed;
+use crate::interleavings::played::same_played;
+use crate::interleavings::rows::ROWS;
 use std::alloc::Global;
 use std::process::Abort;
 use std::test::Fail;

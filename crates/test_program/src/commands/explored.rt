@@ -1,7 +1,7 @@
 //! The command `explore` with each flag, on the race of a shutdown with two jobs. Its ends and their numbers were counted by a program in
 //! another language.
 
-use crate::calls::{call, has};
+use crate::commands::calls::{call, has};
 use std::test::Fail;
 
 const RACE: &str = "pool 1 1 unbounded keep 0 abort

@@ -1,6 +1,6 @@
 //! What is told of a record's flaw; and records that are read line by line.
 
-use crate::compare::same;
+use crate::messages::compare::same;
 use std::alloc::Global;
 use std::io::Read;
 use std::process::Abort;

@@ -1,7 +1,7 @@
 //! Mistakes of a new user, as they are made from the README, by hand and on Windows; and the transcripts of docs/PROGRAM.md. Each
 //! message is written by hand: it has to say how the mistake is mended.
 
-use crate::calls::{Called, call};
+use crate::commands::calls::{Called, call};
 use std::alloc::Global;
 use std::test::Fail;
 

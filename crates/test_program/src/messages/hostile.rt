@@ -1,7 +1,7 @@
 //! Texts that are cut off, or have one byte changed: what is told of each is told of the line that its reader names.
 
-use crate::compare::same;
-use crate::reasons::refusal_of;
+use crate::messages::compare::same;
+use crate::messages::reasons::refusal_of;
 use std::alloc::Global;
 use std::process::Abort;
 use std::test::Fail;

@@ -1,7 +1,7 @@
 use Rattle.std.proofs.Common.{sym, subst}
 use Rattle.std.specs.List.{Contains}
 use Rattle.tp_explore_text.proofs.Placed.{end_within}
-use Rattle.tp_foretold.proofs.played.same_played.Goals as goal
+use Rattle.test_program.proofs.interleavings.played.same_played.Goals as goal
 
 pub is_played-requires-clause-within : goal.is_played-requires-clause-within
 is_played-requires-clause-within c =

@@ -1,6 +1,6 @@
 //! Texts that end nowhere, fail, or are hostile; and records beyond a text's greatest length.
 
-use crate::calls::{call, has};
+use crate::commands::calls::{call, has};
 use std::alloc::Global;
 use std::io::{self, ErrorKind, Read};
 use std::process::Abort;

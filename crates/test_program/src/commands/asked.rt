@@ -1,6 +1,6 @@
 //! The commands that ask a question of a record, with each flag. What is expected was written by hand.
 
-use crate::calls::{call, has};
+use crate::commands::calls::{call, has};
 use std::test::Fail;
 
 /// A record of one task whose last lines are cut off.

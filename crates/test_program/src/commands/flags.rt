@@ -1,6 +1,6 @@
 //! The flags, alone and together; and what they do with texts that are refused.
 
-use crate::calls::{call, has};
+use crate::commands::calls::{call, has};
 use std::test::Fail;
 
 const GOOD: &str = "pool 1 1 unbounded keep 0 abort

@@ -1,6 +1,6 @@
 //! Mistakes, and what is told of each. The sentences are written by hand, from what its user has to know to mend it.
 
-use crate::compare::same;
+use crate::messages::compare::same;
 use std::alloc::Global;
 use std::process::Abort;
 use std::test::Fail;

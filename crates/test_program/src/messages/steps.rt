@@ -1,6 +1,6 @@
 //! What is told of refused steps; and the record of a scenario.
 
-use crate::compare::same;
+use crate::messages::compare::same;
 use std::alloc::Global;
 use std::process::Abort;
 use std::test::Fail;
