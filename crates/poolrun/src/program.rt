@@ -12,6 +12,7 @@ use std::thread::Threads;
 use tp_choices::choices::{Choice, Unchosen, chosen};
 use tp_commands::audits::run_audit;
 use tp_commands::explores::{Callers, run_explore};
+use tp_commands::objects::run_objects;
 use tp_commands::questions::run_asked;
 use tp_commands::statuses::finish;
 use tp_commands::steps::run_steps;
@@ -39,6 +40,9 @@ fn run_reader<
     let reader = &mut WatchedReader::new(reader);
     match choice {
         Choice::Steps(_, playing) => run_steps(alloc, *playing, name, reader, out, errors, style),
+        Choice::Objects(_, playing) => {
+            run_objects(alloc, *playing, name, reader, out, errors, style)
+        }
         Choice::Threads(_, record) => {
             run_threads(
                 rt,

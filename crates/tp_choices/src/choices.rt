@@ -75,6 +75,8 @@ pub enum Question {
 pub enum Choice {
     /// Run the scenario in the file at this path.
     Steps(String, Playing),
+    /// Run the scenario in the file at this path, and answer as JSON.
+    Objects(String, Playing),
     /// Run the jobs in the file at this path by threads. At the second path, if there is one, the record is written too.
     Threads(String, Option<String>),
     /// Run the jobs in the file at this path by threads, on a pool that keeps no record.
@@ -91,8 +93,9 @@ impl Choice {
     /// The path of the file that is to be read.
     pub fn path(&self) -> &str {
         match self {
-            Choice::Steps(path, _) | Choice::Threads(path, _) => path.as_str(),
-            Choice::Tally(path) | Choice::Audit(path, _) => path.as_str(),
+            Choice::Steps(path, _) | Choice::Objects(path, _) => path.as_str(),
+            Choice::Threads(path, _) | Choice::Tally(path) => path.as_str(),
+            Choice::Audit(path, _) => path.as_str(),
             Choice::Explore(path, _) | Choice::Ask(path, _, _) => path.as_str(),
         }
     }
@@ -203,6 +206,7 @@ fn steps_command<'a>(alloc: Global) -> Result<Command<'a>, AllocError> {
         "record",
         "Prints the record's text in place of the output",
     );
+    let json = json_flag(alloc).conflicts_with("record")?;
     with_file(
         alloc,
         "steps",
@@ -211,7 +215,8 @@ fn steps_command<'a>(alloc: Global) -> Result<Command<'a>, AllocError> {
     )?
     .arg(explain)?
     .arg(strict)?
-    .arg(record)
+    .arg(record)?
+    .arg(json)
 }
 
 /// The command `threads`.
@@ -547,14 +552,17 @@ fn chosen_by(alloc: Global, name: &str, inner: &ArgMatches<'_>) -> Result<Choice
                 most: inner.get_one("most").unwrap_or(MOST),
             },
         )),
-        _ => Ok(Choice::Steps(
-            path,
-            Playing {
+        _ => {
+            let playing = Playing {
                 explains: inner.get_flag("explain"),
                 is_strict: inner.get_flag("strict"),
                 prints_record: inner.get_flag("record"),
-            },
-        )),
+            };
+            Ok(match form_of(inner) {
+                Form::Words => Choice::Steps(path, playing),
+                Form::Json => Choice::Objects(path, playing),
+            })
+        }
     }
 }
 

@@ -9,6 +9,7 @@
 pub mod audits;
 mod explains;
 pub mod explores;
+pub mod objects;
 pub mod questions;
 pub mod statuses;
 pub mod steps;

@@ -21,7 +21,7 @@ use tp_text::watched::{WatchedReader, WatchedWriter};
 use tp_types::refusals::PoolError;
 
 /// Whether a play lets the program end well.
-fn passes(playing: Playing, play: &Play) -> bool
+pub(crate) fn passes(playing: Playing, play: &Play) -> bool
     ensures each { playing.is_strict ≡ false → result ≡ true }
     ensures strict { playing.is_strict ≡ true → result ≡ (refusals_in play.now.answers.items == 0) }
 {
@@ -29,7 +29,7 @@ fn passes(playing: Playing, play: &Play) -> bool
 }
 
 /// Plays a scenario. Why steps are refused goes to `errors`, where that is asked for.
-fn play_told<E: Write>(
+pub(crate) fn play_told<E: Write>(
     alloc: Global,
     playing: Playing,
     text: &[u8],

@@ -9,10 +9,10 @@ use tp_audit::summary::{Flaw, Summary};
 use tp_auditor::auditor::Auditor;
 use tp_record::entries::Entry;
 use tp_telling::forms::Form;
+use tp_telling::objects::CountMembers;
 use tp_text::ends::{write_counts, write_state};
 use tp_types::configs::Config;
 use tp_types::refusals::PoolError;
-use tp_types::states::Counts;
 
 /// So many entries that are legal, the run state and the counters, in words.
 fn in_words(alloc: Global, entries: u32, summary: &Summary) -> Result<String, AllocError>
@@ -27,31 +27,8 @@ fn in_words(alloc: Global, entries: u32, summary: &Summary) -> Result<String, Al
 /// The same as JSON.
 fn as_json(alloc: Global, entries: u32, summary: &Summary) -> Result<String, AllocError> {
     let state = summary.state.name();
-    let Counts {
-        submitted,
-        run,
-        caller,
-        rejected,
-        discarded,
-        handedback,
-        ..
-    } = summary.counts;
-    let Counts {
-        removed,
-        cancelled,
-        completed,
-        queued,
-        live,
-        largest,
-        ..
-    } = summary.counts;
-    let first = format!(in alloc;
-        "\"legal\":{entries},\"state\":\"{state}\",\"submitted\":{submitted},\"run\":{run},\"caller\":{caller},\"rejected\":{rejected},\"discarded\":{discarded},\"handedback\":{handedback}"
-    )?;
-    let first = first.as_str();
-    format!(in alloc;
-        "{{{first},\"removed\":{removed},\"cancelled\":{cancelled},\"completed\":{completed},\"queued\":{queued},\"live\":{live},\"largest\":{largest}}}\n"
-    )
+    let counts = CountMembers(&summary.counts);
+    format!(in alloc; "{{\"legal\":{entries},\"state\":\"{state}\",{counts}}}\n")
 }
 
 impl Account for Auditor {

@@ -6,6 +6,7 @@ pub mod forms;
 pub mod fronts;
 mod json;
 pub mod numbers;
+pub mod objects;
 pub mod stories;
 mod tallies;
 pub mod words;

@@ -10,6 +10,7 @@ ghost use Rattle.tp_telling.specs.Lines.{AreLines, IsEnd, IsLine, IsToldStory, e
 
 use crate::amounts::Amount;
 use crate::forms::{Form, Quoted, one_line, write_line};
+use crate::objects::entry_members;
 use crate::words::{Earlier, ShownEvent, ShownKind};
 use std::alloc::{AllocError, Global};
 use std::fmt;
@@ -19,7 +20,6 @@ use tp_record::rows::TaskRow;
 use tp_story::events::Event;
 use tp_story::stories::Story;
 use tp_story::subjects::Subject;
-use tp_text::entries::write_entry;
 use tp_types::ids::{SlotId, TaskId};
 use tp_types::tasks::{Fate, Kind, Place};
 
@@ -245,35 +245,16 @@ fn write_end(alloc: Global, text: &mut String, story: &Story, form: Form) -> Res
     }
 }
 
-/// What a record's line says of an entry behind its number and its pass.
-fn did_of(alloc: Global, event: &Event) -> Result<String, AllocError> {
-    let mut line = String::new(alloc);
-    write_entry(&mut line, 0, &event.entry)?;
-    let mut skipped = if event.entry.by == 0 { 1usize } else { 2 };
-    let mut did = String::new(alloc);
-    for letter in line.as_str().chars() {
-        if skipped > 0 {
-            if letter == ' ' {
-                skipped -= 1;
-            }
-        } else if letter != '\n' {
-            did.push(letter)?;
-        }
-    }
-    Ok(did)
-}
-
 /// What the line of an event says behind its number.
 fn words_of(alloc: Global, shown: ShownEvent<'_>, form: Form) -> Result<String, AllocError> {
     let words = format!(in alloc; "{shown}")?;
     if form == Form::Words {
         return Ok(words);
     }
-    let by = shown.event.entry.by;
-    let did = did_of(alloc, shown.event)?;
-    let did = Quoted(did.as_str());
+    let members = entry_members(alloc, &shown.event.entry)?;
+    let members = members.as_str();
     let words = Quoted(words.as_str());
-    format!(in alloc; "\"by\":{by},\"did\":{did},\"words\":{words}}}")
+    format!(in alloc; "{members},\"words\":{words}}}")
 }
 
 /// Writes the line of an event.

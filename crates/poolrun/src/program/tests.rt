@@ -362,7 +362,7 @@ static COMPLETED: [Row; 4] = [
                 "_poolrun() {\n",
                 &[
                     "        words=' steps threads audit explore why now stats completions help --help --version'\n",
-                    "            steps) words=' --explain --strict --record --help' ;;\n",
+                    "            steps) words=' --explain --strict --record --json --help' ;;\n",
                     "\n}\ncomplete -o default -F _poolrun poolrun\n",
                 ],
             ),

@@ -6,6 +6,7 @@ use std::test::Fail;
 use tp_choices::choices::{Choice, chosen};
 use tp_commands::audits::run_audit;
 use tp_commands::explores::{Callers, run_explore};
+use tp_commands::objects::run_objects;
 use tp_commands::questions::run_asked;
 use tp_commands::steps::run_steps;
 use tp_commands::telling::name_of;
@@ -77,6 +78,9 @@ fn status_of<R: Read + Drop>(
     match choice {
         Choice::Steps(_path, playing) => {
             run_steps(alloc, *playing, name, reader, out, errors, plain)
+        }
+        Choice::Objects(_path, playing) => {
+            run_objects(alloc, *playing, name, reader, out, errors, plain)
         }
         Choice::Audit(_path, auditing) => {
             run_audit(alloc, *auditing, name, reader, out, errors, plain)

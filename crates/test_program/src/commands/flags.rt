@@ -39,7 +39,7 @@ end 2
 const WHY: &str = "line 3: take 3: refused 7 UnknownSlot (slots: w0)\n";
 
 /// A scenario, and what is asked of it: a command, a status, the output, and the standard error.
-const PLAYED: [(&str, u8, &str, &str); 8] = [
+const PLAYED: [(&str, u8, &str, &str); 11] = [
     ("steps", 0, REFUSED_OUTPUT, ""),
     ("steps --explain", 0, REFUSED_OUTPUT, WHY),
     ("steps --strict", 1, REFUSED_OUTPUT, ""),
@@ -48,7 +48,17 @@ const PLAYED: [(&str, u8, &str, &str); 8] = [
     ("steps --record --explain", 0, REFUSED_RECORD, WHY),
     ("steps --record --strict", 1, REFUSED_RECORD, ""),
     ("steps --record --explain --strict", 1, REFUSED_RECORD, WHY),
+    ("steps --json", 0, REFUSED_OBJECTS, ""),
+    ("steps --json --explain --strict", 1, REFUSED_OBJECTS, WHY),
+    ("steps --json --record", 99, "", ""),
 ];
+
+const REFUSED_OBJECTS: &str = "{\"number\":1,\"by\":0,\"did\":\"submit t0 plain reserve w0\"}
+{\"refused\":7,\"name\":\"UnknownSlot\",\"ask\":\"take w3\"}
+{\"number\":2,\"by\":0,\"did\":\"open w0 live\"}
+{\"task\":0,\"fate\":null}
+{\"state\":\"running\",\"submitted\":1,\"run\":0,\"caller\":0,\"rejected\":0,\"discarded\":0,\"handedback\":0,\"removed\":0,\"cancelled\":0,\"completed\":0,\"queued\":0,\"live\":1,\"largest\":1}
+";
 
 #[test]
 fn plays_with_flags(rt: HostRuntime) -> Result<(), Fail> {
