@@ -1,19 +1,24 @@
 //! The command `threads`: a file of jobs is run by threads.
 
+ghost use Rattle.std.specs.Prelude.{◌<◌, length, IfOk};
+
 use std::alloc::Global;
 use std::fs;
-use std::io::{Read, Write};
+use std::io::{ErrorKind, Read, Write};
 use std::rt::Files;
 use std::sync::Wait;
 use std::thread::Threads;
 use tp_advice::sizes::for_jobs;
+use tp_choices::choices::Running;
+use tp_commands::objects::record_objects;
 use tp_commands::statuses::finish;
-use tp_commands::telling::{tell, tell_finding, tell_refusal};
+use tp_commands::telling::{tell, tell_finding, tell_refusal, tell_unread};
 use tp_commands::texts::text_or_status;
 use tp_messages::messages::Style;
 use tp_messages::mistakes::Kind;
 use tp_messages::scenarios::{count_jobs, in_job_refused, pool_line_of};
 use tp_messages::tellings::Room;
+use tp_telling::forms::Form;
 use tp_text::watched::{WatchedReader, WatchedWriter};
 use tp_text::writing::write_text;
 use tp_threads::tallies::tally_text;
@@ -21,6 +26,9 @@ use tp_threads::texts::{Unfinished, run_text};
 use tp_types::configs::Policy;
 use tp_types::limits::DEFAULT_RECORD_LIMIT;
 use tp_types::refusals::PoolError;
+
+/// A text of jobs has fewer bytes, whatever is allowed.
+const MOST_BYTES: usize = 4_294_967_295;
 
 /// Writes the record's text to the file at a path, if there is one: WriteFailed (26) where that fails, and `errors` is told why.
 fn write_file<H: Files, E: Write>(
@@ -41,23 +49,74 @@ fn write_file<H: Files, E: Write>(
     }
 }
 
-/// Runs a file of jobs by threads. The record's text goes to `out`, and to the file at the path, if there is one. What is left of a run
-/// where a submission is refused, or no thread could be made, is kept.
+/// The text of jobs beyond the usual length, as `text_or_status` gives it: 25 (`ReadFailed`) comes just where the reader fails. A line's
+/// number has 32 bits, so a text of 4,294,967,295 bytes finds no room (4).
+fn long_text_or_status<R: Read, W: Write, E: Write>(
+    alloc: Global,
+    name: &str,
+    reader: &mut WatchedReader<R>,
+    out: &mut WatchedWriter<W>,
+    errors: &mut E,
+) -> Result<Vec<u8>, u8>
+    ensures { IfOk result (λ text. length text.items < 4294967295) }
+{
+    let mut text = Vec::new(alloc);
+    let refusal = match reader.read_to_end(&mut text) {
+        Ok(_) if text.len() < MOST_BYTES => return Ok(text),
+        Err(reason) if reason.kind() != ErrorKind::OutOfMemory => {
+            tell_unread(errors, Kind::Jobs, name, reader);
+            PoolError::ReadFailed
+        }
+        _ => PoolError::NoMemory,
+    };
+    Err(finish(out, &Err(refusal)))
+}
+
+/// The text of jobs, of the length that is allowed.
+fn jobs_text<R: Read, W: Write, E: Write>(
+    alloc: Global,
+    running: &Running,
+    name: &str,
+    reader: &mut WatchedReader<R>,
+    out: &mut WatchedWriter<W>,
+    errors: &mut E,
+) -> Result<Vec<u8>, u8>
+    ensures { IfOk result (λ text. length text.items < 4294967295) }
+{
+    if running.has_any_length {
+        return long_text_or_status(alloc, name, reader, out, errors);
+    }
+    text_or_status(alloc, Kind::Jobs, name, reader, out, errors)
+}
+
+/// Runs the jobs of a text by threads. The record, or what stands in its place, goes to `out`, and the record's text to the file at the
+/// path too, if there is one. What is left of a run where a submission is refused, or no thread could be made, is kept.
 fn run_jobs<H: Files + Threads + Wait + Copy + Send + 'static, W: Write, E: Write>(
     rt: H,
     alloc: Global,
-    record: Option<&str>,
+    running: &Running,
     text: &[u8],
     out: &mut WatchedWriter<W>,
     errors: &mut E,
     kept: &mut Option<Unfinished>,
-) -> Result<bool, PoolError> {
-    let mut reader = WatchedReader::new(text);
+) -> Result<bool, PoolError>
+    requires { length text.now < 4294967295 }
+{
+    if !running.keeps_record {
+        tally_text(rt, alloc, text, out)?;
+        return Ok(true);
+    }
     let mut written = Vec::new(alloc);
     let mut writer = WatchedWriter::new(&mut written);
-    run_text(rt, alloc, &mut reader, &mut writer, kept)?;
-    write_file(&rt, record, written.as_slice(), errors)?;
-    write_text(out, written.as_slice())?;
+    run_text(rt, alloc, text, &mut writer, kept)?;
+    write_file(&rt, running.record.as_deref(), written.as_slice(), errors)?;
+    match running.form {
+        Form::Words => write_text(out, written.as_slice())?,
+        Form::Json => {
+            let objects = record_objects(alloc, written.as_slice())?;
+            write_text(out, objects.as_bytes())?;
+        }
+    }
     Ok(true)
 }
 
@@ -128,63 +187,54 @@ fn tell_record<H: Files, E: Write>(
     }
 }
 
-/// Runs the jobs that a reader of this name gives, as `poolrun threads`, and gives the status of the program. The record goes to the
-/// file at the path too, if there is one. What is wrong with a text that is refused, or which job is, goes to `errors`.
-pub fn run_threads<H: Files + Threads + Wait + Copy + Send + 'static, R: Read, W: Write, E: Write>(
+/// Tells why a run was refused, and what it left.
+fn tell_run<H: Files, E: Write>(
+    rt: &H,
+    alloc: Global,
+    running: &Running,
+    name: &str,
+    text: &[u8],
+    refusal: PoolError,
+    kept: Option<Unfinished>,
+    errors: &mut E,
+    style: Style,
+) {
+    match kept {
+        Some(left) => {
+            tell_job(alloc, name, text, refusal, &left, errors, style);
+            tell_record(rt, running.record.as_deref(), name, &left, errors);
+        }
+        None => tell_refusal(alloc, errors, Kind::Jobs, name, text, refusal, style),
+    }
+}
+
+/// Runs the jobs that a reader of this name gives, as `poolrun threads`, and gives the status of the program. What is wrong with a text
+/// that is refused, or which job is, goes to `errors`.
+pub fn run_threads<
+    H: Files + Threads + Wait + Copy + Send + 'static,
+    R: Read,
+    W: Write,
+    E: Write,
+>(
     rt: H,
     alloc: Global,
-    record: Option<&str>,
+    running: &Running,
     name: &str,
     reader: &mut WatchedReader<R>,
     out: &mut WatchedWriter<W>,
     errors: &mut E,
     style: Style,
 ) -> u8 {
-    let text = match text_or_status(alloc, Kind::Jobs, name, reader, out, errors) {
+    let text = match jobs_text(alloc, running, name, reader, out, errors) {
         Ok(text) => text,
         Err(status) => return status,
     };
     let text = text.as_slice();
     let mut kept = None;
-    let outcome = run_jobs(rt, alloc, record, text, out, errors, &mut kept);
-    let status = finish(out, &outcome);
-    match (outcome, kept) {
-        (Err(refusal), Some(left)) => {
-            tell_job(alloc, name, text, refusal, &left, errors, style);
-            tell_record(&rt, record, name, &left, errors);
-        }
-        (Err(refusal), None) => {
-            tell_refusal(alloc, errors, Kind::Jobs, name, text, refusal, style);
-        }
-        (Ok(_), _) => {}
-    }
-    status
-}
-
-/// Runs the jobs that a reader of this name gives, as `poolrun threads --tally`, and gives the status of the program. What is wrong
-/// with a text that is refused goes to `errors`.
-pub fn run_tally<H: Threads + Wait + Copy + Send + 'static, R: Read, W: Write, E: Write>(
-    rt: H,
-    alloc: Global,
-    name: &str,
-    reader: &mut WatchedReader<R>,
-    out: &mut WatchedWriter<W>,
-    errors: &mut E,
-    style: Style,
-) -> u8 {
-    let text = match text_or_status(alloc, Kind::Jobs, name, reader, out, errors) {
-        Ok(text) => text,
-        Err(status) => return status,
-    };
-    let text = text.as_slice();
-    let ran = tally_text(rt, alloc, &mut WatchedReader::new(text), out);
-    let outcome = match ran {
-        Ok(()) => Ok(true),
-        Err(refusal) => Err(refusal),
-    };
+    let outcome = run_jobs(rt, alloc, running, text, out, errors, &mut kept);
     let status = finish(out, &outcome);
     if let Err(refusal) = outcome {
-        tell_refusal(alloc, errors, Kind::Jobs, name, text, refusal, style);
+        tell_run(&rt, alloc, running, name, text, refusal, kept, errors, style);
     }
     status
 }

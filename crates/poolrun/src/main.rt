@@ -12,13 +12,13 @@
 
 mod jobs;
 mod program;
+mod progress;
 
-use program::{program, without_memory, without_words};
+use program::{Terminal, program, without_memory, without_words};
 use std::alloc::Alloc;
 use std::env::{self, Env};
 use std::io::IsTerminal;
 use std::process::ExitCode;
-use tp_messages::messages::Style;
 
 /// Whether the variable `NO_COLOR` is set, and not empty: its user wants no colours.
 fn forbids_colours<R: Env + Alloc>(rt: &R) -> bool {
@@ -32,14 +32,22 @@ fn main(rt: HostRuntime) -> ExitCode {
     let alloc = rt.alloc();
     let mut out = rt.stdout();
     let mut errors = rt.stderr();
-    let style = if errors.is_terminal() && !forbids_colours(&rt) {
-        Style::Coloured
-    } else {
-        Style::Plain
+    let mut progress = rt.stderr();
+    let terminal = Terminal {
+        is_one: errors.is_terminal(),
+        forbids_colours: forbids_colours(&rt),
     };
     let status = match env::args(&rt) {
         Ok(words) => match words.collect::<Vec<String>>(alloc) {
-            Ok(words) => program(&rt, alloc, words.as_slice(), &mut out, &mut errors, style),
+            Ok(words) => program(
+                &rt,
+                alloc,
+                words.as_slice(),
+                &mut out,
+                &mut errors,
+                &mut progress,
+                terminal,
+            ),
             Err(_) => without_memory(&mut out),
         },
         Err(reason) => without_words(&reason, &mut out, &mut errors),

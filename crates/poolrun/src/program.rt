@@ -1,6 +1,7 @@
 //! The program over any files, words and writers.
 
-use crate::jobs::{run_tally, run_threads};
+use crate::jobs::run_threads;
+use crate::progress::{Progress, ToldReader};
 use clap::error::ErrorKind;
 use std::alloc::Global;
 use std::fmt::Display;
@@ -9,7 +10,8 @@ use std::io::{self, Read, Write};
 use std::rt::Files;
 use std::sync::Wait;
 use std::thread::Threads;
-use tp_choices::choices::{Choice, Unchosen, chosen};
+use std::time::Clock;
+use tp_choices::choices::{Choice, Colour, Unchosen, chosen};
 use tp_commands::audits::run_audit;
 use tp_commands::explores::{Callers, run_explore};
 use tp_commands::objects::run_objects;
@@ -43,19 +45,9 @@ fn run_reader<
         Choice::Objects(_, playing) => {
             run_objects(alloc, *playing, name, reader, out, errors, style)
         }
-        Choice::Threads(_, record) => {
-            run_threads(
-                rt,
-                alloc,
-                record.as_deref(),
-                name,
-                reader,
-                out,
-                errors,
-                style,
-            )
+        Choice::Threads(_, running) => {
+            run_threads(rt, alloc, running, name, reader, out, errors, style)
         }
-        Choice::Tally(_) => run_tally(rt, alloc, name, reader, out, errors, style),
         Choice::Explore(_, exploring) => {
             run_explore(alloc, &Callers, exploring, name, reader, out, errors, style)
         }
@@ -68,23 +60,48 @@ fn run_reader<
     }
 }
 
-/// Does what was chosen with what stands at its path, `-` being the standard input, and gives the status. The output goes to `out`,
-/// and to `errors` what is told beside.
-fn run_choice<H: Files + Input + Threads + Wait + Copy + Send + 'static, W: Write, E: Write>(
+/// How many bytes a file has that is read to its end, where that is known.
+fn bytes_at<H: Files>(rt: &H, path: &str) -> Option<u64> {
+    match fs::metadata(rt, path) {
+        Ok(file) if file.is_file() => Some(file.len()),
+        _ => None,
+    }
+}
+
+/// Does what was chosen with what stands at its path, `-` being the standard input, and gives the status. The output goes to `out`, to
+/// `errors` what is told beside, and to `progress` how far a long text is read.
+fn run_choice<
+    H: Files + Input + Threads + Wait + Clock + Copy + Send + 'static,
+    W: Write,
+    E: Write,
+    T: Write,
+>(
     rt: &H,
     alloc: Global,
     choice: &Choice,
     out: &mut WatchedWriter<W>,
     errors: &mut E,
+    progress: &mut T,
     style: Style,
 ) -> u8 {
-    if choice.path() == "-" {
-        return run_reader(*rt, alloc, choice, rt.reader(), out, errors, style);
+    let path = choice.path();
+    let total = bytes_at(rt, path);
+    let told = if style.shows_progress {
+        Progress::new(rt, progress, name_of(path), total)
+    } else {
+        None
+    };
+    if path == "-" {
+        let reader = ToldReader::new(rt.reader(), told);
+        return run_reader(*rt, alloc, choice, reader, out, errors, style);
     }
-    match fs::open(rt, choice.path()) {
-        Ok(file) => run_reader(*rt, alloc, choice, file, out, errors, style),
+    match fs::open(rt, path) {
+        Ok(file) => {
+            let reader = ToldReader::new(file, told);
+            run_reader(*rt, alloc, choice, reader, out, errors, style)
+        }
         Err(reason) => {
-            tell(errors, choice.path(), &reason);
+            tell(errors, path, &reason);
             finish(out, &Err(PoolError::ReadFailed))
         }
     }
@@ -108,20 +125,51 @@ fn show_usage<W: Write, E: Write>(error: &clap::Error, out: &mut W, errors: &mut
     show(error, out)
 }
 
+/// What the standard error is.
+#[derive(Clone, Copy)]
+pub struct Terminal {
+    /// Whether it is a terminal.
+    pub is_one: bool,
+    /// Whether its user wants no colours.
+    pub forbids_colours: bool,
+}
+
+/// How that is written which is told beside the output.
+fn style_on(terminal: Terminal, colour: Colour) -> Style {
+    Style {
+        has_colours: match colour {
+            Colour::Auto => terminal.is_one && !terminal.forbids_colours,
+            Colour::Always => true,
+            Colour::Never => false,
+        },
+        shows_progress: terminal.is_one,
+    }
+}
+
 /// The status of the program by the words of its command line, its own name first. The output goes to
 /// `out`, a refusal of the whole run as its last line, and to `errors` what is told beside: what is wrong with a text that is
-/// refused, the reason why a file can't be opened or read, or why `out` failed, and the parser's texts.
-pub fn program<H: Files + Input + Threads + Wait + Copy + Send + 'static, W: Write, E: Write>(
+/// refused, the reason why a file can't be opened or read, or why `out` failed, and the parser's texts. To `progress`, which writes to the
+/// same terminal, goes how far a long text is read.
+pub fn program<
+    H: Files + Input + Threads + Wait + Clock + Copy + Send + 'static,
+    W: Write,
+    E: Write,
+    T: Write,
+>(
     rt: &H,
     alloc: Global,
     words: &[String],
     out: &mut W,
     errors: &mut E,
-    style: Style,
+    progress: &mut T,
+    terminal: Terminal,
 ) -> u8 {
     let mut out = WatchedWriter::new(out);
     let status = match chosen(alloc, words) {
-        Ok(choice) => run_choice(rt, alloc, &choice, &mut out, errors, style),
+        Ok(chosen) => {
+            let style = style_on(terminal, chosen.colour);
+            run_choice(rt, alloc, &chosen.choice, &mut out, errors, progress, style)
+        }
         Err(Unchosen::NoMemory) => finish(&mut out, &Err(PoolError::NoMemory)),
         Err(Unchosen::Usage(error)) => show_usage(&error, &mut out, errors),
         Err(Unchosen::Completions(script)) => show(&script, &mut out),

@@ -18,6 +18,19 @@ pub struct Playing {
     pub prints_record: bool,
 }
 
+/// How jobs are to be run by threads.
+#[derive(Debug, PartialEq, Eq, Drop)]
+pub struct Running {
+    /// The pool keeps a record, whose text is the output. Else its run state and its counters are.
+    pub keeps_record: bool,
+    /// The record is written to the file at this path too.
+    pub record: Option<String>,
+    /// The jobs' text may be longer than 1,048,576 bytes.
+    pub has_any_length: bool,
+    /// The form of the output.
+    pub form: Form,
+}
+
 /// How a record is to be judged.
 #[derive(Clone, Copy, Debug, PartialEq, Eq)]
 pub struct Auditing {
@@ -77,10 +90,8 @@ pub enum Choice {
     Steps(String, Playing),
     /// Run the scenario in the file at this path, and answer as JSON.
     Objects(String, Playing),
-    /// Run the jobs in the file at this path by threads. At the second path, if there is one, the record is written too.
-    Threads(String, Option<String>),
-    /// Run the jobs in the file at this path by threads, on a pool that keeps no record.
-    Tally(String),
+    /// Run the jobs in the file at this path by threads.
+    Threads(String, Running),
     /// Judge the record in the file at this path.
     Audit(String, Auditing),
     /// Explore all interleavings of the callers in the file at this path.
@@ -94,11 +105,30 @@ impl Choice {
     pub fn path(&self) -> &str {
         match self {
             Choice::Steps(path, _) | Choice::Objects(path, _) => path.as_str(),
-            Choice::Threads(path, _) | Choice::Tally(path) => path.as_str(),
-            Choice::Audit(path, _) => path.as_str(),
+            Choice::Threads(path, _) | Choice::Audit(path, _) => path.as_str(),
             Choice::Explore(path, _) | Choice::Ask(path, _, _) => path.as_str(),
         }
     }
+}
+
+/// When a message has the colours of a terminal.
+#[derive(Clone, Copy, Debug, PartialEq, Eq)]
+pub enum Colour {
+    /// Where the standard error is a terminal, and its user has not forbidden it.
+    Auto,
+    /// Always.
+    Always,
+    /// Never.
+    Never,
+}
+
+/// What a command line chooses.
+#[derive(Debug, PartialEq, Eq, Drop)]
+pub struct Chosen {
+    /// What the program is to do.
+    pub choice: Choice,
+    /// When its messages have colours.
+    pub colour: Colour,
 }
 
 /// Why there is no choice.
@@ -231,7 +261,13 @@ fn threads_command<'a>(alloc: Global) -> Result<Command<'a>, AllocError> {
         "tally",
         "Keeps no record: prints the run state and the counters in its place",
     )
-    .conflicts_with("record")?;
+    .conflicts_with("record")?
+    .conflicts_with("json")?;
+    let any_length = flag(
+        alloc,
+        "any-length",
+        "Reads the jobs also beyond 1,048,576 bytes",
+    );
     with_file(
         alloc,
         "threads",
@@ -239,7 +275,9 @@ fn threads_command<'a>(alloc: Global) -> Result<Command<'a>, AllocError> {
         "the jobs' text, - for the standard input",
     )?
     .arg(record)?
-    .arg(tally)
+    .arg(tally)?
+    .arg(any_length)?
+    .arg(json_flag(alloc))
 }
 
 /// The command `audit`.
@@ -427,12 +465,27 @@ fn completions_command<'a>(alloc: Global) -> Result<Command<'a>, AllocError> {
         .arg(shell)
 }
 
+/// The words that say when messages have colours.
+const COLOURS: [&str; 3] = ["auto", "always", "never"];
+
+/// The flag for colours, which each command takes.
+fn colour_flag<'a>(alloc: Global) -> Arg<'a> {
+    Arg::new(alloc, "color")
+        .long("color")
+        .value_name("WHEN")
+        .action(ArgAction::Set)
+        .value_parser(COLOURS.as_slice())
+        .global(true)
+        .help("Colours messages: auto, always or never")
+}
+
 /// The program's command line.
 fn program_command<'a>(alloc: Global) -> Result<Command<'a>, AllocError> {
     Command::new(alloc, "poolrun")
         .about("Runs scenarios and jobs of a bounded thread pool, and judges its records")
         .version("0.1.0")
         .after_help(EXAMPLES)
+        .arg(colour_flag(alloc))?
         .subcommand_required(true)
         .subcommand(steps_command(alloc)?)?
         .subcommand(threads_command(alloc)?)?
@@ -526,18 +579,34 @@ fn form_of(inner: &ArgMatches<'_>) -> Form {
     }
 }
 
+/// How jobs are to be run, by the words behind `threads`.
+fn running_by(alloc: Global, inner: &ArgMatches<'_>) -> Result<Running, AllocError> {
+    let record = match inner.get_str("record") {
+        None => None,
+        Some(record) => Some(String::from_str(alloc, record)?),
+    };
+    Ok(Running {
+        keeps_record: !inner.get_flag("tally"),
+        record,
+        has_any_length: inner.get_flag("any-length"),
+        form: form_of(inner),
+    })
+}
+
+/// When messages have colours.
+fn colour_of(matches: &ArgMatches<'_>) -> Colour {
+    match matches.get_str("color") {
+        Some("always") => Colour::Always,
+        Some("never") => Colour::Never,
+        _ => Colour::Auto,
+    }
+}
+
 /// What the words behind a command choose that asks no question.
 fn chosen_by(alloc: Global, name: &str, inner: &ArgMatches<'_>) -> Result<Choice, AllocError> {
     let path = String::from_str(alloc, inner.get_str("FILE").unwrap_or(""))?;
     match name {
-        "threads" if inner.get_flag("tally") => Ok(Choice::Tally(path)),
-        "threads" => {
-            let record = match inner.get_str("record") {
-                None => None,
-                Some(record) => Some(String::from_str(alloc, record)?),
-            };
-            Ok(Choice::Threads(path, record))
-        }
+        "threads" => Ok(Choice::Threads(path, running_by(alloc, inner)?)),
         "audit" => Ok(Choice::Audit(
             path,
             Auditing {
@@ -581,7 +650,7 @@ fn completions(alloc: Global, inner: &ArgMatches<'_>) -> Unchosen {
 }
 
 /// What the words of a command line choose, the first being the program's own name.
-pub fn chosen(alloc: Global, words: &[String]) -> Result<Choice, Unchosen> {
+pub fn chosen(alloc: Global, words: &[String]) -> Result<Chosen, Unchosen> {
     let command = program_command(alloc)?;
     let matches = command.try_get_matches_from(words)?;
     let Some((name, inner)) = matches.subcommand() else {
@@ -590,11 +659,15 @@ pub fn chosen(alloc: Global, words: &[String]) -> Result<Choice, Unchosen> {
     if name == "completions" {
         return Err(completions(alloc, inner));
     }
-    match question_of(alloc, name, inner)? {
+    let choice = match question_of(alloc, name, inner)? {
         Some(question) => {
             let path = String::from_str(alloc, inner.get_str("FILE").unwrap_or(""))?;
-            Ok(Choice::Ask(path, question, form_of(inner)))
+            Choice::Ask(path, question, form_of(inner))
         }
-        None => Ok(chosen_by(alloc, name, inner)?),
-    }
+        None => chosen_by(alloc, name, inner)?,
+    };
+    Ok(Chosen {
+        choice,
+        colour: colour_of(&matches),
+    })
 }

@@ -42,7 +42,7 @@ impl fmt::Display for Names<'_, '_> {
     }
 }
 
-/// The flags of a command, each behind a space.
+/// The flags of a command, each behind a space, and those of all commands.
 #[derive(Clone, Copy)]
 struct Flags<'a, 'b>(&'b [Arg<'a>]);
 
@@ -53,7 +53,7 @@ impl fmt::Display for Flags<'_, '_> {
                 write!(f, " --{name}")?;
             }
         }
-        f.write_str(" --help")
+        f.write_str(" --color --help")
     }
 }
 
@@ -160,6 +160,10 @@ fn write_fish_flags(text: &mut String, command: &Command<'_>) -> Result<(), Allo
     Ok(())
 }
 
+/// The flag that all commands have, for fish.
+const FISH_END: &str =
+    "complete -c poolrun -l color -x -a 'auto always never' -d 'Colours messages'\n";
+
 /// The script for fish.
 fn write_fish(text: &mut String, commands: &[Command<'_>]) -> Result<(), AllocError> {
     for command in commands {
@@ -171,7 +175,7 @@ fn write_fish(text: &mut String, commands: &[Command<'_>]) -> Result<(), AllocEr
         )?;
         write_fish_flags(text, command)?;
     }
-    Ok(())
+    text.push_str(FISH_END)
 }
 
 /// The script that has a shell complete the commands and the flags of a program, of which these are the commands.

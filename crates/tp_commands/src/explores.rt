@@ -51,7 +51,7 @@ impl<E: Write> Watch for Progress<'_, E> {
 
 /// Takes the line off the terminal, where there is one.
 fn clear<E: Write>(errors: &mut E, style: Style) {
-    if let Style::Coloured = style {
+    if style.shows_progress {
         let _ = write!(errors, "\r\u{1b}[K");
     }
 }
@@ -330,7 +330,7 @@ fn told_of_plan<E: Write>(
     let most = exploring.most;
     let mut progress = Progress {
         errors: &mut *errors,
-        is_seen: matches!(style, Style::Coloured),
+        is_seen: style.shows_progress,
     };
     let explored = explore_named(alloc, named, most, &mut progress);
     clear(errors, style);

@@ -1,4 +1,4 @@
-//! The command `steps --json`: what comes of a scenario, as JSON, an object a line.
+//! JSON, an object a line: what comes of a scenario (`steps --json`), or the record of a pool that ran jobs (`threads --json`).
 
 ghost use Rattle.std.specs.Prelude.{◌≤◌, length, IfOk};
 ghost use Rattle.tp_commands.specs.Steps.{IsPassed};
@@ -16,34 +16,91 @@ use tp_choices::choices::Playing;
 use tp_messages::messages::Style;
 use tp_messages::mistakes::Kind;
 use tp_record::entries::Entry;
-use tp_replay::plays::{Answered, Play};
+use tp_replay::plays::Play;
 use tp_scenario::step::Refusal;
 use tp_telling::objects::{CountMembers, entry_members};
 use tp_text::watched::{WatchedReader, WatchedWriter};
 use tp_text::writing::write_text;
+use tp_text_record::reading::{Ending, Taker, read_stream};
+use tp_text_record::versions::Version;
+use tp_types::configs::Config;
 use tp_types::refusals::PoolError;
 
-/// Writes the object of an entry, as `{"number":1,"by":0,"did":"tidy"}`.
-fn write_entry(
+/// The objects of a record, written as its entries come. The auditor counts them, and tells at the end what became of the tasks.
+#[derive(Drop)]
+struct Objects {
     alloc: Global,
-    text: &mut String,
-    number: u64,
-    entry: &Entry,
-) -> Result<(), AllocError> {
-    let members = entry_members(alloc, entry)?;
-    let members = members.as_str();
-    write!(text, "{{\"number\":{number},{members}}}\n")
+    auditor: Auditor,
+    text: String,
 }
 
-/// Writes the object of a refusal, as `{"refused":7,"name":"UnknownSlot","ask":"take w3"}`.
-fn write_refusal(text: &mut String, refusal: &Refusal) -> Result<(), AllocError> {
-    let number = refusal.error.number();
-    let name = refusal.error.name();
-    let ask = ShownAsk(refusal.ask);
-    write!(
-        text,
-        "{{\"refused\":{number},\"name\":\"{name}\",\"ask\":\"{ask}\"}}\n"
-    )
+impl Objects {
+    /// Writes the object of an entry, as `{"number":1,"by":0,"did":"tidy"}`.
+    fn write_entry(&mut self, entry: &Entry) -> Result<(), AllocError> {
+        let number = u64::from(self.auditor.tables().steps) + 1;
+        let members = entry_members(self.alloc, entry)?;
+        let members = members.as_str();
+        write!(self.text, "{{\"number\":{number},{members}}}\n")
+    }
+
+    /// Writes the object of a refusal, as `{"refused":7,"name":"UnknownSlot","ask":"take w3"}`.
+    fn write_refusal(&mut self, refusal: &Refusal) -> Result<(), AllocError> {
+        let number = refusal.error.number();
+        let name = refusal.error.name();
+        let ask = ShownAsk(refusal.ask);
+        write!(
+            self.text,
+            "{{\"refused\":{number},\"name\":\"{name}\",\"ask\":\"{ask}\"}}\n"
+        )
+    }
+
+    /// The text, with an object for each task, and one for the run state and the counters.
+    fn ended(self) -> Result<String, PoolError> {
+        let Objects {
+            auditor, mut text, ..
+        } = self;
+        match auditor.finish() {
+            Ok(summary) => {
+                write_end(&mut text, &summary)?;
+                Ok(text)
+            }
+            Err(_) => Err(PoolError::NoMemory),
+        }
+    }
+}
+
+impl Taker for Objects {
+    type Question = ();
+
+    ghost about = { λ q t v c. Unit {0} };
+
+    ghost took = { λ t es. Unit {0} };
+
+    fn new(
+        alloc: Global,
+        _question: &(),
+        _version: Version,
+        config: &Config,
+    ) -> Result<Objects, PoolError> {
+        match Auditor::new(alloc, config) {
+            Ok(auditor) => Ok(Objects {
+                alloc,
+                auditor,
+                text: String::new(alloc),
+            }),
+            Err(_) => Err(PoolError::NoMemory),
+        }
+    }
+
+    fn take(&mut self, entry: &Entry) -> Result<(), PoolError> {
+        if self.write_entry(entry).is_err() {
+            return Err(PoolError::NoMemory);
+        }
+        match self.auditor.push(entry) {
+            Err(Flaw::NoMemory) => Err(PoolError::NoMemory),
+            _ => Ok(()),
+        }
+    }
 }
 
 /// Writes an object for each task, with its fate where it has one, and one for the run state and the counters.
@@ -62,49 +119,35 @@ fn write_end(text: &mut String, summary: &Summary) -> Result<(), AllocError> {
     write!(text, "{{\"state\":\"{state}\",{counts}}}\n")
 }
 
-/// Writes the object of a step's answer, and tells the auditor an entry.
-fn write_answer(
-    alloc: Global,
-    text: &mut String,
-    auditor: &mut Auditor,
-    answered: &Answered,
-) -> Result<(), PoolError> {
-    match answered {
-        Ok(entry) => {
-            let number = u64::from(auditor.tables().steps) + 1;
-            write_entry(alloc, text, number, entry)?;
-            match auditor.push(entry) {
-                Err(Flaw::NoMemory) => Err(PoolError::NoMemory),
-                _ => Ok(()),
-            }
-        }
-        Err(refusal) => Ok(write_refusal(text, refusal)?),
-    }
+/// The objects of a record's whole text, of any length: one for each entry, for each task, and for the end. The first wrong line is 24
+/// (`BadEntry`).
+pub fn record_objects(alloc: Global, text: &[u8]) -> Result<String, PoolError> {
+    let mut refused = None;
+    let mut reader = WatchedReader::new(text);
+    let body = read_stream::<&[u8], Objects>(alloc, &(), Ending::Whole, &mut reader, &mut refused)?;
+    body.taker.ended()
 }
 
 /// The objects of a play: one for each step; and where no line is bad, one for each task and one for the end. NoMemory (4).
-fn objects_of(alloc: Global, play: &Play) -> Result<String, PoolError> {
+fn play_objects(alloc: Global, play: &Play) -> Result<String, PoolError> {
     if play.config.check().is_err() {
         return Ok(String::new(alloc));
     }
-    let Ok(mut auditor) = Auditor::new(alloc, &play.config) else {
-        return Err(PoolError::NoMemory);
-    };
-    let mut text = String::new(alloc);
+    let mut objects = Objects::new(alloc, &(), Version::Two, &play.config)?;
     for answered in play.answers.as_slice() {
-        write_answer(alloc, &mut text, &mut auditor, answered)?;
+        match answered {
+            Ok(entry) => objects.take(entry)?,
+            Err(refusal) => objects.write_refusal(refusal)?,
+        }
     }
-    if play.bad.is_none() {
-        let Ok(summary) = auditor.finish() else {
-            return Err(PoolError::NoMemory);
-        };
-        write_end(&mut text, &summary)?;
+    if play.bad.is_some() {
+        return Ok(objects.text);
     }
-    Ok(text)
+    objects.ended()
 }
 
 /// Plays a scenario, and writes the objects of its steps to `out`. The answer says whether a refused step is let pass.
-fn play_objects<W: Write, E: Write>(
+fn play_as_json<W: Write, E: Write>(
     alloc: Global,
     playing: Playing,
     text: &[u8],
@@ -118,7 +161,7 @@ fn play_objects<W: Write, E: Write>(
         Ok(play) => play,
         Err(refusal) => return Err(refusal),
     };
-    let objects = match objects_of(alloc, &play) {
+    let objects = match play_objects(alloc, &play) {
         Ok(objects) => objects,
         Err(refusal) => return Err(refusal),
     };
@@ -150,7 +193,7 @@ pub fn run_objects<R: Read, W: Write, E: Write>(
         Err(status) => return status,
     };
     let text = text.as_slice();
-    let outcome = play_objects(alloc, playing, text, out, errors);
+    let outcome = play_as_json(alloc, playing, text, out, errors);
     let status = finish(out, &outcome);
     if let Err(refusal) = outcome {
         tell_refusal(alloc, errors, Kind::Scenario, name, text, refusal, style);

@@ -26,6 +26,10 @@ pub fn tell_unread<R, E: Write>(errors: &mut E, kind: Kind, name: &str, reader: 
             errors,
             "poolrun: {name}: {TOO_LONG}, which `poolrun audit --any-length` takes"
         ),
+        (None, Kind::Jobs) => writeln!(
+            errors,
+            "poolrun: {name}: {TOO_LONG}, which `poolrun threads --any-length` takes"
+        ),
         (None, _) => writeln!(errors, "poolrun: {name}: {TOO_LONG}"),
     };
 }

@@ -17,14 +17,20 @@ const CUT_BEFORE: &str = ".. ";
 /// How many forms a line may have at most, if they are told.
 const FORMS: usize = 12;
 
-/// How a message is written.
+/// How that is written which is told beside the output.
 #[derive(Clone, Copy)]
-pub enum Style {
-    /// As it is.
-    Plain,
-    /// With the colours of a terminal.
-    Coloured,
+pub struct Style {
+    /// A message has the colours of a terminal.
+    pub has_colours: bool,
+    /// How far a long command is, a line says that goes again, as on a terminal.
+    pub shows_progress: bool,
 }
+
+/// A message as it is, and no progress.
+pub const UNADORNED: Style = Style {
+    has_colours: false,
+    shows_progress: false,
+};
 
 /// What a message begins with, what stands before a mark, and what ends a coloured line.
 struct Colours {
@@ -47,10 +53,7 @@ const COLOURED: Colours = Colours {
 
 impl Style {
     fn colours(self) -> &'static Colours {
-        match self {
-            Style::Plain => &PLAIN,
-            Style::Coloured => &COLOURED,
-        }
+        if self.has_colours { &COLOURED } else { &PLAIN }
     }
 }
 

@@ -163,5 +163,5 @@ module _ {L : Type 0} (text_of : L → List ℕ) (fits : L → Type 0) where
   }
 
   -- what stands behind the pool line is short too
-  pub opening_few : (text : List ℕ) (k : ℕ) (rest line behind : List ℕ) → Opening text k rest → Cut rest line behind → length text ≤ 1048576 → (k + 1) + length behind < 2 ^ 32
+  pub opening_few : (text : List ℕ) (k : ℕ) (rest line behind : List ℕ) → Opening text k rest → Cut rest line behind → length text < 4294967295 → (k + 1) + length behind < 2 ^ 32
   opening_few text k rest line behind so_far cut short = omega (arith, so_far.counted, short, shorter k (k + 1) rest line behind cut refl)

@@ -69,9 +69,9 @@ impl LineForm for JobLine {
     }
 }
 
-/// The jobs of a text, as `read_jobs` tells them.
-fn jobs_of(alloc: Global, text: &[u8]) -> Result<Jobs, PoolError>
-    requires { length text.now ≤ 1048576 }
+/// The jobs of a text of at most 4,294,967,294 bytes, whose lines a `u32` counts. It is refused as `read_jobs` refuses what it has read.
+pub fn jobs_of(alloc: Global, text: &[u8]) -> Result<Jobs, PoolError>
+    requires { length text.now < 4294967295 }
     ensures { ReadsJobs text.now result }
 {
     let Ok(read) = read_pool_text::<JobLine>(alloc, text) else {

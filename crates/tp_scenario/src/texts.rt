@@ -108,7 +108,7 @@ pub fn first_bad<L: LineForm>(first: u32, text: &[u8]) -> Option<u32>
 /// The pool line of a text, the number of the line behind it, and what stands there; or the number of the bad line before any pool
 /// line. Where no line is left for the pool, the line after the last is bad.
 pub fn opening<L: LineForm>(text: &[u8]) -> Result<(PoolLine, u32, &[u8]), u32>
-    requires { length text.now ≤ 1048576 }
+    requires { length text.now < 4294967295 }
     ensures few { IfOk result (λ o. o.1 + length o.2.now < 2 ^ 32) }
     ensures pool { IfOk result (λ o. (said : LinesSaid L) → LinesSayFrom L.text_of L.fits o.1 o.2.now said → IsPoolText L.text_of L.fits text.now (Ok (o.0, said))) }
     ensures bad { IfErr result (λ k. IsPoolText L.text_of L.fits text.now (Err k)) }
@@ -133,7 +133,7 @@ pub fn read_pool_text<L: LineForm>(
     alloc: Global,
     text: &[u8],
 ) -> Result<Result<PoolText<L>, u32>, AllocError>
-    requires { length text.now ≤ 1048576 }
+    requires { length text.now < 4294967295 }
     ensures { IfOk result (λ r. IsPoolText L.text_of L.fits text.now (said_by r)) }
 {
     match opening::<L>(text) {

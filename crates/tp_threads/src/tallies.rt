@@ -1,16 +1,16 @@
 //! From the text of a file of jobs to what is told of its pool, which keeps no record.
-ghost use Rattle.std.specs.Prelude.{◌≡◌, ◌⊎◌, ◌<◌, length, Err, IfOk, IfErr, IfSome, IsOkUnless, OnOk};
-ghost use Rattle.tp_text.specs.Watching.{TellsReader, TellsWriter, sink, source};
+ghost use Rattle.std.specs.Prelude.{◌≡◌, ◌≢◌, ◌⊎◌, ◌<◌, length, Err, IfOk, IfErr, IsOkUnless, OnOk, Some};
+ghost use Rattle.tp_text.specs.Watching.{TellsWriter, sink};
 ghost use Rattle.tp_threads.specs.Runs.{RefusesText, WritesTally, tally_lines};
 
 use crate::runs::tally_jobs;
 use std::alloc::Global;
-use std::io::{Read, Write};
+use std::io::Write;
 use std::sync::Wait;
 use std::thread::Threads;
-use tp_scenario::read_jobs;
+use tp_scenario::jobs::jobs_of;
 use tp_text::printing::Output;
-use tp_text::watched::{WatchedReader, WatchedWriter};
+use tp_text::watched::WatchedWriter;
 use tp_text::writing::write_text;
 use tp_types::refusals::PoolError;
 use tp_types::states::{Counts, RunState};
@@ -26,25 +26,23 @@ fn lines_of(alloc: Global, counts: &Counts) -> Result<Vec<u8>, PoolError>
     Ok(output.written)
 }
 
-/// Reads a file of jobs whole, as `read_jobs`, before a thread starts; runs its jobs by threads, as `tally_jobs`;
-/// and writes the line of the run state and the line of the counters, and nothing in place of them. Refused as these
-/// are, with nothing written, or by NoMemory (4) where there is no memory for the lines. ReadFailed (25) and
-/// WriteFailed (26) come just where the reader or the writer fails now, which keep why, or the reader gives too much;
-/// 26 may come after some of the lines was written.
-pub fn tally_text<R: Threads + Wait + Copy + Send + 'static, I: Read, W: Write>(
+/// Runs the jobs of a text by threads, as `tally_jobs`, and writes the line of the run state and the line of the counters, and nothing in
+/// place of them. The text is read whole before a thread starts, and has at most 4,294,967,294 bytes. Refused as `jobs_of` and
+/// `tally_jobs` are, with nothing written, or by NoMemory (4) where there is no memory for the lines. WriteFailed (26) comes just where the
+/// writer fails now, which keeps why; it may come after some of the lines was written.
+pub fn tally_text<R: Threads + Wait + Copy + Send + 'static, W: Write>(
     rt: R,
     alloc: Global,
-    reader: &mut WatchedReader<I>,
+    text: &[u8],
     writer: &mut WatchedWriter<W>,
 ) -> Result<(), PoolError>
-    ensures written { OnOk result (WritesTally (I.remaining (source reader.old)) (W.contents (sink writer.old)) (W.contents (sink writer.new))) }
-    ensures refused { IfErr result (λ e. (e ≡ PoolError.WriteFailed) ⊎ (RefusesText (I.remaining (source reader.old)) e × (writer.new ≡ writer.old))) }
-    ensures long { IfSome (I.remaining (source reader.old)) (λ text. 1048576 < length text
-        → (result ≡ Err PoolError.ReadFailed) ⊎ (result ≡ Err PoolError.NoMemory)) }
-    ensures tells_reader { TellsReader reader.old result reader.new }
+    requires { length text.now < 4294967295 }
+    ensures written { OnOk result (WritesTally (Some text.now) (W.contents (sink writer.old)) (W.contents (sink writer.new))) }
+    ensures refused { IfErr result (λ e. (e ≡ PoolError.WriteFailed) ⊎ (RefusesText (Some text.now) e × (writer.new ≡ writer.old))) }
+    ensures reads { result ≢ Err PoolError.ReadFailed }
     ensures tells_writer { TellsWriter writer.old result writer.new }
 {
-    let jobs = match read_jobs(alloc, reader) {
+    let jobs = match jobs_of(alloc, text) {
         Ok(jobs) => jobs,
         Err(error) => return Err(error),
     };
@@ -52,9 +50,9 @@ pub fn tally_text<R: Threads + Wait + Copy + Send + 'static, I: Read, W: Write>(
         Ok(report) => report,
         Err(error) => return Err(error),
     };
-    let text = match lines_of(alloc, &report.counts) {
-        Ok(text) => text,
+    let lines = match lines_of(alloc, &report.counts) {
+        Ok(lines) => lines,
         Err(error) => return Err(error),
     };
-    write_text(writer, text.as_slice())
+    write_text(writer, lines.as_slice())
 }

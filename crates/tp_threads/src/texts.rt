@@ -1,17 +1,17 @@
 //! From the text of a file of jobs to the text of its pool's record.
-ghost use Rattle.std.specs.Prelude.{◌≡◌, ◌⊎◌, ◌<◌, length, Err, IfErr, IfSome, OnOk};
-ghost use Rattle.tp_text.specs.Watching.{TellsReader, TellsWriter, sink, source};
+ghost use Rattle.std.specs.Prelude.{◌≡◌, ◌≢◌, ◌⊎◌, ◌<◌, length, Err, IfErr, OnOk, Some};
+ghost use Rattle.tp_text.specs.Watching.{TellsWriter, sink};
 ghost use Rattle.tp_threads.specs.Runs.{RefusesText, WritesRun};
 
 use crate::runs::run_jobs;
 use std::alloc::Global;
-use std::io::{Read, Write};
+use std::io::Write;
 use std::sync::Wait;
 use std::thread::Threads;
 use tp_pool::closing::Report;
 use tp_record::entries::{Did, Entry};
-use tp_scenario::read_jobs;
-use tp_text::watched::{WatchedReader, WatchedWriter};
+use tp_scenario::jobs::jobs_of;
+use tp_text::watched::WatchedWriter;
 use tp_text::writing::write_text;
 use tp_text_record::writing::record_text;
 use tp_types::configs::Config;
@@ -49,26 +49,25 @@ fn left_of(alloc: Global, config: &Config, report: Option<Report>) -> Option<Unf
     })
 }
 
-/// Reads a file of jobs whole, as `read_jobs`, before a thread starts; runs its jobs by threads, as `run_jobs`;
-/// and writes the text of the pool's record, and nothing in place of one. Refused as these are, with nothing
-/// written, or by NoMemory (4) where there is no memory for the text. ReadFailed (25) and WriteFailed (26) come just
-/// where the reader or the writer fails now, which keep why, or the reader gives too much; 26 may come after some
-/// of the text was written. Where a submission is refused, or no thread could be made, what the run leaves is kept.
-pub fn run_text<R: Threads + Wait + Copy + Send + 'static, I: Read, W: Write>(
+/// Runs the jobs of a text by threads, as `run_jobs`, and writes the text of the pool's record, and nothing in place of one. The text is
+/// read whole before a thread starts, and has at most 4,294,967,294 bytes. Refused as `jobs_of` and `run_jobs` are, with nothing written,
+/// or by NoMemory (4) where there is no memory for the text of the record. WriteFailed (26) comes just where the writer fails now, which
+/// keeps why; it may come after some of the text was written. Where a submission is refused, or no thread could be made, what the run
+/// leaves is kept.
+pub fn run_text<R: Threads + Wait + Copy + Send + 'static, W: Write>(
     rt: R,
     alloc: Global,
-    reader: &mut WatchedReader<I>,
+    text: &[u8],
     writer: &mut WatchedWriter<W>,
     kept: &mut Option<Unfinished>,
 ) -> Result<(), PoolError>
-    ensures written { OnOk result (WritesRun (I.remaining (source reader.old)) (W.contents (sink writer.old)) (W.contents (sink writer.new))) }
-    ensures refused { IfErr result (λ e. (e ≡ PoolError.WriteFailed) ⊎ (RefusesText (I.remaining (source reader.old)) e × (writer.new ≡ writer.old))) }
-    ensures long { IfSome (I.remaining (source reader.old)) (λ text. 1048576 < length text
-        → (result ≡ Err PoolError.ReadFailed) ⊎ (result ≡ Err PoolError.NoMemory)) }
-    ensures tells_reader { TellsReader reader.old result reader.new }
+    requires { length text.now < 4294967295 }
+    ensures written { OnOk result (WritesRun (Some text.now) (W.contents (sink writer.old)) (W.contents (sink writer.new))) }
+    ensures refused { IfErr result (λ e. (e ≡ PoolError.WriteFailed) ⊎ (RefusesText (Some text.now) e × (writer.new ≡ writer.old))) }
+    ensures reads { result ≢ Err PoolError.ReadFailed }
     ensures tells_writer { TellsWriter writer.old result writer.new }
 {
-    let jobs = match read_jobs(alloc, reader) {
+    let jobs = match jobs_of(alloc, text) {
         Ok(jobs) => jobs,
         Err(error) => return Err(error),
     };
@@ -80,9 +79,9 @@ pub fn run_text<R: Threads + Wait + Copy + Send + 'static, I: Read, W: Write>(
             return Err(error);
         }
     };
-    let text = match record_text(alloc, &jobs.config, report.entries.as_slice()) {
-        Ok(text) => text,
+    let record = match record_text(alloc, &jobs.config, report.entries.as_slice()) {
+        Ok(record) => record,
         Err(error) => return Err(error),
     };
-    write_text(writer, text.as_slice())
+    write_text(writer, record.as_slice())
 }

@@ -362,7 +362,7 @@ static COMPLETED: [Row; 4] = [
                 "_poolrun() {\n",
                 &[
                     "        words=' steps threads audit explore why now stats completions help --help --version'\n",
-                    "            steps) words=' --explain --strict --record --json --help' ;;\n",
+                    "            steps) words=' --explain --strict --record --json --color --help' ;;\n",
                     "\n}\ncomplete -o default -F _poolrun poolrun\n",
                 ],
             ),
@@ -377,7 +377,7 @@ static COMPLETED: [Row; 4] = [
             0,
             Wanted::Parts(
                 "#compdef poolrun\n",
-                &["            stats) compadd -- --json --top --help ;;\n"],
+                &["            stats) compadd -- --json --top --color --help ;;\n"],
             ),
             NONE,
         ),

@@ -10,7 +10,7 @@ use tp_commands::objects::run_objects;
 use tp_commands::questions::run_asked;
 use tp_commands::steps::run_steps;
 use tp_commands::telling::name_of;
-use tp_messages::messages::Style;
+use tp_messages::messages::UNADORNED;
 use tp_text::watched::{WatchedReader, WatchedWriter};
 
 /// What a call gave.
@@ -60,7 +60,7 @@ fn choice_of(alloc: Global, line: &str) -> Result<Option<Choice>, Fail> {
     for word in line.split(' ') {
         words.push(word_of(alloc, word)?)?;
     }
-    Ok(chosen(alloc, words.as_slice()).ok())
+    Ok(chosen(alloc, words.as_slice()).ok().map(|chosen| chosen.choice))
 }
 
 /// Does what was chosen with what a reader gives, and gives the status; 99 where it is `threads`.
@@ -72,7 +72,7 @@ fn status_of<R: Read + Drop>(
     errors: &mut Vec<u8>,
 ) -> u8 {
     let name = name_of(choice.path());
-    let plain = Style::Plain;
+    let plain = UNADORNED;
     let reader = &mut WatchedReader::new(reader);
     let out = &mut WatchedWriter::new(out);
     match choice {
@@ -91,8 +91,7 @@ fn status_of<R: Read + Drop>(
         Choice::Ask(_path, question, format) => {
             run_asked(alloc, *question, *format, name, reader, out, errors, plain)
         }
-        Choice::Threads(_path, _record) => 99,
-        Choice::Tally(_path) => 99,
+        Choice::Threads(_path, _running) => 99,
     }
 }
 

@@ -5,7 +5,7 @@ use std::alloc::Global;
 use std::process::Abort;
 use std::test::Fail;
 use tp_explore_text::files::read_plan;
-use tp_messages::messages::{Style, write_message};
+use tp_messages::messages::{UNADORNED, write_message};
 use tp_messages::mistakes::Kind;
 use tp_messages::reasons::reason;
 use tp_scenario::jobs::read_jobs;
@@ -34,7 +34,7 @@ fn message_of(alloc: Global, kind: Kind, text: &[u8]) -> Result<Vec<u8>, Fail> {
     let mut message = Vec::new(alloc);
     if let Some(refusal) = refusal_of(alloc, kind, text) {
         if let Some(finding) = reason(alloc, kind, text, refusal)? {
-            write_message(&mut message, "FILE", &finding, Style::Plain)?;
+            write_message(&mut message, "FILE", &finding, UNADORNED)?;
         }
     }
     Ok(message)

@@ -1,6 +1,6 @@
 //! Calls of the program: rows of tables, all played here, since a call costs a proof wherever it stands.
 
-use super::super::{program, without_words};
+use super::super::{Terminal, program, without_words};
 use std::alloc::{AllocError, Global};
 use std::fs;
 use std::io::{self, ErrorKind, Write};
@@ -9,7 +9,6 @@ use std::rt::Files;
 use std::sync::Wait;
 use std::test::Fail;
 use std::thread::Threads;
-use tp_messages::messages::Style;
 
 /// What a text is to be.
 #[derive(Clone, Copy)]
@@ -118,13 +117,18 @@ fn call<H: Files + Input + Threads + Wait + Copy + Send + 'static>(
         taken: Vec::new(alloc),
     };
     let mut errors = Vec::new(alloc);
+    let mut progress = Vec::new(alloc);
     let status = program(
         rt,
         alloc,
         words.as_slice(),
         &mut out,
         &mut errors,
-        Style::Plain,
+        &mut progress,
+        Terminal {
+            is_one: false,
+            forbids_colours: false,
+        },
     );
     Ok(Called {
         status,

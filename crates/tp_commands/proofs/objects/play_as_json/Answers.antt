@@ -1,5 +1,5 @@
 use Rattle.tp_commands.proofs.Runs.{passes_so}
-use Rattle.tp_commands.proofs.objects.play_objects.Goals as goal
+use Rattle.tp_commands.proofs.objects.play_as_json.Goals as goal
 
 pub returns-in-None-clause-passed : goal.returns-in-None-clause-passed
 returns-in-None-clause-passed g c =
