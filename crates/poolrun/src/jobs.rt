@@ -210,12 +210,7 @@ fn tell_run<H: Files, E: Write>(
 
 /// Runs the jobs that a reader of this name gives, as `poolrun threads`, and gives the status of the program. What is wrong with a text
 /// that is refused, or which job is, goes to `errors`.
-pub fn run_threads<
-    H: Files + Threads + Wait + Copy + Send + 'static,
-    R: Read,
-    W: Write,
-    E: Write,
->(
+pub fn run_threads<H: Files + Threads + Wait + Copy + Send + 'static, R: Read, W: Write, E: Write>(
     rt: H,
     alloc: Global,
     running: &Running,
@@ -234,7 +229,9 @@ pub fn run_threads<
     let outcome = run_jobs(rt, alloc, running, text, out, errors, &mut kept);
     let status = finish(out, &outcome);
     if let Err(refusal) = outcome {
-        tell_run(&rt, alloc, running, name, text, refusal, kept, errors, style);
+        tell_run(
+            &rt, alloc, running, name, text, refusal, kept, errors, style,
+        );
     }
     status
 }

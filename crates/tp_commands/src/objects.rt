@@ -57,7 +57,9 @@ impl Objects {
     /// The text, with an object for each task, and one for the run state and the counters.
     fn ended(self) -> Result<String, PoolError> {
         let Objects {
-            auditor, mut text, ..
+            auditor,
+            mut text,
+            ..
         } = self;
         match auditor.finish() {
             Ok(summary) => {

@@ -40,7 +40,12 @@ type Row = (usize, usize, Option<u64>, &'static str);
 
 const ROWS: [Row; 5] = [
     (1, 2, None, ""),
-    (2, 2, None, "poolrun: a.txt: 2 lines, 2 MB, 2 lines a second\n"),
+    (
+        2,
+        2,
+        None,
+        "poolrun: a.txt: 2 lines, 2 MB, 2 lines a second\n",
+    ),
     (
         2,
         3,

@@ -60,7 +60,11 @@ fn choice_of(alloc: Global, line: &str) -> Result<Option<Choice>, Fail> {
     for word in line.split(' ') {
         words.push(word_of(alloc, word)?)?;
     }
-    Ok(chosen(alloc, words.as_slice()).ok().map(|chosen| chosen.choice))
+    Ok(
+        chosen(alloc, words.as_slice())
+            .ok()
+            .map(|chosen| chosen.choice),
+    )
 }
 
 /// Does what was chosen with what a reader gives, and gives the status; 99 where it is `threads`.

@@ -51,3 +51,41 @@ static FLAGGED: [Row; 3] = [
 fn takes_each_flag(rt: HostRuntime) -> Result<(), Fail> {
     plays(&rt, rt.alloc(), &FLAGGED)
 }
+
+/// What a message begins with that has colours.
+const RED: Wanted = Wanted::Parts("\u{1b}[1;31merror\u{1b}[0m", &[]);
+
+/// The same in black.
+const BLACK: Wanted = Wanted::Parts("error: ", &[]);
+
+static COLOURED: [Row; 4] = [
+    Row {
+        line: "poolrun steps coloured.txt",
+        file: Some(("coloured.txt", "pool\n")),
+        room: ALL,
+        gives: Gives(1, Wanted::Text("refused 23 BadLine 1\n"), BLACK),
+    },
+    Row {
+        line: "poolrun --color always steps coloured.txt",
+        file: Some(("coloured.txt", "pool\n")),
+        room: ALL,
+        gives: Gives(1, Wanted::Text("refused 23 BadLine 1\n"), RED),
+    },
+    Row {
+        line: "poolrun steps --color always coloured.txt",
+        file: Some(("coloured.txt", "pool\n")),
+        room: ALL,
+        gives: Gives(1, Wanted::Text("refused 23 BadLine 1\n"), RED),
+    },
+    Row {
+        line: "poolrun steps --color never coloured.txt",
+        file: Some(("coloured.txt", "pool\n")),
+        room: ALL,
+        gives: Gives(1, Wanted::Text("refused 23 BadLine 1\n"), BLACK),
+    },
+];
+
+#[test]
+fn has_colours_where_they_are_wanted(rt: HostRuntime) -> Result<(), Fail> {
+    plays(&rt, rt.alloc(), &COLOURED)
+}

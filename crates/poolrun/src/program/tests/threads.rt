@@ -364,3 +364,89 @@ static UNKEPT: [Row; 1] = [Row {
 fn tells_that_the_record_is_not_written(rt: HostRuntime) -> Result<(), Fail> {
     plays(&rt, rt.alloc(), &UNKEPT)
 }
+
+static AS_JSON: [Row; 2] = [
+    Row {
+        line: "poolrun threads --json jobs-as-json.txt",
+        file: Some(("jobs-as-json.txt", ROW_23)),
+        room: ALL,
+        gives: Gives(
+            0,
+            Wanted::Parts(
+                "{\"number\":1,\"by\":0,\"did\":\"submit t0 plain reserve w0\"}\n",
+                &[
+                    "\"did\":\"end w0 t1 value 6\"}\n",
+                    "\n{\"task\":0,\"fate\":\"run\"}\n{\"task\":1,\"fate\":\"run\"}\n{\"state\":\"terminated\",\"submitted\":2,\"run\":2,",
+                ],
+            ),
+            NONE,
+        ),
+    },
+    Row {
+        line: "poolrun threads --json jobs-as-json.txt",
+        file: Some((
+            "jobs-as-json.txt",
+            "pool 1 1 unbounded keep 0 abort\nexecute\n",
+        )),
+        room: ALL,
+        gives: Gives(
+            1,
+            Wanted::Text("refused 23 BadLine 2\n"),
+            Wanted::Parts("error: a word is missing\n", &[]),
+        ),
+    },
+];
+
+#[test]
+fn tells_a_record_as_json(rt: HostRuntime) -> Result<(), Fail> {
+    plays(&rt, rt.alloc(), &AS_JSON)
+}
+
+/// A job behind so many lines of comments, each of 64 bytes.
+fn long_jobs(alloc: Global, comments: usize) -> Result<String, Fail> {
+    let mut text = String::from_str(alloc, "pool 1 1 unbounded keep 0 abort\n")?;
+    for _ in 0..comments {
+        text.push_str("# a comment of a file of jobs that is longer than is usual here\n")?;
+    }
+    text.push_str("execute 5\n")?;
+    Ok(text)
+}
+
+/// A line that reads long jobs, and what it gives.
+const LONG: [(&str, Gives); 2] = [
+    (
+        "poolrun threads --tally --any-length long-jobs.txt",
+        Gives(
+            0,
+            Wanted::Parts("state terminated\ncounts submitted=1 run=1 ", &[]),
+            NONE,
+        ),
+    ),
+    (
+        "poolrun threads --tally long-jobs.txt",
+        Gives(
+            1,
+            Wanted::Text("refused 25 ReadFailed\n"),
+            Wanted::Parts(
+                "poolrun: long-jobs.txt: ",
+                &["which `poolrun threads --any-length` takes\n"],
+            ),
+        ),
+    ),
+];
+
+#[test]
+fn reads_long_jobs_where_it_is_asked_to(rt: HostRuntime) -> Result<(), Fail> {
+    let text = long_jobs(rt.alloc(), 16_500)?;
+    for (line, gives) in LONG {
+        let called = call_on(
+            &rt,
+            rt.alloc(),
+            line,
+            ("long-jobs.txt", text.as_bytes()),
+            ALL,
+        )?;
+        gave(&rt, line, &called, gives);
+    }
+    Ok(())
+}
