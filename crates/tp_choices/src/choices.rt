@@ -122,9 +122,9 @@ pub enum Colour {
     Never,
 }
 
-/// What a command line chooses.
+/// What a command line says.
 #[derive(Debug, PartialEq, Eq, Drop)]
-pub struct Chosen {
+pub struct CommandLine {
     /// What the program is to do.
     pub choice: Choice,
     /// When its messages have colours.
@@ -650,7 +650,7 @@ fn completions(alloc: Global, inner: &ArgMatches<'_>) -> Unchosen {
 }
 
 /// What the words of a command line choose, the first being the program's own name.
-pub fn chosen(alloc: Global, words: &[String]) -> Result<Chosen, Unchosen> {
+pub fn chosen(alloc: Global, words: &[String]) -> Result<CommandLine, Unchosen> {
     let command = program_command(alloc)?;
     let matches = command.try_get_matches_from(words)?;
     let Some((name, inner)) = matches.subcommand() else {
@@ -666,7 +666,7 @@ pub fn chosen(alloc: Global, words: &[String]) -> Result<Chosen, Unchosen> {
         }
         None => chosen_by(alloc, name, inner)?,
     };
-    Ok(Chosen {
+    Ok(CommandLine {
         choice,
         colour: colour_of(&matches),
     })
