@@ -71,17 +71,18 @@ fn bytes_at<H: Files>(rt: &H, path: &str) -> Option<u64> {
 /// Does what was chosen with what stands at its path, `-` being the standard input, and gives the status. The output goes to `out`, to
 /// `errors` what is told beside, and to `progress` how far a long text is read.
 fn run_choice<
+    'a,
     H: Files + Input + Threads + Wait + Clock + Copy + Send + 'static,
     W: Write,
     E: Write,
     T: Write,
 >(
-    rt: &H,
+    rt: &'a H,
     alloc: Global,
-    choice: &Choice,
+    choice: &'a Choice,
     out: &mut WatchedWriter<W>,
     errors: &mut E,
-    progress: &mut T,
+    progress: &'a mut T,
     style: Style,
 ) -> u8 {
     let path = choice.path();

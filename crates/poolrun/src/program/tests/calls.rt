@@ -9,6 +9,7 @@ use std::rt::Files;
 use std::sync::Wait;
 use std::test::Fail;
 use std::thread::Threads;
+use std::time::Clock;
 
 /// What a text is to be.
 #[derive(Clone, Copy)]
@@ -105,7 +106,7 @@ fn words_of(alloc: Global, line: &str) -> Result<Vec<String>, AllocError> {
 }
 
 /// Calls the program by this line, with a standard output that takes so many bytes.
-fn call<H: Files + Input + Threads + Wait + Copy + Send + 'static>(
+fn call<H: Files + Input + Threads + Wait + Clock + Copy + Send + 'static>(
     rt: &H,
     alloc: Global,
     line: &str,
@@ -138,7 +139,7 @@ fn call<H: Files + Input + Threads + Wait + Copy + Send + 'static>(
 }
 
 /// Calls the program while there is a file of this name and text.
-pub fn call_on<H: Files + Input + Threads + Wait + Copy + Send + 'static>(
+pub fn call_on<H: Files + Input + Threads + Wait + Clock + Copy + Send + 'static>(
     rt: &H,
     alloc: Global,
     line: &str,
@@ -151,7 +152,7 @@ pub fn call_on<H: Files + Input + Threads + Wait + Copy + Send + 'static>(
     Ok(called?)
 }
 
-fn called_by<H: Files + Input + Threads + Wait + Copy + Send + 'static>(
+fn called_by<H: Files + Input + Threads + Wait + Clock + Copy + Send + 'static>(
     rt: &H,
     alloc: Global,
     row: &Row,
@@ -168,7 +169,7 @@ pub fn gave(rt: &impl Abort, line: &str, called: &Called, gives: Gives) {
 }
 
 /// Makes each of these calls, in their order.
-pub fn plays<H: Abort + Files + Input + Threads + Wait + Copy + Send + 'static>(
+pub fn plays<H: Abort + Files + Input + Threads + Wait + Clock + Copy + Send + 'static>(
     rt: &H,
     alloc: Global,
     rows: &[Row],

@@ -9,6 +9,7 @@ use std::rt::Files;
 use std::sync::Wait;
 use std::test::Fail;
 use std::thread::Threads;
+use std::time::Clock;
 
 const ROW_23: &str = "pool 1 1 unbounded keep 0 abort
 execute 5
@@ -24,7 +25,7 @@ struct Run {
 }
 
 /// Runs the jobs by threads, and has what is printed judged.
-fn run_judged<H: Abort + Files + Input + Threads + Wait + Copy + Send + 'static>(
+fn run_judged<H: Abort + Files + Input + Threads + Wait + Clock + Copy + Send + 'static>(
     rt: &H,
     alloc: Global,
     run: &Run,
@@ -39,7 +40,7 @@ fn run_judged<H: Abort + Files + Input + Threads + Wait + Copy + Send + 'static>
     Ok(())
 }
 
-fn run_all<H: Abort + Files + Input + Threads + Wait + Copy + Send + 'static>(
+fn run_all<H: Abort + Files + Input + Threads + Wait + Clock + Copy + Send + 'static>(
     rt: &H,
     alloc: Global,
     runs: &[Run],
