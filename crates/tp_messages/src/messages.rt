@@ -103,13 +103,16 @@ fn write_mark<W: Write>(out: &mut W, finding: &Finding<'_>, colours: &Colours) -
     let margin = digits(finding.line.number);
     let hidden = hidden(finding);
     let bytes = shown(finding);
-    let start = finding.start.saturating_sub(hidden).min(bytes.len());
+    let start = finding.start.saturating_sub(hidden);
     let (before, rest) = bytes.split_at_checked(start).unwrap_or((bytes, b""));
     let marked = rest.get(..finding.width).unwrap_or(rest);
+    // A word that is missing would stand behind the line's end.
+    let behind = start.saturating_sub(bytes.len());
+    let places = Shown(before).places().saturating_add(behind);
     let indent = if hidden > 0 {
-        Shown(before).places().saturating_add(CUT_BEFORE.len())
+        places.saturating_add(CUT_BEFORE.len())
     } else {
-        Shown(before).places()
+        places
     };
     let width = Shown(marked).places().max(1);
     let advice = finding.mistake.advice();
