@@ -87,25 +87,27 @@ fn run_choice<
 ) -> u8 {
     let path = choice.path();
     let total = bytes_at(rt, path);
-    let told = if style.shows_progress {
-        Progress::new(rt, progress, name_of(path), total)
-    } else {
-        None
-    };
+    let told = Progress::new(style.shows_progress, rt, progress, name_of(path), total);
     if path == "-" {
         let reader = ToldReader::new(rt.reader(), told);
         return run_reader(*rt, alloc, choice, reader, out, errors, style);
     }
-    match fs::open(rt, path) {
-        Ok(file) => {
-            let reader = ToldReader::new(file, told);
-            run_reader(*rt, alloc, choice, reader, out, errors, style)
-        }
+    let file = match fs::open(rt, path) {
+        Ok(file) => file,
         Err(reason) => {
             tell(errors, path, &reason);
-            finish(out, &Err(PoolError::ReadFailed))
+            return finish(out, &Err(PoolError::ReadFailed));
         }
-    }
+    };
+    run_reader(
+        *rt,
+        alloc,
+        choice,
+        ToldReader::new(file, told),
+        out,
+        errors,
+        style,
+    )
 }
 
 /// Prints a text that the command line itself asks for: status 0, or 1 where it can't be written.

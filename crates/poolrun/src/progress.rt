@@ -34,13 +34,17 @@ pub struct Progress<'a, C, T> {
 }
 
 impl<'a, C: Clock, T: Write> Progress<'a, C, T> {
-    /// What is told of the text of this name, with so many bytes. None where there is no clock.
+    /// What is told of the text of this name, with so many bytes. None where it is not wished, or there is no clock.
     pub fn new(
+        is_wished: bool,
         clock: &'a C,
         terminal: &'a mut T,
         name: &'a str,
         total: Option<u64>,
     ) -> Option<Progress<'a, C, T>> {
+        if !is_wished {
+            return None;
+        }
         let begun = clock.monotonic().ok()?;
         Some(Progress {
             clock,

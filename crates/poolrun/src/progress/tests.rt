@@ -72,7 +72,7 @@ fn told(alloc: Global, row: Row) -> Result<Vec<u8>, Fail> {
     let clock = Halves(AtomicU64::new(0));
     let mut terminal = Vec::new(alloc);
     let mut buf = vec![in alloc; 0u8; 1_048_576]?;
-    let progress = Progress::new(&clock, &mut terminal, "a.txt", total);
+    let progress = Progress::new(true, &clock, &mut terminal, "a.txt", total);
     let mut reader = ToldReader::new(Pieces(pieces), progress);
     for _ in 0..reads {
         let _ = reader.read(buf.as_mut_slice())?;
