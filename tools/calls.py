@@ -37,7 +37,7 @@ SECTIONS = {
     "What a caller of `with_pool` asks": ("The trait `Calls`. Its `pool` is lent to each caller, and has the caller's pass and runtime. It has these calls, too, which are the pool's of the same name: {twins}. `state` is a `glance`.",
         "Calls::execute Calls::submit Calls::get Calls::get_for"),
     "Open, share and close": ("Where the pool itself is wanted, for threads and passes of one's own. `Pool::new` is `ThreadPoolExecutor`'s constructor; it takes boxes of a factory, a handler, hooks and a gate. `close_one` takes the pass of a single caller.",
-        "PoolOf::over PoolOf::split_pass PoolOf::handle+1 PoolOf::close reports::outcome_of"),
+        "PoolOf::over PoolOf::split_pass PoolOf::handle+1 PoolOf::close PoolOf::let_go reports::outcome_of"),
     "Submit": ("A submission that is refused with 4 or 5 has made no step, and gives its job back. 12 comes after the task's steps, with the job unless it was cancelled. `execute_at` takes the priority too. `invoke_all_until` cancels what is open at a moment in ticks.",
         "PoolOf::execute PoolOf::execute_as+3 futures::submit invoking::invoke_all invoking::invoke_any+1"),
     "Ask a future": ("They stand on `pool.result`, `pool.await_result` and their like, in `tp_pool`. `get_with`, `get_until_with` and `try_get_with` take a pass, and answer at its new front; `get_until` waits until a moment in ticks.",
@@ -51,13 +51,13 @@ SECTIONS = {
         "PoolOf::glance+1 PoolOf::look PoolOf::snapshot PoolOf::record_since PoolOf::wait_step"),
 }
 # Calls that the page leaves out: others stand on them, or do the same in another form.
-LEFT_OUT = """PoolOf::new invoking::invoke_all_until futures::get_until PoolOf::prestart_all CompletionService::new PoolOf::close_one Sender::send Receiver::take PoolOf::sight reports::faulted PoolOf::execute_at PoolOf::kept PoolOf::abandon PoolOf::forget_abandoned
+LEFT_OUT = """PoolOf::new invoking::invoke_all_until futures::get_until PoolOf::prestart_all CompletionService::new PoolOf::close_one CloseFault::let_go Sender::send Receiver::take PoolOf::sight reports::faulted PoolOf::execute_at PoolOf::kept PoolOf::abandon PoolOf::forget_abandoned
     Config::fixed Config::core Config::maximum Config::queue Config::keep Config::core_timeout Config::policy Config::record_limit Boxes::new Find::take futures::task_of PoolOf::look_by PoolOf::snapshot_by PoolOf::record_since_by PoolOf::release PoolOf::result PoolOf::result_with
     PoolOf::await_result PoolOf::await_result_with PoolOf::await_result_for PoolOf::take_done PoolOf::await_done PoolOf::group_open PoolOf::state PoolOf::counts PoolOf::now PoolOf::steps PoolOf::place PoolOf::fate PoolOf::promise PoolOf::task_in PoolOf::await_end
     futures::get_with futures::get_until_with futures::try_get_with Calls::host""".split()
 # Public for crates of the pool alone.
-INSIDE = """orders::staffed_by orders::rescue_tasks_by closing::sole sizes::law_jobs_have_room Held::placed Held::run Held::into_task PoolOf::execute_by PoolOf::shutdown_by PoolOf::obey
-    PoolOf::shut PoolOf::await_shut PoolOf::leave orders::rescue_by running::found Desk::new Desk::ask Desk::close desk::starter Seat::into_pass""".split()
+INSIDE = """orders::staffed_by orders::rescue_tasks_by sizes::law_jobs_have_room Held::placed Held::run Held::into_task PoolOf::execute_by PoolOf::shutdown_by PoolOf::obey
+    PoolOf::shut PoolOf::await_shut orders::rescue_by running::found Desk::new Desk::ask Desk::close desk::starter Seat::into_pass""".split()
 
 # What a relation in a clause says; the first that stands in a call's clauses is taken.
 SAYS = {
@@ -86,7 +86,7 @@ SAYS = {
     "count_by|Any|pass.new ≡ pass.old|result.group": "just that",
 }
 # What stands for a part of a signature.
-SHORT = [(r"\b(PoolOf|Pass|Sight|Pool)<[^>]*>", r"\1"), (r"\brt: &R", "rt"), (r"\balloc: Global", "alloc"), (r"\bsettings: Config", "settings"), (r"\bedge: E", "edge"), (r"\bpass: &mut Pass", "pass"),
+SHORT = [(r"\b(PoolOf|Handle|Pass|Sight|Pool)<[^>]*>", r"\1"), (r"\brt: &R", "rt"), (r"\balloc: Global", "alloc"), (r"\bsettings: Config", "settings"), (r"\bedge: E", "edge"), (r"\bpass: &mut Pass", "pass"),
          (r"\bpool: &PoolOf", "pool"), (r"\bt: TaskId", "t"), (r"<Self::Task as Task>::Output", "Output"), (r"\b(Self|K)::", ""),
          (r" -> Result<\(\), PoolError>$", ""), (r" -> Result<(.*), (PoolError|AllocError|Refused<.*>|Close(One)?Fault<.*>)>$", r" -> \1")]
 

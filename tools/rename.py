@@ -20,6 +20,8 @@ import shutil
 import subprocess
 import sys
 
+from further import edited
+
 ROOT = pathlib.Path(__file__).resolve().parent.parent
 WORD = r"(?<![\w/-]){}(?![\w-])"
 
@@ -166,22 +168,7 @@ def item(tree, name, old, new):
 
 def broken(edit):
     """Why a wrong body does not apply: None where it does."""
-    home = ROOT / "crates" / (edit.parts[-3] if edit.parent.name == "must-fail" else edit.parent.name)
-    made, path, old = {}, None, None
-    for line in edit.read_text().split("\n"):
-        word, _, rest = line.partition(": ")
-        if word == "file":
-            path = home / rest.strip()
-            if not path.is_file():
-                return f"no file {rest}"
-            made.setdefault(path, path.read_text())
-        elif word == "old":
-            old = rest
-        elif word == "new":
-            if made[path].count(old) != 1:
-                return f"the old text stands {made[path].count(old)} times: {old}"
-            made[path] = made[path].replace(old, rest)
-    return None
+    return edited(edit, ROOT / "crates" / (edit.parts[-3] if edit.parent.name == "must-fail" else edit.parent.name))[1]
 
 
 def check():

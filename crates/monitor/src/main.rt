@@ -78,14 +78,15 @@ fn serve<G: PoolName, R: Print + Runtime + Drop>(
     served.and(told)
 }
 
-// Shuts the pool down. It is a function of its own, where little else is known: the check shows there that the
+// Shuts the pool down, and waits for its end. It is a function of its own, where little else is known: the check shows there that the
 // caller's objects may cross to a thread.
 fn shut<G: PoolName, R: Runtime + Drop>(
     rt: &R,
     pool: &Service<G, R>,
     pass: &mut Pass<G>,
 ) -> Result<(), PoolError> {
-    pool.shutdown(rt, pass)
+    pool.shutdown(rt, pass)?;
+    pool.await_end(rt, None, pass)
 }
 
 /// The service's whole life under a name of its own.
@@ -103,10 +104,14 @@ fn life<G: PoolNaming + Send + Sync + 'static, R: Print + Runtime + Drop>(
     let locked = door.lock(rt);
     let served = serve(rt, alloc, &pool, &door, &mut pass);
     drop(locked);
-    shut(rt, &pool, &mut pass)?;
-    pool.await_end(rt, None, &mut pass)?;
-    served?;
-    Ok(pool.close_one(rt, pass)?)
+    let ended = served.and(shut(rt, &pool, &mut pass));
+    match ended {
+        Ok(()) => pool.close_one(rt, pass).map_err(|fault| fault.let_go()),
+        Err(error) => {
+            pool.let_go();
+            Err(error)
+        }
+    }
 }
 
 fn main(rt: HostRuntime) -> anyhow::Result<()> {

@@ -130,14 +130,34 @@ fn open<
 {
     let (pool, first) = Endless::<G>::over(alloc, unopened, settings, Defaults)?;
     let mut pass = first;
-    pool.prestart_all(&rt, &mut pass)?;
-    serve(rt, alloc, &pool, &mut pass, fare, tasks)?;
-    pool.shutdown(&rt, &mut pass)?;
-    pool.await_termination(&rt, u64::MAX, &mut pass)?;
-    match pool.close_one(&rt, pass) {
-        Ok(report) => Ok(report),
-        Err(fault) => Err(Unmeasured::Refused(fault.error)),
+    match serve_and_end(rt, alloc, &pool, &mut pass, fare, tasks) {
+        Ok(()) => pool
+            .close_one(&rt, pass)
+            .map_err(|fault| Unmeasured::Refused(fault.let_go())),
+        Err(unmeasured) => {
+            pool.let_go();
+            Err(unmeasured)
+        }
     }
+}
+
+// Starts all workers, submits so many tasks, and waits for the pool's end.
+fn serve_and_end<
+    G: PoolNaming + Send + Sync + 'static,
+    R: Threads + Wait + Clock + Print + Copy + Send + Sync + 'static,
+>(
+    rt: R,
+    alloc: Global,
+    pool: &Endless<G>,
+    pass: &mut Pass<G>,
+    fare: Fare,
+    tasks: u32,
+) -> Result<(), Unmeasured> {
+    pool.prestart_all(&rt, pass)?;
+    serve(rt, alloc, pool, pass, fare, tasks)?;
+    pool.shutdown(&rt, pass)?;
+    pool.await_termination(&rt, u64::MAX, pass)?;
+    Ok(())
 }
 
 // Submits so many tasks.

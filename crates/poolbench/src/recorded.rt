@@ -6,13 +6,14 @@ use crate::errands::Parcel;
 use crate::unmeasured::Unmeasured;
 use std::alloc::Global;
 use std::marker::Brand;
-use std::sync::{Arc, Wait};
+use std::sync::Wait;
 use std::thread;
 use std::thread::{JoinHandle, Threads};
 use std::time::{Clock, Duration, Instant};
 use tp_book::opening::Unopened;
 use tp_book::passes::Pass;
 use tp_machine::machine::releases::Keeper;
+use tp_pool::Handle;
 use tp_pool::defaults::Defaults;
 use tp_pool::names::PoolNaming;
 use tp_pool::pool::PoolOf;
@@ -67,18 +68,38 @@ fn open<
 {
     let before = Instant::now(&rt)?;
     let (pool, first) = Recorded::<G, K, R>::over(alloc, unopened, settings, Defaults)?;
+    let measured = measure(rt, alloc, &pool, first, course);
+    pool.let_go();
+    match course {
+        Course::Life(_) => {
+            measured?;
+            Ok(before.elapsed(&rt)?)
+        }
+        Course::Through(_) | Course::Start(_) => measured,
+    }
+}
+
+// Starts all workers, and measures this course.
+fn measure<
+    G: PoolNaming + Send + Sync + 'static,
+    K: Keeper + Send + 'static,
+    R: Threads + Wait + Clock + Copy + Send + Sync + 'static,
+>(
+    rt: R,
+    alloc: Global,
+    pool: &Recorded<G, K, R>,
+    first: Pass<G>,
+    course: Course,
+) -> Result<Duration, Unmeasured> {
     let mut pass = first;
     pool.prestart_all(&rt, &mut pass)?;
     match course {
         Course::Through(crowd) => {
             settle(&rt);
-            through(rt, alloc, Arc::new(alloc, pool)?, pass, crowd)
+            through(rt, alloc, pool, pass, crowd)
         }
-        Course::Life(crowd) => {
-            through(rt, alloc, Arc::new(alloc, pool)?, pass, crowd)?;
-            Ok(before.elapsed(&rt)?)
-        }
-        Course::Start(_) => start(rt, alloc, &pool, pass),
+        Course::Life(crowd) => through(rt, alloc, pool, pass, crowd),
+        Course::Start(_) => start(rt, alloc, pool, pass),
     }
 }
 
@@ -109,7 +130,7 @@ fn submits_alone<
 >(
     rt: R,
     alloc: Global,
-    pool: Arc<Recorded<G, K, R>>,
+    pool: Handle<G, Parcel<R>, Defaults, K>,
     pass: Pass<G>,
     crowd: Crowd,
 ) -> Result<(), Unmeasured> {
@@ -124,11 +145,11 @@ fn other<
 >(
     rt: R,
     alloc: Global,
-    pool: &Arc<Recorded<G, K, R>>,
+    pool: &Recorded<G, K, R>,
     pass: Pass<G>,
     crowd: Crowd,
 ) -> Result<JoinHandle<Result<(), Unmeasured>>, Unmeasured> {
-    let theirs = Arc::try_clone(pool)?;
+    let theirs = pool.handle()?;
     match thread::spawn(&rt, move || submits_alone(rt, alloc, theirs, pass, crowd)) {
         Ok(other) => Ok(other),
         Err(_) => Err(Unmeasured::NoThread),
@@ -142,7 +163,7 @@ fn all_submit<
 >(
     rt: R,
     alloc: Global,
-    pool: &Arc<Recorded<G, K, R>>,
+    pool: &Recorded<G, K, R>,
     pass: &mut Pass<G>,
     second: Pass<G>,
     crowd: Crowd,
@@ -164,7 +185,7 @@ fn through<
 >(
     rt: R,
     alloc: Global,
-    pool: Arc<Recorded<G, K, R>>,
+    pool: &Recorded<G, K, R>,
     pass: Pass<G>,
     crowd: Crowd,
 ) -> Result<Duration, Unmeasured> {
@@ -175,8 +196,8 @@ fn through<
         second.reserve(receipts(crowd.tasks))?;
     }
     let start = Instant::now(&rt)?;
-    all_submit(rt, alloc, &pool, &mut pass, second, crowd)?;
-    end(&rt, &pool, &mut pass)?;
+    all_submit(rt, alloc, pool, &mut pass, second, crowd)?;
+    end(&rt, pool, &mut pass)?;
     let time = start.elapsed(&rt)?;
     if pool.counts(&rt).run != crowd.all_tasks() {
         return Err(Unmeasured::Differs);

@@ -6,11 +6,12 @@ use crate::mishaps::Mishap;
 use crate::plans::kind_of;
 use crate::whims::{Whims, pause};
 use std::alloc::{AllocError, Global};
-use std::sync::{Arc, Wait};
+use std::sync::Wait;
 use std::thread;
 use std::thread::{JoinHandle, Threads};
 use tp_book::passes::Pass;
 use tp_machine::machine::releases::Keeper;
+use tp_pool::Handle;
 use tp_pool::answers::{Admitted, Drained, Removal};
 use tp_pool::names::PoolNaming;
 use tp_pool::pool::PoolOf;
@@ -101,14 +102,8 @@ pub fn hire<
     G: PoolNaming + Send + Sync + 'static,
     K: Keeper + Send + 'static,
     R: Threads + Wait + Copy + Send + Sync + 'static,
->(
-    rt: R,
-    pool: &Arc<Crew<G, K>>,
-    role: Role,
-    seed: u64,
-    told: Told<G>,
-) -> Result<Caller<G>, Mishap> {
-    let theirs = Arc::try_clone(pool)?;
+>(rt: R, pool: &Crew<G, K>, role: Role, seed: u64, told: Told<G>) -> Result<Caller<G>, Mishap> {
+    let theirs = pool.handle()?;
     match thread::spawn(&rt, move || plays(rt, theirs, role, seed, told)) {
         Ok(handle) => Ok(handle),
         Err(_) => Err(Mishap::NoThread),
@@ -119,7 +114,13 @@ fn plays<
     G: PoolNaming + Send + Sync + 'static,
     K: Keeper + Send + 'static,
     R: Threads + Wait + Copy + Send + 'static,
->(rt: R, pool: Arc<Crew<G, K>>, role: Role, seed: u64, told: Told<G>) -> Result<Told<G>, Mishap> {
+>(
+    rt: R,
+    pool: Handle<G, Chore, Whims, K>,
+    role: Role,
+    seed: u64,
+    told: Told<G>,
+) -> Result<Told<G>, Mishap> {
     let mut told = told;
     let mut luck = Luck::new(seed, 1);
     match role {

@@ -2,10 +2,10 @@
 
 use crate::mishaps::Mishap;
 use std::alloc::Global;
-use std::sync::{Arc, Wait};
+use std::sync::Wait;
 use std::thread;
 use tp_book::passes::Pass;
-use tp_pool::closing::{Reporter, sole};
+use tp_pool::closing::{CloseFault, Reporter};
 use tp_pool::edges::Edge;
 use tp_pool::names::PoolNaming;
 use tp_pool::pool::PoolOf;
@@ -35,25 +35,18 @@ fn both<G: PoolNaming>(
 pub fn ended<G: PoolNaming, J: Job, E: Edge, K: Reporter, R: Wait>(
     rt: &R,
     alloc: Global,
-    pool: Arc<PoolOf<G, J, E, K>>,
+    pool: PoolOf<G, J, E, K>,
     pass: Pass<G>,
     second: Result<Pass<G>, Mishap>,
     closes: u32,
 ) -> Result<K::Report, Mishap> {
     match both(alloc, pass, second) {
-        Ok(passes) => closed(rt, pool, passes, closes),
-        Err(mishap) => Err(mishap),
+        Ok(passes) => report(rt, pool, passes, closes),
+        Err(mishap) => {
+            pool.let_go();
+            Err(mishap)
+        }
     }
-}
-
-/// What is told of a pool that ends, once no caller has it any more.
-pub fn closed<G: PoolNaming, J: Job, E: Edge, K: Reporter, R: Wait>(
-    rt: &R,
-    pool: Arc<PoolOf<G, J, E, K>>,
-    passes: Vec<Pass<G>>,
-    closes: u32,
-) -> Result<K::Report, Mishap> {
-    report(rt, sole(rt, pool), passes, closes)
 }
 
 /// What is told of a pool that ends. It is closed so often at most, while it is not terminated.
@@ -70,13 +63,19 @@ pub fn report<G: PoolNaming, J: Job, E: Edge, K: Reporter, R: Wait>(
             Ok(report) => return Ok(report),
             Err(fault) => {
                 if fault.error != PoolError::NotTerminated {
-                    return Err(Mishap::Refused(fault.error));
+                    return Err(Mishap::Refused(fault.let_go()));
                 }
-                pool = fault.pool;
-                passes = fault.passes;
+                let CloseFault {
+                    error: _,
+                    pool: open,
+                    passes: theirs,
+                } = fault;
+                pool = open;
+                passes = theirs;
                 thread::yield_now();
             }
         }
     }
+    pool.let_go();
     Err(Mishap::Differs("a pool did not end"))
 }

@@ -4,7 +4,7 @@ ghost use Rattle.std.specs.Prelude.{◌≡◌};
 use crate::accounts::{Books, Judged};
 use crate::callers::{Caller, Crew, Role, Told, hire, stop};
 use crate::chores::{Chore, Count, count};
-use crate::endings::{ONCE, closed};
+use crate::endings::{ONCE, report};
 use crate::luck::Luck;
 use crate::mishaps::Mishap;
 use crate::plans::{Plan, SUBMITTERS, priority_of, work_of};
@@ -95,7 +95,6 @@ fn whole_life<
     K: Judged + Send + 'static,
     R: Threads + Wait + Clock + Copy + Send + Sync + 'static,
 >(rt: R, alloc: Global, pool: Crew<G, K>, first: Pass<G>, plan: &Plan) -> Result<Account, Mishap> {
-    let pool = Arc::new(alloc, pool)?;
     match life_of(rt, alloc, &pool, first, plan) {
         Ok(
             Lived {
@@ -105,10 +104,13 @@ fn whole_life<
                 callers,
             },
         ) => {
-            let report = closed(&rt, pool, passes, ONCE)?;
+            let report = report(&rt, pool, passes, ONCE)?;
             K::account(alloc, plan, &report, &books, stranded, &callers)
         }
-        Err(mishap) => Err(mishap),
+        Err(mishap) => {
+            pool.let_go();
+            Err(mishap)
+        }
     }
 }
 
@@ -132,7 +134,7 @@ fn life_of<
 >(
     rt: R,
     alloc: Global,
-    pool: &Arc<Crew<G, K>>,
+    pool: &Crew<G, K>,
     first: Pass<G>,
     plan: &Plan,
 ) -> Result<Lived<G>, Mishap> {
@@ -176,7 +178,7 @@ fn live<
 >(
     rt: R,
     alloc: Global,
-    pool: &Arc<Crew<G, K>>,
+    pool: &Crew<G, K>,
     told: &mut Told<G>,
     plan: &Plan,
     ran: &[Count],
@@ -203,7 +205,7 @@ fn another<
 >(
     rt: R,
     alloc: Global,
-    pool: &Arc<Crew<G, K>>,
+    pool: &Crew<G, K>,
     role: Role,
     seed: u64,
     told: &mut Told<G>,

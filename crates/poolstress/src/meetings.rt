@@ -98,10 +98,24 @@ fn all_at_once<
     ran: &Count,
 ) -> Result<Report, Mishap> {
     let mut pass = first;
-    live(rt, &pool, &mut pass, all, ran)?;
+    let passes = match live(rt, &pool, &mut pass, all, ran) {
+        Ok(()) => listed(alloc, pass),
+        Err(mishap) => Err(mishap),
+    };
+    match passes {
+        Ok(passes) => report(&rt, pool, passes, ONCE),
+        Err(mishap) => {
+            pool.let_go();
+            Err(mishap)
+        }
+    }
+}
+
+// A list of this pass.
+fn listed<G: PoolNaming>(alloc: Global, pass: Pass<G>) -> Result<Vec<Pass<G>>, Mishap> {
     let mut passes = Vec::new(alloc);
     passes.push(pass)?;
-    report(&rt, pool, passes, ONCE)
+    Ok(passes)
 }
 
 // So many jobs wait for each other, and then the pool ends.

@@ -11,8 +11,8 @@ use crate::waits::{WAITERS, Waiter, judge, wait};
 use std::alloc::Global;
 use std::hint::spin_loop;
 use std::marker::Brand;
+use std::sync::Wait;
 use std::sync::atomic::Ordering;
-use std::sync::{Arc, Wait};
 use std::thread::Threads;
 use tp_book::opening::Unopened;
 use tp_book::passes::Pass;
@@ -79,7 +79,6 @@ fn open<G: PoolNaming + Send + Sync + 'static, R: Threads + Wait + Copy + Send +
     signs.goes_on.fetch_add(1, Ordering::SeqCst);
     let users = signs.users(Making::Made, Making::Made, 1)?;
     let (pool, first) = Left::<G>::over(alloc, unopened, settings, users)?;
-    let pool = Arc::new(alloc, pool)?;
     let mut pass = first;
     let second = live(rt, &pool, &mut pass, (turns, waiter), &signs);
     let report = ended(&rt, alloc, pool, pass, second, OFTEN)?;
@@ -90,7 +89,7 @@ fn open<G: PoolNaming + Send + Sync + 'static, R: Threads + Wait + Copy + Send +
 // One thread submits, the other shuts the pool down. The second caller's pass, once the pool has ended.
 fn live<G: PoolNaming + Send + Sync + 'static, R: Threads + Wait + Copy + Send + Sync + 'static>(
     rt: R,
-    pool: &Arc<Left<G>>,
+    pool: &Left<G>,
     pass: &mut Pass<G>,
     (turns, waiter): (u32, Waiter),
     signs: &Signs,

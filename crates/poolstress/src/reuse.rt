@@ -9,8 +9,8 @@ use crate::mishaps::Mishap;
 use crate::second::{Part, hire, submit};
 use std::alloc::Global;
 use std::marker::Brand;
+use std::sync::Wait;
 use std::sync::atomic::Ordering;
-use std::sync::{Arc, Wait};
 use std::thread::Threads;
 use tp_book::opening::Unopened;
 use tp_book::passes::Pass;
@@ -63,7 +63,6 @@ fn open<G: PoolNaming + Send + Sync + 'static, R: Threads + Wait + Copy + Send +
     let signs = Signs::new(alloc)?;
     let users = signs.users(Making::Made, Making::Made, 2)?;
     let (pool, first) = Left::<G>::over(alloc, unopened, settings, users)?;
-    let pool = Arc::new(alloc, pool)?;
     let mut pass = first;
     let second = live(rt, alloc, &pool, &mut pass, &signs);
     let report = ended(&rt, alloc, pool, pass, second, ONCE)?;
@@ -77,7 +76,7 @@ fn open<G: PoolNaming + Send + Sync + 'static, R: Threads + Wait + Copy + Send +
 fn live<G: PoolNaming + Send + Sync + 'static, R: Threads + Wait + Copy + Send + Sync + 'static>(
     rt: R,
     alloc: Global,
-    pool: &Arc<Left<G>>,
+    pool: &Left<G>,
     pass: &mut Pass<G>,
     signs: &Signs,
 ) -> Result<Pass<G>, Mishap> {

@@ -1,13 +1,14 @@
 //! The second caller of a pool, in a thread of its own.
 
 use crate::chores::{Chore, Count, Work};
-use crate::fickle::{Left, Signs};
+use crate::fickle::{Fickle, Left, Signs};
 use crate::mishaps::Mishap;
 use std::sync::atomic::Ordering;
 use std::sync::{Arc, Wait};
 use std::thread;
 use std::thread::{JoinHandle, Threads};
 use tp_book::passes::Pass;
+use tp_pool::Handle;
 use tp_pool::names::PoolNaming;
 use tp_types::refusals::PoolError;
 use tp_types::tasks::Kind;
@@ -27,12 +28,12 @@ pub fn hire<
     R: Threads + Wait + Copy + Send + Sync + 'static,
 >(
     rt: R,
-    pool: &Arc<Left<G>>,
+    pool: &Left<G>,
     part: Part,
     signs: &Signs,
     pass: Pass<G>,
 ) -> Result<JoinHandle<Result<Pass<G>, Mishap>>, Mishap> {
-    let theirs = Arc::try_clone(pool)?;
+    let theirs = pool.handle()?;
     let starts = Arc::try_clone(&signs.starts)?;
     let ran = Arc::try_clone(&signs.ran)?;
     match thread::spawn(&rt, move || plays(rt, theirs, part, starts, ran, pass)) {
@@ -44,7 +45,7 @@ pub fn hire<
 // The thread of the second caller.
 fn plays<G: PoolNaming + Send + Sync + 'static, R: Threads + Wait + Copy + Send + 'static>(
     rt: R,
-    pool: Arc<Left<G>>,
+    pool: Handle<G, Chore, Fickle>,
     part: Part,
     starts: Count,
     ran: Count,

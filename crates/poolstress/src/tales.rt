@@ -10,8 +10,8 @@ use crate::second::{Part, hire, try_submit};
 use crate::waits::{WAITERS, Waiter, judge, wait};
 use std::alloc::Global;
 use std::marker::Brand;
+use std::sync::Wait;
 use std::sync::atomic::Ordering;
-use std::sync::{Arc, Wait};
 use std::thread::Threads;
 use tp_book::opening::Unopened;
 use tp_book::passes::Pass;
@@ -125,7 +125,6 @@ fn open<G: PoolNaming + Send + Sync + 'static, R: Threads + Wait + Copy + Send +
         settings,
         signs.users(tale.first, tale.second, 1)?,
     )?;
-    let pool = Arc::new(alloc, pool)?;
     let mut pass = first;
     let second = live(rt, &pool, &mut pass, (tale, waiter), &signs);
     let report = ended(&rt, alloc, pool, pass, second, OFTEN)?;
@@ -140,7 +139,7 @@ fn open<G: PoolNaming + Send + Sync + 'static, R: Threads + Wait + Copy + Send +
 // once the pool has ended.
 fn live<G: PoolNaming + Send + Sync + 'static, R: Threads + Wait + Copy + Send + Sync + 'static>(
     rt: R,
-    pool: &Arc<Left<G>>,
+    pool: &Left<G>,
     pass: &mut Pass<G>,
     (tale, waiter): (Tale, Waiter),
     signs: &Signs,

@@ -72,7 +72,25 @@ fn serve<G: PoolName, R: Runtime>(
     served.and(late)
 }
 
-// The server's whole life under a name of its own. It begins no request until its clients are through.
+// The server begins no request until its clients are through. Their passes, once it has ended.
+fn lived<G: PoolNaming + Send + Sync + 'static, R: Runtime>(
+    rt: &R,
+    alloc: Global,
+    server: &Server<G>,
+    door: &Arc<Mutex<()>>,
+    one: Pass<G>,
+) -> Result<Vec<Pass<G>>, PoolError> {
+    let mut one = one;
+    let mut two = server.split_pass(rt, &mut one)?;
+    let locked = door.lock(rt);
+    let served = serve(rt, server, &mut one, &mut two);
+    drop(locked);
+    served?;
+    server.await_end(rt, None, &mut one)?;
+    Ok(Vec::from_array(alloc, [one, two])?)
+}
+
+// The server's whole life under a name of its own: it is closed, or let go where its clients did not come so far.
 fn life<G: PoolNaming + Send + Sync + 'static, R: Runtime>(
     rt: &R,
     alloc: Global,
@@ -84,14 +102,14 @@ fn life<G: PoolNaming + Send + Sync + 'static, R: Runtime>(
 {
     let door = Arc::new(alloc, Mutex::new(()))?;
     let desk = Desk(Arc::try_clone(&door)?);
-    let (server, mut one) = Server::<G>::over(alloc, unopened, settings, desk)?;
-    let mut two = server.split_pass(rt, &mut one)?;
-    let locked = door.lock(rt);
-    let served = serve(rt, &server, &mut one, &mut two);
-    drop(locked);
-    served?;
-    server.await_end(rt, None, &mut one)?;
-    Ok(server.close(rt, Vec::from_array(alloc, [one, two])?)?)
+    let (server, one) = Server::<G>::over(alloc, unopened, settings, desk)?;
+    match lived(rt, alloc, &server, &door, one) {
+        Ok(passes) => server.close(rt, passes).map_err(|fault| fault.let_go()),
+        Err(error) => {
+            server.let_go();
+            Err(error)
+        }
+    }
 }
 
 fn main(rt: HostRuntime) -> anyhow::Result<()> {

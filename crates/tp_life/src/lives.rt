@@ -19,8 +19,7 @@ use tp_book::passes::Pass;
 use tp_book::reports::{Report, Reporter, TallyReport};
 use tp_locked::names::PoolNaming;
 use tp_machine::machine::releases::Keeper;
-use tp_pool::closing::sole;
-use tp_pool::{CloseFault, PoolOf, Runtime};
+use tp_pool::{PoolOf, Runtime};
 use tp_protocols::jobs::Job;
 use tp_record::recorders::{Full, Tally};
 use tp_shared::edges::Edge;
@@ -183,20 +182,21 @@ fn lived<
 {
     let Rooms { outs, passes, desk } = rooms;
     let mut last = pass;
-    let Ok(pool) = Arc::new(alloc, pool) else {
-        return Err(PoolError::NoMemory);
-    };
     let seated = match seats(rt, alloc, &pool, &desk, &mut last, callers) {
         Ok(seated) => seated,
-        Err(error) => return Err(error),
+        Err(error) => {
+            pool.let_go();
+            return Err(error);
+        }
     };
     let Some(starter) = staff(rt, &pool, &desk) else {
+        pool.let_go();
         return Err(PoolError::NoMemory);
     };
     let (outs, passes) = gathered(rt, life, seated, outs, passes);
     desk.close(rt);
     starter.join(rt);
-    match end(rt, sole(rt, pool), passes, last) {
+    match end(rt, pool, passes, last) {
         Ok(report) => Ok((outs, report)),
         Err(error) => Err(error),
     }
@@ -207,7 +207,7 @@ fn lived<
 fn seats<G: PoolNaming, W: Task, H: Wait + Copy, E: Edge, K: Keeper, O: Drop>(
     rt: &H,
     alloc: Global,
-    pool: &Arc<PoolOf<G, Held<W>, E, K>>,
+    pool: &PoolOf<G, Held<W>, E, K>,
     desk: &Arc<Desk>,
     first: &mut Pass<G>,
     callers: u32,
@@ -225,7 +225,7 @@ fn seats<G: PoolNaming, W: Task, H: Wait + Copy, E: Edge, K: Keeper, O: Drop>(
             Ok(pass) => pass,
             Err(error) => return Err(error),
         };
-        let (Ok(theirs), Ok(at)) = (Arc::try_clone(pool), Arc::try_clone(desk)) else {
+        let (Ok(theirs), Ok(at)) = (pool.handle(), Arc::try_clone(desk)) else {
             return Err(PoolError::NoMemory);
         };
         let seat = Seat {
@@ -251,8 +251,8 @@ fn staff<
     E: Edge + Send + Sync + 'static,
     K: Keeper + Send + 'static,
     R: Runtime,
->(rt: &R, pool: &Arc<PoolOf<G, J, E, K>>, desk: &Arc<Desk>) -> Option<JoinHandle<()>> {
-    let theirs = Arc::try_clone(pool).ok()?;
+>(rt: &R, pool: &PoolOf<G, J, E, K>, desk: &Arc<Desk>) -> Option<JoinHandle<()>> {
+    let theirs = pool.handle().ok()?;
     let at = Arc::try_clone(desk).ok()?;
     let host = *rt;
     let work = move || starter(host, &*theirs, &*at);
@@ -364,20 +364,12 @@ fn end<
     let mut passes = passes;
     pool.shut(rt, &mut last);
     if let Err(error) = pool.await_shut(rt, &mut last) {
-        pool.leave(rt);
+        pool.let_go();
         return Err(error);
     }
     passes.push_reserved(last);
     match pool.close(rt, passes) {
         Ok(report) => Ok(report),
-        Err(fault) => {
-            let CloseFault {
-                error,
-                pool,
-                passes: _,
-            } = fault;
-            pool.leave(rt);
-            Err(error)
-        }
+        Err(fault) => Err(fault.let_go()),
     }
 }

@@ -16,7 +16,7 @@ use tp_locked::tasks::Task as Payload;
 use tp_machine::machine::releases::Keeper;
 use tp_machine::typed::submitters::Submit;
 use tp_pool::readings::Reading;
-use tp_pool::{PoolOf, task_of};
+use tp_pool::{Handle, task_of};
 use tp_shared::edges::Edge;
 use tp_types::ids::TaskId;
 use tp_types::refusals::PoolError;
@@ -31,7 +31,7 @@ pub struct Seat<G: PoolNaming, W: Task, H, E, K: Keeper> {
     /// The pass.
     pub pass: Pass<G>,
     /// The pool.
-    pub pool: Arc<PoolOf<G, Held<W>, E, K>>,
+    pub pool: Handle<G, Held<W>, E, K>,
     /// The desk.
     pub desk: Arc<Desk>,
     /// The runtime.

@@ -20,8 +20,7 @@ use tp_shared::shared::Shared;
 use tp_types::refusals::PoolError;
 
 /// The answer of a close that was refused: the pool comes back, with the passes that were handed in, or with the one pass of
-/// `close_one`.
-#[derive(Drop)]
+/// `close_one`. As the pool, it can't be let go: close the pool once more, or `let_go` of it.
 pub struct CloseFault<G: PoolNaming, J, E, K: Keeper = Full, P = Vec<Pass<G>>> {
     /// The refusal: NotTerminated (20), MissingPass (21) or TornRecord (22); of `close_one` NoMemory (4), too.
     pub error: PoolError,
@@ -41,7 +40,7 @@ impl<G: PoolNaming, J: Job, E: Edge, K: Reporter> PoolOf<G, J, E, K> {
     /// NotTerminated (20) comes first, and never with a pass that has seen the pool terminated.
     /// MissingPass (21) comes next, where fewer or more passes come back than callers got. Then the call
     /// waits until no thread has the pool any more, since a worker's thread lets go of it after the last
-    /// step, and until each other handle of it is dropped. It waits for ever where one is kept: where the pool's own edge (its
+    /// step, and until each handle of it is dropped. It waits for ever where one is kept: where the pool's own edge (its
     /// factory, handler, hooks or gate) has a handle, or a job that is kept somewhere, as one that `shutdown_now` handed
     /// back. TornRecord (22) comes last, where a pass's receipts are not its own entries. After a refusal the
     /// pool and the passes come back.
@@ -99,9 +98,9 @@ impl<G: PoolNaming, J: Job, E: Edge, K: Keeper> PoolOf<G, J, E, K> {
     }
 }
 
-/// The value that threads share, once no other one has it. `close` takes a pool by value, and a thread that was joined may
-/// let go of its share a little later. It waits for ever where another share is kept. Java has no such call.
-pub fn sole<T, R: Wait>(rt: &R, shared: Arc<T>) -> T
+// The value that threads share, once no other one has it. A thread that was joined may let go of its share a little later. It waits
+// for ever where another share is kept.
+fn sole<T, R: Wait>(rt: &R, shared: Arc<T>) -> T
     ensures value { result ≡ arc_value shared }
 {
     // A worker's thread lets go of its pool after its pass is handed in.

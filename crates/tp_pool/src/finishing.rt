@@ -5,9 +5,8 @@ ghost use Rattle.tp_record.specs.Step.{Legal};
 ghost use Rattle.tp_pool.specs.Lives.{IsShut};
 
 use crate::callers::Runtime;
-use crate::closing::sole;
-use crate::pool::{Hold, PoolOf};
-use std::sync::Wait;
+use crate::closing::CloseFault;
+use crate::pool::PoolOf;
 use std::thread;
 use tp_book::passes::Pass;
 use tp_locked::names::PoolNaming;
@@ -81,7 +80,8 @@ impl<
         self.shared().stop(rt, pass).is_ok()
     }
 
-    /// Waits for the end of a pool that is shut down. TornRecord (22) does not come as long as the pool's book is sound.
+    /// Waits for the end of a pool that is shut down, and until its workers' threads are through with it. TornRecord (22) does not
+    /// come as long as the pool's book is sound.
     pub fn await_shut<R: Runtime>(&self, rt: &R, pass: &mut Pass<G>) -> Result<(), PoolError>
         requires room { 2 ≤ pass.old.room }
         requires shut { IsShut (K.terms G.config) pass.old.front }
@@ -90,16 +90,33 @@ impl<
         ensures ended { OnOk result (rank pass.new.front ≡ 4) }
         ensures torn { IfErr result (λ e. e ≡ PoolError.TornRecord) }
     {
-        self.shared().await_end(rt, None, pass)
+        let shared = self.shared();
+        let ended = shared.await_end(rt, None, pass);
+        shared.await_workers(rt);
+        ended
     }
+}
 
-    /// Lets the pool go, once no thread has it any more.
-    pub fn leave<R: Wait>(self, rt: &R) {
-        self.shared().await_workers(rt);
+impl<G: PoolNaming, J: Drop, E: Drop, K: Keeper> PoolOf<G, J, E, K> {
+    /// Lets the pool go, with no report: its workers run what is queued, and then wait. They end with the process. It is not shut down,
+    /// since this call takes no pass and waits for nothing. Java's pool is let go so wherever the last reference to it is lost.
+    pub fn let_go(self) {
         let PoolOf { hold } = self;
-        match hold {
-            Hold::Many(shared) => drop(sole(rt, shared)),
-            Hold::One(shared) => drop(shared),
-        }
+        drop(hold);
+    }
+}
+
+impl<G: PoolNaming, J: Drop, E: Drop, K: Keeper, P: Drop> CloseFault<G, J, E, K, P> {
+    /// Lets the pool of a refused close go, as `PoolOf::let_go`, with what was handed in; the answer is the refusal.
+    pub fn let_go(self) -> PoolError
+        ensures { result ≡ self.error }
+    {
+        let CloseFault {
+            error,
+            pool,
+            passes: _,
+        } = self;
+        pool.let_go();
+        error
     }
 }

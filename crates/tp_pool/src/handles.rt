@@ -1,4 +1,4 @@
-//! Handles of a pool, for several owners; and its close with one pass.
+//! Handles of a pool, which may be dropped; and its close with one pass.
 ghost use Rattle.std.specs.Prelude.{◌≡◌, ◌⊎◌, [], ◌∷◌, length, IfOk, IfErr};
 ghost use Rattle.tp_locked.specs.Closing.{KeepsOpen};
 ghost use Rattle.tp_locked.specs.declared.tasks.Task.{Task};
@@ -6,31 +6,56 @@ ghost use Rattle.tp_shared.specs.Closing.{Closes};
 
 use crate::closing::{CloseFault, Reporter};
 use crate::pool::{Hold, PoolOf};
+use std::ops::Deref;
 use std::sync::{Arc, Wait};
 use tp_book::passes::Pass;
 use tp_locked::names::PoolNaming;
 use tp_machine::machine::releases::Keeper;
 use tp_protocols::jobs::Job;
+use tp_record::recorders::Full;
 use tp_shared::edges::Edge;
 use tp_types::refusals::PoolError;
 
 /// The answer of a close with one pass that was refused: the pool comes back, with the pass.
 pub type CloseOneFault<G, J, E, K> = CloseFault<G, J, E, K, Pass<G>>;
 
+/// One more hold of a pool, for a thread or an object of its own, as a copied reference in Java. It has the calls of the pool that
+/// take `&self`, and may be dropped: the pool stays as it is. The pool's owner alone can close it.
+pub struct Handle<G: PoolNaming, J, E, K: Keeper = Full> {
+    pool: PoolOf<G, J, E, K>,
+}
+
+impl<G: PoolNaming, J, E, K: Keeper> Deref for Handle<G, J, E, K> {
+    type Target = PoolOf<G, J, E, K>;
+
+    fn deref(&self) -> &PoolOf<G, J, E, K> {
+        &self.pool
+    }
+}
+
+impl<G: PoolNaming, J: Drop, E: Drop, K: Keeper> Drop for Handle<G, J, E, K> {
+    fn drop(self) {
+        let Self { pool } = self;
+        pool.let_go();
+    }
+}
+
 impl<G: PoolNaming, J: Job, E: Edge, K: Keeper> PoolOf<G, J, E, K> {
-    /// One more handle of this pool, for an owner of its own, as a copied reference in Java. A close by one handle waits until the others
-    /// are dropped. So the pool's own edge is to keep none, and a job only as long as it runs. NoMemory (4), or TornRecord (22) where a
-    /// close found the pool's record torn.
-    pub fn handle(&self) -> Result<PoolOf<G, J, E, K>, PoolError>
+    /// A handle of this pool, for a thread or an object of its own. A close waits until each is dropped. So the pool's own edge is to
+    /// keep none, and a job only as long as it runs. NoMemory (4), or TornRecord (22) where a close found the pool's record torn.
+    pub fn handle(&self) -> Result<Handle<G, J, E, K>, PoolError>
         ensures refused { IfErr result (λ e. (e ≡ PoolError.NoMemory) ⊎ (e ≡ PoolError.TornRecord)) }
     {
         let Hold::Many(shared) = &self.hold else {
             return Err(PoolError::TornRecord);
         };
         match Arc::try_clone(shared) {
-            Ok(shared) => Ok(PoolOf {
-                hold: Hold::Many(shared),
-            }),
+            Ok(shared) => {
+                let hold = Hold::Many(shared);
+                Ok(Handle {
+                    pool: PoolOf { hold },
+                })
+            }
             Err(_) => Err(PoolError::NoMemory),
         }
     }

@@ -8,7 +8,7 @@ ghost use Rattle.tp_pool.specs.Lives.{AreAnswered, AreSubmitted, AreTold, IsCut,
 ghost use Rattle.tp_pool.specs.Submissions.{Submits};
 
 use crate::callers::{PoolName, Runtime};
-use crate::closing::{CloseFault, Report};
+use crate::closing::Report;
 use crate::futures::task_of;
 use crate::pool::PoolOf;
 use std::alloc::Global;
@@ -100,7 +100,10 @@ fn entered<G: PoolName, J: Job + 'static, E: Edge + Send + Sync + 'static, R: Ru
     let mut pass = pass;
     let mut last = match ending_pass(rt, &pool, &mut pass) {
         Ok(last) => last,
-        Err(error) => return Err(error),
+        Err(error) => {
+            pool.let_go();
+            return Err(error);
+        }
     };
     let mut seen = pool.sight(&mut last);
     lived(rt, alloc, pool, jobs, pass, last, &mut seen)
@@ -263,27 +266,19 @@ fn end<G: PoolName, J: Job + 'static, E: Edge + Send + Sync + 'static, R: Runtim
     let ended = pool.await_shut(rt, &mut last);
     *seen = pool.sight(&mut last);
     if let Err(error) = ended {
-        pool.leave(rt);
+        pool.let_go();
         return Err(error);
     }
     let passes = match both(alloc, pass, last) {
         Ok(passes) => passes,
         Err(error) => {
-            pool.leave(rt);
+            pool.let_go();
             return Err(error);
         }
     };
     match pool.close(rt, passes) {
         Ok(report) => Ok(report),
-        Err(fault) => {
-            let CloseFault {
-                error,
-                pool,
-                passes: _,
-            } = fault;
-            pool.leave(rt);
-            Err(error)
-        }
+        Err(fault) => Err(fault.let_go()),
     }
 }
 

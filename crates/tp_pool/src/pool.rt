@@ -31,9 +31,8 @@ use tp_types::states::RunState;
 /// `&self`, so that many threads may share it. A call that makes steps takes a pass: each entry of the record has the number of the pass
 /// that asked for it.
 ///
-/// A pool that is dropped is not shut down: its workers run what is queued, then wait, and end with the process.
-/// A drop has no runtime by which it could take the lock.
-#[derive(Drop)]
+/// A pool is not `Drop`: a function that lets one go does not compile (`error[linear-value-let-go]`). Its owner closes it (`close`,
+/// `close_one`), or says that nobody will (`let_go`). Of further owners each has a `Handle`, which may be dropped.
 pub struct PoolOf<G: PoolNaming, J, E, K: Keeper = Full> {
     pub(crate) hold: Hold<G, J, E, K>,
 }

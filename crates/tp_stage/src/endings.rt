@@ -27,7 +27,20 @@ fn listed<G: PoolNaming>(
     Ok(passes)
 }
 
-/// Awaits the pool's end, and closes it with all its passes.
+// Awaits the pool's end: the list of all its passes.
+fn passes_at_end<G: PoolNaming, J: Job, E: Edge, R: Wait>(
+    rt: &R,
+    alloc: Global,
+    pool: &PoolOf<G, J, E>,
+    first: Pass<G>,
+    second: Option<Pass<G>>,
+) -> Result<Vec<Pass<G>>, PoolError> {
+    let mut first = first;
+    pool.await_termination(rt, u64::MAX, &mut first)?;
+    listed(alloc, first, second)
+}
+
+/// Awaits the pool's end, and closes it with all its passes. A pool that does not come so far is let go.
 pub fn closed<G: PoolNaming, J: Job, E: Edge, R: Wait>(
     rt: &R,
     alloc: Global,
@@ -35,11 +48,11 @@ pub fn closed<G: PoolNaming, J: Job, E: Edge, R: Wait>(
     first: Pass<G>,
     second: Option<Pass<G>>,
 ) -> Result<Report, PoolError> {
-    let mut first = first;
-    pool.await_termination(rt, u64::MAX, &mut first)?;
-    let passes = listed(alloc, first, second)?;
-    match pool.close(rt, passes) {
-        Ok(report) => Ok(report),
-        Err(fault) => Err(fault.error),
+    match passes_at_end(rt, alloc, &pool, first, second) {
+        Ok(passes) => pool.close(rt, passes).map_err(|fault| fault.let_go()),
+        Err(error) => {
+            pool.let_go();
+            Err(error)
+        }
     }
 }

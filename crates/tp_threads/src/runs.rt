@@ -105,9 +105,13 @@ fn closed<
     let mut passes = passes;
     let by_itself = match end(rt, &pool, &mut pass) {
         Ok(by_itself) => by_itself,
-        Err(error) => return Err(error),
+        Err(error) => {
+            pool.let_go();
+            return Err(error);
+        }
     };
     if passes.push(pass).is_err() {
+        pool.let_go();
         return Err(PoolError::NoMemory);
     }
     match pool.close(rt, passes) {
@@ -116,7 +120,7 @@ fn closed<
             *kept = Some(report);
             Err(PoolError::NoMemory)
         }
-        Err(fault) => Err(at_the_end(fault.error)),
+        Err(fault) => Err(at_the_end(fault.let_go())),
     }
 }
 

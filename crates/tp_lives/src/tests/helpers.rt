@@ -162,6 +162,17 @@ fn refuse<
     (pool, passes)
 }
 
+// Closes a pool that can be closed.
+fn closed<G: PoolNaming, J: Job, E: Edge, R: Abort + Wait>(
+    rt: &R,
+    pool: PoolOf<G, J, E>,
+    passes: Vec<Pass<G>>,
+) -> Report {
+    pool.close(rt, passes)
+        .map_err(|fault| fault.let_go())
+        .expect(rt, "not closed")
+}
+
 fn end<G: PoolNaming, J: Job, E: Edge, R: Abort + Wait>(
     rt: &R,
     pool: PoolOf<G, J, E>,
@@ -169,12 +180,11 @@ fn end<G: PoolNaming, J: Job, E: Edge, R: Abort + Wait>(
     ends: &Ending,
 ) {
     match ends {
-        Ending::Open => {}
-        Ending::Closed => same(rt, 0, &pool.close(rt, passes).is_ok(), &true),
-        Ending::Leaves(rows) => match pool.close(rt, passes) {
-            Ok(report) => leaves(rt, &report, rows),
-            Err(_) => rt.panic("not closed"),
-        },
+        Ending::Open => pool.let_go(),
+        Ending::Closed => {
+            let _ = closed(rt, pool, passes);
+        }
+        Ending::Leaves(rows) => leaves(rt, &closed(rt, pool, passes), rows),
     }
 }
 
@@ -221,9 +231,16 @@ fn enter<
     G: PoolNaming + Send + Sync + 'static,
     R: Abort + Threads + Wait + Copy + Send + Sync + 'static,
 >(rt: R, alloc: Global, pool: Pool<G>, first: Pass<G>, life: &Life) -> Result<(), PoolError> {
-    let passes = passes_of(&rt, alloc, &pool, first, life.callers)?;
-    live(rt, pool, passes, life);
-    Ok(())
+    match passes_of(&rt, alloc, &pool, first, life.callers) {
+        Ok(passes) => {
+            live(rt, pool, passes, life);
+            Ok(())
+        }
+        Err(error) => {
+            pool.let_go();
+            Err(error)
+        }
+    }
 }
 
 // Lets a pool with these hooks live.

@@ -75,7 +75,7 @@ fn share_and_end<G: PoolName, R: Runtime>(
     Ok(cancelled)
 }
 
-// The pool is closed then. Early returns are dear beside what is owned, so there are two here.
+// The pool is closed then, or let go.
 fn share_and_close<G: PoolName, R: Runtime>(
     rt: &R,
     pool: Lender<G, R>,
@@ -84,8 +84,16 @@ fn share_and_close<G: PoolName, R: Runtime>(
     pass: Pass<G>,
 ) -> Result<(bool, Report), PoolError> {
     let mut pass = pass;
-    let cancelled = share_and_end(rt, &pool, kept, board, &mut pass)?;
-    Ok((cancelled, pool.close_one(rt, pass)?))
+    match share_and_end(rt, &pool, kept, board, &mut pass) {
+        Ok(cancelled) => match pool.close_one(rt, pass) {
+            Ok(report) => Ok((cancelled, report)),
+            Err(fault) => Err(fault.let_go()),
+        },
+        Err(error) => {
+            pool.let_go();
+            Err(error)
+        }
+    }
 }
 
 fn life<G: PoolNaming + Send + Sync + 'static, R: Runtime>(

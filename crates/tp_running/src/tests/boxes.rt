@@ -164,8 +164,13 @@ fn life<G: PoolNaming + Send + Sync + 'static, R: Abort + Threads + Wait + Copy 
     let (pool, mut pass) = Pool::<G>::new(
         alloc, unopened, settings, factory, handler, hooks, gate,
     )?;
-    work(&rt, alloc, &pool, board, &mut pass)?;
-    closed(&rt, alloc, pool, pass, None)
+    match work(&rt, alloc, &pool, board, &mut pass) {
+        Ok(()) => closed(&rt, alloc, pool, pass, None),
+        Err(error) => {
+            pool.let_go();
+            Err(error)
+        }
+    }
 }
 
 const SETTINGS_OF_ONE: Config = Config {

@@ -350,7 +350,7 @@ fn goes<G: PoolNaming + Send + Sync + 'static, R: Abort + Threads + Wait + Copy 
         &ends(rt, &pool, board, &mut pass),
         &true,
     );
-    Ok(pool.close_one(rt, pass)?)
+    pool.close_one(rt, pass).map_err(|fault| fault.let_go())
 }
 
 // The same under a name of the pool's own.

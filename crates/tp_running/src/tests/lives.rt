@@ -80,8 +80,13 @@ fn live<
         let first = plays(rt, &pool, board, life, true, first);
         return closed(&rt, alloc, pool, first, None);
     }
-    let (first, second) = plays_both(rt, &pool, board, life, first)?;
-    closed(&rt, alloc, pool, first, Some(second))
+    match plays_both(rt, &pool, board, life, first) {
+        Ok((first, second)) => closed(&rt, alloc, pool, first, Some(second)),
+        Err(error) => {
+            pool.let_go();
+            Err(error)
+        }
+    }
 }
 
 // Opens a pool under its name, and has it live.

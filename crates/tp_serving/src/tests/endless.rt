@@ -278,7 +278,7 @@ fn lived<G: PoolNaming + Send + Sync + 'static, R: Abort + Threads + Wait + Copy
 {
     let (pool, mut pass) = Endless::<G>::over(alloc, unopened, settings, Defaults)?;
     does_all(rt, alloc, &pool, board, acts, &mut pass);
-    Ok(pool.close_one(rt, pass)?)
+    pool.close_one(rt, pass).map_err(|fault| fault.let_go())
 }
 
 // The same under a name of the pool's own.

@@ -107,7 +107,7 @@ fn pass_beside<G: PoolNaming + Send + Sync + 'static, R: Abort + Wait>(
     second
 }
 
-// One caller plays, or two. Nothing returns early here or above, since the proof of a place that drops a pool is dear.
+// One caller plays, or two. Nothing returns early here or above, since each early return would have to let the pool go.
 fn live<
     G: PoolNaming + Send + Sync + 'static,
     R: Abort + Threads + Wait + Clock + Copy + Send + Sync + 'static,

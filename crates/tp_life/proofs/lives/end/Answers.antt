@@ -1,8 +1,9 @@
-use Rattle.std.proofs.Common.{[], ◌∷◌, ◌++◌, inr, subst, arith}
+use Rattle.std.proofs.Common.{[], ◌∷◌, ◌++◌, inr, subst, sym, arith}
 use Rattle.std.proofs.lemmas.List.{length_push}
 use Rattle.tp_locked.specs.Closing.{KeepsOpen}
 use Rattle.tp_locked.specs.declared.tasks.Task.{Task}
 use Rattle.tp_shared.specs.Closing.{Closes}
+use Rattle.tp_life.specs.Lived.{IsUntold}
 use Rattle.tp_life.proofs.Untold.{untold}
 use Rattle.tp_life.proofs.lives.end.Goals as goal
 
@@ -20,5 +21,6 @@ pub returns-in-Err-close-clause-untold : goal.returns-in-Err-close-clause-untold
 returns-in-Err-close-clause-untold g c =
     let terms = g.K.Recorder.terms g.G.PoolNaming.config in
     let e = c.in-Err-close.fault.error in
-    untold {P = Task g.row.J.Denot} terms c.args.passes.items c.await_shut.new.pass e c.in_default.ensures.ended c.await_shut.ensures.legal
-    (subst (λ ps. KeepsOpen (Task g.row.J.Denot) terms ps e) c.push_reserved.ensures.items c.in-Err-close.ensures.refused)
+    subst (IsUntold terms) (sym c.let_go-in-Err-close.ensures)
+    (untold {P = Task g.row.J.Denot} terms c.args.passes.items c.await_shut.new.pass e c.in_default.ensures.ended c.await_shut.ensures.legal
+    (subst (λ ps. KeepsOpen (Task g.row.J.Denot) terms ps e) c.push_reserved.ensures.items c.in-Err-close.ensures.refused))
