@@ -50,7 +50,7 @@ enum Script {
 #[derive(Drop)]
 struct Stage {
     script: Script,
-    flag: Option<CancelFlag>,
+    flag: CancelFlag,
     deeds: Vec<Deed>,
 }
 
@@ -80,12 +80,12 @@ impl<R: Wait> Workplace<Fixed, R> for Stage {
     }
 
     fn begin(&mut self, _rt: &R) -> Begun<Fixed> {
-        match (self.script, self.flag.take()) {
-            (Script::Runs(faults, _, _), Some(flag)) => {
+        match self.script {
+            Script::Runs(faults, _, _) => {
                 self.note(Deed::Began(TASK));
-                Begun::Run(TASK, Fixed { value: 5, faults }, flag)
+                Begun::Run(TASK, Fixed { value: 5, faults })
             }
-            (Script::Cancelled, _) => {
+            Script::Cancelled => {
                 self.note(Deed::Skipped(TASK));
                 Begun::Skip(TASK)
             }
@@ -100,9 +100,9 @@ impl<R: Wait> Workplace<Fixed, R> for Stage {
         self.note(Deed::Before(t));
     }
 
-    fn run(&mut self, job: Fixed, flag: CancelFlag) -> Outcome {
+    fn run(&mut self, job: Fixed) -> Outcome {
         let mut job = job;
-        let outcome = job.call(&flag);
+        let outcome = job.call(&self.flag);
         self.note(Deed::Ran(outcome));
         outcome
     }
@@ -198,7 +198,7 @@ fn play<R: Abort + Wait>(
 ) -> Result<(), PoolError> {
     let mut stage = Stage {
         script,
-        flag: Some(CancelFlag::new(alloc)?),
+        flag: CancelFlag::new(alloc)?,
         deeds: Vec::new(alloc),
     };
     let went = one_turn(rt, &mut stage);

@@ -12,11 +12,11 @@ use std::time::{Clock, Duration};
 use tp_book::passes::Pass;
 use tp_locked::answers::{Admitted, Drained, Refused};
 use tp_locked::names::PoolNaming;
-use tp_locked::tasks::Task as Payload;
 use tp_machine::machine::releases::Keeper;
 use tp_machine::typed::submitters::Submit;
 use tp_pool::readings::Reading;
 use tp_pool::{Handle, task_of};
+use tp_protocols::flags::CancelFlag;
 use tp_shared::edges::Edge;
 use tp_types::ids::TaskId;
 use tp_types::refusals::PoolError;
@@ -41,10 +41,9 @@ pub struct Seat<G: PoolNaming, W: Task, H, E, K: Keeper> {
 }
 
 // Runs a task in its submitter's thread.
-fn run_here<W: Task>(payload: Payload<Held<W>>) -> Outcome {
-    let Payload { job, flags } = payload;
+fn run_here<W: Task>(job: Held<W>, flag: &CancelFlag) -> Outcome {
     let mut held = job;
-    held.run(&flags.lent)
+    held.run(flag)
 }
 
 // The refusal of a submission, with its task.
@@ -96,7 +95,7 @@ impl<G: PoolNaming, W: Task, H: Wait + Copy, E: Edge, K: Keeper> Seat<G, W, H, E
         };
         let (rt, desk) = (self.host, &*self.desk);
         let make = |order| desk.ask(&rt, order);
-        let run = |payload| run_here(payload);
+        let run = |job, flag: CancelFlag| run_here(job, &flag);
         match self
             .pool
             .execute_by(&rt, step, held, &make, &run, &mut self.pass)

@@ -107,14 +107,8 @@ pub use watching::Busy;
 pub use workers::Taking;
 
 impl<G: PoolNaming, J: Drop, R: Keeper> Core<G, J, R> {
-    /// A new pool's book, of a pool in which nobody sleeps or waits, and room for flags that serve again where there are so
-    /// many tasks.
-    /// NoMemory (4).
-    pub fn new(
-        alloc: Global,
-        book: Book<G, Task<J>, R>,
-        tasks: usize,
-    ) -> Result<Core<G, J, R>, PoolError>
+    /// A new pool's book, of a pool in which nobody sleeps or waits. NoMemory (4).
+    pub fn new(alloc: Global, book: Book<G, Task<J>, R>) -> Result<Core<G, J, R>, PoolError>
         requires settings { config book ≡ (R.terms G.config) }
         requires good { IsConfig G.config }
         requires fresh { (book.history ≡ []) × (book.accounts ≡ record { total = 0; made = 1; callers = 1 }) }
@@ -127,7 +121,7 @@ impl<G: PoolNaming, J: Drop, R: Keeper> Core<G, J, R> {
         let mut book = book;
         let ended = book.gathered();
         let (Ok(flags), Ok(waking), Ok(roster)) = (
-            Flags::new(alloc, slots, tasks),
+            Flags::new(alloc, slots),
             Waking::new(alloc, slots),
             Roster::new(alloc, slots, ended),
         ) else {

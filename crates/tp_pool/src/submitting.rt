@@ -22,6 +22,7 @@ use tp_locked::names::PoolNaming;
 use tp_locked::tasks::Task;
 use tp_machine::machine::releases::Keeper;
 use tp_machine::typed::submitters::{CallerEnd, Grow, Look, Offer, Submit};
+use tp_protocols::flags::CancelFlag;
 use tp_protocols::jobs::Job;
 use tp_protocols::laws::law_fronts_are_paths;
 use tp_protocols::paths::{Ending, Next, follows};
@@ -75,10 +76,9 @@ fn answer<J: Drop>(t: TaskId, ending: Ending, held: Option<Task<J>>) -> Result<A
 }
 
 // Runs a task's job on its submitter's thread.
-fn run_here<J: Job>(task: Task<J>) -> Outcome {
-    let Task { job, flags } = task;
+fn run_here<J: Job>(job: J, flag: &CancelFlag) -> Outcome {
     let mut job = job;
-    job.call(&flags.lent)
+    job.call(flag)
 }
 
 impl<
@@ -131,7 +131,14 @@ impl<
             promise,
         };
         let make = |order| self.obey(*rt, order);
-        self.execute_by(rt, step, job, &make, &|task| run_here(task), pass)
+        self.execute_by(
+            rt,
+            step,
+            job,
+            &make,
+            &|job, flag: CancelFlag| run_here(job, &flag),
+            pass,
+        )
     }
 
     // Tells whether a worker was made for this slot, and does what that leaves to do.
@@ -167,7 +174,7 @@ impl<
 impl<G: PoolNaming, J: Drop, E: Edge, K: Keeper> PoolOf<G, J, E, K> {
     /// As `execute_at`, for a job that promises what the step says, of a caller that knows how workers are made, and how a job
     /// is run in its own thread.
-    pub fn execute_by<R: Wait, F: Fn(Order) -> bool, H: Fn(Task<J>) -> Outcome>(
+    pub fn execute_by<R: Wait, F: Fn(Order) -> bool, H: Fn(J, CancelFlag) -> Outcome>(
         &self,
         rt: &R,
         step: Submit,
@@ -191,7 +198,7 @@ impl<G: PoolNaming, J: Drop, E: Edge, K: Keeper> PoolOf<G, J, E, K> {
     }
 
     // The steps of a submission: the first, and then each that the answer before it asks for.
-    fn submit<R: Wait, F: Fn(Order) -> bool, H: Fn(Task<J>) -> Outcome>(
+    fn submit<R: Wait, F: Fn(Order) -> bool, H: Fn(J, CancelFlag) -> Outcome>(
         &self,
         rt: &R,
         step: Submit,
@@ -237,7 +244,7 @@ impl<G: PoolNaming, J: Drop, E: Edge, K: Keeper> PoolOf<G, J, E, K> {
     // run and the worker's thread made before the hold of the step, with no lock held. Where the step rejects
     // the task, its job is held unless the task was cancelled.
     #[inline(always)]
-    fn advance<R: Wait, F: Fn(Order) -> bool, H: Fn(Task<J>) -> Outcome>(
+    fn advance<R: Wait, F: Fn(Order) -> bool, H: Fn(J, CancelFlag) -> Outcome>(
         &self,
         rt: &R,
         t: TaskId,
@@ -264,7 +271,11 @@ impl<G: PoolNaming, J: Drop, E: Edge, K: Keeper> PoolOf<G, J, E, K> {
             Next::Look => shared.further(rt, Look(t), pass),
             Next::Grow => shared.further(rt, Grow(t), pass),
             Next::Judge => self.judge(rt, t, self.verdict(rt, t), make, held, pass),
-            Next::RunHere => shared.further(rt, CallerEnd(t, run(held.take()?)), pass),
+            Next::RunHere => {
+                let flag = shared.flag_at_caller(rt, t)?;
+                let outcome = run(held.take()?.into_job(), flag);
+                shared.further(rt, CallerEnd(t, outcome), pass)
+            }
             Next::Staff(w) => self.open_by(rt, w, staffed_by(make, w), make, pass).ok(),
             Next::End(_) | Next::Astray => None,
         }

@@ -2,7 +2,6 @@
 use Rattle.std.specs.Prelude.{ℕ, ℤ, ◌≡◌, ⊤, List, [], ◌∷◌, Option, Some, None, Result}
 use Rattle.tp_types.specs.declared.ids.TaskId.{TaskId}
 use Rattle.tp_types.specs.declared.tasks.Promise.{Promise}
-use Rattle.tp_protocols.specs.declared.flags.CancelFlag.{CancelFlag}
 use Rattle.tp_protocols.specs.declared.gates.Point.TheVariants as point
 use Rattle.tp_protocols.specs.declared.deeds.Deed.{Deed}
 use Rattle.tp_protocols.specs.declared.deeds.Deed.TheVariants as deed
@@ -20,9 +19,9 @@ use Rattle.tp_protocols.specs.declared.turns.Turn.TheVariants as turn
 abbrev pub Outcome : Type 0
 Outcome = Result ℤ ℕ
 
--- a deed, with the job that it hands out or runs and the flag of that job
+-- a deed, with the job that it hands out or runs
 abbrev pub Act : Type 0 → Type 0
-Act J = Deed × Option (J × CancelFlag)
+Act J = Deed × Option J
 
 -- a deed without a job
 abbrev pub bare : {J : Type 0} → Deed → Act J
@@ -30,13 +29,13 @@ bare d = (d, None)
 
 -- what a `begin` is told as
 abbrev pub told : {J : Type 0} → Begun J → Act J
-told (begun.Run t job flag) = (deed.Began t, Some (job, flag))
+told (begun.Run t job) = (deed.Began t, Some job)
 told (begun.Skip t) = bare (deed.Skipped t)
 told begun.Refused = bare deed.Unbegun
 
 -- who begins a job owes what the job promises
 abbrev pub IsOwed : {J : Type 0} → (J → Promise) → (Promise → Type 0) → Begun J → Type 0
-IsOwed promised owes (begun.Run t job flag) = owes (promised job)
+IsOwed promised owes (begun.Run t job) = owes (promised job)
 IsOwed promised owes _ = ⊤
 
 -- these acts lead from the one moment to the other, the first of them first
@@ -55,9 +54,9 @@ closing_of o closing.Live = bare (deed.Ended o ended.Live) ∷ []
 closing_of o (closing.Died d) = bare (deed.Ended o ended.Dying) ∷ departure d
 closing_of o closing.Refused = bare (deed.Ended o ended.Refused) ∷ []
 
--- the acts of a turn once this task is begun, with its job and its flag
-abbrev pub running : {J : Type 0} → TaskId → J → CancelFlag → Outcome → Closing → List (Act J)
-running t job flag o c = bare (deed.Before t) ∷ bare (deed.Passed point.Body) ∷ (deed.Ran o, Some (job, flag)) ∷ bare (deed.After t (Some o)) ∷ bare (deed.Passed point.End) ∷ closing_of o c
+-- the acts of a turn once this task is begun, with its job
+abbrev pub running : {J : Type 0} → TaskId → J → Outcome → Closing → List (Act J)
+running t job o c = bare (deed.Before t) ∷ bare (deed.Passed point.Body) ∷ (deed.Ran o, Some job) ∷ bare (deed.After t (Some o)) ∷ bare (deed.Passed point.End) ∷ closing_of o c
 
 -- a turn takes its worker from the one moment to the other; the job that it runs is the one that was handed out
 abbrev pub IsTurn : {W J : Type 0} → (W → Act J → W → Type 0) → W → Turn → W → Type 0
@@ -66,7 +65,7 @@ IsTurn did old turn.Refused new = Does did old (bare (deed.Passed point.Take) �
 IsTurn did old turn.Unbegun new = Does did old (bare (deed.Passed point.Take) ∷ bare (deed.Took taken.Task) ∷ bare deed.Unbegun ∷ []) new
 IsTurn did old (turn.Skipped t) new = Does did old (bare (deed.Passed point.Take) ∷ bare (deed.Took taken.Task) ∷ bare (deed.Skipped t) ∷ bare (deed.Before t) ∷ bare (deed.After t None) ∷ []) new
 IsTurn {J = J} did old (turn.Ran t o c) new =
-    (job : J) × (flag : CancelFlag) × Does did old (bare (deed.Passed point.Take) ∷ bare (deed.Took taken.Task) ∷ told (begun.Run t job flag) ∷ running t job flag o c) new
+    (job : J) × Does did old (bare (deed.Passed point.Take) ∷ bare (deed.Took taken.Task) ∷ told (begun.Run t job) ∷ running t job o c) new
 
 -- a worker makes one turn more where it skipped its task, or has ended it and did not die of it
 abbrev pub GoesOn : Turn → Type 0

@@ -5,7 +5,6 @@ ghost use Rattle.tp_protocols.specs.declared.deeds.Deed.TheVariants as deed;
 ghost use Rattle.tp_protocols.specs.Turns.{bare, told, IsOwed, IsTurn, Does, running, departure, GoesOn};
 
 use crate::deeds::{Deed, Departed, Ended, Taken};
-use crate::flags::CancelFlag;
 use crate::gates::Point;
 use crate::jobs::Job;
 use std::sync::Wait;
@@ -15,8 +14,8 @@ use tp_types::tasks::Outcome;
 /// What came of a worker's `begin`, with the job that it hands out.
 #[derive(Drop)]
 pub enum Begun<J> {
-    /// This task, with its job and the flag by which that hears of its cancelling.
-    Run(TaskId, J, CancelFlag),
+    /// This task, with its job.
+    Run(TaskId, J),
     /// Nothing: this task was cancelled, and is gone.
     Skip(TaskId),
     /// Nothing: the pool did not take it.
@@ -54,9 +53,9 @@ pub trait Workplace<J: Job, R: Wait> {
         ensures done { did self.old (bare (deed.Before t)) self.new }
         ensures owes { (p : Promise) → owes self.old p → owes self.new p };
 
-    /// Runs a body.
-    fn run(&mut self, job: J, flag: CancelFlag) -> Outcome
-        ensures done { did self.old (deed.Ran result, Some (job, flag)) self.new }
+    /// Runs a body, with the flag by which that hears of its cancelling.
+    fn run(&mut self, job: J) -> Outcome
+        ensures done { did self.old (deed.Ran result, Some job) self.new }
         ensures outcome { FitsPromise (J.promised job) result }
         ensures owes { (p : Promise) → owes self.old p → owes self.new p };
 
@@ -132,8 +131,8 @@ pub fn one_turn<J: Job, R: Wait, W: Workplace<J, R>>(rt: &R, work: &mut W) -> Tu
         Taken::Refused => return Turn::Refused,
     }
     match work.begin(rt) {
-        Begun::Run(t, job, flag) => {
-            let (outcome, closing) = run_task(rt, work, t, job, flag);
+        Begun::Run(t, job) => {
+            let (outcome, closing) = run_task(rt, work, t, job);
             Turn::Ran(t, outcome, closing)
         }
         Begun::Skip(t) => {
@@ -151,14 +150,13 @@ fn run_task<J: Job, R: Wait, W: Workplace<J, R>>(
     work: &mut W,
     t: TaskId,
     job: J,
-    flag: CancelFlag,
 ) -> (Outcome, Closing)
     requires owed { W.owes work.old (J.promised job) }
-    ensures deeds { Does W.did work.old (running t job flag result.0 result.1) work.new }
+    ensures deeds { Does W.did work.old (running t job result.0 result.1) work.new }
 {
     work.before(rt, t);
     work.pass(Point::Body);
-    let outcome = work.run(job, flag);
+    let outcome = work.run(job);
     work.after(rt, t, Some(outcome));
     work.pass(Point::End);
     let closing = match work.end(rt, outcome) {

@@ -56,13 +56,13 @@ module _ {J A : Type 0} (keeps : Bool) (c : Config) (by : ℕ) (a : Ask) (did : 
 module _ {J : Type 0} (keeps : Bool) (c : Config) (w : SlotId) (by : ℕ) (before after : List Entry) (heir : Option SlotId) where
   -- the deed of a `begin` is that step
   pub begun_done : (b : Begun J) → BeginsAt J keeps c by before w after (λ r. b ≡ begun_of r) → IsDone J keeps c w by before after heir (told b).0 (told b).1
-  begun_done (begun.Run t job flag) is = record { answer = is.answer; made = is.made; refused = is.refused; holds = ap told is.holds }
+  begun_done (begun.Run t job) is = record { answer = is.answer; made = is.made; refused = is.refused; holds = ap told is.holds }
   begun_done (begun.Skip t) is = record { answer = is.answer; made = is.made; refused = is.refused; holds = ap told is.holds }
   begun_done begun.Refused is = record { answer = is.answer; made = is.made; refused = is.refused; holds = ap told is.holds }
 
 -- which reserves no slot
 pub heir_of : {J : Type 0} (b : Begun J) (heir : Option SlotId) → heir ≡ heir_after heir (told b).0
-heir_of (begun.Run t job flag) heir = refl
+heir_of (begun.Run t job) heir = refl
 heir_of (begun.Skip t) heir = refl
 heir_of begun.Refused heir = refl
 

@@ -4,7 +4,6 @@ use Rattle.tp_types.specs.declared.configs.Config.{Config}
 use Rattle.tp_types.specs.declared.ids.SlotId.{SlotId}
 use Rattle.tp_types.specs.declared.ids.TaskId.{TaskId}
 use Rattle.tp_types.specs.declared.refusals.PoolError.{PoolError}
-use Rattle.tp_protocols.specs.declared.flags.CancelFlag.{CancelFlag}
 use Rattle.tp_record.specs.declared.entries.Ask.TheVariants as ask
 use Rattle.tp_record.specs.declared.entries.Did.TheVariants as did
 use Rattle.tp_record.specs.declared.entries.Entry.{Entry}
@@ -67,7 +66,7 @@ Closes J keeps c by before after (Some v) = ⊤
 
 module _ (J : Type 0) (keeps : Bool) (c : Config) (w : SlotId) (by : ℕ) (before after : List Entry) (heir : Option SlotId) where
   -- a deed of the worker of slot w that is a step is answered as it says, with the job that it hands out; the others are no steps
-  abbrev pub IsDone : Deed → Option (J × CancelFlag) → Type 0
+  abbrev pub IsDone : Deed → Option J → Type 0
   IsDone (deed.Took t) _ = Takes J keeps c by before w after (λ r. taken_as t ≡ taking_of r)
   IsDone (deed.Began t) job = BeginsAt J keeps c by before w after (λ r. (deed.Began t, job) ≡ told (begun_of r))
   IsDone (deed.Skipped t) job = BeginsAt J keeps c by before w after (λ r. (deed.Skipped t, job) ≡ told (begun_of r))

@@ -64,12 +64,7 @@ fn begin<G: PoolNaming, J: Drop, K: Keeper>(
         Ok(opened) => opened,
         Err(error) => return Err(error),
     };
-    let tasks = if K::RECEIPTS {
-        config.runs() as usize
-    } else {
-        usize::MAX
-    };
-    match Core::new(alloc, book, tasks) {
+    match Core::new(alloc, book) {
         Ok(core) => Ok((PoolLock::new(core), glance, pass)),
         Err(error) => Err(error),
     }

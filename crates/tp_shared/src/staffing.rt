@@ -10,17 +10,18 @@ use std::thread::{Builder, Threads};
 use tp_book::passes::WorkerPass;
 use tp_locked::names::PoolNaming;
 use tp_machine::machine::releases::Keeper;
+use tp_protocols::flags::SlotFlag;
 use tp_protocols::jobs::Job;
 use tp_protocols::rescues::{Remains, rescue};
 use tp_types::ids::SlotId;
 
-// A worker's pass, kept for its thread, which takes it as it begins. Where no thread can be made, whoever wanted one
-// still has the pass: no close would find all passes without it. Where a thread that has a name can't be made, its work
-// is dropped: so the pass stands beside the work.
-type Kept<G> = Arc<Mutex<Option<WorkerPass<G>>>>;
+// A worker's pass and its slot's flag, kept for its thread, which takes them as it begins. Where no thread can be made,
+// whoever wanted one still has the pass: no close would find all passes without it. Where a thread that has a name can't
+// be made, its work is dropped: so they stand beside the work.
+type Kept<G> = Arc<Mutex<Option<(WorkerPass<G>, SlotFlag)>>>;
 
 /// Has a worker made for this slot, and tells whether one was: the factory is asked, and where it consents a
-/// pass and a thread are made. The thread waits to be told of its slot. No lock is held while the factory
+/// pass, a flag and a thread are made. The thread waits to be told of its slot. No lock is held while the factory
 /// answers or the thread is made.
 pub fn staff<
     G: PoolNaming + Send + Sync + 'static,
@@ -57,18 +58,19 @@ pub fn staff_heir<
     false
 }
 
-// A pass for this slot's worker, in both ends of what keeps it. None for want of memory, or of a number.
+// A pass for this slot's worker and the slot's flag, in both ends of what keeps them. None for want of memory, or of a number.
 fn enlisted<G: PoolNaming, J: Drop, E: Edge, K: Keeper, R: Wait>(
     rt: &R,
     shared: &Shared<G, J, E, K>,
     w: SlotId,
 ) -> Option<(Kept<G>, Kept<G>)> {
     let (kept, theirs) = keepers(shared.around.alloc)?;
-    let enlisted = shared.hold(rt).enlist(w, &shared.around.glance);
+    let (flag, held) = SlotFlag::new(shared.around.alloc).ok()?;
+    let enlisted = shared.hold(rt).enlist(w, held, &shared.around.glance);
     let Ok(pass) = enlisted else {
         return None;
     };
-    *kept.lock(rt) = Some(pass);
+    *kept.lock(rt) = Some((pass, flag));
     Some((kept, theirs))
 }
 
@@ -79,12 +81,12 @@ fn hand_back<G: PoolNaming, J: Drop, E: Edge, K: Keeper, R: Wait>(
     kept: &Kept<G>,
 ) {
     let left = kept.lock(rt).take();
-    if let Some(pass) = left {
+    if let Some((pass, _)) = left {
         shared.hand_in(rt, pass);
     }
 }
 
-// Both ends of what keeps a worker's pass: for whoever wants the worker, and for its thread.
+// Both ends of what keeps a worker's pass and flag: for whoever wants the worker, and for its thread.
 fn keepers<G: PoolNaming>(alloc: Global) -> Option<(Kept<G>, Kept<G>)> {
     let kept = Arc::new(alloc, Mutex::new(None)).ok()?;
     let theirs = Arc::try_clone(&kept).ok()?;
@@ -150,10 +152,10 @@ fn worked<
     w: SlotId,
     kept: Kept<G>,
 ) -> Option<(Arc<Shared<G, J, E, K>>, WorkerPass<G>, SlotId)> {
-    let Some(pass) = kept.lock(&rt).take() else {
+    let Some((pass, flag)) = kept.lock(&rt).take() else {
         return None;
     };
-    let mut post = Post::new(shared, w, pass);
+    let mut post = Post::new(shared, w, pass, flag);
     let heir = post.work(&rt);
     let (shared, pass) = post.into_parts();
     if let Some(heir) = heir {

@@ -21,7 +21,7 @@ use tp_locked::tasks::Task;
 use tp_machine::machine::releases::Keeper;
 use tp_machine::typed::Step;
 use tp_machine::typed::submitters::{Judge, Second, Submit};
-use tp_protocols::flags::FlagPair;
+use tp_protocols::flags::CancelFlag;
 use tp_protocols::rescues::Remains;
 use tp_record::entries::{Ask, Did, Looked, Seconded};
 use tp_tasks::spaces::Space;
@@ -61,11 +61,8 @@ impl<G: PoolNaming, J: Drop, E: Edge, K: Keeper> Shared<G, J, E, K> {
         ensures returned { IfErr result (λ r. r.1 ≡ job) }
         ensures unchanged { OnErr result (AddsNone pass.old pass.new) }
     {
-        let (mut core, flags) = match self.hold_with_flag(rt) {
-            Ok(held) => held,
-            Err(error) => return Err((error, job)),
-        };
-        let submitted = core.submit(step, Task { job, flags }, &self.around.glance, pass);
+        let mut core = self.hold_with_space(rt);
+        let submitted = core.submit(step, Task { job }, &self.around.glance, pass);
         self.release(core);
         match submitted {
             Ok(submitted) => Ok(submitted),
@@ -73,15 +70,9 @@ impl<G: PoolNaming, J: Drop, E: Edge, K: Keeper> Shared<G, J, E, K> {
         }
     }
 
-    // Takes the lock, with a flag for a task that comes: one that served before, where there is one. Else a new one
-    // is made with no lock held, and so is memory for more tasks. NoMemory (4).
+    // Takes the lock. Memory for more tasks is made before, with no lock held.
     #[inline(always)]
-    fn hold_with_flag<R: Wait>(
-        &self,
-        rt: &R,
-    ) -> Result<(MutexGuard<'_, Core<G, J, K>>, FlagPair), PoolError>
-        ensures { IfErr result (λ e. e ≡ PoolError.NoMemory) }
-    {
+    fn hold_with_space<R: Wait>(&self, rt: &R) -> MutexGuard<'_, Core<G, J, K>> {
         let mut core = self.hold(rt);
         let homes = core.wants_space();
         if homes > 0 {
@@ -89,12 +80,7 @@ impl<G: PoolNaming, J: Drop, E: Edge, K: Keeper> Shared<G, J, E, K> {
             self.make_space(rt, homes);
             core = self.hold(rt);
         }
-        if let Some(flags) = core.take_flag() {
-            return Ok((core, flags));
-        }
-        self.release(core);
-        let flags = FlagPair::new(self.around.alloc)?;
-        Ok((self.hold(rt), flags))
+        core
     }
 
     // Makes memory for so many homes of tasks, and hands it in. What the tasks lay in before is let go of after the hold.
@@ -178,5 +164,12 @@ impl<G: PoolNaming, J: Drop, E: Edge, K: Keeper> Shared<G, J, E, K> {
             }
             Err(_) => (None, remains),
         }
+    }
+
+    /// The flag of a task that this caller runs, as the job has it. The flag for the next one is made here with no lock held,
+    /// so that the hold of the next submission need not make it.
+    pub fn flag_at_caller<R: Wait>(&self, rt: &R, t: TaskId) -> Option<CancelFlag> {
+        let next = CancelFlag::new(self.around.alloc).ok();
+        self.hold(rt).flag_at_caller(t, next)
     }
 }

@@ -18,7 +18,7 @@ use tp_machine::machine::releases::Keeper;
 use tp_machine::typed::controllers;
 use tp_machine::typed::workers::{End, Leave};
 use tp_protocols::deeds::{Departed, Ended, Taken};
-use tp_protocols::flags::CancelFlag;
+use tp_protocols::flags::{CancelFlag, SlotFlag};
 use tp_protocols::gates::Point;
 use tp_protocols::jobs::Job;
 use tp_protocols::turns::{Begun, Workplace, one_turn};
@@ -31,7 +31,7 @@ use tp_types::tasks::Outcome;
 const DOZES: u32 = 8;
 
 // That pause, in turns of `spin_loop`.
-const DOZE: u32 = 1_000;
+const DOZE: u32 = 250;
 
 // So many tasks in a row, found without a wait, are a stream.
 const STREAM: u32 = 64;
@@ -183,8 +183,8 @@ pub struct Post<G: PoolNaming, J, E, K: Keeper = Full> {
     pass: WorkerPass<G>,
     // The slot that is reserved in its place, once it has left.
     heir: Option<SlotId>,
-    // The flag of the job that it ran last, until the pool has it back.
-    flag: Option<CancelFlag>,
+    // Its slot's flag.
+    flag: SlotFlag,
     // How its tasks came of late.
     pace: Pace,
     // How its holds of the lock followed one another.
@@ -236,11 +236,9 @@ impl<
         self.shared.around.edge.before(rt, self.w, t);
     }
 
-    fn run(&mut self, job: J, flag: CancelFlag) -> Outcome {
+    fn run(&mut self, job: J) -> Outcome {
         let mut job = job;
-        let outcome = job.call(&flag);
-        self.flag = Some(flag);
-        outcome
+        job.call(self.flag.lent())
     }
 
     fn after(&mut self, rt: &R, t: TaskId, outcome: Option<Outcome>) {
@@ -251,9 +249,12 @@ impl<
     }
 
     fn end(&mut self, rt: &R, outcome: Outcome) -> Ended {
-        let flag = self.flag.take();
         let holds = &mut self.holds;
-        (self.shared).end(rt, self.w, outcome, flag, holds, &mut self.pass)
+        let ended = (self.shared).end(rt, self.w, outcome, holds, &mut self.pass);
+        if let Some(kept) = self.flag.renew(self.shared.around.alloc) {
+            self.shared.seat_flag(rt, self.w, kept);
+        }
+        ended
     }
 
     fn leave(&mut self, rt: &R) -> Departed {
@@ -284,13 +285,14 @@ impl<
         shared: Arc<Shared<G, J, E, K>>,
         w: SlotId,
         pass: WorkerPass<G>,
+        flag: SlotFlag,
     ) -> Post<G, J, E, K> {
         Post {
             shared,
             w,
             pass,
             heir: None,
-            flag: None,
+            flag,
             pace: Pace::new(),
             holds: Holds::new(),
         }
@@ -377,15 +379,13 @@ impl<G: PoolNaming, J: Drop, E: Edge, K: Keeper> Shared<G, J, E, K> {
         begun
     }
 
-    // One hold of a worker that tells its task's outcome, and gives back the flag of its job. A flag that does not
-    // serve again is let go of after it.
+    // One hold of a worker that tells its task's outcome.
     #[inline(always)]
     fn end<R: Wait>(
         &self,
         rt: &R,
         w: SlotId,
         outcome: Outcome,
-        flag: Option<CancelFlag>,
         holds: &mut Holds,
         pass: &mut WorkerPass<G>,
     ) -> Ended
@@ -395,17 +395,22 @@ impl<G: PoolNaming, J: Drop, E: Edge, K: Keeper> Shared<G, J, E, K> {
         let mut core = self.hold_in_turn(rt, holds);
         let told = core.step(End(w, outcome), &self.around.glance, pass);
         let dying = core.is_dying(w);
-        let spent = match flag {
-            Some(flag) => core.give_back(flag),
-            None => None,
-        };
         self.release_in_turn(core, holds);
-        drop(spent);
         match told {
             Ok(_) if dying => Ended::Dying,
             Ok(_) => Ended::Live,
             Err(_) => Ended::Refused,
         }
+    }
+
+    // One hold of a worker that goes on with another flag, of which this is the pool's hold. The one before is let go of after it.
+    #[cold]
+    #[inline(never)]
+    fn seat_flag<R: Wait>(&self, rt: &R, w: SlotId, kept: CancelFlag) {
+        let mut core = self.hold_as_worker(rt);
+        let before = core.seat_flag(w, kept);
+        self.release(core);
+        drop(before);
     }
 
     // One hold of a worker that leaves after a fault.

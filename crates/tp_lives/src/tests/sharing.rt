@@ -42,7 +42,7 @@ impl<R: Runtime> Body for Flagged<R> {
 
 type Lender<G, R> = PoolOf<G, Any<Flagged<R>>, Defaults>;
 
-// Runs a job that shares its flag, and then cancels one that runs on the same worker.
+// Runs a job that shares its flag, then cancels one that runs on the same worker, and then runs a third one there.
 fn share<G: PoolName, R: Runtime>(
     rt: &R,
     pool: &Lender<G, R>,
@@ -51,6 +51,7 @@ fn share<G: PoolName, R: Runtime>(
     pass: &mut Pass<G>,
 ) -> Result<bool, PoolError> {
     let (first, second) = (TaskId(0), TaskId(1));
+    let third = Flagged::Waits(Arc::try_clone(&board)?);
     pool.execute_as(rt, Kind::Future, Any(Flagged::Shares(*rt, kept)), pass)?;
     pool.await_result_with(rt, first, None, pass)?;
     let waits = Flagged::Waits(Arc::try_clone(&board)?);
@@ -58,6 +59,7 @@ fn share<G: PoolName, R: Runtime>(
     board.reaches(Signal::Begun, 1);
     let cancelled = pool.cancel(rt, second, true, pass)?;
     board.raise(Signal::Told);
+    pool.execute_as(rt, Kind::Future, Any(third), pass)?;
     Ok(cancelled)
 }
 
@@ -116,7 +118,7 @@ fn is_set<R: Runtime>(rt: &R, kept: &Kept) -> Option<bool> {
     Some(kept.lock(rt).as_ref()?.is_set())
 }
 
-// The second job hears of its cancel, and who has the first one's flag does not.
+// The second job hears of its cancel. Neither who has the first one's flag does, nor the third job.
 #[test]
 fn shared_flag_hears_no_other_cancel(rt: HostRuntime) -> Result<(), Fail> {
     let alloc = rt.alloc();
@@ -130,8 +132,16 @@ fn shared_flag_hears_no_other_cancel(rt: HostRuntime) -> Result<(), Fail> {
         Config::fixed(1),
         shared,
     )?;
-    let heard = (cancelled, outcome_of(&report, TaskId(1)));
-    same(&rt, 0, &heard, &(true, Some(Ok(1))));
+    let heard = (
+        outcome_of(&report, TaskId(1)),
+        outcome_of(&report, TaskId(2)),
+    );
+    same(
+        &rt,
+        0,
+        &(cancelled, heard),
+        &(true, (Some(Ok(1)), Some(Ok(0)))),
+    );
     same(&rt, 1, &is_set(&rt, &kept), &Some(false));
     Ok(())
 }

@@ -2,13 +2,14 @@
 //! to either. A step tells both by its answer alone: what follows from that is done here, once for all steps. A method that is
 //! given the book would state the layout of all that the book is made of, in each step's `impl`, also where it does nothing.
 
-ghost use Rattle.std.specs.Prelude.{◌≡◌, List, map};
+ghost use Rattle.std.specs.Prelude.{◌≡◌, ◌↔◌, List, map, IsSome, IsTrue};
 ghost use Rattle.tp_types.specs.declared.configs.Config.{Config};
 ghost use Rattle.tp_record.specs.declared.entries.Entry.{Entry};
 ghost use Rattle.tp_record.specs.Fields.{queue};
-ghost use Rattle.tp_record.specs.State.{State};
+ghost use Rattle.tp_record.specs.State.{State, slot_at};
 ghost use Rattle.tp_record.specs.Step.{Gives};
-ghost use Rattle.tp_book.specs.BookView.{SettlesAll, config};
+ghost use Rattle.tp_machine.specs.Seen.{task_of_row};
+ghost use Rattle.tp_book.specs.BookView.{SettlesAll, config, state_of};
 ghost use Rattle.tp_locked.specs.Gone.{gone_ruled, gone_with, named};
 
 use crate::flags::Flags;
@@ -25,7 +26,6 @@ use tp_machine::typed::controllers::{
 use tp_machine::typed::settings::{Core, CoreTimeout, Keep, Maximum, Prestart, Tick};
 use tp_machine::typed::submitters::{CallerEnd, Grow, Judge, Look, Offer, Second, Submit};
 use tp_machine::typed::workers::{Begin, End, Fail, Leave, Open, Take};
-use tp_protocols::flags::CancelFlag;
 use tp_record::entries::{Did, Failed, Grown, Looked, Offered, Opened, Ruled, Seconded, Took};
 use tp_types::ids::{SlotId, TaskId};
 use tp_types::limits::MAX_WORKERS;
@@ -33,13 +33,11 @@ use tp_types::tasks::Place;
 
 /// What an accepted step is to the cancel flags of tasks.
 #[derive(Clone, Copy)]
-pub enum Mark<'a> {
+pub enum Mark {
     /// Nothing.
     Nothing,
-    /// This task, with this flag, begins at its caller.
-    BeginsAtCaller(TaskId, &'a CancelFlag),
-    /// The task in this slot is gone.
-    Ends(SlotId),
+    /// This task begins at its caller.
+    BeginsAtCaller(TaskId),
     /// This task, which its caller ran, is gone.
     EndsAtCaller(TaskId),
     /// This task is cancelled: its job hears of that where it has begun.
@@ -64,7 +62,7 @@ pub enum Gone<'a, J> {
 pub trait Marks<J>: Step<Task<J>> {
     /// What it is to the flags, so answered.
     #[inline(always)]
-    fn mark<'a>(self, _answer: &'a Self::Answer) -> Mark<'a> {
+    fn mark(self, _answer: &Self::Answer) -> Mark {
         Mark::Nothing
     }
 
@@ -74,17 +72,16 @@ pub trait Marks<J>: Step<Task<J>> {
         ensures { (c : Config) (h : List Entry) → Self.says self answer.now c h → named result ≡ gone_with (Self.did self answer.now) (queue c h) };
 }
 
-// Sets the flags that the step sets, keeps those of tasks that begin with it, and lets go of those of tasks that are gone.
+// Sets the flags that the step sets. A task that its caller runs has a flag from the step that begins it to the one that ends it.
 #[inline(always)]
 pub(super) fn mark_flags<G: PoolNaming, J, R: Keeper>(
     book: &Book<G, Task<J>, R>,
     flags: &mut Flags,
-    mark: Mark<'_>,
+    mark: Mark,
 ) {
     match mark {
         Mark::Nothing => {}
-        Mark::BeginsAtCaller(t, flag) => flags.begin_at_caller(t, flag),
-        Mark::Ends(w) => flags.end(w),
+        Mark::BeginsAtCaller(t) => flags.begin_at_caller(t),
         Mark::EndsAtCaller(t) => flags.end_at_caller(t),
         Mark::Cancels(t) => cancel(book, flags, t),
         Mark::Stops => stop(book, flags),
@@ -94,26 +91,26 @@ pub(super) fn mark_flags<G: PoolNaming, J, R: Keeper>(
 // The job of this task hears of its cancel where it has begun.
 fn cancel<G: PoolNaming, J, R: Keeper>(book: &Book<G, Task<J>, R>, flags: &Flags, t: TaskId) {
     match book.place(t) {
-        Ok(Place::Running(w)) => {
-            flags.set_running(w);
-        }
+        Ok(Place::Running(w)) => flags.set_slot(w),
         Ok(Place::Caller) => flags.set_at_caller(t),
         _ => {}
     }
 }
 
-// The tasks in slots hear of the stop.
+// The tasks in slots hear of the stop. One in a slot that is not open yet never begins there: after a stop no slot with a task opens.
 fn stop<G: PoolNaming, J, R: Keeper>(book: &Book<G, Task<J>, R>, flags: &Flags) {
     for w in 0..MAX_WORKERS as usize {
-        if flags.set_running(SlotId(w)) {
-            continue;
-        }
-        if let Some(t) = book.task_in(SlotId(w)) {
-            if let Some(task) = book.payload(t) {
-                task.flags.kept.set();
-            }
+        if hears(book, SlotId(w)) {
+            flags.set_slot(SlotId(w));
         }
     }
+}
+
+// Whether a task in this slot is to hear of a stop: also one that is about to begin.
+fn hears<G: PoolNaming, J, R: Keeper>(book: &Book<G, Task<J>, R>, w: SlotId) -> bool
+    ensures { IsTrue result ↔ IsSome (task_of_row (slot_at (state_of book.now).slots w.0)) }
+{
+    book.task_in(w).is_some()
 }
 
 // The book forgets of these tasks those that it may.
@@ -197,12 +194,9 @@ fn judged<'a, J>(t: TaskId, ruled: Ruled) -> Gone<'a, J>
 
 impl<J: Drop> Marks<J> for Judge {
     // A task that its caller is to run begins.
-    fn mark<'a>(self, answer: &'a Judged<Task<J>>) -> Mark<'a> {
-        match (answer.did, &answer.payload) {
-            (Did::Verdict(t, _, Ruled::Caller), Some(task)) => Mark::BeginsAtCaller(
-                t,
-                &task.flags.kept,
-            ),
+    fn mark(self, answer: &Judged<Task<J>>) -> Mark {
+        match answer.did {
+            Did::Verdict(t, _, Ruled::Caller) => Mark::BeginsAtCaller(t),
             _ => Mark::Nothing,
         }
     }
@@ -216,7 +210,7 @@ impl<J: Drop> Marks<J> for Judge {
 }
 
 impl<J: Drop> Marks<J> for CallerEnd {
-    fn mark<'a>(self, _answer: &'a ()) -> Mark<'a> {
+    fn mark(self, _answer: &()) -> Mark {
         Mark::EndsAtCaller(self.0)
     }
 
@@ -246,7 +240,6 @@ impl<J> Marks<J> for Take {
     }
 }
 
-// `Core::begin` keeps the pool's hold of the flag.
 impl<J> Marks<J> for Begin {
     #[inline(always)]
     fn gone<'a>(self, _answer: &'a Begun<Task<J>>) -> Gone<'a, J> {
@@ -263,11 +256,6 @@ impl<J> Marks<J> for Leave {
 
 impl<J: Drop> Marks<J> for End {
     #[inline(always)]
-    fn mark<'a>(self, _answer: &'a TaskId) -> Mark<'a> {
-        Mark::Ends(self.0)
-    }
-
-    #[inline(always)]
     fn gone<'a>(self, answer: &'a TaskId) -> Gone<'a, J> {
         Gone::One(*answer)
     }
@@ -281,7 +269,7 @@ impl<J> Marks<J> for Shutdown {
 }
 
 impl<J: Drop> Marks<J> for Stop {
-    fn mark<'a>(self, _answer: &'a Vec<(TaskId, Option<Task<J>>)>) -> Mark<'a> {
+    fn mark(self, _answer: &Vec<(TaskId, Option<Task<J>>)>) -> Mark {
         Mark::Stops
     }
 
@@ -331,7 +319,7 @@ impl<J: Drop> Marks<J> for Remove {
 
 impl<J> Marks<J> for Cancel {
     // A job that has begun hears of the cancel where that asks for it.
-    fn mark<'a>(self, answer: &'a (bool, Option<Task<J>>)) -> Mark<'a> {
+    fn mark(self, answer: &(bool, Option<Task<J>>)) -> Mark {
         match answer {
             (true, None) if self.1 => Mark::Cancels(self.0),
             _ => Mark::Nothing,

@@ -23,14 +23,35 @@ const HELD: Life = Life {
     ..LIFE
 };
 
+const SHUT: Life = Life {
+    manner: Manner {
+        stance: Stance::Shut,
+        ..MANNER
+    },
+    ..LIFE
+};
+
 const STOPS: Step = Step::Call(Call::Stop(0, 0));
 
-// A job that is held before its body finds its flag set, once the pool is stopped.
-static FLAGGED: [Life; 1] = [Life {
-    first: &[LOOKS, STOPS, LETS_GO],
-    findings: &[Finding::Ended(0, Ok(1)), Finding::Run(1)],
-    ..HELD
-}];
+// Whom a stop finds in a slot finds its flag set: a job that is held before its body, and one that is yet to begin, since its
+// worker is held before its first take.
+static FLAGGED: [Life; 2] = [
+    Life {
+        first: &[LOOKS, STOPS, LETS_GO],
+        findings: &[Finding::Ended(0, Ok(1)), Finding::Run(1)],
+        ..HELD
+    },
+    Life {
+        first: &[
+            LOOKS,
+            Step::Cue(Cue::Reaches(Signal::Came, 1)),
+            STOPS,
+            Step::Cue(Cue::Put(Signal::Limit, u64::MAX)),
+        ],
+        findings: &[Finding::Ended(0, Ok(1)), Finding::Run(1)],
+        ..SHUT
+    },
+];
 
 #[test]
 fn stopped_job_sees_its_flag(rt: HostRuntime) -> Result<(), Fail> {

@@ -8,7 +8,7 @@ use Rattle.tp_locked.proofs.flags.Flags.end_at_caller.Goals as goal
 pub returns : goal.returns
 returns c =
     let kept = filter_same _ (λ x. not (nat_eq x.0.0 c.args.t.0)) _ (λ x b f k. search rules) _ _ c.retain.ensures.filtered in
-    subst (λ (o : FlagsView). record { running = c.self.inside.running.items; at_callers = map (λ x. x.0.0) c.retain.new.self.items } ≡ record o { at_callers = filter (λ u. not (nat_eq u c.args.t.0)) o.at_callers })
+    subst (λ (o : FlagsView). record { slots = c.self.inside.slots.items; at_callers = map (λ x. x.0.0) c.retain.new.self.items } ≡ record o { at_callers = filter (λ u. not (nat_eq u c.args.t.0)) o.at_callers })
     c.self.view_is
-    (ap (λ xs. record { running = c.self.inside.running.items; at_callers = xs })
+    (ap (λ xs. record { slots = c.self.inside.slots.items; at_callers = xs })
     (ap (map (λ x. x.0.0)) kept ∙ sym (map-filter_of_map (λ x. x.0.0) (λ u. not (nat_eq u c.args.t.0)) c.self.inside.at_callers.items)))

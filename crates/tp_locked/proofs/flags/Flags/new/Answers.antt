@@ -16,11 +16,11 @@ all_same step v each f (x ∷ xs) g folds =
 pub returns : goal.returns
 returns c =
     let made = c.in_ok-resize_with.ensures.items in
-    let empty : c.new-running.result.items ≡ [] = search rules in
+    let empty : c.new-none.result.items ≡ [] = search rules in
     let items = made.2 ∙ ap (λ xs. take c.args.slots xs ++ made.0) empty ∙ ap (λ xs. xs ++ made.0) (take-nil c.args.slots) in
     let all = items ∙ all_same _ None (λ f x g k. search rules) _ made.0 made.1 made.3 in
     let many : length c.resize_with.new.self.items ≡ c.args.slots = search rules in
-    let running : c.resize_with.new.self.items ≡ replicate c.args.slots None = all ∙ ap (λ n. replicate n None) (ap length (sym items) ∙ many) in
+    let slots : c.resize_with.new.self.items ≡ replicate c.args.slots None = all ∙ ap (λ n. replicate n None) (ap length (sym items) ∙ many) in
     let callers : c.new.result.items ≡ [] = search rules in
-    let view : List (Option CancelFlag) → List (TaskId × CancelFlag) → FlagsView = λ r a. record { running = r; at_callers = map (λ x. x.0.0) a } in
-    ap (λ r. view r c.new.result.items) running ∙ ap (λ a. view (replicate c.args.slots None) a) callers
+    let view : List (Option CancelFlag) → List (TaskId × CancelFlag) → FlagsView = λ r a. record { slots = r; at_callers = map (λ x. x.0.0) a } in
+    ap (λ r. view r c.new.result.items) slots ∙ ap (λ a. view (replicate c.args.slots None) a) callers
