@@ -31,7 +31,7 @@ use tp_types::refusals::PoolError;
 const MOST_BYTES: usize = 4_294_967_295;
 
 /// Writes the record's text to the file at a path, if there is one: WriteFailed (26) where that fails, and `errors` is told why.
-fn write_file<H: Files, E: Write>(
+pub fn write_file<H: Files, E: Write>(
     rt: &H,
     path: Option<&str>,
     text: &[u8],

@@ -1,6 +1,6 @@
 //! The program over any files, words and writers.
 
-use crate::jobs::run_threads;
+use crate::jobs::{run_threads, write_file};
 use crate::progress::{Progress, ToldReader};
 use clap::error::ErrorKind;
 use std::alloc::Global;
@@ -11,21 +11,27 @@ use std::rt::Files;
 use std::sync::Wait;
 use std::thread::Threads;
 use std::time::Clock;
-use tp_choices::choices::{Choice, Colour, Unchosen, chosen};
+use tp_choices::choices::{Choice, Colour, Pair, Sketch, Unchosen, chosen};
 use tp_commands::audits::run_audit;
+use tp_commands::checks::run_check;
+use tp_commands::differences::run_diff;
+use tp_commands::drawings::run_draw;
 use tp_commands::explores::{Callers, run_explore};
 use tp_commands::objects::run_objects;
 use tp_commands::questions::run_asked;
 use tp_commands::statuses::finish;
 use tp_commands::steps::run_steps;
 use tp_commands::telling::{name_of, tell};
+use tp_drawing::drawings::Window;
 use tp_messages::messages::Style;
+use tp_telling::forms::Form;
 use tp_text::watched::{WatchedReader, WatchedWriter};
+use tp_text::writing::write_text;
 use tp_types::refusals::PoolError;
 
 /// Does what was chosen with what a reader gives, and gives the status.
 fn run_reader<
-    H: Files + Threads + Wait + Copy + Send + 'static,
+    H: Files + Input + Threads + Wait + Copy + Send + 'static,
     R: Read + Drop,
     W: Write,
     E: Write,
@@ -51,11 +57,92 @@ fn run_reader<
         Choice::Explore(_, exploring) => {
             run_explore(alloc, &Callers, exploring, name, reader, out, errors, style)
         }
-        Choice::Ask(_, question, format) => {
-            run_asked(alloc, *question, *format, name, reader, out, errors, style)
+        Choice::Ask(_, question, form) => {
+            run_asked(alloc, *question, *form, name, reader, out, errors, style)
         }
         Choice::Audit(_, auditing) => {
             run_audit(alloc, *auditing, name, reader, out, errors, style)
+        }
+        Choice::Check(_, claims, form) => {
+            run_check(alloc, claims, *form, name, reader, out, errors, style)
+        }
+        Choice::Diff(pair, form) => {
+            run_pair(&rt, alloc, pair, *form, reader, out, errors, style)
+        }
+        Choice::Draw(sketch) => { run_sketch(&rt, alloc, sketch, name, reader, out, errors, style) }
+    }
+}
+
+/// Draws the record that a reader gives to the path of a sketch, or to `out` where there is none, and gives the status. No file is
+/// written where nothing is drawn.
+fn run_sketch<H: Files, R: Read, W: Write, E: Write>(
+    rt: &H,
+    alloc: Global,
+    sketch: &Sketch,
+    name: &str,
+    reader: &mut WatchedReader<R>,
+    out: &mut WatchedWriter<W>,
+    errors: &mut E,
+    style: Style,
+) -> u8 {
+    let window = &Window {
+        from: sketch.from,
+        to: sketch.to,
+        by_ticks: sketch.by_ticks,
+    };
+    let path = sketch.picture.as_deref();
+    if path.is_none() {
+        return run_draw(alloc, window, name, reader, out, errors, style);
+    }
+    let mut picture = Vec::new(alloc);
+    let drawn = &mut WatchedWriter::new(&mut picture);
+    let status = run_draw(alloc, window, name, reader, drawn, errors, style);
+    let outcome = if status == 0 {
+        write_file(rt, path, picture.as_slice(), errors)
+    } else {
+        // What was written in place of a picture is the line of a refusal.
+        write_text(out, picture.as_slice())
+    };
+    match outcome {
+        Ok(()) => status,
+        Err(refusal) => finish(out, &Err(refusal)),
+    }
+}
+
+/// Sets the record that a reader gives beside the other one of a pair, and gives the status.
+fn run_pair<H: Files + Input, R: Read, W: Write, E: Write>(
+    rt: &H,
+    alloc: Global,
+    pair: &Pair,
+    form: Form,
+    first: &mut WatchedReader<R>,
+    out: &mut WatchedWriter<W>,
+    errors: &mut E,
+    style: Style,
+) -> u8 {
+    let path = pair.second.as_str();
+    let names = (name_of(pair.first.as_str()), name_of(path));
+    let by_fates = pair.by_fates;
+    if path == "-" {
+        if pair.first.as_str() == "-" {
+            let _ = writeln!(errors, "poolrun: only one record can be the standard input");
+            return 2;
+        }
+        let second = &mut WatchedReader::new(rt.reader());
+        return run_diff(
+            alloc, by_fates, form, names, first, second, out, errors, style,
+        );
+    }
+    match fs::open(rt, path) {
+        Ok(file) => {
+            let second = &mut WatchedReader::new(file);
+            run_diff(
+                alloc, by_fates, form, names, first, second, out, errors, style,
+            )
+        }
+        Err(reason) => {
+            tell(errors, path, &reason);
+            finish(out, &Err(PoolError::ReadFailed))
         }
     }
 }

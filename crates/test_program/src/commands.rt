@@ -1,6 +1,7 @@
-//! The commands `steps`, `audit`, `explore` and those that ask a question: their output, their statuses, and what they tell beside it.
+//! The commands `steps`, `audit`, `explore`, `check`, `diff`, `draw` and those that ask a question: their output, their statuses, and what they tell beside it.
 
 mod asked;
+mod beside;
 mod calls;
 mod explored;
 mod flags;

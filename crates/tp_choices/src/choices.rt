@@ -98,6 +98,38 @@ pub enum Choice {
     Explore(String, Exploring),
     /// Answer a question about the record in the file at this path.
     Ask(String, Question, Form),
+    /// Hold these claims against the record in the file at this path.
+    Check(String, Vec<String>, Form),
+    /// Tell where the records in the files at these paths part.
+    Diff(Pair, Form),
+    /// Draw a record.
+    Draw(Sketch),
+}
+
+/// A record that is to be drawn.
+#[derive(Debug, PartialEq, Eq, Drop)]
+pub struct Sketch {
+    /// The path of the record.
+    pub path: String,
+    /// The path of the picture; None for the standard output.
+    pub picture: Option<String>,
+    /// It is drawn from this entry on.
+    pub from: u64,
+    /// To this entry; None to the last.
+    pub to: Option<u64>,
+    /// Time runs by ticks, and not by entries.
+    pub by_ticks: bool,
+}
+
+/// Two records that are set side by side.
+#[derive(Debug, PartialEq, Eq, Drop)]
+pub struct Pair {
+    /// The path of the first.
+    pub first: String,
+    /// The path of the second.
+    pub second: String,
+    /// The tasks are told that ended otherwise.
+    pub by_fates: bool,
 }
 
 impl Choice {
@@ -107,6 +139,9 @@ impl Choice {
             Choice::Steps(path, _) | Choice::Objects(path, _) => path.as_str(),
             Choice::Threads(path, _) | Choice::Audit(path, _) => path.as_str(),
             Choice::Explore(path, _) | Choice::Ask(path, _, _) => path.as_str(),
+            Choice::Check(path, _, _) => path.as_str(),
+            Choice::Diff(pair, _) => pair.first.as_str(),
+            Choice::Draw(sketch) => sketch.path.as_str(),
         }
     }
 }
@@ -170,6 +205,9 @@ const EXAMPLES: &str = "Examples:
   poolrun why a-record.txt t4              tells the story of a task, or of a slot w0
   poolrun now a-record.txt --at 28         tells what the pool was like after an entry
   poolrun stats a-record.txt --top 5       tells the record in numbers
+  poolrun check a-record.txt 'rejected = 0' 'queued <= 64'   holds claims against the record
+  poolrun diff a-record.txt another.txt    tells where two records part
+  poolrun draw a-record.txt -o a-record.svg   draws a record, as SVG
   poolrun steps --record - | poolrun audit -   reads the standard input
 
 Status:
@@ -177,7 +215,8 @@ Status:
   1  the run was refused: its refusal is the last line on the standard output;
      or the record has a flaw; or, with --strict, a step was refused;
      or there are too many states, no end is as --find says, or one as --never;
-     or the record has no such task, slot or entry
+     or the record has no such task, slot or entry; or a claim does not hold,
+     or two records are not the same
   2  the command line is bad, or asks for help";
 
 /// A command with one file.
@@ -357,6 +396,68 @@ fn stats_command<'a>(alloc: Global) -> Result<Command<'a>, AllocError> {
     .arg(top)
 }
 
+/// The command `check`.
+fn check_command<'a>(alloc: Global) -> Result<Command<'a>, AllocError> {
+    let claims = Arg::new(alloc, "CLAIM")
+        .required(true)
+        .num_args(1..)
+        .action(ArgAction::Append)
+        .help("what is to hold, as 'rejected = 0', 'wait <= 100' or 'state = terminated'");
+    question_command(
+        alloc,
+        "check",
+        "Holds claims against a record: status 1 where one does not hold, with the entry that breaches it",
+    )?
+    .arg(claims)
+}
+
+/// The command `diff`.
+fn diff_command<'a>(alloc: Global) -> Result<Command<'a>, AllocError> {
+    let other = Arg::new(alloc, "OTHER")
+        .required(true)
+        .action(ArgAction::Set)
+        .help("the other record's text");
+    let fates = flag(alloc, "fates", "Tells the tasks that ended otherwise");
+    question_command(
+        alloc,
+        "diff",
+        "Tells the first entry at which two records part, with the pool before it",
+    )?
+    .arg(other)?
+    .arg(fates)
+}
+
+/// By what the time of a picture runs.
+const TIMES: [&str; 2] = ["entries", "ticks"];
+
+/// The command `draw`.
+fn draw_command<'a>(alloc: Global) -> Result<Command<'a>, AllocError> {
+    let picture = Arg::new(alloc, "out")
+        .long("out")
+        .short('o')
+        .value_name("PATH")
+        .action(ArgAction::Set)
+        .help("Writes the picture there, and not to the standard output");
+    let by = Arg::new(alloc, "by")
+        .long("by")
+        .value_name("TIME")
+        .action(ArgAction::Set)
+        .value_parser(TIMES.as_slice())
+        .help("Says by what time runs to the right; by entries without this flag");
+    let from = number_flag(alloc, "from", "Draws from entry N on");
+    let to = number_flag(alloc, "to", "Draws to entry N");
+    with_file(
+        alloc,
+        "draw",
+        "Draws a record, as SVG: the runs of tasks, the queue, the callers and the whole pool",
+        RECORD,
+    )?
+    .arg(picture)?
+    .arg(from)?
+    .arg(to)?
+    .arg(by)
+}
+
 /// The flags of `explore` that say what is wished.
 const WISHES: [&str; 6] = ["witness", "record", "find", "never", "json", "dot"];
 
@@ -494,6 +595,9 @@ fn program_command<'a>(alloc: Global) -> Result<Command<'a>, AllocError> {
         .subcommand(why_command(alloc)?)?
         .subcommand(now_command(alloc)?)?
         .subcommand(stats_command(alloc)?)?
+        .subcommand(check_command(alloc)?)?
+        .subcommand(diff_command(alloc)?)?
+        .subcommand(draw_command(alloc)?)?
         .subcommand(completions_command(alloc)?)
 }
 
@@ -602,6 +706,21 @@ fn colour_of(matches: &ArgMatches<'_>) -> Colour {
     }
 }
 
+/// What is to be drawn of the record at a path.
+fn sketched(alloc: Global, path: String, inner: &ArgMatches<'_>) -> Result<Sketch, AllocError> {
+    let picture = match inner.get_str("out") {
+        None => None,
+        Some(picture) => Some(String::from_str(alloc, picture)?),
+    };
+    Ok(Sketch {
+        path,
+        picture,
+        from: inner.get_one("from").unwrap_or(0),
+        to: inner.get_one("to"),
+        by_ticks: inner.get_str("by") == Some("ticks"),
+    })
+}
+
 /// What the words behind a command choose that asks no question.
 fn chosen_by(alloc: Global, name: &str, inner: &ArgMatches<'_>) -> Result<Choice, AllocError> {
     let path = String::from_str(alloc, inner.get_str("FILE").unwrap_or(""))?;
@@ -621,6 +740,20 @@ fn chosen_by(alloc: Global, name: &str, inner: &ArgMatches<'_>) -> Result<Choice
                 most: inner.get_one("most").unwrap_or(MOST),
             },
         )),
+        "check" => {
+            let claims = copies(alloc, inner, "CLAIM")?.unwrap_or(Vec::new(alloc));
+            Ok(Choice::Check(path, claims, form_of(inner)))
+        }
+        "diff" => {
+            let second = String::from_str(alloc, inner.get_str("OTHER").unwrap_or(""))?;
+            let pair = Pair {
+                first: path,
+                second,
+                by_fates: inner.get_flag("fates"),
+            };
+            Ok(Choice::Diff(pair, form_of(inner)))
+        }
+        "draw" => Ok(Choice::Draw(sketched(alloc, path, inner)?)),
         _ => {
             let playing = Playing {
                 explains: inner.get_flag("explain"),

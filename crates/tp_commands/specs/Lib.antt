@@ -1,4 +1,7 @@
 pub mod Audits
+pub mod Checks
+pub mod Differences
+pub mod Drawings
 pub mod Explores
 pub mod Questions
 pub mod Status

@@ -5,7 +5,7 @@ ghost use Rattle.tp_commands.specs.Questions.{Asks, AsksChosen};
 ghost use Rattle.tp_commands.specs.Status.{Ends};
 
 use crate::statuses::finish;
-use crate::telling::{finding_in, tell_finding, tell_flaw, tell_unread};
+use crate::telling::{finding_in, tell_cut, tell_finding, tell_flaw, tell_unread};
 use std::alloc::Global;
 use std::io::{Read, Write};
 use tp_auditor::auditor::Auditor;
@@ -24,21 +24,18 @@ use tp_types::ids::{SlotId, TaskId};
 use tp_types::refusals::PoolError;
 
 /// Tells why there is no answer, and where a record is cut off.
-fn tell_notes<E: Write>(errors: &mut E, name: &str, notes: &Notes) {
+pub fn tell_notes<E: Write>(errors: &mut E, name: &str, notes: &Notes) {
     if let Some(complaint) = &notes.complaint {
         tell_flaw(errors, name, complaint.as_str());
     }
     if let Some(entries) = notes.cut_off {
-        let _ = writeln!(
-            errors,
-            "poolrun: {name}: the record ends at entry {entries}, without its last line"
-        );
+        tell_cut(errors, name, entries);
     }
 }
 
 /// Asks a question of the record that a reader of this name gives, and gives the status of the program: 0 where what was asked for is
 /// there. What is wrong goes to `errors`.
-fn run_question<R: Read, W: Write, E: Write, T: Account + Drop>(
+pub fn run_question<R: Read, W: Write, E: Write, T: Account + Drop>(
     alloc: Global,
     name: &str,
     question: &T::Question,

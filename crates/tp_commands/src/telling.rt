@@ -70,6 +70,14 @@ pub fn tell_refusal<E: Write>(
     tell_finding(alloc, errors, name, finding, style);
 }
 
+/// Tells behind which entry a record is cut off.
+pub fn tell_cut<E: Write>(errors: &mut E, name: &str, entries: u32) {
+    let _ = writeln!(
+        errors,
+        "poolrun: {name}: the record ends at entry {entries}, without its last line"
+    );
+}
+
 /// Tells why a record has a flaw.
 pub fn tell_flaw<E: Write>(errors: &mut E, name: &str, why: &str) {
     let _ = writeln!(errors, "poolrun: {name}: {why}");

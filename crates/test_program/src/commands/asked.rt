@@ -44,7 +44,7 @@ owed: 4 entries
 ";
 
 /// A command line, a text, the status, the output or a part of it (nothing: there is none), and the standard error or a part of it.
-const TOLD: [(&str, &str, u8, &str, &str); 15] = [
+const TOLD: [(&str, &str, u8, &str, &str); 20] = [
     ("why a.txt t0", CUT, 0, "\nfate: run, at entry 5\n", BEHIND),
     (
         "why --json a.txt t0",
@@ -102,6 +102,35 @@ const TOLD: [(&str, &str, u8, &str, &str); 15] = [
         " --> a.txt:1:1\n",
     ),
     ("audit --json a.txt", CUT, 99, "", ""),
+    (
+        "check a.txt run~=~1 open~=~0",
+        CUT,
+        0,
+        "holds: run = 1, with 1\nholds: open = 0, with 0\n",
+        BEHIND,
+    ),
+    (
+        "check a.txt run~=~0 run~=~1",
+        CUT,
+        1,
+        "breach at entry 5: run = 0; at the end it is 1\nholds: run = 1, with 1\n",
+        BEHIND,
+    ),
+    (
+        "check --json a.txt run~<~1",
+        CUT,
+        1,
+        "{\"claim\":\"run < 1\",\"holds\":false,\"is\":\"1\",\"entry\":5}\n",
+        BEHIND,
+    ),
+    ("check a.txt open~>=~0", FLAWED, 1, "", FLAW),
+    (
+        "check a.txt run~=~1 rn~=~0",
+        CUT,
+        2,
+        "",
+        "error: no claim: column 1: wanted is a number's name: ",
+    ),
 ];
 
 #[test]

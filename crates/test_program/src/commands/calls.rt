@@ -5,11 +5,15 @@ use std::io::Read;
 use std::test::Fail;
 use tp_choices::choices::{Choice, chosen};
 use tp_commands::audits::run_audit;
+use tp_commands::checks::run_check;
+use tp_commands::differences::run_diff;
+use tp_commands::drawings::run_draw;
 use tp_commands::explores::{Callers, run_explore};
 use tp_commands::objects::run_objects;
 use tp_commands::questions::run_asked;
 use tp_commands::steps::run_steps;
 use tp_commands::telling::name_of;
+use tp_drawing::drawings::Window;
 use tp_messages::messages::UNADORNED;
 use tp_text::watched::{WatchedReader, WatchedWriter};
 
@@ -92,10 +96,22 @@ fn status_of<R: Read + Drop>(
         Choice::Explore(_path, exploring) => {
             run_explore(alloc, &Callers, exploring, name, reader, out, errors, plain)
         }
-        Choice::Ask(_path, question, format) => {
-            run_asked(alloc, *question, *format, name, reader, out, errors, plain)
+        Choice::Ask(_path, question, form) => {
+            run_asked(alloc, *question, *form, name, reader, out, errors, plain)
+        }
+        Choice::Check(_path, claims, form) => {
+            run_check(alloc, claims, *form, name, reader, out, errors, plain)
+        }
+        Choice::Draw(sketch) => {
+            let window = &Window {
+                from: sketch.from,
+                to: sketch.to,
+                by_ticks: sketch.by_ticks,
+            };
+            run_draw(alloc, window, name, reader, out, errors, plain)
         }
         Choice::Threads(_path, _running) => 99,
+        Choice::Diff(_pair, _form) => 99,
     }
 }
 
@@ -107,6 +123,43 @@ pub fn call<R: Read + Drop>(alloc: Global, line: &str, reader: R) -> Result<Call
     let status = match choice_of(alloc, line)? {
         Some(choice) => status_of(alloc, &choice, reader, &mut out, &mut errors),
         None => 99,
+    };
+    Ok(Called {
+        status,
+        out,
+        errors,
+    })
+}
+
+/// Calls `diff` by this command line, where the files give what these readers give. The status is 99 for another line.
+pub fn call_pair<R: Read + Drop>(
+    alloc: Global,
+    line: &str,
+    first: R,
+    second: R,
+) -> Result<Called, Fail> {
+    let mut out = Vec::new(alloc);
+    let mut errors = Vec::new(alloc);
+    let status = match choice_of(alloc, line)? {
+        Some(Choice::Diff(pair, form)) => {
+            let names = (name_of(pair.first.as_str()), name_of(pair.second.as_str()));
+            let first = &mut WatchedReader::new(first);
+            let second = &mut WatchedReader::new(second);
+            let writer = &mut WatchedWriter::new(&mut out);
+            let plain = UNADORNED;
+            run_diff(
+                alloc,
+                pair.by_fates,
+                form,
+                names,
+                first,
+                second,
+                writer,
+                &mut errors,
+                plain,
+            )
+        }
+        _ => 99,
     };
     Ok(Called {
         status,

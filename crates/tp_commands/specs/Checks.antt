@@ -1,0 +1,21 @@
+-- What the command check does.
+use Rattle.std.specs.Prelude.{◌≡◌, ◌⊎◌, ℕ, List, Option, Err}
+use Rattle.std.specs.declared.alloc.Global.{Global}
+use Rattle.std.specs.declared.vec.Vec.{Vec}
+use Rattle.tp_types.specs.declared.refusals.PoolError.TheVariants.{NoMemory}
+use Rattle.tp_auditor.specs.Audited.{settings}
+use Rattle.tp_text.specs.declared.watched.WatchedReader.{WatchedReader}
+use Rattle.tp_text.specs.declared.watched.WatchedWriter.{WatchedWriter}
+use Rattle.tp_telling.specs.declared.forms.Form.{Form}
+use Rattle.tp_claims.specs.declared.checks.Checking.{Checking}
+use Rattle.tp_claims.specs.declared.claims.Claim.{Claim}
+use Rattle.tp_claims.specs.Checks.{IsAsked, IsChecked, Says}
+use Rattle.tp_commands.specs.Questions.{Asks}
+use Rattle.tp_commands.specs.Status.{Ends, IsFinished}
+
+module _ {R W : Type 0} (remaining : R → Option (List ℕ)) (contents : W → Option (List ℕ)) where
+  -- some claims were held against the record, or words were no claim, or there was no memory for the claims; then nothing was read
+  abbrev pub Checks : Form → WatchedReader R → WatchedReader R → WatchedWriter W → ℕ → WatchedWriter W → Type 0
+  Checks form before after old status new =
+      ((claims : Vec Claim Global) × Ends contents (Asks remaining contents (λ (k : Checking). settings k.stats.judge) (λ q k. IsAsked q.items k) IsChecked (λ k h f out holds. Says k h holds) claims form before after old) status new)
+      ⊎ ((after ≡ before) × (((status ≡ 2) × (new ≡ old)) ⊎ ((status ≡ 1) × IsFinished contents old (Err NoMemory) new)))
