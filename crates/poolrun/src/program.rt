@@ -47,8 +47,10 @@ fn run_reader<
     let name = name_of(choice.path());
     let reader = &mut WatchedReader::new(reader);
     match choice {
-        Choice::Steps(_, playing) => run_steps(alloc, *playing, name, reader, out, errors, style),
-        Choice::Objects(_, playing) => {
+        Choice::Steps(_, playing, Form::Words) => {
+            run_steps(alloc, *playing, name, reader, out, errors, style)
+        }
+        Choice::Steps(_, playing, Form::Json) => {
             run_objects(alloc, *playing, name, reader, out, errors, style)
         }
         Choice::Threads(_, running) => {

@@ -1,6 +1,6 @@
 //! The words of a command line, and what they choose.
 
-use crate::completions::{SHELLS, script, shell_of};
+use crate::completions::{COLOURS, SHELLS, TIMES, script, shell_of};
 use clap::builder::ValueParser;
 use clap::error::ErrorKind;
 use clap::{Arg, ArgAction, ArgMatches, Command, Error};
@@ -25,6 +25,8 @@ pub struct Running {
     pub keeps_record: bool,
     /// The record is written to the file at this path too.
     pub record: Option<String>,
+    /// The record is written to the file at this path while the jobs run.
+    pub journal: Option<String>,
     /// The jobs' text may be longer than 1,048,576 bytes.
     pub has_any_length: bool,
     /// The form of the output.
@@ -87,9 +89,7 @@ pub enum Question {
 #[derive(Debug, PartialEq, Eq, Drop)]
 pub enum Choice {
     /// Run the scenario in the file at this path.
-    Steps(String, Playing),
-    /// Run the scenario in the file at this path, and answer as JSON.
-    Objects(String, Playing),
+    Steps(String, Playing, Form),
     /// Run the jobs in the file at this path by threads.
     Threads(String, Running),
     /// Judge the record in the file at this path.
@@ -136,8 +136,8 @@ impl Choice {
     /// The path of the file that is to be read.
     pub fn path(&self) -> &str {
         match self {
-            Choice::Steps(path, _) | Choice::Objects(path, _) => path.as_str(),
-            Choice::Threads(path, _) | Choice::Audit(path, _) => path.as_str(),
+            Choice::Steps(path, _, _) | Choice::Threads(path, _) => path.as_str(),
+            Choice::Audit(path, _) => path.as_str(),
             Choice::Explore(path, _) | Choice::Ask(path, _, _) => path.as_str(),
             Choice::Check(path, _, _) => path.as_str(),
             Choice::Diff(pair, _) => pair.first.as_str(),
@@ -295,12 +295,18 @@ fn threads_command<'a>(alloc: Global) -> Result<Command<'a>, AllocError> {
         .value_name("PATH")
         .action(ArgAction::Set)
         .help("Writes the record there too, also where the run is refused");
+    let journal = Arg::new(alloc, "journal")
+        .long("journal")
+        .value_name("PATH")
+        .action(ArgAction::Set)
+        .help("Writes the record there while the jobs run, also where the run is killed");
     let tally = flag(
         alloc,
         "tally",
         "Keeps no record: prints the run state and the counters in its place",
     )
     .conflicts_with("record")?
+    .conflicts_with("journal")?
     .conflicts_with("json")?;
     let any_length = flag(
         alloc,
@@ -314,6 +320,7 @@ fn threads_command<'a>(alloc: Global) -> Result<Command<'a>, AllocError> {
         "the jobs' text, - for the standard input",
     )?
     .arg(record)?
+    .arg(journal)?
     .arg(tally)?
     .arg(any_length)?
     .arg(json_flag(alloc))
@@ -426,9 +433,6 @@ fn diff_command<'a>(alloc: Global) -> Result<Command<'a>, AllocError> {
     .arg(other)?
     .arg(fates)
 }
-
-/// By what the time of a picture runs.
-const TIMES: [&str; 2] = ["entries", "ticks"];
 
 /// The command `draw`.
 fn draw_command<'a>(alloc: Global) -> Result<Command<'a>, AllocError> {
@@ -566,9 +570,6 @@ fn completions_command<'a>(alloc: Global) -> Result<Command<'a>, AllocError> {
         .arg(shell)
 }
 
-/// The words that say when messages have colours.
-const COLOURS: [&str; 3] = ["auto", "always", "never"];
-
 /// The flag for colours, which each command takes.
 fn colour_flag<'a>(alloc: Global) -> Arg<'a> {
     Arg::new(alloc, "color")
@@ -599,6 +600,18 @@ fn program_command<'a>(alloc: Global) -> Result<Command<'a>, AllocError> {
         .subcommand(diff_command(alloc)?)?
         .subcommand(draw_command(alloc)?)?
         .subcommand(completions_command(alloc)?)
+}
+
+/// A copy of the value of an argument; None where it is not there.
+fn copy_of(
+    alloc: Global,
+    inner: &ArgMatches<'_>,
+    name: &str,
+) -> Result<Option<String>, AllocError> {
+    match inner.get_str(name) {
+        Some(value) => Ok(Some(String::from_str(alloc, value)?)),
+        None => Ok(None),
+    }
 }
 
 /// Copies of the values of a flag; None where it is not there.
@@ -685,13 +698,10 @@ fn form_of(inner: &ArgMatches<'_>) -> Form {
 
 /// How jobs are to be run, by the words behind `threads`.
 fn running_by(alloc: Global, inner: &ArgMatches<'_>) -> Result<Running, AllocError> {
-    let record = match inner.get_str("record") {
-        None => None,
-        Some(record) => Some(String::from_str(alloc, record)?),
-    };
     Ok(Running {
         keeps_record: !inner.get_flag("tally"),
-        record,
+        record: copy_of(alloc, inner, "record")?,
+        journal: copy_of(alloc, inner, "journal")?,
         has_any_length: inner.get_flag("any-length"),
         form: form_of(inner),
     })
@@ -708,64 +718,65 @@ fn colour_of(matches: &ArgMatches<'_>) -> Colour {
 
 /// What is to be drawn of the record at a path.
 fn sketched(alloc: Global, path: String, inner: &ArgMatches<'_>) -> Result<Sketch, AllocError> {
-    let picture = match inner.get_str("out") {
-        None => None,
-        Some(picture) => Some(String::from_str(alloc, picture)?),
-    };
     Ok(Sketch {
         path,
-        picture,
+        picture: copy_of(alloc, inner, "out")?,
         from: inner.get_one("from").unwrap_or(0),
         to: inner.get_one("to"),
         by_ticks: inner.get_str("by") == Some("ticks"),
     })
 }
 
+/// The record at a path, and the one that it is set beside.
+fn paired(alloc: Global, path: String, inner: &ArgMatches<'_>) -> Result<Pair, AllocError> {
+    let second = String::from_str(alloc, inner.get_str("OTHER").unwrap_or(""))?;
+    Ok(Pair {
+        first: path,
+        second,
+        by_fates: inner.get_flag("fates"),
+    })
+}
+
+/// How a record is to be judged, by the words behind `audit`.
+fn auditing_by(inner: &ArgMatches<'_>) -> Auditing {
+    Auditing {
+        has_any_length: inner.get_flag("any-length"),
+        explains: inner.get_flag("explain"),
+    }
+}
+
+/// How interleavings are to be explored, by the words behind `explore`.
+fn exploring_by(alloc: Global, inner: &ArgMatches<'_>) -> Result<Exploring, AllocError> {
+    Ok(Exploring {
+        wish: wished(alloc, inner)?,
+        most: inner.get_one("most").unwrap_or(MOST),
+    })
+}
+
+/// What a run of a scenario is to write, by the words behind `steps`.
+fn playing_by(inner: &ArgMatches<'_>) -> Playing {
+    Playing {
+        explains: inner.get_flag("explain"),
+        is_strict: inner.get_flag("strict"),
+        prints_record: inner.get_flag("record"),
+    }
+}
+
 /// What the words behind a command choose that asks no question.
 fn chosen_by(alloc: Global, name: &str, inner: &ArgMatches<'_>) -> Result<Choice, AllocError> {
     let path = String::from_str(alloc, inner.get_str("FILE").unwrap_or(""))?;
-    match name {
-        "threads" => Ok(Choice::Threads(path, running_by(alloc, inner)?)),
-        "audit" => Ok(Choice::Audit(
-            path,
-            Auditing {
-                has_any_length: inner.get_flag("any-length"),
-                explains: inner.get_flag("explain"),
-            },
-        )),
-        "explore" => Ok(Choice::Explore(
-            path,
-            Exploring {
-                wish: wished(alloc, inner)?,
-                most: inner.get_one("most").unwrap_or(MOST),
-            },
-        )),
+    Ok(match name {
+        "threads" => Choice::Threads(path, running_by(alloc, inner)?),
+        "audit" => Choice::Audit(path, auditing_by(inner)),
+        "explore" => Choice::Explore(path, exploring_by(alloc, inner)?),
         "check" => {
             let claims = copies(alloc, inner, "CLAIM")?.unwrap_or(Vec::new(alloc));
-            Ok(Choice::Check(path, claims, form_of(inner)))
+            Choice::Check(path, claims, form_of(inner))
         }
-        "diff" => {
-            let second = String::from_str(alloc, inner.get_str("OTHER").unwrap_or(""))?;
-            let pair = Pair {
-                first: path,
-                second,
-                by_fates: inner.get_flag("fates"),
-            };
-            Ok(Choice::Diff(pair, form_of(inner)))
-        }
-        "draw" => Ok(Choice::Draw(sketched(alloc, path, inner)?)),
-        _ => {
-            let playing = Playing {
-                explains: inner.get_flag("explain"),
-                is_strict: inner.get_flag("strict"),
-                prints_record: inner.get_flag("record"),
-            };
-            Ok(match form_of(inner) {
-                Form::Words => Choice::Steps(path, playing),
-                Form::Json => Choice::Objects(path, playing),
-            })
-        }
-    }
+        "diff" => Choice::Diff(paired(alloc, path, inner)?, form_of(inner)),
+        "draw" => Choice::Draw(sketched(alloc, path, inner)?),
+        _ => Choice::Steps(path, playing_by(inner), form_of(inner)),
+    })
 }
 
 /// The script of a shell's completions.
@@ -776,7 +787,7 @@ fn completions(alloc: Global, inner: &ArgMatches<'_>) -> Unchosen {
     let Ok(command) = program_command(alloc) else {
         return Unchosen::NoMemory;
     };
-    match script(alloc, shell, command.get_subcommands()) {
+    match script(alloc, shell, &command) {
         Ok(script) => Unchosen::Completions(script),
         Err(_) => Unchosen::NoMemory,
     }

@@ -18,6 +18,12 @@ pub enum Shell {
 /// The names of the shells.
 pub const SHELLS: [&str; 3] = ["bash", "zsh", "fish"];
 
+/// The words that say when messages have colours.
+pub const COLOURS: [&str; 3] = ["auto", "always", "never"];
+
+/// By what the time of a picture runs.
+pub const TIMES: [&str; 2] = ["entries", "ticks"];
+
 /// The shell of this name.
 pub fn shell_of(name: &str) -> Option<Shell> {
     match name {
@@ -42,7 +48,7 @@ impl fmt::Display for Names<'_, '_> {
     }
 }
 
-/// The flags of a command, each behind a space, and those of all commands.
+/// The flags among these arguments, each behind a space.
 #[derive(Clone, Copy)]
 struct Flags<'a, 'b>(&'b [Arg<'a>]);
 
@@ -53,7 +59,7 @@ impl fmt::Display for Flags<'_, '_> {
                 write!(f, " --{name}")?;
             }
         }
-        f.write_str(" --color --help")
+        Ok(())
     }
 }
 
@@ -85,8 +91,9 @@ complete -o default -F _poolrun poolrun
 ";
 
 /// The script for bash.
-fn write_bash(text: &mut String, commands: &[Command<'_>]) -> Result<(), AllocError> {
-    let names = Names(commands);
+fn write_bash(text: &mut String, program: &Command<'_>) -> Result<(), AllocError> {
+    let names = Names(program.get_subcommands());
+    let shared = Flags(program.get_arguments());
     write!(
         text,
         "_poolrun() {{
@@ -98,10 +105,13 @@ fn write_bash(text: &mut String, commands: &[Command<'_>]) -> Result<(), AllocEr
         case \"${{COMP_WORDS[1]}}\" in
 "
     )?;
-    for command in commands {
+    for command in program.get_subcommands() {
         let name = command.get_name();
         let flags = Flags(command.get_arguments());
-        write!(text, "            {name}) words='{flags}' ;;\n")?;
+        write!(
+            text,
+            "            {name}) words='{flags}{shared} --help' ;;\n"
+        )?;
     }
     text.push_str(BASH_END)
 }
@@ -120,8 +130,9 @@ fi
 ";
 
 /// The script for zsh.
-fn write_zsh(text: &mut String, commands: &[Command<'_>]) -> Result<(), AllocError> {
-    let names = Names(commands);
+fn write_zsh(text: &mut String, program: &Command<'_>) -> Result<(), AllocError> {
+    let names = Names(program.get_subcommands());
+    let shared = Flags(program.get_arguments());
     write!(
         text,
         "#compdef poolrun
@@ -132,59 +143,99 @@ _poolrun() {{
         case \"${{words[2]}}\" in
 "
     )?;
-    for command in commands {
+    for command in program.get_subcommands() {
         let name = command.get_name();
         let flags = Flags(command.get_arguments());
-        write!(text, "            {name}) compadd --{flags} ;;\n")?;
+        write!(
+            text,
+            "            {name}) compadd --{flags}{shared} --help ;;\n"
+        )?;
     }
     text.push_str(ZSH_END)
 }
 
-/// The flags of a command, for fish.
-fn write_fish_flags(text: &mut String, command: &Command<'_>) -> Result<(), AllocError> {
-    let name = command.get_name();
-    for arg in command.get_arguments() {
+/// The words that a flag takes, where it does not take any word.
+fn words_of(flag: &str) -> Option<&'static [&'static str]> {
+    match flag {
+        "color" => Some(COLOURS.as_slice()),
+        "by" => Some(TIMES.as_slice()),
+        _ => None,
+    }
+}
+
+/// What fish asks behind the flag of this name: nothing, one of some words, or any word.
+#[derive(Clone, Copy)]
+struct Asked<'a, 'b>(&'b Arg<'a>, &'a str);
+
+impl fmt::Display for Asked<'_, '_> {
+    fn fmt<W: fmt::Write>(&self, f: &mut fmt::Formatter<W>) -> fmt::Result {
+        if !self.0.get_action().takes_values() {
+            return Ok(());
+        }
+        let Some(words) = words_of(self.1) else {
+            return f.write_str(" -r");
+        };
+        f.write_str(" -x -a '")?;
+        for word in words {
+            write!(f, " {word}")?;
+        }
+        f.write_str("'")
+    }
+}
+
+/// Where fish completes a flag: behind its command, or anywhere.
+#[derive(Clone, Copy)]
+struct Place<'a>(Option<&'a str>);
+
+impl fmt::Display for Place<'_> {
+    fn fmt<W: fmt::Write>(&self, f: &mut fmt::Formatter<W>) -> fmt::Result {
+        match self.0 {
+            Some(name) => write!(f, " -n '__fish_seen_subcommand_from {name}'"),
+            None => Ok(()),
+        }
+    }
+}
+
+/// The flags among these arguments, for fish.
+fn write_fish_flags(
+    text: &mut String,
+    place: Place<'_>,
+    arguments: &[Arg<'_>],
+) -> Result<(), AllocError> {
+    for arg in arguments {
         if let Some(flag) = arg.get_long() {
-            let value = if arg.get_action().takes_values() {
-                " -r"
-            } else {
-                ""
-            };
+            let asked = Asked(arg, flag);
             let help = Quoted(arg.get_help().unwrap_or(""));
             write!(
                 text,
-                "complete -c poolrun -n '__fish_seen_subcommand_from {name}' -l {flag}{value} -d {help}\n"
+                "complete -c poolrun{place} -l {flag}{asked} -d {help}\n"
             )?;
         }
     }
     Ok(())
 }
 
-/// The flag that all commands have, for fish.
-const FISH_END: &str =
-    "complete -c poolrun -l color -x -a 'auto always never' -d 'Colours messages'\n";
-
 /// The script for fish.
-fn write_fish(text: &mut String, commands: &[Command<'_>]) -> Result<(), AllocError> {
-    for command in commands {
+fn write_fish(text: &mut String, program: &Command<'_>) -> Result<(), AllocError> {
+    for command in program.get_subcommands() {
         let name = command.get_name();
         let about = Quoted(command.get_about().unwrap_or(""));
         write!(
             text,
             "complete -c poolrun -f -n __fish_use_subcommand -a {name} -d {about}\n"
         )?;
-        write_fish_flags(text, command)?;
+        write_fish_flags(text, Place(Some(name)), command.get_arguments())?;
     }
-    text.push_str(FISH_END)
+    write_fish_flags(text, Place(None), program.get_arguments())
 }
 
-/// The script that has a shell complete the commands and the flags of a program, of which these are the commands.
-pub fn script(alloc: Global, shell: Shell, commands: &[Command<'_>]) -> Result<String, AllocError> {
+/// The script that has a shell complete the commands of a program, and their flags.
+pub fn script(alloc: Global, shell: Shell, program: &Command<'_>) -> Result<String, AllocError> {
     let mut text = String::new(alloc);
     match shell {
-        Shell::Bash => write_bash(&mut text, commands)?,
-        Shell::Zsh => write_zsh(&mut text, commands)?,
-        Shell::Fish => write_fish(&mut text, commands)?,
+        Shell::Bash => write_bash(&mut text, program)?,
+        Shell::Zsh => write_zsh(&mut text, program)?,
+        Shell::Fish => write_fish(&mut text, program)?,
     }
     Ok(text)
 }

@@ -15,6 +15,7 @@ use tp_commands::steps::run_steps;
 use tp_commands::telling::name_of;
 use tp_drawing::drawings::Window;
 use tp_messages::messages::UNADORNED;
+use tp_telling::forms::Form;
 use tp_text::watched::{WatchedReader, WatchedWriter};
 
 /// What a call gave.
@@ -84,10 +85,10 @@ fn status_of<R: Read + Drop>(
     let reader = &mut WatchedReader::new(reader);
     let out = &mut WatchedWriter::new(out);
     match choice {
-        Choice::Steps(_path, playing) => {
+        Choice::Steps(_path, playing, Form::Words) => {
             run_steps(alloc, *playing, name, reader, out, errors, plain)
         }
-        Choice::Objects(_path, playing) => {
+        Choice::Steps(_path, playing, Form::Json) => {
             run_objects(alloc, *playing, name, reader, out, errors, plain)
         }
         Choice::Audit(_path, auditing) => {
