@@ -12,8 +12,8 @@ use tp_advice::sizes::for_jobs;
 use tp_choices::choices::Running;
 use tp_commands::objects::record_objects;
 use tp_commands::statuses::finish;
-use tp_commands::telling::{tell, tell_finding, tell_refusal, tell_unread};
-use tp_commands::texts::text_or_status;
+use tp_commands::telling::{tell, tell_finding, tell_refusal};
+use tp_commands::texts::{end_unread, text_or_status};
 use tp_messages::messages::Style;
 use tp_messages::mistakes::Kind;
 use tp_messages::scenarios::{count_jobs, in_job_refused, pool_line_of};
@@ -63,13 +63,10 @@ fn long_text_or_status<R: Read, W: Write, E: Write>(
     let mut text = Vec::new(alloc);
     let refusal = match reader.read_to_end(&mut text) {
         Ok(_) if text.len() < MOST_BYTES => return Ok(text),
-        Err(reason) if reason.kind() != ErrorKind::OutOfMemory => {
-            tell_unread(errors, Kind::Jobs, name, reader);
-            PoolError::ReadFailed
-        }
+        Err(reason) if reason.kind() != ErrorKind::OutOfMemory => PoolError::ReadFailed,
         _ => PoolError::NoMemory,
     };
-    Err(finish(out, &Err(refusal)))
+    Err(end_unread(Kind::Jobs, name, reader, refusal, out, errors))
 }
 
 /// The text of jobs, of the length that is allowed.

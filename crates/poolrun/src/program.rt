@@ -175,7 +175,11 @@ fn run_choice<
     style: Style,
 ) -> u8 {
     let path = choice.path();
-    let total = bytes_at(rt, path);
+    let total = if style.shows_progress {
+        bytes_at(rt, path)
+    } else {
+        None
+    };
     let told = Progress::new(style.shows_progress, rt, progress, name_of(path), total);
     if path == "-" {
         let reader = ToldReader::new(rt.reader(), told);

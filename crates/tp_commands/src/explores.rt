@@ -8,10 +8,12 @@ ghost use Rattle.tp_explore_text.specs.declared.files.Named.{Named};
 ghost use Rattle.tp_commands.specs.Explores.{Explores, IsFound, IsTold, IsToldOf, LooksForParts};
 ghost use Rattle.tp_commands.specs.Status.{Ends};
 
+use crate::progress::ProgressLine;
 use crate::statuses::finish;
 use crate::telling::tell_refusal;
 use crate::texts::text_or_status;
 use std::alloc::Global;
+use std::fmt;
 use std::io::{Read, Write};
 use tp_choices::choices::{Exploring, Wish};
 use tp_explore_text::explored::{Explored, end_with, explore_named};
@@ -31,28 +33,43 @@ use tp_walk::systems::Watch;
 /// How many states are walked between two looks at the progress: some half of a second.
 const BETWEEN: usize = 32_768;
 
-/// A line on a terminal that says how far the walk is.
-#[derive(Drop)]
-struct Progress<'a, E> {
-    errors: &'a mut E,
-    is_seen: bool,
+/// How far a walk is.
+#[derive(Clone, Copy)]
+struct Walked<'a> {
+    name: &'a str,
+    walked: usize,
+    known: usize,
 }
 
-impl<E: Write> Watch for Progress<'_, E> {
-    fn walked(&mut self, walked: usize, known: usize) {
-        if self.is_seen && walked > 0 && walked % BETWEEN == 0 {
-            let _ = write!(
-                self.errors,
-                "\r{walked} states are walked, {known} are known\u{1b}[K"
-            );
-        }
+impl fmt::Display for Walked<'_> {
+    fn fmt<W: fmt::Write>(&self, f: &mut fmt::Formatter<W>) -> fmt::Result {
+        let Walked {
+            name,
+            walked,
+            known,
+        } = *self;
+        write!(f, "{name}: {walked} states are walked, {known} are known")
     }
 }
 
-/// Takes the line off the terminal, where there is one.
-fn clear<E: Write>(errors: &mut E, style: Style) {
-    if style.shows_progress {
-        let _ = write!(errors, "\r\u{1b}[K");
+/// A walk that is told of on a terminal.
+#[derive(Drop)]
+struct ToldWalk<'a, E> {
+    line: ProgressLine<'a, E>,
+    name: &'a str,
+    is_seen: bool,
+}
+
+impl<E: Write> Watch for ToldWalk<'_, E> {
+    fn walked(&mut self, walked: usize, known: usize) {
+        if self.is_seen && walked > 0 && walked % BETWEEN == 0 {
+            let name = self.name;
+            self.line.tell(&Walked {
+                name,
+                walked,
+                known,
+            });
+        }
     }
 }
 
@@ -328,12 +345,13 @@ fn told_of_plan<E: Write>(
     ensures { IfOk result (λ told. IsToldOf named exploring.now told.text.items told.is_so) }
 {
     let most = exploring.most;
-    let mut progress = Progress {
-        errors: &mut *errors,
+    let mut walk = ToldWalk {
+        line: ProgressLine::new(&mut *errors),
+        name,
         is_seen: style.shows_progress,
     };
-    let explored = explore_named(alloc, named, most, &mut progress);
-    clear(errors, style);
+    let explored = explore_named(alloc, named, most, &mut walk);
+    walk.line.clear();
     match explored? {
         Some(explored) => told_of(alloc, &explored, &exploring.wish, name, errors),
         None => {

@@ -1,4 +1,4 @@
-//! The commands `steps`, `audit` and `explore`, and those that ask a question of a record or hold claims against it: what they do with a text, with what status
+//! The commands `steps`, `audit`, `explore`, `why`, `now`, `stats`, `check`, `diff` and `draw`: what they do with a text, with what status
 //! they end, and what they tell beside their output.
 //!
 //! They stand over any reader and writers, and not on the pool's storeys: a change of those then costs the program a few functions.
@@ -12,7 +12,9 @@ pub mod differences;
 pub mod drawings;
 mod explains;
 pub mod explores;
+mod listings;
 pub mod objects;
+pub mod progress;
 pub mod questions;
 pub mod statuses;
 pub mod steps;

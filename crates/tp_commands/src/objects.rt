@@ -3,14 +3,15 @@
 ghost use Rattle.std.specs.Prelude.{◌≤◌, length, IfOk};
 ghost use Rattle.tp_commands.specs.Steps.{IsPassed};
 
+use crate::listings::{Lines, Listing};
 use crate::statuses::finish;
 use crate::steps::{passes, play_told};
 use crate::telling::tell_refusal;
 use crate::texts::text_or_status;
 use std::alloc::{AllocError, Global};
 use std::io::{Read, Write};
-use tp_audit::summary::{Flaw, Summary};
-use tp_auditor::auditor::Auditor;
+use tp_audit::summary::Summary;
+use tp_auditor::tables::Tables;
 use tp_causes::asks::ShownAsk;
 use tp_choices::choices::Playing;
 use tp_messages::messages::Style;
@@ -23,86 +24,30 @@ use tp_text::watched::{WatchedReader, WatchedWriter};
 use tp_text::writing::write_text;
 use tp_text_record::reading::{Ending, Taker, read_stream};
 use tp_text_record::versions::Version;
-use tp_types::configs::Config;
 use tp_types::refusals::PoolError;
 
-/// The objects of a record, written as its entries come. The auditor counts them, and tells at the end what became of the tasks.
-#[derive(Drop)]
-struct Objects {
+/// Writes the object of an entry, by the tables before it, as `{"number":1,"by":0,"did":"tidy"}`.
+pub(crate) fn write_object(
     alloc: Global,
-    auditor: Auditor,
-    text: String,
+    text: &mut String,
+    tables: &Tables,
+    entry: &Entry,
+) -> Result<(), AllocError> {
+    let number = u64::from(tables.steps) + 1;
+    let members = entry_members(alloc, entry)?;
+    let members = members.as_str();
+    write!(text, "{{\"number\":{number},{members}}}\n")
 }
 
-impl Objects {
-    /// Writes the object of an entry, as `{"number":1,"by":0,"did":"tidy"}`.
-    fn write_entry(&mut self, entry: &Entry) -> Result<(), AllocError> {
-        let number = u64::from(self.auditor.tables().steps) + 1;
-        let members = entry_members(self.alloc, entry)?;
-        let members = members.as_str();
-        write!(self.text, "{{\"number\":{number},{members}}}\n")
-    }
-
-    /// Writes the object of a refusal, as `{"refused":7,"name":"UnknownSlot","ask":"take w3"}`.
-    fn write_refusal(&mut self, refusal: &Refusal) -> Result<(), AllocError> {
-        let number = refusal.error.number();
-        let name = refusal.error.name();
-        let ask = ShownAsk(refusal.ask);
-        write!(
-            self.text,
-            "{{\"refused\":{number},\"name\":\"{name}\",\"ask\":\"{ask}\"}}\n"
-        )
-    }
-
-    /// The text, with an object for each task, and one for the run state and the counters.
-    fn ended(self) -> Result<String, PoolError> {
-        let Objects {
-            auditor,
-            mut text,
-            ..
-        } = self;
-        match auditor.finish() {
-            Ok(summary) => {
-                write_end(&mut text, &summary)?;
-                Ok(text)
-            }
-            Err(_) => Err(PoolError::NoMemory),
-        }
-    }
-}
-
-impl Taker for Objects {
-    type Question = ();
-
-    ghost about = { λ q t v c. Unit {0} };
-
-    ghost took = { λ t es. Unit {0} };
-
-    fn new(
-        alloc: Global,
-        _question: &(),
-        _version: Version,
-        config: &Config,
-    ) -> Result<Objects, PoolError> {
-        match Auditor::new(alloc, config) {
-            Ok(auditor) => Ok(Objects {
-                alloc,
-                auditor,
-                text: String::new(alloc),
-            }),
-            Err(_) => Err(PoolError::NoMemory),
-        }
-    }
-
-    fn take(&mut self, entry: &Entry) -> Result<(), PoolError> {
-        if self.write_entry(entry).is_err() {
-            return Err(PoolError::NoMemory);
-        }
-        match self.auditor.push(entry) {
-            Err(Flaw::NoMemory) => Err(PoolError::NoMemory),
-            _ => Ok(()),
-        }
-    }
+/// Writes the object of a refusal, as `{"refused":7,"name":"UnknownSlot","ask":"take w3"}`.
+fn write_refusal(text: &mut String, refusal: &Refusal) -> Result<(), AllocError> {
+    let number = refusal.error.number();
+    let name = refusal.error.name();
+    let ask = ShownAsk(refusal.ask);
+    write!(
+        text,
+        "{{\"refused\":{number},\"name\":\"{name}\",\"ask\":\"{ask}\"}}\n"
+    )
 }
 
 /// Writes an object for each task, with its fate where it has one, and one for the run state and the counters.
@@ -121,13 +66,36 @@ fn write_end(text: &mut String, summary: &Summary) -> Result<(), AllocError> {
     write!(text, "{{\"state\":\"{state}\",{counts}}}\n")
 }
 
+/// The objects of the entries that were taken, and those for each task and for the run state and the counters.
+fn ended(listing: Listing) -> Result<String, PoolError> {
+    let Listing {
+        auditor,
+        mut text,
+        ..
+    } = listing;
+    match auditor.finish() {
+        Ok(summary) => {
+            write_end(&mut text, &summary)?;
+            Ok(text)
+        }
+        Err(_) => Err(PoolError::NoMemory),
+    }
+}
+
 /// The objects of a record's whole text, of any length: one for each entry, for each task, and for the end. The first wrong line is 24
 /// (`BadEntry`).
 pub fn record_objects(alloc: Global, text: &[u8]) -> Result<String, PoolError> {
     let mut refused = None;
     let mut reader = WatchedReader::new(text);
-    let body = read_stream::<&[u8], Objects>(alloc, &(), Ending::Whole, &mut reader, &mut refused)?;
-    body.taker.ended()
+    let lines = Lines::Objects;
+    let body = read_stream::<&[u8], Listing>(
+        alloc,
+        &lines,
+        Ending::Whole,
+        &mut reader,
+        &mut refused,
+    )?;
+    ended(body.taker)
 }
 
 /// The objects of a play: one for each step; and where no line is bad, one for each task and one for the end. NoMemory (4).
@@ -135,17 +103,17 @@ fn play_objects(alloc: Global, play: &Play) -> Result<String, PoolError> {
     if play.config.check().is_err() {
         return Ok(String::new(alloc));
     }
-    let mut objects = Objects::new(alloc, &(), Version::Two, &play.config)?;
+    let mut objects = Listing::new(alloc, &Lines::Objects, Version::Two, &play.config)?;
     for answered in play.answers.as_slice() {
         match answered {
             Ok(entry) => objects.take(entry)?,
-            Err(refusal) => objects.write_refusal(refusal)?,
+            Err(refusal) => write_refusal(&mut objects.text, refusal)?,
         }
     }
     if play.bad.is_some() {
         return Ok(objects.text);
     }
-    objects.ended()
+    ended(objects)
 }
 
 /// Plays a scenario, and writes the objects of its steps to `out`. The answer says whether a refused step is let pass.

@@ -7,6 +7,6 @@ returns-clause-ended g c =
       refusal = c.in-Err.refusal;
       reads = c.in-Err.ensures.refused;
       tells_reader = read_refused c.args.reader.now c.read_text.new.reader c.in-Err.refusal c.in-Err.ensures.unread;
-      status = c.finish.ensures.status;
-      finished = c.finish.ensures.finished;
+      status = c.end_unread.ensures.status;
+      finished = c.end_unread.ensures.finished;
     }
