@@ -40,9 +40,6 @@ const AXIS: u64 = 16;
 /// How much room is left at the right edge.
 const MARGIN: u64 = 30;
 
-/// The width that the legend needs.
-const LEGEND: u64 = 860;
-
 /// What becomes of tasks, with the words of the legend.
 const FATES: [(&str, &str); 8] = [
     ("run", "run"),
@@ -607,10 +604,10 @@ pub fn picture_of(alloc: Global, drawing: &Drawing) -> Result<Vec<u8>, AllocErro
     let slots = slots_of(alloc, &drawing.runs, &drawing.lives)?;
     let callers = callers_of(alloc, &drawing.calls)?;
     let lanes = (slots.len() as u64).saturating_add(callers.len() as u64);
-    let width = scale.left.and(scale.width()).0.max(LEGEND * 100);
+    let width = scale.left.and(scale.width());
     let svg = Svg::new(
         String::new(alloc),
-        Length(width).and(Length::pixels(MARGIN)),
+        width.and(Length::pixels(MARGIN)),
         height_of(lanes),
         "a record of a thread pool",
     )?;

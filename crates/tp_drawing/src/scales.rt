@@ -7,7 +7,10 @@ use crate::svg::Length;
 /// How wide the plot is at most, in pixels.
 pub const WIDEST: u64 = 1_500;
 
-/// How wide an entry is at most, in hundredths of a pixel.
+/// How wide it is at least: as wide as the legend below it.
+const NARROWEST: u64 = 750;
+
+/// How wide an entry is, in hundredths of a pixel, where that is neither too wide nor too narrow.
 const STEP: u64 = 1_400;
 
 /// How far from each other numbers stand on the axis, in hundredths of a pixel.
@@ -34,7 +37,8 @@ impl Scale {
 
     /// How wide it is.
     pub fn width(self) -> Length {
-        Length(self.span().saturating_mul(STEP).min(WIDEST * 100))
+        let wished = self.span().saturating_mul(STEP);
+        Length(wished.clamp(NARROWEST * 100, WIDEST * 100))
     }
 
     /// How much time stands within one pixel; 1 where there is room for each.
