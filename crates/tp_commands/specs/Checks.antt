@@ -1,5 +1,5 @@
 -- What the command check does.
-use Rattle.std.specs.Prelude.{◌≡◌, ◌⊎◌, ℕ, List, Option, Err}
+use Rattle.std.specs.Prelude.{◌≡◌, ◌⊎◌, ℕ, List, Option, Err, length}
 use Rattle.std.specs.declared.alloc.Global.{Global}
 use Rattle.std.specs.declared.vec.Vec.{Vec}
 use Rattle.tp_types.specs.declared.refusals.PoolError.TheVariants.{NoMemory}
@@ -14,8 +14,8 @@ use Rattle.tp_commands.specs.Questions.{Asks}
 use Rattle.tp_commands.specs.Status.{Ends, IsFinished}
 
 module _ {R W : Type 0} (remaining : R → Option (List ℕ)) (contents : W → Option (List ℕ)) where
-  -- some claims were held against the record, or words were no claim, or there was no memory for the claims; then nothing was read
-  abbrev pub Checks : Form → WatchedReader R → WatchedReader R → WatchedWriter W → ℕ → WatchedWriter W → Type 0
-  Checks form before after old status new =
-      ((claims : Vec Claim Global) × Ends contents (Asks remaining contents (λ (k : Checking). settings k.stats.judge) (λ q k. IsAsked q.items k) IsChecked (λ k h f out holds. Says k h holds) claims form before after old) status new)
+  -- so many claims were held against the record, or a word was no claim, or there was no memory for the claims; then nothing was read
+  abbrev pub Checks : ℕ → Form → WatchedReader R → WatchedReader R → WatchedWriter W → ℕ → WatchedWriter W → Type 0
+  Checks n form before after old status new =
+      ((claims : Vec Claim Global) × (length claims.items ≡ n) × Ends contents (Asks remaining contents (λ (k : Checking). settings k.stats.judge) (λ q k. IsAsked q.items k) IsChecked (λ k h f out holds. Says k h holds) claims form before after old) status new)
       ⊎ ((after ≡ before) × (((status ≡ 2) × (new ≡ old)) ⊎ ((status ≡ 1) × IsFinished contents old (Err NoMemory) new)))

@@ -1,6 +1,6 @@
 //! The command `check`: claims are held against a record.
 
-ghost use Rattle.std.specs.Prelude.{◌≤◌, ◌⊎◌, ◌≡◌};
+ghost use Rattle.std.specs.Prelude.{◌≡◌, length, IfOk};
 ghost use Rattle.tp_commands.specs.Checks.{Checks};
 ghost use Rattle.tp_commands.specs.Status.{Ends};
 
@@ -35,14 +35,15 @@ fn tell_mistake<E: Write>(errors: &mut E, claim: &str, mistake: Mistake) {
     );
 }
 
-/// The claims that these words make. What is wrong with words that make none goes to `errors`.
+/// The claims that these words make, one for each. What is wrong with words that make none goes to `errors`.
 fn claims_of<E: Write>(
     alloc: Global,
     words: &[String],
     errors: &mut E,
-) -> Result<Vec<Claim>, Unclaimed> {
+) -> Result<Vec<Claim>, Unclaimed>
+    ensures { IfOk result (λ claims. length claims.items ≡ length words.now) }
+{
     let mut claims = Vec::new(alloc);
-    let mut is_mistaken = false;
     for word in words {
         match read_claim(word.as_str()) {
             Ok(claim) => {
@@ -50,20 +51,17 @@ fn claims_of<E: Write>(
                     return Err(Unclaimed::NoMemory);
                 }
             }
-            Err(mistake) => {
-                is_mistaken = true;
-                tell_mistake(errors, word.as_str(), mistake);
-            }
+            Err(mistake) => tell_mistake(errors, word.as_str(), mistake),
         }
     }
-    if is_mistaken {
+    if claims.len() != words.len() {
         return Err(Unclaimed::Mistaken);
     }
     Ok(claims)
 }
 
 /// Holds claims against the record that a reader of this name gives, as `poolrun check`, and gives the status of the program: 0 where
-/// the record is legal and each claim holds of it, 2 where words are no claim. What is wrong goes to `errors`.
+/// the record is legal and each claim holds of it, 2 where some word is no claim. What is wrong goes to `errors`.
 pub fn run_check<R: Read, W: Write, E: Write>(
     alloc: Global,
     words: &[String],
@@ -74,7 +72,7 @@ pub fn run_check<R: Read, W: Write, E: Write>(
     errors: &mut E,
     style: Style,
 ) -> u8
-    ensures { Checks R.remaining W.contents form reader.old reader.new out.old result out.new }
+    ensures { Checks R.remaining W.contents (length words.now) form reader.old reader.new out.old result out.new }
 {
     match claims_of(alloc, words, errors) {
         Ok(claims) => {
