@@ -27,7 +27,7 @@ is_within w n = nat_le w.from n && is_reached w.to n
 
 -- what a caller's entry was
 abbrev pub step_of : Did → Option Step
-step_of (did.Submit t k p l) = Some step.Submission
+step_of (did.Submit t k p l) = Some (step.Submission t.0)
 step_of (did.Verdict t v ruled.Rejected) = Some step.Rejection
 step_of (did.Open w o) = None
 step_of (did.Fail w f) = None

@@ -66,8 +66,8 @@ pub struct Life {
 /// What a caller's step was.
 #[derive(Clone, Copy, Debug, PartialEq, Eq)]
 pub enum Step {
-    /// A submission.
-    Submission,
+    /// The submission of the task of this number.
+    Submission(u32),
     /// A rejection.
     Rejection,
     /// Another one.
@@ -134,7 +134,7 @@ fn step_of(did: Did) -> Option<Step>
     ensures { result ≡ drawn.step_of did }
 {
     match did {
-        Did::Submit(..) => Some(Step::Submission),
+        Did::Submit(TaskId(task), ..) => Some(Step::Submission(task)),
         Did::Verdict(_, _, Ruled::Rejected) => Some(Step::Rejection),
         Did::Open(..)
         | Did::Fail(..)

@@ -16,6 +16,9 @@ const LANE: u64 = 16;
 
 const PITCH: u64 = 20;
 
+/// How high a caller's step is that is no submission.
+const SHORT: u64 = 5;
+
 /// How high the lane of the queue is.
 const QUEUE: u64 = 60;
 
@@ -103,6 +106,18 @@ fn callers_of(alloc: Global, calls: &[Call]) -> Result<Vec<u32>, AllocError> {
     }
     lanes.sort()?;
     Ok(lanes)
+}
+
+/// In how many layers the steps of a caller are drawn.
+const LAYERS: u8 = 3;
+
+/// In which layer a step is drawn: rejections are last, so that no other step covers them.
+fn layer_of(step: Step) -> u8 {
+    match step {
+        Step::Submission(_) => 0,
+        Step::Other => 1,
+        Step::Rejection => 2,
+    }
 }
 
 /// The class of a mark's line.
@@ -395,21 +410,20 @@ impl Canvas<'_> {
         Ok(())
     }
 
-    /// A caller's step.
+    /// A caller's step: a submission is long and has the colour of its task's fate, another step is short.
     fn call(&mut self, call: &Call) -> Result<(), AllocError> {
         let number = call.number;
-        let (class, title) = match call.step {
-            Step::Submission => ("call", format!(in self.alloc; "submits at entry {number}")?),
-            Step::Rejection => (
-                "rejected",
-                format!(in self.alloc; "is rejected at entry {number}")?,
-            ),
-            Step::Other => ("call", format!(in self.alloc; "entry {number}")?),
-        };
-        let height = if call.step == Step::Other {
-            LANE / 3
-        } else {
-            LANE
+        let (class, height, title) = match call.step {
+            Step::Submission(task) => {
+                let fate = class_of(self.drawing, task);
+                let title = format!(in self.alloc; "submits t{task} at entry {number}: {fate}")?;
+                (fate, LANE, title)
+            }
+            Step::Rejection => {
+                let title = format!(in self.alloc; "is rejected at entry {number}")?;
+                ("rejected", SHORT, title)
+            }
+            Step::Other => ("call", SHORT, format!(in self.alloc; "entry {number}")?),
         };
         self.svg.rectangle(Rectangle {
             x: self.scale.at(call.time),
@@ -423,12 +437,13 @@ impl Canvas<'_> {
     }
 
     /// The steps of one sort in the lane of a caller. Where columns are merged, one of them is drawn in a column.
-    fn steps(&mut self, by: u32, step: Step) -> Result<(), AllocError> {
+    fn steps(&mut self, by: u32, layer: u8) -> Result<(), AllocError> {
         let drawing = self.drawing;
         let mut last: Option<usize> = None;
         for call in &drawing.calls {
             let here = Some(self.scale.column(call.time));
-            if call.by == by && call.step == step && (self.scale.merged() == 1 || here != last) {
+            let is_new = self.scale.merged() == 1 || here != last;
+            if call.by == by && layer_of(call.step) == layer && is_new {
                 self.call(call)?;
                 last = here;
             }
@@ -436,12 +451,12 @@ impl Canvas<'_> {
         Ok(())
     }
 
-    /// The lane of a caller. Rejections are drawn last, so that no other step covers them.
+    /// The lane of a caller.
     fn caller(&mut self, by: u32) -> Result<(), AllocError> {
         let name = format!(in self.alloc; "pass {by}")?;
         self.lane(name.as_str(), Length::pixels(LANE))?;
-        for step in [Step::Other, Step::Submission, Step::Rejection] {
-            self.steps(by, step)?;
+        for layer in 0u8..LAYERS {
+            self.steps(by, layer)?;
         }
         self.below(Length::pixels(LANE));
         Ok(())
