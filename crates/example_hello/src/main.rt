@@ -13,6 +13,5 @@ fn main(rt: HostRuntime) -> anyhow::Result<()> {
     for answer in answers {
         println!(&rt; "{}", answer?)?;
     }
-    let counts = report.counts;
-    Ok(println!(&rt; "{} submitted, {} run", counts.submitted, counts.run)?)
+    Ok(println!(&rt; "{} run", report.counts.run)?)
 }
