@@ -1,7 +1,7 @@
 #!/usr/bin/env python3
 """Tells what is too long in README.md, CHANGELOG.md and docs/: a sentence of more than 30 words, a cell of a table of more than
 300 characters, README.md beyond 9 KB, and the users' pages, docs/*.md, beyond 80 KB in all. Tells each word that the glossaries
-explain twice.
+explain twice, each refusal of which docs/TROUBLE.md has no cause or no advice, and each mark of a merge.
 
     python3 tools/check_english.py [PAGE..]
 
@@ -19,6 +19,7 @@ from check_links import lines_of
 MOST_WORDS, MOST_CHARACTERS = 30, 300
 MOST_BYTES = {"README.md": 9 * 1024, "docs/*.md": 80 * 1024}
 GLOSSARIES = ["docs/GLOSSARY.md", "docs/inside/WORDS.md"]
+TROUBLE, REFUSALS = "docs/TROUBLE.md", "crates/tp_types/src/refusals.rt"
 
 
 def flaws(line):
@@ -48,6 +49,22 @@ def explained_twice():
         yield f"{' or '.join(GLOSSARIES)}: '{word}' is explained twice"
 
 
+def untold():
+    """The refusals, by their numbers and names in the sources, that have no cause or no advice among the troubles."""
+    told = {part.split("\n")[0].split("(")[0].rstrip(): part for part in re.split(r"^### ", pathlib.Path(TROUBLE).read_text(), flags=re.M)}
+    for name, number in re.findall(r"PoolError::(\w+)(?:\(_\))? => (\d+),", pathlib.Path(REFUSALS).read_text()):
+        if any(word not in told.get(f"{number} {name}", "") for word in ("*Cause:*", "*Do:*")):
+            yield f"{TROUBLE}: '{number} {name}' has no cause or no advice"
+
+
+def merge_marks(pages):
+    """The lines that a merge left behind."""
+    for page in pages:
+        for number, line in enumerate(pathlib.Path(page).read_text(encoding="utf-8").split("\n"), 1):
+            if re.match(r"(<{7}|>{7}) ", line):
+                yield f"{page}:{number}: {line}"
+
+
 def sentences(pages):
     for page in pages:
         for number, line in lines_of(pathlib.Path(page).read_text(encoding="utf-8")):
@@ -58,6 +75,7 @@ def sentences(pages):
 if sys.argv[1:]:
     found = list(sentences(sys.argv[1:]))
 else:
-    found = [*sentences(["README.md", "CHANGELOG.md", *sorted(glob.glob("docs/**/*.md", recursive=True))]), *large(), *explained_twice()]
+    pages = ["README.md", "CHANGELOG.md", *sorted(glob.glob("docs/**/*.md", recursive=True))]
+    found = [*sentences(pages), *merge_marks(pages), *large(), *explained_twice(), *untold()]
 print(*found, f"{len(found)} to mend", sep="\n")
 sys.exit(bool(found))
