@@ -1,6 +1,6 @@
 #!/usr/bin/env python3
-"""Runs the commands that README.md, docs/TUTORIAL.md, docs/COOKBOOK.md, docs/EXPLORE.md and docs/inside/PROVING.md give, in a fresh clone, and
-compares what they print.
+"""Runs the commands that README.md, docs/TUTORIAL.md, docs/COOKBOOK.md, docs/STORIES.md, docs/EXPLORE.md and docs/inside/PROVING.md give, in a
+fresh clone, and compares what they print.
 
     python3 tools/run_docs.py               all of them: those that prove take an hour and more
     python3 tools/run_docs.py --only-quick  without those that prove
@@ -18,7 +18,7 @@ What a block of a document is, fenced or indented:
   `diff` it is an edit of that file instead: the lines with `-` become those with `+`.
 
 All other blocks are passed over. Each command must succeed, unless what is printed next has a line with `error`, `not
-proved` or `hides`: there the page shows a failure. The status is 1 where a document and a run differ.
+proved` or `hides`, or the line just above it names a status: there the page shows a failure. The status is 1 where a document and a run differ.
 """
 import argparse
 import pathlib
@@ -33,7 +33,7 @@ COMMANDS = r"(rt|cd|git|python3|tools/\S+|mkdir|rm|cat|echo|printf|touch)\b"
 PROVES = r"rt (check|run|test|ci|lib|all|verdict|must-fail|plant|tidy)\b|further\.py|gate_costs\.py"
 GATE = r"rt ci\b|gate_costs\.py"
 FENCED = re.compile(r"^```(\w*)\n(.*?)^```$", re.M | re.S)
-SHOWN = re.compile(r"error|not proved|hides")
+SHOWN = re.compile(r"error|not proved|hides|the status [1-9]")
 INDENTED = re.compile(r"(?<=\n\n)((?: {4}[^\n]*\n|\n(?= {4}))+)")
 FILE = re.compile(r"`([\w-]*[./][\w./-]+)`[^`\n]*:$")
 
@@ -121,7 +121,7 @@ class Reader:
         elif label == "sh" or (not label and all(re.match(COMMANDS, line) for line in lines)):
             self.run(lines)
         elif label in ("", "text") and re.search(r"\b(prints?|output)\b", above, re.I):
-            if any(map(SHOWN.search, lines)):
+            if any(map(SHOWN.search, [above, *lines])):
                 self.failed = []
             if self.printed is not None and not comes(lines, self.printed):
                 self.fault("the document says\n" + "\n".join(lines) + "\n    and it printed\n" + "\n".join(self.printed))
@@ -144,7 +144,7 @@ def main():
     parser = argparse.ArgumentParser(description=__doc__, formatter_class=argparse.RawDescriptionHelpFormatter)
     parser.add_argument("--only-quick", action="store_true")
     parser.add_argument("--libs", type=pathlib.Path)
-    parser.add_argument("documents", nargs="*", default=["README.md", "docs/TUTORIAL.md", "docs/COOKBOOK.md", "docs/EXPLORE.md", "docs/inside/PROVING.md"])
+    parser.add_argument("documents", nargs="*", default=["README.md", "docs/TUTORIAL.md", "docs/COOKBOOK.md", "docs/STORIES.md", "docs/EXPLORE.md", "docs/inside/PROVING.md"])
     asked = parser.parse_args()
     faults = 0
     for document in asked.documents:
