@@ -124,9 +124,7 @@ fn parted(alloc: Global, first: &str, second: &str) -> Result<Vec<u8>, PoolError
         return Err(PoolError::NoMemory);
     };
     match follow(&mut front, &mut one, &mut other) {
-        Ok(Meeting::Parted(a, b)) => {
-            parting_text(alloc, &front, a, b, Form::Words)
-        }
+        Ok(Meeting::Parted(a, b)) => { parting_text(alloc, &front, a, b, Form::Words) }
         Ok(_) => Ok(Vec::new(alloc)),
         Err((_, refusal)) => Err(refusal),
     }
@@ -147,7 +145,12 @@ fn ended(alloc: Global, first: &str, second: &str) -> Result<Vec<u8>, PoolError>
 }
 
 /// What is told is as it is wanted: just this where nothing is wanted, and else a text that begins so.
-fn plays(rt: &impl Abort, line: usize, told: Result<Vec<u8>, PoolError>, wanted: &Result<&str, PoolError>) {
+fn plays(
+    rt: &impl Abort,
+    line: usize,
+    told: Result<Vec<u8>, PoolError>,
+    wanted: &Result<&str, PoolError>,
+) {
     match (told, wanted) {
         (Ok(text), Ok(wanted)) => {
             let text = str::from_utf8(text.as_slice()).unwrap_or("?");

@@ -73,8 +73,7 @@ fn drawn(alloc: Global, text: &str, window: &Window) -> (Result<bool, PoolError>
     let mut notes = Notes::none();
     let writer = &mut WatchedWriter::new(&mut written);
     let form = Form::Words;
-    let answer =
-        answer_question::<_, _, Drawing>(alloc, window, form, reader, writer, &mut notes);
+    let answer = answer_question::<_, _, Drawing>(alloc, window, form, reader, writer, &mut notes);
     (answer, written)
 }
 

@@ -14,9 +14,9 @@ mod fronts;
 #[cfg(test)]
 mod numbers;
 #[cfg(test)]
-mod questions;
-#[cfg(test)]
 mod pictures;
+#[cfg(test)]
+mod questions;
 #[cfg(test)]
 mod records;
 #[cfg(test)]

@@ -1,7 +1,8 @@
 //! The texts of three pictures.
 
 /// The life of one task.
-pub const LIFE: &str = "<svg xmlns=\"http://www.w3.org/2000/svg\" width=\"890\" height=\"236\" viewBox=\"0 0 890 236\" role=\"img\">
+pub const LIFE: &str =
+    "<svg xmlns=\"http://www.w3.org/2000/svg\" width=\"890\" height=\"236\" viewBox=\"0 0 890 236\" role=\"img\">
 <title>a record of a thread pool</title>
 <style>
 rect{shape-rendering:crispEdges}
@@ -56,7 +57,8 @@ text{font:11px sans-serif;fill:#767676}
 ";
 
 /// A rejection, and a cancel.
-pub const REFUSAL: &str = "<svg xmlns=\"http://www.w3.org/2000/svg\" width=\"890\" height=\"256\" viewBox=\"0 0 890 256\" role=\"img\">
+pub const REFUSAL: &str =
+    "<svg xmlns=\"http://www.w3.org/2000/svg\" width=\"890\" height=\"256\" viewBox=\"0 0 890 256\" role=\"img\">
 <title>a record of a thread pool</title>
 <style>
 rect{shape-rendering:crispEdges}
@@ -119,7 +121,8 @@ text{font:11px sans-serif;fill:#767676}
 ";
 
 /// A pool that shrinks.
-pub const SHRINK: &str = "<svg xmlns=\"http://www.w3.org/2000/svg\" width=\"890\" height=\"256\" viewBox=\"0 0 890 256\" role=\"img\">
+pub const SHRINK: &str =
+    "<svg xmlns=\"http://www.w3.org/2000/svg\" width=\"890\" height=\"256\" viewBox=\"0 0 890 256\" role=\"img\">
 <title>a record of a thread pool</title>
 <style>
 rect{shape-rendering:crispEdges}

@@ -114,9 +114,12 @@ pub record IsDrawn (d : Drawing) (h : List Entry) : Type 0 where
 
 -- a picture's text begins so
 abbrev pub picture_head : List ℕ
-picture_head = codes "<svg xmlns=\"http://www.w3.org/2000/svg\" width=\""
+picture_head = codes "<svg xmlns=\"http://www.w3.org/2000/svg\""
+
+abbrev pub IsPicture : List ℕ → Type 0
+IsPicture out = (more : List ℕ) × (out ≡ picture_head ++ more)
 
 -- a picture is written just where some entry is drawn
 abbrev pub Says : Drawing → List ℕ → Bool → Type 0
-Says d out true = (is_some d.first ≡ true) × ((more : List ℕ) × (out ≡ picture_head ++ more))
+Says d out true = (is_some d.first ≡ true) × IsPicture out
 Says d out false = (is_some d.first ≡ false) × (out ≡ [])

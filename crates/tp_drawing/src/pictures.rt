@@ -1,5 +1,8 @@
 //! A picture laid out.
 
+ghost use Rattle.std.specs.Prelude.{IfOk};
+ghost use Rattle.tp_drawing.specs.Drawn as drawn;
+
 use crate::drawings::{Call, Drawing, Life, Mark, Run, Step};
 use crate::scales::Scale;
 use crate::svg::{Length, Rectangle, Svg};
@@ -610,7 +613,9 @@ fn bottom_of(lanes: u64) -> Length {
 }
 
 /// The picture of what was gathered.
-pub fn picture_of(alloc: Global, drawing: &Drawing) -> Result<Vec<u8>, AllocError> {
+pub fn picture_of(alloc: Global, drawing: &Drawing) -> Result<Vec<u8>, AllocError>
+    ensures { IfOk result (λ text. drawn.IsPicture text.items) }
+{
     let scale = Scale {
         first: drawing.first.unwrap_or(0),
         last: drawing.last,
@@ -647,5 +652,5 @@ pub fn picture_of(alloc: Global, drawing: &Drawing) -> Result<Vec<u8>, AllocErro
     canvas.marks()?;
     canvas.below(Length::pixels(AXIS));
     canvas.legend()?;
-    canvas.svg.finish()
+    canvas.svg.finish(alloc)
 }

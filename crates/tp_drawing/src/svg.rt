@@ -1,6 +1,9 @@
 //! A writer of SVG, which escapes what it prints.
 
-use std::alloc::AllocError;
+ghost use Rattle.std.specs.Prelude.{IfOk};
+ghost use Rattle.tp_drawing.specs.Drawn as drawn;
+
+use std::alloc::{AllocError, Global};
 use std::fmt;
 
 /// A text within an element: what would be markup there is escaped.
@@ -75,10 +78,22 @@ pub struct Rectangle<'a> {
     pub title: &'a str,
 }
 
-/// A picture's text.
+/// How a picture's text begins.
+const HEAD: &str = "<svg xmlns=\"http://www.w3.org/2000/svg\"";
+
+/// What stands in a picture's text behind its head.
 #[derive(Drop)]
 pub struct Svg {
     text: String,
+}
+
+/// The text of a picture in which this stands behind its head.
+fn headed(alloc: Global, behind: &str) -> Result<Vec<u8>, AllocError>
+    ensures { IfOk result (λ text. drawn.IsPicture text.items) }
+{
+    let mut text = Vec::from_slice(alloc, HEAD.as_bytes())?;
+    text.extend_from_slice(behind.as_bytes())?;
+    Ok(text)
 }
 
 const STYLE: &str = "<style>
@@ -108,7 +123,7 @@ impl Svg {
         let title = Escaped(title);
         write!(
             &mut text,
-            "<svg xmlns=\"http://www.w3.org/2000/svg\" width=\"{width}\" height=\"{height}\" viewBox=\"0 0 {width} {height}\" role=\"img\">\n<title>{title}</title>\n"
+            " width=\"{width}\" height=\"{height}\" viewBox=\"0 0 {width} {height}\" role=\"img\">\n<title>{title}</title>\n"
         )?;
         text.push_str(STYLE)?;
         Ok(Svg { text })
@@ -173,8 +188,10 @@ impl Svg {
     }
 
     /// The whole text.
-    pub fn finish(mut self) -> Result<Vec<u8>, AllocError> {
+    pub fn finish(mut self, alloc: Global) -> Result<Vec<u8>, AllocError>
+        ensures { IfOk result (λ text. drawn.IsPicture text.items) }
+    {
         self.text.push_str("</svg>\n")?;
-        Ok(self.text.into_bytes())
+        headed(alloc, self.text.as_str())
     }
 }
