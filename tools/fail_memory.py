@@ -1,8 +1,8 @@
 #!/usr/bin/env python3
 """Runs built tests with each of their allocations refused in turn.
 
-    tools/fail_memory.py                    the tests of want of memory of tp_lives and tp_running
-    tools/fail_memory.py PROGRAM TEST ..    these tests of a built program of tests, as out/tp_running_tests; none: all
+    tools/fail_memory.py                    the tests of want of memory of test_pool
+    tools/fail_memory.py PROGRAM TEST ..    these tests of a built program of tests, as out/test_pool_tests; none: all
 
 The gate gives each test ample memory, and no allocator of a test's own reaches a running pool, whose calls take the
 process's memory. So this is done by hand: `rt test` in the crate's folder builds its tests (`unproved.py --test` does so
@@ -19,8 +19,7 @@ import tempfile
 
 ROOT = pathlib.Path(__file__).resolve().parent.parent
 USUAL = {
-    "tp_lives": ["memory::ample_memory_succeeds"],
-    "tp_running": ["memory::ample_memory_succeeds", "want_of_memory_makes_no_worker"],
+    "test_pool": ["memory::ample_memory_succeeds", "want_of_memory_makes_no_worker"],
 }
 SECONDS = 60
 # How the result of a test is told that ends with 4, its own or the library's.

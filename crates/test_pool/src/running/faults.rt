@@ -1,0 +1,82 @@
+// What becomes of workers whose plain tasks fault.
+
+use super::chores::Deed;
+use super::lives::lives;
+use super::scripts::{Answer, LIFE, LOOKS, Life, SETTINGS, SHUTS_DOWN, Step, View};
+use crate::stage::calls::Call;
+use crate::stage::findings::Finding;
+use crate::stage::users::{MANNER, Manner};
+use std::test::Fail;
+use tp_types::configs::Config;
+use tp_types::tasks::Kind;
+
+const FAULTS: Step = Step::Hand(Kind::Plain, Deed::Fault(7), Answer::Accepted);
+
+// One worker, three tasks that fault, and a good one.
+const FOUR: Life = Life {
+    settings: Config {
+        core: 1,
+        maximum: 1,
+        ..SETTINGS
+    },
+    first: &[FAULTS, FAULTS, FAULTS, LOOKS],
+    ..LIFE
+};
+
+const REPLACED: Life = Life {
+    last: &[SHUTS_DOWN],
+    findings: &[
+        Finding::Ended(0, Err(7)),
+        Finding::Ended(1, Err(7)),
+        Finding::Ended(2, Err(7)),
+        Finding::Ended(3, Ok(0)),
+        Finding::Replaced(3),
+        Finding::Submitted(4),
+        Finding::Run(4),
+        Finding::Largest(1),
+    ],
+    ..FOUR
+};
+
+// Each worker that faults has another in its place, until all tasks have run; the pool is shut down before that,
+// or after it.
+static ALL_REPLACED: [Life; 2] = [
+    REPLACED,
+    Life {
+        last: &[
+            Step::View(View::BecomesCompleted(4)),
+            Step::View(View::IsLive(1)),
+            SHUTS_DOWN,
+        ],
+        ..REPLACED
+    },
+];
+
+#[test]
+fn worker_that_faults_is_replaced(rt: HostRuntime) -> Result<(), Fail> {
+    lives(rt, rt.alloc(), &ALL_REPLACED)
+}
+
+// The one worker faults, and none is made in its place: the tasks left are handed back.
+static UNREPLACED: [Life; 1] = [Life {
+    manner: Manner {
+        consents: 1,
+        ..MANNER
+    },
+    last: &[
+        Step::View(View::BecomesLive(0)),
+        Step::Call(Call::Stop(1, 4)),
+    ],
+    findings: &[
+        Finding::Ended(0, Err(7)),
+        Finding::Unreplaced(1),
+        Finding::Run(1),
+        Finding::HandedBack(3),
+    ],
+    ..FOUR
+}];
+
+#[test]
+fn worker_that_is_not_replaced_leaves_its_tasks(rt: HostRuntime) -> Result<(), Fail> {
+    lives(rt, rt.alloc(), &UNREPLACED)
+}

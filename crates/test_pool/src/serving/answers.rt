@@ -1,0 +1,121 @@
+// What futures answer, those of single jobs, of many, and of groups.
+
+use super::chores::Deed;
+use super::lives::{ONE, lives_all};
+use super::scripts::{FIRST, Many, SHUTS_DOWN, Script, Step, Tale};
+use crate::stage::findings::Finding;
+use std::test::Fail;
+use tp_types::ids::TaskId;
+use tp_types::refusals::PoolError;
+use tp_types::tasks::Kind;
+
+const SINGLE: [Step; 18] = [
+    FIRST,
+    Step::Get(0, Ok(6)),
+    Step::GetUntil(0, 0, Ok(6)),
+    Step::TryGet(0, Ok(Some(6))),
+    Step::Submit(Kind::Future, Deed::End(Err(7)), 1),
+    Step::Get(1, Err(PoolError::Faulted(7))),
+    Step::GetUntil(1, 0, Err(PoolError::Faulted(7))),
+    Step::TryGet(1, Err(PoolError::Faulted(7))),
+    Step::Submit(Kind::Plain, Deed::End(Ok(1)), 2),
+    Step::Get(2, Err(PoolError::NotFuture)),
+    Step::GetUntil(2, 0, Err(PoolError::NotFuture)),
+    Step::TryGet(2, Err(PoolError::NotFuture)),
+    Step::Get(99, Err(PoolError::UnknownTask)),
+    Step::GetUntil(99, 0, Err(PoolError::UnknownTask)),
+    Step::TryGet(99, Err(PoolError::UnknownTask)),
+    Step::Submit(Kind::Future, Deed::Least, 3),
+    Step::Get(3, Ok(i64::MIN)),
+    SHUTS_DOWN,
+];
+
+static SINGLE_TALE: [Tale; 1] = [Tale {
+    settings: ONE,
+    holds: false,
+    script: Script {
+        first: &[&SINGLE],
+        beside: &[],
+    },
+    findings: &[Finding::Submitted(4), Finding::Run(4)],
+}];
+
+// A value, a fault, a plain task, and a number that no task has.
+#[test]
+fn future_answers_its_job(rt: HostRuntime) -> Result<(), Fail> {
+    lives_all(rt, rt.alloc(), &SINGLE_TALE)
+}
+
+const TWO: [Deed; 2] = [Deed::End(Ok(1)), Deed::End(Err(2))];
+
+const FAILING: [Deed; 2] = [Deed::End(Err(7)), Deed::End(Err(9))];
+
+const ONE_SUCCEEDS: [Deed; 2] = [Deed::End(Err(7)), Deed::End(Ok(3))];
+
+const TOGETHER: [Step; 11] = [
+    Step::Many(Many::All(&TWO, 0)),
+    Step::TryGet(0, Ok(Some(1))),
+    Step::TryGet(1, Err(PoolError::Faulted(2))),
+    Step::Many(Many::All(&[], 2)),
+    Step::Many(Many::AllUntil(&TWO, u64::MAX, 2)),
+    Step::TryGet(2, Ok(Some(1))),
+    Step::TryGet(3, Err(PoolError::Faulted(2))),
+    Step::Many(Many::Any(&[], Err(PoolError::NoTasks))),
+    Step::Many(Many::Any(&FAILING, Err(PoolError::AllFailed(Some(9))))),
+    Step::Many(Many::Any(&ONE_SUCCEEDS, Ok(3))),
+    SHUTS_DOWN,
+];
+
+static TOGETHER_TALE: [Tale; 1] = [Tale {
+    settings: ONE,
+    holds: false,
+    script: Script {
+        first: &[&TOGETHER],
+        beside: &[],
+    },
+    findings: &[
+        Finding::Submitted(8),
+        Finding::Run(8),
+        Finding::Cancelled(0),
+    ],
+}];
+
+#[test]
+fn many_jobs_answer_together(rt: HostRuntime) -> Result<(), Fail> {
+    lives_all(rt, rt.alloc(), &TOGETHER_TALE)
+}
+
+const GROUP: [Step; 16] = [
+    Step::Poll(3, Ok(None)),
+    Step::Take(3, Err(PoolError::NothingOpen)),
+    Step::Submit(Kind::Group(3), Deed::End(Ok(1)), 0),
+    Step::Submit(Kind::Group(3), Deed::End(Err(2)), 1),
+    Step::Submit(Kind::Group(4), Deed::End(Ok(4)), 2),
+    Step::Submit(Kind::Group(3), Deed::End(Ok(3)), 3),
+    Step::Take(3, Ok(TaskId(0))),
+    Step::Take(3, Ok(TaskId(1))),
+    Step::Take(3, Ok(TaskId(3))),
+    Step::Poll(3, Ok(None)),
+    Step::Take(3, Err(PoolError::NothingOpen)),
+    Step::Poll(4, Ok(Some(TaskId(2)))),
+    Step::Poll(4, Ok(None)),
+    Step::TryGet(1, Err(PoolError::Faulted(2))),
+    Step::Get(3, Ok(3)),
+    SHUTS_DOWN,
+];
+
+static GROUP_TALE: [Tale; 1] = [Tale {
+    settings: ONE,
+    holds: false,
+    script: Script {
+        first: &[&GROUP],
+        beside: &[],
+    },
+    findings: &[Finding::Run(4)],
+}];
+
+// Three jobs of a group come in the order in which they were submitted, and then none is open.
+#[test]
+fn group_comes_in_order(rt: HostRuntime) -> Result<(), Fail> {
+    lives_all(rt, rt.alloc(), &GROUP_TALE)
+}

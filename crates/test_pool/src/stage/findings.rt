@@ -1,0 +1,208 @@
+//! What a closed pool is to have left.
+
+use crate::stage::boards::{Board, Signal};
+use tp_pool::closing::Report;
+use tp_record::entries::{Did, Entry, Failed, Looked, Offered, Opened, Seconded, Took};
+use tp_types::ids::{SlotId, TaskId};
+use tp_types::states::Counts;
+use tp_types::tasks::{Kind, Outcome};
+
+/// A finding.
+#[derive(Clone, Copy)]
+pub enum Finding {
+    /// A counter.
+    Submitted(u32),
+    Run(u32),
+    Caller(u32),
+    Rejected(u32),
+    HandedBack(u32),
+    Cancelled(u32),
+    Completed(u32),
+    Largest(u32),
+    /// Exactly one worker ended this task, so.
+    Ended(u32, Outcome),
+    /// So many entries are answered so.
+    Told(usize, Did),
+    /// The whole record of a task that is handed back by a pool without workers, all by the one caller.
+    Unstaffed,
+    /// These tasks were taken from the queue, in this order, and no others.
+    Taken([u32; 3]),
+    /// No task faulted.
+    NoFault,
+    /// So many workers faulted, and each had another made in its place, or had not.
+    Replaced(u32),
+    Unreplaced(u32),
+    /// So many tasks were given to workers by hand.
+    ByHand(usize),
+    /// A count of the test: what it is, or that it is not 0.
+    Noted(Signal, u64),
+    NotedSome(Signal),
+}
+
+fn counted(counts: Counts, finding: Finding) -> bool {
+    match finding {
+        Finding::Submitted(n) => counts.submitted == n,
+        Finding::Run(n) => counts.run == n,
+        Finding::Caller(n) => counts.caller == n,
+        Finding::Rejected(n) => counts.rejected == n,
+        Finding::HandedBack(n) => counts.handedback == n,
+        Finding::Cancelled(n) => counts.cancelled == n,
+        Finding::Completed(n) => counts.completed == n,
+        Finding::Largest(n) => counts.largest == n,
+        _ => false,
+    }
+}
+
+// Whether exactly one entry ends this task, with this outcome.
+fn ended(entries: &[Entry], t: u32, outcome: Outcome) -> bool {
+    let mut ends = 0usize;
+    for entry in entries {
+        match entry.did {
+            Did::End(_, TaskId(task), found) if task == t => {
+                if found != outcome {
+                    return false;
+                }
+                ends = ends.saturating_add(1);
+            }
+            _ => {}
+        }
+    }
+    ends == 1
+}
+
+fn told(entries: &[Entry], times: usize, did: Did) -> bool {
+    let mut found = 0usize;
+    for entry in entries {
+        if entry.did == did {
+            found = found.saturating_add(1);
+        }
+    }
+    found == times
+}
+
+/// A submission where no worker is made, and what follows a stop.
+pub const UNSTAFFED: [Did; 8] = [
+    Did::Submit(TaskId(0), Kind::Plain, 0, Looked::Reserve(SlotId(0))),
+    Did::Fail(SlotId(0), Failed::Offer(TaskId(0))),
+    Did::Offer(TaskId(0), Offered::Queued),
+    Did::Second(TaskId(0), Seconded::StayReserve(SlotId(0))),
+    Did::Fail(SlotId(0), Failed::Nothing),
+    Did::Stop(1),
+    Did::Tidy,
+    Did::Ended,
+];
+
+/// Whether these are the first entries of the unstaffed pool, so many of them, by the first caller.
+pub fn is_unstaffed(entries: &[Entry], entries_wanted: usize) -> bool {
+    let mut found = 0usize;
+    for (entry, did) in entries.iter().zip(&UNSTAFFED) {
+        if entry.by != 0 || entry.did != *did {
+            return false;
+        }
+        found = found.saturating_add(1);
+    }
+    found == entries_wanted && entries.len() == entries_wanted
+}
+
+fn taken(entries: &[Entry], tasks: &[u32]) -> bool {
+    let mut rest = tasks.iter();
+    for entry in entries {
+        if let Did::Take(_, Took::Head(TaskId(task))) = entry.did
+            && rest.next() != Some(&task)
+        {
+            return false;
+        }
+    }
+    rest.next().is_none()
+}
+
+fn no_fault(entries: &[Entry]) -> bool {
+    for entry in entries {
+        if matches!(entry.did, Did::End(_, _, Err(_))) {
+            return false;
+        }
+    }
+    true
+}
+
+// What the thread of this number did first in these entries, and those after it.
+fn next_by(entries: &[Entry], by: u32) -> Option<(Did, &[Entry])> {
+    let mut rest = entries;
+    for _ in 0..entries.len() {
+        let (entry, later) = rest.split_first()?;
+        if entry.by == by {
+            return Some((entry.did, later));
+        }
+        rest = later;
+    }
+    None
+}
+
+// Whether a thread that faulted leaves next, with a slot reserved in its place, and then says of that slot that
+// a worker was made, or was not.
+fn is_followed(later: &[Entry], by: u32, made: bool) -> bool {
+    let Some((Did::Leave(_, Some(w)), later)) = next_by(later, by) else {
+        return false;
+    };
+    match next_by(later, by) {
+        Some((Did::Open(v, Opened::Live), _)) => made && v == w,
+        Some((Did::Fail(v, Failed::Nothing), _)) => !made && v == w,
+        _ => false,
+    }
+}
+
+// Whether so many tasks faulted, each of which is so followed.
+fn are_followed(entries: &[Entry], faults: u32, made: bool) -> bool {
+    let mut found = 0u32;
+    let mut rest = entries;
+    for _ in 0..entries.len() {
+        let Some((entry, later)) = rest.split_first() else {
+            return false;
+        };
+        if matches!(entry.did, Did::End(_, _, Err(_))) {
+            if !is_followed(later, entry.by, made) {
+                return false;
+            }
+            found = found.saturating_add(1);
+        }
+        rest = later;
+    }
+    found == faults
+}
+
+fn by_hand(entries: &[Entry]) -> usize {
+    let mut given = 0usize;
+    for entry in entries {
+        if matches!(entry.did, Did::Offer(_, Offered::Hand(_))) {
+            given = given.saturating_add(1);
+        }
+    }
+    given
+}
+
+fn is_found(report: &Report, board: &Board, finding: Finding) -> bool {
+    let entries = report.entries.as_slice();
+    match finding {
+        Finding::Ended(t, outcome) => ended(entries, t, outcome),
+        Finding::Told(times, did) => told(entries, times, did),
+        Finding::Unstaffed => is_unstaffed(entries, 8),
+        Finding::Taken(tasks) => taken(entries, &tasks),
+        Finding::NoFault => no_fault(entries),
+        Finding::Replaced(faults) => are_followed(entries, faults, true),
+        Finding::Unreplaced(faults) => are_followed(entries, faults, false),
+        Finding::ByHand(tasks) => by_hand(entries) == tasks,
+        Finding::NotedSome(signal) => board.read(signal) > 0,
+        Finding::Noted(signal, to) => board.read(signal) == to,
+        _ => counted(report.counts, finding),
+    }
+}
+
+/// The first of these that is not found, counted from 0.
+pub fn missing(report: &Report, board: &Board, findings: &[Finding]) -> Option<usize> {
+    for (number, finding) in findings.iter().enumerate() {
+        if !is_found(report, board, *finding) {
+            return Some(number);
+        }
+    }
+    None
+}
