@@ -1,7 +1,7 @@
 #!/usr/bin/env python3
-"""endless.py PROGRAM [FARE TASKS]..: has `poolbench endless` run, and reads its resident memory from outside.
+"""endless.py PROGRAM [FARE TASKS]..: has `lab_bench endless` run, and reads its resident memory from outside.
 
-PROGRAM is a built poolbench (`tools/unproved.py poolbench OUT`). At each line that the program prints, the memory that the kernel
+PROGRAM is a built lab_bench (`tools/unproved.py lab_bench OUT`). At each line that the program prints, the memory that the kernel
 says is resident (VmRSS) is read, and at the end by how much it grew since the first line. Without a FARE, all of them with
 20,000,000 tasks each. The aim is a growth of less than 1 MB.
 """

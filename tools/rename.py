@@ -95,11 +95,16 @@ def of_crates(names):
     return [path for path in texts() if any(root == path or root in path.parents for root in roots)]
 
 
+def names_of_crate(old, new):
+    """The changes of a crate's name: the word, its folders, and what is built of it."""
+    return [(WORD.format(old), new), *((rf"(?<={folder}/){old}\b", new) for folder in ("crates", "further")), (rf"(?<=out/){old}(?=_tests\b|\b)", new)]
+
+
 def crate(tree, old, new):
     """A crate's new name."""
     if (ROOT / "crates" / new).exists():
         sys.exit(f"rename: there is a crate {new}")
-    tree.replace([(WORD.format(old), new), (rf"(?<=crates/){old}(?=/)", new), (rf"(?<=further/){old}\b", new)], texts())
+    tree.replace(names_of_crate(old, new), texts())
     for home in (ROOT / "crates", ROOT / "tools/further"):
         tree.move(home / old, home / new)
 
@@ -127,7 +132,7 @@ def merge(tree, old, new):
         shutil.rmtree(here)
     own = [path for path in texts() if there in path.parents and path.suffix == ".rt"]
     tree.replace([(rf"\b(?:{old}|{new})::", "crate::")], own)
-    tree.replace([(WORD.format(old), new), (rf"(?<=crates/){old}(?=/)", new), (rf"(?<=further/){old}\b", new)], texts())
+    tree.replace(names_of_crate(old, new), texts())
     lines = []
     for line in (ROOT / "crates.txt").read_text().split("\n"):
         name, colon, below = line.partition(":")

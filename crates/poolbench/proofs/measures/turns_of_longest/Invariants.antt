@@ -1,5 +1,0 @@
-use Rattle.std.proofs.Common.{◌≤◌, ◌+◌, ◌^◌}
-use Rattle.poolbench.proofs.measures.turns_of_longest.Given as goal
-
-abbrev pub invariant-loop-turn : goal.invariant-loop-turn
-invariant-loop-turn g l = l.slots.idlings ≤ 2 ^ 32 + l.turn

@@ -1,6 +1,0 @@
-use Rattle.std.proofs.Common.{◌≤◌, ◌+◌, ◌^◌}
-use Rattle.tp_queue.specs.Queues.{waiting_of}
-use Rattle.poolbench.proofs.measures.turns_of_remove.Given as goal
-
-abbrev pub invariant-loop-turn : goal.invariant-loop-turn
-invariant-loop-turn g l = (waiting_of l.queue).offers ≤ 2 ^ 32 + l.turn
