@@ -204,7 +204,15 @@ fn lived<
 
 // A seat for each caller, with a pass that is split from this one, which then has room for all receipts of the pool's end. NoMemory (4)
 // or BookFull (5).
-fn seats<G: PoolNaming, W: Task, H: Wait + Copy, E: Edge, K: Keeper, O: Drop>(
+fn seats<
+    G: PoolNaming,
+    V: Send + Drop,
+    W: Task<Output = V> + Send,
+    H: Wait + Copy,
+    E: Edge,
+    K: Keeper,
+    O: Drop,
+>(
     rt: &H,
     alloc: Global,
     pool: &PoolOf<G, Held<W>, E, K>,
