@@ -118,12 +118,12 @@ fn run_fates<R: Read, S: Read, W: Write, E: Write>(
 
 /// A record that is read beside another one, and its name.
 #[derive(Drop)]
-struct Beside<'a, R> {
-    name: &'a str,
+struct Beside<'a, 'n, R> {
+    name: &'n str,
     text: RecordText<'a, R>,
 }
 
-impl<R: Read> Beside<'_, R> {
+impl<R: Read> Beside<'_, '_, R> {
     /// Tells why it is refused.
     fn tell_refused<E: Write>(
         &self,
@@ -151,8 +151,8 @@ impl<R: Read> Beside<'_, R> {
 fn parting_told<R: Read, S: Read, E: Write>(
     alloc: Global,
     config: &Config,
-    first: &mut Beside<'_, R>,
-    second: &mut Beside<'_, S>,
+    first: &mut Beside<'_, '_, R>,
+    second: &mut Beside<'_, '_, S>,
     form: Form,
     errors: &mut E,
 ) -> Result<Told, Refused>
@@ -193,8 +193,8 @@ fn parting_told<R: Read, S: Read, E: Write>(
 /// Tells where two records part; pools of other settings have no entry in common.
 fn told_beside<R: Read, S: Read, E: Write>(
     alloc: Global,
-    first: &mut Beside<'_, R>,
-    second: &mut Beside<'_, S>,
+    first: &mut Beside<'_, '_, R>,
+    second: &mut Beside<'_, '_, S>,
     form: Form,
     errors: &mut E,
 ) -> Result<Told, Refused> {

@@ -54,13 +54,13 @@ impl fmt::Display for Walked<'_> {
 
 /// A walk that is told of on a terminal.
 #[derive(Drop)]
-struct ToldWalk<'a, E> {
+struct ToldWalk<'a, 'n, E> {
     line: ProgressLine<'a, E>,
-    name: &'a str,
+    name: &'n str,
     is_seen: bool,
 }
 
-impl<E: Write> Watch for ToldWalk<'_, E> {
+impl<E: Write> Watch for ToldWalk<'_, '_, E> {
     fn walked(&mut self, walked: usize, known: usize) {
         if self.is_seen && walked > 0 && walked % BETWEEN == 0 {
             let name = self.name;
