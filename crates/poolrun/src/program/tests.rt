@@ -394,6 +394,7 @@ static COMPLETED: [Row; 4] = [
                     "complete -c poolrun -n '__fish_seen_subcommand_from steps' -l strict -d 'Ends with status 1",
                     "complete -c poolrun -n '__fish_seen_subcommand_from now' -l at -r -d 'Stands after entry N",
                     "with this part, as \\'b rejected\\'; status 1",
+                    "complete -c poolrun -l color -x -a ' auto always never' -d 'Colours messages",
                 ],
             ),
             NONE,
