@@ -361,7 +361,7 @@ static COMPLETED: [Row; 4] = [
             Wanted::Parts(
                 "_poolrun() {\n",
                 &[
-                    "        words=' steps threads audit explore why now stats completions help --help --version'\n",
+                    "        words=' steps threads audit explore why now stats check diff draw completions help --help --version'\n",
                     "            steps) words=' --explain --strict --record --json --color --help' ;;\n",
                     "\n}\ncomplete -o default -F _poolrun poolrun\n",
                 ],
