@@ -1,12 +1,13 @@
 #!/usr/bin/env python3
-"""Tells each link and each file name in README.md, CHANGELOG.md and docs/ that leads nowhere.
+"""Tells each link and each file name in README.md, CHANGELOG.md and docs/ that leads nowhere, and each name that stands in no source.
 
     python3 tools/check_links.py [--root FOLDER]
 
 Read are Markdown links, with their anchors, and what stands in backticks and looks like a path of the repository:
 it begins with a folder or a file at its top, or it is a crate's name such as `tp_pool`. NAME, `*` and `..` in a
 path stand for anything; `out` is made by a run, and a crate that a page makes by `rt new` by its reader. Code blocks
-are not read. The status is 1 where something is missing, and each line says FILE:LINE and what it names.
+are not read. In tables a name in backticks, as `Core::stop` or `law_jobs_have_room`, is a word of the sources, of the bindings or
+of a file's name. The status is 1 where something is missing, and each line says FILE:LINE and what it names.
 """
 import argparse
 import glob
@@ -18,6 +19,8 @@ import sys
 LINK = re.compile(r"\[[^\]]*\]\(([^)\s]+)\)")
 QUOTED = re.compile(r"`([^`\s]+)`")
 CRATE = re.compile(r"tp_[a-z_]+$")
+NAME = re.compile(r"`(\w+(?:::(?:\w+|\{[\w, ]+\}))*)`")
+SOURCES = ["crates/*/src/**/*.rt", "crates/*/specs/**/*.antt", "crates/*/proofs/**/*.antt", "bindings/**/*", "tools/*.py"]
 MADE = {"out", "NAME", "F"}
 
 
@@ -84,6 +87,24 @@ def faults(root, page, tops, crates):
                 yield number, "the file crates/" + word
 
 
+def words_of(root, listed):
+    """The words of the sources, of the bindings and of file names; those of Java, of Rust and of Python stand in the pages alone."""
+    words = set(re.findall(r"\w+", "\n".join(listed)))
+    for pattern in SOURCES:
+        for path in root.glob(pattern):
+            if path.is_file() and "out" not in path.parts:
+                words |= set(re.findall(r"\w+", path.read_text(errors="replace")))
+    return words
+
+
+def strangers(page, words):
+    """The names in the tables of a page that stand in no source: those of two parts, and those with an underscore."""
+    for number, line in lines_of(page.read_text()):
+        for name in NAME.findall(line) if line.startswith("|") else []:
+            if ("::" in name or "_" in name) and not words.issuperset(re.findall(r"\w+", name)):
+                yield number, "the name " + name
+
+
 def main():
     parser = argparse.ArgumentParser(description=__doc__, formatter_class=argparse.RawDescriptionHelpFormatter)
     parser.add_argument("--root", default=pathlib.Path(__file__).resolve().parent.parent, type=pathlib.Path)
@@ -91,9 +112,10 @@ def main():
     listed = subprocess.run(["git", "ls-files"], cwd=root, capture_output=True, text=True, check=True).stdout.split()
     tops = {name.split("/")[0] for name in listed} | {"crates", "docs", "tools"}
     crates = {name.split("/")[1] for name in listed if name.startswith("crates/")}
+    words = words_of(root, listed)
     found = 0
     for page in [root / "README.md", root / "CHANGELOG.md", *sorted((root / "docs").glob("**/*.md"))]:
-        for number, what in faults(root, page, tops, crates):
+        for number, what in [*faults(root, page, tops, crates), *strangers(page, words)]:
             found += 1
             print(f"{page.relative_to(root)}:{number}: {what} leads nowhere")
     print(f"{found} lead nowhere")
