@@ -1,5 +1,6 @@
 #!/usr/bin/env python3
-"""Tells each link and each file name in README.md, CHANGELOG.md and docs/ that leads nowhere, and each name that stands in no source.
+"""Tells each link and each file name in README.md, CHANGELOG.md and docs/ that leads nowhere, each name that stands in no source, and each page
+that is more than two clicks away from README.md.
 
     python3 tools/check_links.py [--root FOLDER]
 
@@ -105,6 +106,19 @@ def strangers(page, words):
                 yield number, "the name " + name
 
 
+def pages_behind(page):
+    """The pages that this one links."""
+    targets = (target.partition("#")[0] for _, line in lines_of(page.read_text()) for target in LINK.findall(line))
+    return {(page.parent / target).resolve() for target in targets if target.endswith(".md")}
+
+
+def far(root, pages):
+    """The pages to which no two clicks lead."""
+    near = pages_behind(root / "README.md")
+    near |= {page for one in near for page in pages_behind(one)}
+    return [page for page in pages[1:] if page not in near]
+
+
 def main():
     parser = argparse.ArgumentParser(description=__doc__, formatter_class=argparse.RawDescriptionHelpFormatter)
     parser.add_argument("--root", default=pathlib.Path(__file__).resolve().parent.parent, type=pathlib.Path)
@@ -114,7 +128,11 @@ def main():
     crates = {name.split("/")[1] for name in listed if name.startswith("crates/")}
     words = words_of(root, listed)
     found = 0
-    for page in [root / "README.md", root / "CHANGELOG.md", *sorted((root / "docs").glob("**/*.md"))]:
+    pages = [root / "README.md", root / "CHANGELOG.md", *sorted((root / "docs").glob("**/*.md"))]
+    for page in far(root, pages):
+        found += 1
+        print(f"{page.relative_to(root)}: is more than two clicks away")
+    for page in pages:
         for number, what in [*faults(root, page, tops, crates), *strangers(page, words)]:
             found += 1
             print(f"{page.relative_to(root)}:{number}: {what} leads nowhere")
