@@ -1,13 +1,13 @@
-//! Tests of running pools, and what they share: lives that callers alone drive, pools that run jobs, futures above them.
+//! Tests of running pools: their lives and settings, the jobs that they run, and the futures above them. `harness` plays the tests' lines.
 #![tactic(auto)]
 
 #[cfg(test)]
 mod compare;
+#[cfg(test)]
+mod harness;
 #[cfg(test)]
 mod lives;
 #[cfg(test)]
 mod running;
 #[cfg(test)]
 mod serving;
-#[cfg(test)]
-mod stage;

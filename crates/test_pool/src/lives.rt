@@ -1,9 +1,7 @@
-//! Lives of whole pools, from their making to their close, driven by their callers alone.
+//! Whole lives of pools, most of which have no tasks; and what stands beside a pool: flags, receipts, interfaces and the lock.
 
-mod calls;
 mod closing;
 mod flags;
-mod helpers;
 mod interfaces;
 mod lock;
 mod memory;

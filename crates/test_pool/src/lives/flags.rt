@@ -20,8 +20,8 @@ fn all_holds_see_a_flag_set(rt: HostRuntime) -> Result<(), Fail> {
     Ok(())
 }
 
-// A slot's flag as its worker finds it for the next job: whether it is another one, whether it is set, and whether the pool's
-// hold sets it.
+// A slot's flag as its worker finds it for the next job: whether it is another one, whether it is set, and whether it is set once the
+// pool sets its own hold.
 fn renewed(flag: &mut SlotFlag, kept: &mut CancelFlag, alloc: Global) -> (bool, bool, bool) {
     let other = flag.renew(alloc);
     let changes = other.is_some();
@@ -60,33 +60,44 @@ fn flag_serves_again_where_no_job_kept_it(rt: HostRuntime) -> Result<(), Fail> {
 
 // Where a caller is with its task.
 #[derive(Clone, Copy)]
-enum Stage {
+enum Phase {
     Idle,
     Submitted,
     Runs,
 }
 
-// The next move of a caller among five, and whether it lacked a flag. Some find no memory for the flag of their next task.
-fn moved(flags: &mut Flags, t: TaskId, stage: Stage, next: Option<CancelFlag>) -> (Stage, bool) {
-    match stage {
-        Stage::Idle => (Stage::Submitted, flags.reserve(5).is_err()),
-        Stage::Submitted => {
+// Whether this task has a flag that was no other task's: such a one is not set. It is set then.
+fn has_its_own(flags: &Flags, t: TaskId) -> bool {
+    let fresh = match flags.at_caller(t) {
+        Some(flag) => !flag.is_set(),
+        None => false,
+    };
+    flags.set_at_caller(t);
+    fresh
+}
+
+// The next move of a caller among five, and whether it lacked a flag of its own. `next` is the flag for its next task, where there was memory for
+// one.
+fn moved(flags: &mut Flags, t: TaskId, phase: Phase, next: Option<CancelFlag>) -> (Phase, bool) {
+    match phase {
+        Phase::Idle => (Phase::Submitted, flags.reserve(5).is_err()),
+        Phase::Submitted => {
             flags.begin_at_caller(t);
             if let Some(flag) = next {
                 flags.add_ready(flag);
             }
-            (Stage::Runs, flags.at_caller(t).is_none())
+            (Phase::Runs, !has_its_own(flags, t))
         }
-        Stage::Runs => {
+        Phase::Runs => {
             flags.end_at_caller(t);
-            (Stage::Idle, false)
+            (Phase::Idle, false)
         }
     }
 }
 
-// Five callers submit, run and end their tasks in an order by chance. How often one lacked a flag, and how often one ran a task.
+// Five callers submit, run and end their tasks in a random order: how often one lacked a flag, and how often one ran a task.
 fn lacking(alloc: Global, flags: &mut Flags) -> (u32, u32) {
-    let mut stages = [Stage::Idle; 5];
+    let mut phases = [Phase::Idle; 5];
     let (mut chance, mut lacked, mut ran) = (1u64, 0u32, 0u32);
     for _ in 0..20_000u32 {
         chance = chance
@@ -98,17 +109,17 @@ fn lacking(alloc: Global, flags: &mut Flags) -> (u32, u32) {
         } else {
             CancelFlag::new(alloc).ok()
         };
-        if let Some(stage) = stages.get_mut(at as usize) {
-            let (then, lacks) = moved(flags, TaskId(at as u32), *stage, next);
+        if let Some(phase) = phases.get_mut(at as usize) {
+            let (then, lacks) = moved(flags, TaskId(at as u32), *phase, next);
             lacked = lacked.wrapping_add(u32::from(lacks));
-            ran = ran.wrapping_add(u32::from(matches!(then, Stage::Runs)));
-            *stage = then;
+            ran = ran.wrapping_add(u32::from(matches!(then, Phase::Runs)));
+            *phase = then;
         }
     }
     (lacked, ran)
 }
 
-// A caller that submitted a task finds a flag, should it run the task itself.
+// A caller that has to run its own task finds a flag for it, since its submission reserved one.
 #[test]
 fn five_callers_have_a_flag_each(rt: HostRuntime) -> Result<(), Fail> {
     let mut flags = Flags::new(rt.alloc(), 1)?;

@@ -1,6 +1,9 @@
-// What users write, called through its interfaces.
+//! What users write, called through its interfaces.
 
 use crate::compare::same;
+use crate::harness::boards::Board;
+use crate::harness::chores::{Chore, Deed};
+use std::alloc::Global;
 use std::process::Abort;
 use std::test::Fail;
 use tp_pool::factories::{Consenting, ThreadFactory};
@@ -12,34 +15,11 @@ use tp_pool::{Any, Body};
 use tp_protocols::flags::CancelFlag;
 use tp_types::configs::Verdict;
 use tp_types::ids::{SlotId, TaskId};
+use tp_types::refusals::PoolError;
 use tp_types::states::RunState;
-use tp_types::tasks::{Outcome, Promise, WIDEST, as_widest};
+use tp_types::tasks::{Outcome, Promise, WIDEST};
 
-// Answers its value, or fault 9 where its flag is set.
-#[derive(Drop)]
-struct Looking {
-    value: i64,
-}
-
-impl Job for Looking {
-    ghost use Rattle.tp_types.specs.declared.tasks.TheConstants.{WIDEST};
-
-    ghost promised = { λ _. WIDEST };
-
-    fn promise(&self) -> Promise {
-        WIDEST
-    }
-
-    fn call(&mut self, cancel: &CancelFlag) -> Outcome {
-        as_widest(if cancel.is_set() {
-            Err(9)
-        } else {
-            Ok(self.value)
-        })
-    }
-}
-
-// Asks each interface once, through its bound.
+// Calls each interface once, through its bound.
 fn turn<J: Job, F: ThreadFactory, H: Hooks, P: Gate>(
     mut job: J,
     cancel: &CancelFlag,
@@ -60,13 +40,18 @@ fn turn<J: Job, F: ThreadFactory, H: Hooks, P: Gate>(
     (allowed, promise, outcome)
 }
 
-// A boxed job that looks at this flag ends so.
+// A job that looks at its flag.
+fn looking(alloc: Global) -> Result<Chore, PoolError> {
+    Chore::new(&Board::new(alloc)?, Deed::Look)
+}
+
+// A boxed job that looks at this flag has this outcome.
 fn has_a_turn(
     rt: &(impl Abort + AllocGlobal),
     flag: &CancelFlag,
     outcome: Outcome,
 ) -> Result<(), Fail> {
-    let job: Box<dyn Job> = Box::new(rt.alloc(), Looking { value: 5 })?;
+    let job: Box<dyn Job> = Box::new(rt.alloc(), looking(rt.alloc())?)?;
     let job = Boxed { job };
     let had = turn(job, flag, &mut Consenting, &mut NoHooks, &OpenGate);
     same(rt, 0, &had, &(true, WIDEST, outcome));
@@ -76,9 +61,9 @@ fn has_a_turn(
 #[test]
 fn boxed_job_has_a_turn(rt: HostRuntime) -> Result<(), Fail> {
     let flag = CancelFlag::new(rt.alloc())?;
-    has_a_turn(&rt, &flag, Ok(5))?;
+    has_a_turn(&rt, &flag, Ok(0))?;
     flag.set();
-    has_a_turn(&rt, &flag, Err(9))
+    has_a_turn(&rt, &flag, Ok(1))
 }
 
 // A body that names its priority.
@@ -103,7 +88,7 @@ fn priority_of<J: Job>(job: &J) -> u32 {
 
 #[test]
 fn boxes_and_bodies_keep_their_priorities(rt: HostRuntime) -> Result<(), Fail> {
-    let plain: Box<dyn Job> = Box::new(rt.alloc(), Looking { value: 5 })?;
+    let plain: Box<dyn Job> = Box::new(rt.alloc(), looking(rt.alloc())?)?;
     let urgent: Box<dyn Job> = Box::new(rt.alloc(), Any(Urgent))?;
     let found = (
         priority_of(&Any(Urgent)),

@@ -1,4 +1,4 @@
-// The lock, as holds take it.
+//! The pool's lock.
 
 use crate::compare::same;
 use std::sync::{Mutex, Wait};
@@ -6,7 +6,7 @@ use std::test::Fail;
 use std::thread;
 use tp_pool::lock::{WORKER, polite};
 
-// Adds 1, so many times, each in a hold of its own.
+// Adds 1 so many times, and takes the lock for each.
 fn add<R: Wait>(rt: &R, lock: &Mutex<u64>, times: u32) {
     for _ in 0..times {
         let mut sum = polite(rt, lock, WORKER);

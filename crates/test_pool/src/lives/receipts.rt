@@ -41,13 +41,13 @@ static RECEIPTS: [(u32, &[Entry], bool); 10] = [
     (2, &[], true),
     (0, &[FIRST, SECOND, CHANGED], false),
     (0, &[FIRST, MOVED, SECOND], false),
-    // One is left out, and the first.
+    // One entry is left out: one of two that are equal, and the first.
     (0, &[FIRST, SECOND], false),
     (0, &[SECOND, SECOND], false),
-    // One is doubled, and two are exchanged.
+    // One entry is doubled, and two are exchanged.
     (0, &[FIRST, FIRST, SECOND, SECOND], false),
     (0, &[SECOND, FIRST, SECOND], false),
-    // None was made.
+    // This pass made no entry.
     (2, &[FIRST], false),
 ];
 

@@ -1,31 +1,28 @@
-// The settings of a pool, and its stop.
+//! The settings of a pool, and its stop.
 
-use super::calls::Line;
-use super::helpers::{Beginning, Ending, Life, Row, lives};
-use crate::stage::calls::Call;
+use crate::harness::calls::Call;
+use crate::harness::findings::{Finding, NO_COUNTS, Row};
+use crate::harness::lives::lives;
+use crate::harness::scripts::{LIFE, Life, ONE_WORKER, Step, View};
 use std::test::Fail;
-use tp_pool::hooks::NoHooks;
 use tp_record::entries::{Ask, Did};
+use tp_types::configs::Config;
 use tp_types::ids::TaskId;
 use tp_types::refusals::PoolError;
 
-// Each setting once, what no pool can do, and what no pool without tasks can.
-const LINES: [Line; 11] = [
-    (0, Call::Core(2), Ok(true)),
-    (0, Call::Maximum(3), Ok(true)),
-    (0, Call::CoreTimeout(true), Ok(true)),
-    (0, Call::Purge(0), Ok(true)),
-    (0, Call::Core(4), Err(PoolError::BadSizes)),
-    (0, Call::Maximum(1), Err(PoolError::BadSizes)),
-    (0, Call::Keep(0), Err(PoolError::KeepZero)),
-    (
-        0,
-        Call::Cancel(TaskId(0), true, true),
-        Err(PoolError::UnknownTask),
-    ),
-    (0, Call::Remove(TaskId(0)), Err(PoolError::UnknownTask)),
-    (0, Call::CountsNothing, Ok(true)),
-    (0, Call::Stop(0, 0), Ok(true)),
+// Each setting once, settings that no pool may have, and calls that want a task where there is none.
+const LINES: [Step; 11] = [
+    Step::Call(Call::Core(2)),
+    Step::Call(Call::Maximum(3)),
+    Step::Call(Call::CoreTimeout(true)),
+    Step::Call(Call::Purge(0)),
+    Step::Refused(Call::Core(4), PoolError::BadSizes),
+    Step::Refused(Call::Maximum(1), PoolError::BadSizes),
+    Step::Refused(Call::Keep(0), PoolError::KeepZero),
+    Step::Refused(Call::Cancel(TaskId(0), true, true), PoolError::UnknownTask),
+    Step::Refused(Call::Remove(TaskId(0)), PoolError::UnknownTask),
+    Step::Is(View::NoTasks),
+    Step::Call(Call::Stop(0, 0)),
 ];
 
 const RECORD: [Row; 7] = [
@@ -38,20 +35,18 @@ const RECORD: [Row; 7] = [
     (0, Ask::Ended, Did::Ended),
 ];
 
-// One caller, who changes the settings and stops the pool.
-static SETTINGS_CHANGE: Life = Life {
-    callers: 1,
-    begins: Beginning::Plays(&LINES),
-    refusals: &[],
-    ends: Ending::Leaves(&RECORD),
-};
+// One caller changes the settings and stops the pool.
+static CHANGED: [Life; 1] = [Life {
+    settings: Config {
+        maximum: 2,
+        ..ONE_WORKER
+    },
+    first: &LINES,
+    findings: &[Finding::Record(&RECORD), Finding::Counts(NO_COUNTS)],
+    ..LIFE
+}];
 
 #[test]
 fn changes_settings(rt: HostRuntime) -> Result<(), Fail> {
-    lives(
-        rt,
-        rt.alloc(),
-        Box::new(rt.alloc(), NoHooks)?,
-        &SETTINGS_CHANGE,
-    )
+    lives(rt, rt.alloc(), &CHANGED)
 }

@@ -1,38 +1,23 @@
-// Jobs on a pool of their own for which no worker can be made: the call ends, and tells that each job is lost.
+//! Jobs on a pool of their own, for which no worker can be made. The call ends, and tells that each job is lost.
 
 use crate::compare::same;
+use crate::harness::boards::Board;
+use crate::harness::users::{MANNER, Manner, Users};
 use std::alloc::Global;
 use std::process::Abort;
-use std::sync::Wait;
 use std::test::Fail;
 use tp_pool::prelude::*;
 
-// What keeps a pool from making workers.
-#[derive(Clone, Copy)]
-enum Want {
-    // Its factory refuses each.
-    Consent,
-    // No thread has room for such a stack.
-    Stack,
-}
+// The factory refuses each worker; or no thread can be made, since none has room for such a stack.
+const REFUSES: Manner = Manner {
+    consents: 0,
+    ..MANNER
+};
 
-#[derive(Drop)]
-struct Unstaffed {
-    want: Want,
-}
-
-impl Edge for Unstaffed {
-    fn allow<R: Wait>(&self, _rt: &R, _w: SlotId) -> bool {
-        match self.want {
-            Want::Consent => false,
-            Want::Stack => true,
-        }
-    }
-
-    fn stack(&self) -> usize {
-        usize::MAX
-    }
-}
+const NO_ROOM: Manner = Manner {
+    stack: usize::MAX,
+    ..MANNER
+};
 
 #[derive(Drop)]
 struct Seven;
@@ -43,11 +28,11 @@ impl Body for Seven {
     }
 }
 
-// A pool's settings, why no worker is made, and how many of its three jobs are lost to the stop; the others are rejected.
+// A pool's settings, why no worker is made, and how many of its three jobs are lost to the stop. The others are rejected.
 struct Life {
     core: u32,
     queue: QueueKind,
-    want: Want,
+    manner: Manner,
     lost: u32,
 }
 
@@ -55,38 +40,38 @@ const LIVES: [Life; 5] = [
     Life {
         core: 1,
         queue: QueueKind::Unbounded,
-        want: Want::Stack,
+        manner: NO_ROOM,
         lost: 3,
     },
     Life {
         core: 1,
         queue: QueueKind::Unbounded,
-        want: Want::Consent,
+        manner: REFUSES,
         lost: 3,
     },
     // At core size 0 no worker is asked for at the shutdown.
     Life {
         core: 0,
         queue: QueueKind::Unbounded,
-        want: Want::Stack,
+        manner: NO_ROOM,
         lost: 3,
     },
     Life {
         core: 1,
         queue: QueueKind::Bounded(2),
-        want: Want::Stack,
+        manner: NO_ROOM,
         lost: 2,
     },
     // Nothing is queued, so nothing is stranded.
     Life {
         core: 1,
         queue: QueueKind::Handoff,
-        want: Want::Stack,
+        manner: NO_ROOM,
         lost: 0,
     },
 ];
 
-// What became of the job of this number.
+// The answer of the job of this number.
 fn answer_of(number: u32, lost: u32) -> Answer {
     Err(if number < lost {
         PoolError::Lost(Fate::HandedBack)
@@ -106,7 +91,8 @@ fn lives<R: Abort + Runtime>(rt: R, alloc: Global, line: usize, life: &Life) -> 
     for _ in 0..3 {
         jobs.push(Any(Seven))?;
     }
-    let (answers, report) = run_all(&rt, alloc, settings, Unstaffed { want: life.want }, jobs)?;
+    let users = Users::new(life.manner, &Board::new(alloc)?)?;
+    let (answers, report) = run_all(&rt, alloc, settings, users, jobs)?;
     let mut number = 0u32;
     for answer in &answers {
         same(&rt, line, answer, &answer_of(number, life.lost));

@@ -1,11 +1,13 @@
-// What becomes of submissions, as pools are full or without workers.
+//! What becomes of submissions where pools are full or have no workers.
 
-use super::chores::Deed;
-use super::lives::lives;
-use super::scripts::{Answer, Deal, LETS_GO, LIFE, LOOKS, Life, SETTINGS, SHUTS_DOWN, Step, View};
-use crate::stage::calls::Call;
-use crate::stage::findings::Finding;
-use crate::stage::users::{MANNER, Manner, Stance};
+use crate::harness::calls::Call;
+use crate::harness::chores::Deed;
+use crate::harness::findings::Finding;
+use crate::harness::lives::lives;
+use crate::harness::scripts::{
+    Answer, Deal, HELD, LETS_GO, LIFE, LOOKS, Life, ONE_WORKER, SETTINGS, SHUTS_DOWN, Step, View,
+};
+use crate::harness::users::{MANNER, Manner};
 use std::test::Fail;
 use tp_record::entries::{Did, Looked, Ruled};
 use tp_types::configs::{Config, Policy, QueueKind, Verdict};
@@ -16,7 +18,7 @@ static PRESTARTS: [Life; 1] = [Life {
     first: &[
         Step::Call(Call::StartAll(2)),
         Step::Call(Call::StartOne(false)),
-        Step::View(View::IsLive(2)),
+        Step::Is(View::Live(2)),
         SHUTS_DOWN,
     ],
     findings: &[Finding::Largest(2)],
@@ -27,11 +29,6 @@ static PRESTARTS: [Life; 1] = [Life {
 fn prestarts_two(rt: HostRuntime) -> Result<(), Fail> {
     lives(rt, rt.alloc(), &PRESTARTS)
 }
-
-const HELD: Manner = Manner {
-    stance: Stance::Held,
-    ..MANNER
-};
 
 const HELD_ONE: Manner = Manner {
     consents: 1,
@@ -53,7 +50,7 @@ const FULL: Config = Config {
     ..SETTINGS
 };
 
-// Its worker is held before its first body, and a second task comes, and a third one after the shutdown.
+// Its worker is held before its first body. A second task comes then, and a third one after the shutdown.
 const FULL_LIFE: Life = Life {
     settings: FULL,
     manner: HELD_ONE,
@@ -62,7 +59,7 @@ const FULL_LIFE: Life = Life {
     ..LIFE
 };
 
-// What becomes of both under each policy.
+// What becomes of these two under each policy.
 static FULL_LIVES: [Life; 4] = [
     FULL_LIFE,
     Life {
@@ -96,18 +93,16 @@ fn full_pool_asks_its_policy(rt: HostRuntime) -> Result<(), Fail> {
 }
 
 const ONE: Config = Config {
-    core: 1,
-    maximum: 1,
     keep: 0,
-    ..SETTINGS
+    ..ONE_WORKER
 };
 
-// The task is accepted into a queue that nobody serves, and is handed back.
+// The task is accepted into a queue that no worker serves, and is handed back.
 const UNSTAFFED: Life = Life {
     settings: ONE,
     first: &[
         LOOKS,
-        Step::Deal(Deal::Receipts(5)),
+        Step::Deal(Deal::Unstaffed(5)),
         Step::Call(Call::Stop(0, 1)),
     ],
     findings: &[Finding::Unstaffed, Finding::HandedBack(1)],
@@ -166,8 +161,8 @@ const LATE: Step = Step::Hand(Kind::Plain, Deed::Urgent(5), Answer::Accepted);
 
 const EARLY: Step = Step::Hand(Kind::Plain, Deed::Urgent(2), Answer::Accepted);
 
-// While the one worker is held, tasks with priorities of their own come: the least is taken first, and of equals
-// the one that came first.
+// Tasks with priorities of their own come while the one worker is held. The least is taken first, and of equals the one that came
+// first.
 static BY_PRIORITY: [Life; 1] = [Life {
     settings: Config {
         queue: QueueKind::Priority,

@@ -1,61 +1,36 @@
-// A pool of boxes: a caller's boxed jobs, factory, handler, hooks and gate.
+//! A pool of boxes: a caller's boxed jobs, factory, handler, hooks and gate.
 ghost use Rattle.std.specs.Prelude.{◌≡◌};
 
-use super::scripts::SETTINGS;
 use crate::compare::same;
-use crate::stage::boards::{Board, Hook, Signal, shared};
-use crate::stage::endings::closed;
-use crate::stage::findings::{Finding, missing};
+use crate::harness::boards::{Board, Hook, Signal, shared};
+use crate::harness::chores::{Chore, Deed};
+use crate::harness::findings::{Finding, missing};
+use crate::harness::scripts::ONE_WORKER;
 use std::alloc::Global;
 use std::marker::Brand;
 use std::process::Abort;
-use std::sync::{Arc, Wait};
+use std::sync::Arc;
 use std::test::Fail;
-use std::thread::Threads;
 use tp_book::opening::Unopened;
 use tp_book::passes::Pass;
 use tp_pool::answers::{Admitted, Refused};
+use tp_pool::callers::{PoolName, Runtime};
 use tp_pool::closing::Report;
 use tp_pool::factories::ThreadFactory;
 use tp_pool::gates::{Gate, Point};
 use tp_pool::handlers::RejectionHandler;
 use tp_pool::hooks::Hooks;
-use tp_pool::jobs::{Boxed, Job};
+use tp_pool::jobs::Boxed;
 use tp_pool::names::PoolNaming;
 use tp_pool::pool::Pool;
-use tp_protocols::flags::CancelFlag;
 use tp_record::entries::{Did, Looked};
 use tp_types::configs::{Config, Policy, QueueKind, Verdict};
 use tp_types::ids::{SlotId, TaskId};
 use tp_types::refusals::PoolError;
 use tp_types::states::RunState;
-use tp_types::tasks::{Kind, Outcome, Promise, WIDEST, as_widest};
+use tp_types::tasks::{Kind, Outcome};
 
-// Answers 1 where its flag is set, else 0. Its priority is 7.
-#[derive(Drop)]
-struct Looking;
-
-impl Job for Looking {
-    ghost use Rattle.tp_types.specs.declared.tasks.TheConstants.{WIDEST};
-
-    ghost promised = { λ _. WIDEST };
-
-    ghost urgency = { λ _. 7 };
-
-    fn promise(&self) -> Promise {
-        WIDEST
-    }
-
-    fn priority(&self) -> u32 {
-        7
-    }
-
-    fn call(&mut self, cancel: &CancelFlag) -> Outcome {
-        as_widest(Ok(i64::from(cancel.is_set())))
-    }
-}
-
-// Is asked, told and passed, and counts how often.
+// Factory, handler, hooks and gate in one: each notes how often it is called.
 #[derive(Drop)]
 struct Counting {
     board: Arc<Board>,
@@ -112,15 +87,16 @@ fn is_answer(answer: &Result<Admitted, Refused<Boxed>>, number: u32) -> bool {
     }
 }
 
-// Hands in a boxed job, and is answered as is right for the first one or the second.
-fn hands<G: PoolNaming + Send + Sync + 'static, R: Abort + Threads + Wait + Copy + Send + 'static>(
+// Hands in a boxed job, the first one or the second, and looks at the answer.
+fn hands<G: PoolName, R: Abort + Runtime>(
     rt: &R,
     alloc: Global,
     pool: &Pool<G>,
+    board: &Arc<Board>,
     number: u32,
     pass: &mut Pass<G>,
 ) -> Result<(), PoolError> {
-    let job = Box::new(alloc, Looking).or(Err(PoolError::NoMemory))?;
+    let job = Box::new(alloc, Chore::new(board, Deed::Urgent(7))?)?;
     let answer = pool.execute(rt, job, pass);
     same(
         rt,
@@ -131,23 +107,23 @@ fn hands<G: PoolNaming + Send + Sync + 'static, R: Abort + Threads + Wait + Copy
     Ok(())
 }
 
-// One worker, which is held before its body, meanwhile a second job, and the shutdown.
-fn work<G: PoolNaming + Send + Sync + 'static, R: Abort + Threads + Wait + Copy + Send + 'static>(
+// One worker is held before its body. Meanwhile a second job comes, and the pool is shut down. Then the worker goes on, and the pool ends.
+fn work<G: PoolName, R: Abort + Runtime>(
     rt: &R,
     alloc: Global,
     pool: &Pool<G>,
-    board: &Board,
+    board: &Arc<Board>,
     pass: &mut Pass<G>,
 ) -> Result<(), PoolError> {
-    hands(rt, alloc, pool, 0, pass)?;
-    hands(rt, alloc, pool, 1, pass)?;
+    hands(rt, alloc, pool, board, 0, pass)?;
+    hands(rt, alloc, pool, board, 1, pass)?;
     pool.shutdown(rt, pass)?;
     board.put(Signal::Open, 1);
-    Ok(())
+    pool.await_termination(rt, u64::MAX, pass)
 }
 
 // Opens a pool of boxes, and has it work until it is closed.
-fn life<G: PoolNaming + Send + Sync + 'static, R: Abort + Threads + Wait + Copy + Send + 'static>(
+fn life<G: PoolNaming + Send + Sync + 'static, R: Abort + Runtime>(
     rt: R,
     alloc: Global,
     unopened: Unopened,
@@ -157,15 +133,15 @@ fn life<G: PoolNaming + Send + Sync + 'static, R: Abort + Threads + Wait + Copy 
     requires named { unopened ≡ record { ledger = G.name; parts = G.parts; table = G.table } }
     requires settings { settings ≡ G.config }
 {
-    let factory = Box::new(alloc, counts_at(board)?).or(Err(PoolError::NoMemory))?;
-    let handler = Box::new(alloc, counts_at(board)?).or(Err(PoolError::NoMemory))?;
-    let hooks = Box::new(alloc, counts_at(board)?).or(Err(PoolError::NoMemory))?;
-    let gate = Box::new(alloc, counts_at(board)?).or(Err(PoolError::NoMemory))?;
+    let factory = Box::new(alloc, counts_at(board)?)?;
+    let handler = Box::new(alloc, counts_at(board)?)?;
+    let hooks = Box::new(alloc, counts_at(board)?)?;
+    let gate = Box::new(alloc, counts_at(board)?)?;
     let (pool, mut pass) = Pool::<G>::new(
         alloc, unopened, settings, factory, handler, hooks, gate,
     )?;
     match work(&rt, alloc, &pool, board, &mut pass) {
-        Ok(()) => closed(&rt, alloc, pool, pass, None),
+        Ok(()) => pool.close_one(&rt, pass).map_err(|fault| fault.let_go()),
         Err(error) => {
             pool.let_go();
             Err(error)
@@ -174,11 +150,9 @@ fn life<G: PoolNaming + Send + Sync + 'static, R: Abort + Threads + Wait + Copy 
 }
 
 const SETTINGS_OF_ONE: Config = Config {
-    core: 1,
-    maximum: 1,
     queue: QueueKind::Handoff,
     policy: Policy::Own,
-    ..SETTINGS
+    ..ONE_WORKER
 };
 
 const FOUND: [Finding; 9] = [
@@ -196,15 +170,17 @@ const FOUND: [Finding; 9] = [
     Finding::Noted(Signal::Ends, 1),
 ];
 
-fn lived<R: Abort + Threads + Wait + Copy + Send + 'static>(
-    rt: R,
-    alloc: Global,
-    settings: Config,
-) -> Result<(), PoolError> {
+fn lived<R: Abort + Runtime>(rt: R, alloc: Global, settings: Config) -> Result<(), PoolError> {
     let board = Board::new(alloc)?;
     let unopened = Unopened::new(alloc)?;
     let report = life::<Brand, R>(rt, alloc, unopened, settings, &board)?;
-    same(&rt, 0, &missing(&report, &board, &FOUND), &None);
+    let entries = report.entries.as_slice();
+    same(
+        &rt,
+        0,
+        &missing(report.counts, entries, &board, &FOUND),
+        &None,
+    );
     Ok(())
 }
 

@@ -1,14 +1,15 @@
-// The end of pools whose workers end them.
+//! The end of pools whose workers end them.
 
-use super::chores::Deed;
-use super::lives::lives;
-use super::scripts::{
-    Answer, Cue, LIFE, LOOKS, Life, SETTINGS, SHUTS_DOWN, Step, TELLS, View, WAITS, Yields,
+use crate::harness::boards::Signal;
+use crate::harness::calls::Call;
+use crate::harness::chores::Deed;
+use crate::harness::findings::Finding;
+use crate::harness::lives::lives;
+use crate::harness::scripts::{
+    AWAITS_END, Answer, Cue, LIFE, LOOKS, Life, PAIR, SETTINGS, SHUTS_DOWN, Step, TELLS, View,
+    WAITS, Yields,
 };
-use crate::stage::boards::Signal;
-use crate::stage::calls::Call;
-use crate::stage::findings::Finding;
-use crate::stage::users::{MANNER, Manner};
+use crate::harness::users::{MANNER, Manner};
 use std::test::Fail;
 use tp_record::entries::Did;
 use tp_types::configs::Config;
@@ -18,18 +19,18 @@ use tp_types::tasks::Kind;
 
 // The second caller waits for the end, without a limit.
 const AWAITED: Life = Life {
-    beside: &[
+    beside: &[&[
         Step::Cue(Cue::Put(Signal::Waits, 1)),
-        Step::Call(Call::Await(u64::MAX)),
-        Step::View(View::IsState(RunState::Terminated)),
-    ],
-    ..LIFE
+        AWAITS_END,
+        Step::Is(View::State(RunState::Terminated)),
+    ]],
+    ..PAIR
 };
 
 const WAITED: Step = Step::Cue(Cue::Reaches(Signal::Waits, 1));
 
-// A worker ends the pool, whose task goes on when who waits for the end has had some time to fall asleep, and so
-// wakes who waits.
+// A worker ends the pool and so wakes the second caller, which waits for the end. The worker's task goes on once that caller has had
+// some time to fall asleep.
 static ENDED_BY_A_WORKER: [Life; 1] = [Life {
     times: 50,
     first: &[
@@ -53,10 +54,10 @@ fn worker_that_ends_the_pool_wakes_who_waits(rt: HostRuntime) -> Result<(), Fail
     lives(rt, rt.alloc(), &ENDED_BY_A_WORKER)
 }
 
-// A future that no worker is made for stays in the queue of a pool that is shut down.
+// The queue of a pool that is shut down keeps a future for which no worker is made.
 const FUTURE: Step = Step::Hand(Kind::Future, Deed::Look, Answer::Accepted);
 
-// Lets who waits for the end have some time to fall asleep.
+// Gives the second caller some time to fall asleep.
 const RESTS: Step = Step::Cue(Cue::RestLonger(40));
 
 const UNSTAFFED: Life = Life {
@@ -69,8 +70,7 @@ const UNSTAFFED: Life = Life {
     ..AWAITED
 };
 
-// The step that takes the last task out of the queue wakes who waits for the end, where there is no worker
-// who could end the pool.
+// There is no worker that could end the pool. The step that takes the last task out of the queue ends it, and wakes the second caller.
 static EMPTIED: [Life; 2] = [
     Life {
         first: &[
@@ -122,7 +122,7 @@ const FOUR: Life = Life {
     ..LIFE
 };
 
-// One to four workers with a task each are closed as soon as the pool has ended, while their threads still end.
+// A pool of one to four workers, with a task each, is closed as soon as it has ended. The workers' threads still end then.
 static CLOSED_AT_ONCE: [Life; 4] = [
     FOUR,
     Life {

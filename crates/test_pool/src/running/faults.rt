@@ -1,24 +1,19 @@
-// What becomes of workers whose plain tasks fault.
+//! What becomes of workers whose plain tasks fault.
 
-use super::chores::Deed;
-use super::lives::lives;
-use super::scripts::{Answer, LIFE, LOOKS, Life, SETTINGS, SHUTS_DOWN, Step, View};
-use crate::stage::calls::Call;
-use crate::stage::findings::Finding;
-use crate::stage::users::{MANNER, Manner};
+use crate::harness::calls::Call;
+use crate::harness::chores::Deed;
+use crate::harness::findings::Finding;
+use crate::harness::lives::lives;
+use crate::harness::scripts::{Answer, LIFE, LOOKS, Life, ONE_WORKER, SHUTS_DOWN, Step, View};
+use crate::harness::users::{MANNER, Manner};
 use std::test::Fail;
-use tp_types::configs::Config;
 use tp_types::tasks::Kind;
 
-const FAULTS: Step = Step::Hand(Kind::Plain, Deed::Fault(7), Answer::Accepted);
+const FAULTS: Step = Step::Hand(Kind::Plain, Deed::End(Err(7)), Answer::Accepted);
 
 // One worker, three tasks that fault, and a good one.
 const FOUR: Life = Life {
-    settings: Config {
-        core: 1,
-        maximum: 1,
-        ..SETTINGS
-    },
+    settings: ONE_WORKER,
     first: &[FAULTS, FAULTS, FAULTS, LOOKS],
     ..LIFE
 };
@@ -38,14 +33,13 @@ const REPLACED: Life = Life {
     ..FOUR
 };
 
-// Each worker that faults has another in its place, until all tasks have run; the pool is shut down before that,
-// or after it.
+// Each worker that faults has another made in its place, until all tasks have run. The pool is shut down before that or after it.
 static ALL_REPLACED: [Life; 2] = [
     REPLACED,
     Life {
         last: &[
-            Step::View(View::BecomesCompleted(4)),
-            Step::View(View::IsLive(1)),
+            Step::Becomes(View::Completed(4)),
+            Step::Is(View::Live(1)),
             SHUTS_DOWN,
         ],
         ..REPLACED
@@ -57,16 +51,13 @@ fn worker_that_faults_is_replaced(rt: HostRuntime) -> Result<(), Fail> {
     lives(rt, rt.alloc(), &ALL_REPLACED)
 }
 
-// The one worker faults, and none is made in its place: the tasks left are handed back.
+// The one worker faults, and none is made in its place. The tasks that are left are handed back.
 static UNREPLACED: [Life; 1] = [Life {
     manner: Manner {
         consents: 1,
         ..MANNER
     },
-    last: &[
-        Step::View(View::BecomesLive(0)),
-        Step::Call(Call::Stop(1, 4)),
-    ],
+    last: &[Step::Becomes(View::Live(0)), Step::Call(Call::Stop(1, 4))],
     findings: &[
         Finding::Ended(0, Err(7)),
         Finding::Unreplaced(1),

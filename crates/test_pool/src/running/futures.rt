@@ -1,24 +1,20 @@
-// Futures that are cancelled.
+//! Futures that are cancelled.
 
-use super::chores::Deed;
-use super::lives::lives;
-use super::scripts::{Answer, Cue, LETS_GO, LIFE, LOOKS, Life, SETTINGS, SHUTS_DOWN, Step, TELLS};
-use crate::stage::boards::{Hook, Signal};
-use crate::stage::calls::Call;
-use crate::stage::findings::Finding;
-use crate::stage::users::{MANNER, Manner, Stance};
+use crate::harness::boards::{Hook, Signal};
+use crate::harness::calls::Call;
+use crate::harness::chores::Deed;
+use crate::harness::findings::Finding;
+use crate::harness::lives::lives;
+use crate::harness::scripts::{
+    Answer, Cue, HELD, LETS_GO, LIFE, LOOKS, Life, ONE_WORKER, SHUTS_DOWN, Step, TELLS,
+};
 use std::test::Fail;
 use tp_record::entries::{Did, Started};
-use tp_types::configs::Config;
 use tp_types::ids::{SlotId, TaskId};
 use tp_types::tasks::Kind;
 
 const ONE: Life = Life {
-    settings: Config {
-        core: 1,
-        maximum: 1,
-        ..SETTINGS
-    },
+    settings: ONE_WORKER,
     ..LIFE
 };
 
@@ -29,10 +25,7 @@ const FIRST: TaskId = TaskId(0);
 const SECOND: TaskId = TaskId(1);
 
 const SKIPPED: Life = Life {
-    manner: Manner {
-        stance: Stance::Held,
-        ..MANNER
-    },
+    manner: HELD,
     first: &[
         LOOKS,
         FUTURE,
@@ -58,8 +51,8 @@ const SKIPPED: Life = Life {
     ..ONE
 };
 
-// A future is cancelled, with its flag or without it, while it is queued behind a task that is held: it is skipped,
-// with both hooks and no body.
+// A future is queued behind a task that is held, and is cancelled, with its flag or without it. It is skipped, with both hooks and no
+// body.
 static ALL_SKIPPED: [Life; 2] = [
     SKIPPED,
     Life {
@@ -82,7 +75,7 @@ fn cancelled_future_is_skipped(rt: HostRuntime) -> Result<(), Fail> {
 
 const RUNS: Step = Step::Cue(Cue::Reaches(Signal::Begun, 1));
 
-// A future that runs finds its flag set where it is cancelled with the flag, and not where it is without.
+// A future that runs is cancelled. It finds its flag set where the cancel asks for that, and else not.
 static FLAGGED: [Life; 2] = [
     Life {
         first: &[

@@ -1,10 +1,10 @@
-// Tasks that are given to idle workers by hand, and workers that leave beside them.
+//! Tasks that idle workers are given by hand, and idle workers that leave meanwhile.
 
-use super::chores::Deed;
-use super::lives::lives;
-use super::scripts::{Cue, Deal, LIFE, Life, SETTINGS, SHUTS_DOWN, Step, View};
-use crate::stage::boards::Signal;
-use crate::stage::findings::Finding;
+use crate::harness::boards::Signal;
+use crate::harness::chores::Deed;
+use crate::harness::findings::Finding;
+use crate::harness::lives::lives;
+use crate::harness::scripts::{Cue, Deal, LIFE, Life, SETTINGS, SHUTS_DOWN, Step, View};
 use std::test::Fail;
 use tp_types::configs::{Config, QueueKind};
 
@@ -20,16 +20,16 @@ const GIVES: Step = Step::Deal(Deal::Give(Deed::Look));
 // One of two tasks that wait for each other.
 const GIVES_MEETING: Step = Step::Deal(Deal::Give(Deed::Meet(0, 2)));
 
-const ALL_DONE: Step = Step::View(View::AllCompleted);
+const ALL_DONE: Step = Step::Becomes(View::AllCompleted);
 
-// One task after the other is given to the one worker by hand, once it is idle: all but the first.
+// The one worker gets one task after the other, each once it is idle: all but the first by hand.
 static GIVEN: [Life; 1] = [Life {
     settings: Config {
         maximum: 1,
         ..ROOMY
     },
     rounds: 500,
-    round: &[GIVES, ALL_DONE, Step::Cue(Cue::Vary)],
+    middle: &[GIVES, ALL_DONE, Step::Cue(Cue::Vary)],
     last: &[SHUTS_DOWN],
     findings: &[Finding::Run(500), Finding::Largest(1), Finding::ByHand(499)],
     ..LIFE
@@ -40,12 +40,12 @@ fn idle_worker_is_given_tasks(rt: HostRuntime) -> Result<(), Fail> {
     lives(rt, rt.alloc(), &GIVEN)
 }
 
-// In each round two workers are idle beyond their keep-alive at a tick, and at once one of them may get a task by
-// hand, before it leaves: the other leaves all the same.
+// In each round a tick finds two workers idle beyond their keep-alive. One of them may get a task by hand before it leaves. The other
+// leaves all the same.
 static LEFT_BESIDE: [Life; 1] = [Life {
     settings: ROOMY,
     rounds: 20,
-    round: &[
+    middle: &[
         GIVES_MEETING,
         GIVES_MEETING,
         ALL_DONE,

@@ -1,10 +1,10 @@
-// All jobs run at once.
+//! Jobs that run at once.
 
-use super::chores::Deed;
-use super::lives::lives;
-use super::scripts::{Answer, LIFE, Life, SETTINGS, SHUTS_DOWN, Step};
-use crate::stage::boards::Signal;
-use crate::stage::findings::Finding;
+use crate::harness::boards::Signal;
+use crate::harness::chores::Deed;
+use crate::harness::findings::Finding;
+use crate::harness::lives::lives;
+use crate::harness::scripts::{Answer, LIFE, Life, SETTINGS, SHUTS_DOWN, Step};
 use std::test::Fail;
 use tp_types::configs::Config;
 use tp_types::tasks::Kind;
@@ -22,8 +22,7 @@ const THREE_OF_FOUR: Step = Step::Hand(Kind::Plain, Deed::Meet(3, 4), Answer::Ac
 
 const FOUR_OF_FOUR: Step = Step::Hand(Kind::Plain, Deed::Meet(4, 4), Answer::Accepted);
 
-// Each of so many jobs goes on once all of them are in their bodies, and then answers its number; one that meets the
-// others in vain faults.
+// Each job goes on once all of them are in their bodies, and then answers its number. One that waits in vain faults.
 static AT_ONCE: [Life; 2] = [
     Life {
         first: &[ONE_OF_TWO, TWO_OF_TWO, SHUTS_DOWN],
@@ -65,12 +64,12 @@ fn bodies_run_at_once(rt: HostRuntime) -> Result<(), Fail> {
     lives(rt, rt.alloc(), &AT_ONCE)
 }
 
-// The closed record gives each task the answer of the job that was handed in with its number, though two run at once.
+// Two jobs run at once. The closed record still gives each task the answer of its own job.
 static OUTCOMES: [Life; 1] = [Life {
     first: &[
         Step::Hand(Kind::Plain, Deed::Meet(5, 2), Answer::Accepted),
         Step::Hand(Kind::Plain, Deed::Meet(3, 2), Answer::Accepted),
-        Step::Hand(Kind::Future, Deed::Fault(7), Answer::Accepted),
+        Step::Hand(Kind::Future, Deed::End(Err(7)), Answer::Accepted),
         Step::Hand(Kind::Plain, Deed::Meet(4, 2), Answer::Accepted),
         Step::Hand(Kind::Plain, Deed::Meet(9, 2), Answer::Accepted),
         SHUTS_DOWN,

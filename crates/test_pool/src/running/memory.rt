@@ -1,45 +1,25 @@
-// Submissions and prestarts, with ample memory and where one allocation fails.
+//! Submissions and prestarts, with ample memory and where one allocation fails.
 
-use super::lives::lived;
-use super::scripts::{Deal, LIFE, Life, SETTINGS, SHUTS_DOWN, Step, View, Yields};
-use crate::stage::calls::Call;
-use crate::stage::findings::Finding;
-use std::alloc::Global;
-use std::process::Abort;
-use std::sync::Wait;
+use crate::harness::calls::Call;
+use crate::harness::findings::Finding;
+use crate::harness::lives::lives_again;
+use crate::harness::scripts::{Deal, LIFE, Life, SETTINGS, SHUTS_DOWN, Step, View, Yields};
 use std::test::Fail;
-use std::thread::Threads;
-use std::time::Clock;
 use tp_types::configs::Config;
-use tp_types::refusals::PoolError;
 
 const TASK: Step = Step::Deal(Deal::InsistsTask(5));
 
 const OTHER: Step = Step::Deal(Deal::InsistsTask(6));
 
-// Workers change nothing meanwhile.
-const ALL_DONE: Step = Step::View(View::AllCompleted);
+// Waits until workers change nothing any more.
+const ALL_DONE: Step = Step::Becomes(View::AllCompleted);
 
-const ONE_MORE: Step = Step::Deal(Deal::Insists(Call::StartOne(true)));
+const ONE_MORE: Step = Step::Deal(Deal::Insists(Call::StartOne(true), Ok(true)));
 
-const THREE_CORE: Step = Step::Deal(Deal::Insists(Call::Core(3)));
+const THREE_CORE: Step = Step::Deal(Deal::Insists(Call::Core(3), Ok(true)));
 
-// Where memory is wanted for what the test itself makes, or for the pool, it lives once more.
-fn lives_again<R: Abort + Threads + Wait + Clock + Copy + Send + Sync + 'static>(
-    rt: R,
-    alloc: Global,
-    life: &Life,
-) -> Result<(), Fail> {
-    let mut once = lived(rt, alloc, life, 0);
-    if once == Err(PoolError::NoMemory) {
-        once = lived(rt, alloc, life, 0);
-    }
-    once?;
-    Ok(())
-}
-
-// With ample memory each call succeeds. Where any one allocation of a call fails, it answers 4, with the job and
-// with nothing changed, or it says by the step `fail` that a worker was not made.
+// With ample memory each call succeeds. Where any one allocation of a call fails, it answers 4, with the job and with nothing changed;
+// or its step `fail` says that a worker was not made.
 static BOTH_RAN: Life = Life {
     settings: Config {
         core: 3,
@@ -77,8 +57,8 @@ static ONE_RAN: Life = Life {
     first: &[
         ONE_MORE,
         THREE_CORE,
-        Step::Deal(Deal::Insists(Call::StartAll(2))),
-        Step::View(View::IsLive(3)),
+        Step::Deal(Deal::Insists(Call::StartAll(2), Ok(true))),
+        Step::Is(View::Live(3)),
         TASK,
         SHUTS_DOWN,
     ],

@@ -1,21 +1,21 @@
-// Callbacks are called outside the lock: each waits until another thread has had an answer from a reading of the
-// pool.
+//! Callbacks are called outside the lock. Each of them waits until another thread has read the pool.
 
-use super::chores::Deed;
-use super::lives::lives;
-use super::scripts::{
-    Answer, Cue, Deal, IS_OVER, LIFE, Life, SETTINGS, SHUTS_DOWN, Step, TELLS, WAITS, Yields,
+use crate::harness::boards::Signal;
+use crate::harness::calls::Call;
+use crate::harness::chores::Deed;
+use crate::harness::findings::Finding;
+use crate::harness::lives::lives;
+use crate::harness::scripts::{
+    AWAITS_END, Answer, Cue, Deal, IS_OVER, Life, PAIR, SETTINGS, SHUTS_DOWN, Step, TELLS, WAITS,
+    Yields,
 };
-use crate::stage::boards::Signal;
-use crate::stage::calls::Call;
-use crate::stage::findings::Finding;
-use crate::stage::users::{MANNER, Manner, Stance};
+use crate::harness::users::{MANNER, Manner, Stance};
 use std::test::Fail;
 use tp_types::configs::{Config, Policy, QueueKind};
 use tp_types::tasks::Kind;
 
-// Two asks of the factory, one of the handler, two tasks with two hooks each, the hook of the end, and the body
-// of one job.
+// The factory is asked twice and the handler once. Two tasks have two hooks each. Then there are the hook of the end, and the body of
+// one job.
 const CALLS: u64 = 2 + 1 + 4 + 1 + 1;
 
 const TALKS: Manner = Manner {
@@ -23,7 +23,7 @@ const TALKS: Manner = Manner {
     ..MANNER
 };
 
-// One task runs, the handler rules on a second, a third runs beside the first, and the pool ends.
+// One task runs, the handler rejects a second, a third runs beside the first, and the pool ends.
 const READ: Life = Life {
     settings: Config {
         core: 0,
@@ -41,16 +41,16 @@ const READ: Life = Life {
         Step::Hand(Kind::Plain, Deed::Talk, Answer::Accepted),
         TELLS,
         SHUTS_DOWN,
-        Step::Call(Call::Await(u64::MAX)),
+        AWAITS_END,
         IS_OVER,
     ],
-    beside: &[Step::Deal(Deal::Answers)],
+    beside: &[&[Step::Deal(Deal::Answers)]],
     findings: &[
         Finding::Noted(Signal::Missed, 0),
         Finding::Noted(Signal::Asked, CALLS),
         Finding::Run(2),
     ],
-    ..LIFE
+    ..PAIR
 };
 
 static CALLBACKS: [Life; 1] = [READ];
@@ -60,8 +60,7 @@ fn pool_is_read_while_callbacks_wait(rt: HostRuntime) -> Result<(), Fail> {
     lives(rt, rt.alloc(), &CALLBACKS)
 }
 
-// Each of the two workers passes the gate four times: at the three points of its turn, and before the take at
-// which it leaves.
+// Each of the two workers passes the gate four times: at the three points of its turn, and before the take at which it leaves.
 static GATES: [Life; 1] = [Life {
     manner: Manner {
         stance: Stance::Talks,

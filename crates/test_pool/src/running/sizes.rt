@@ -1,17 +1,19 @@
-// Pools whose settings change while they run.
+//! Pools whose settings change while they run.
 
-use super::chores::Deed;
-use super::lives::lives;
-use super::scripts::{Answer, Cue, Deal, LIFE, LOOKS, Life, SETTINGS, SHUTS_DOWN, Step, View};
-use crate::stage::boards::Signal;
-use crate::stage::calls::Call;
-use crate::stage::findings::Finding;
+use crate::harness::boards::Signal;
+use crate::harness::calls::Call;
+use crate::harness::chores::Deed;
+use crate::harness::findings::Finding;
+use crate::harness::lives::lives;
+use crate::harness::scripts::{
+    Answer, Cue, Deal, LIFE, LOOKS, Life, SETTINGS, SHUTS_DOWN, Step, View,
+};
 use std::test::Fail;
 use tp_record::entries::Did;
 use tp_types::configs::Config;
 use tp_types::tasks::Kind;
 
-// The one worker waits for two others, which a larger core size starts for the tasks that are queued.
+// The one worker's task waits for two that are queued. A larger core size starts workers for those.
 static STARTED: [Life; 1] = [Life {
     settings: Config {
         core: 1,
@@ -25,7 +27,7 @@ static STARTED: [Life; 1] = [Life {
         Step::Cue(Cue::Reaches(Signal::Met, 1)),
         Step::Cue(Cue::Is(Signal::Met, 1)),
         Step::Call(Call::Core(3)),
-        Step::View(View::IsLive(3)),
+        Step::Is(View::Live(3)),
         SHUTS_DOWN,
     ],
     findings: &[
@@ -50,11 +52,11 @@ const STARTS_ALL: Step = Step::Call(Call::StartAll(3));
 
 const SMALLER: Step = Step::Call(Call::Core(1));
 
-const ONE_STAYS: Step = Step::View(View::IsLive(1));
+const ONE_STAYS: Step = Step::Is(View::Live(1));
 
-const ENDED: Step = Step::View(View::BecomesCompleted(1));
+const ENDED: Step = Step::Becomes(View::Completed(1));
 
-// The core size is less, and the keep-alive is over: one of three idle workers stays.
+// Three workers are idle, and the core size becomes 1. Once the keep-alive is over, one of them stays.
 const SHRINKS: Life = Life {
     settings: Config {
         core: 3,
@@ -64,10 +66,10 @@ const SHRINKS: Life = Life {
     first: &[STARTS_ALL, SMALLER],
     rounds: 1,
     // Nobody leaves.
-    round: &[RESTS, Step::View(View::IsLive(3))],
+    middle: &[RESTS, Step::Is(View::Live(3))],
     last: &[
         Step::Deal(Deal::TimesOut(1)),
-        Step::View(View::BecomesLive(1)),
+        Step::Becomes(View::Live(1)),
         RESTS,
         ONE_STAYS,
         LOOKS,
@@ -78,17 +80,16 @@ const SHRINKS: Life = Life {
     ..LIFE
 };
 
-// How idle workers are made to leave, and how many stay: beside the first, core workers time out too; the maximum
-// is less.
+// Idle workers leave since the core size becomes less, since core workers time out too, or since the maximum becomes less.
 static ALL_SHRINK: [Life; 3] = [
     SHRINKS,
     Life {
         first: &[STARTS_ALL, Step::Call(Call::CoreTimeout(true))],
         last: &[
             Step::Deal(Deal::TimesOut(0)),
-            Step::View(View::BecomesLive(0)),
+            Step::Becomes(View::Live(0)),
             RESTS,
-            Step::View(View::IsLive(0)),
+            Step::Is(View::Live(0)),
             LOOKS,
             ENDED,
             SHUTS_DOWN,
@@ -98,7 +99,7 @@ static ALL_SHRINK: [Life; 3] = [
     Life {
         last: &[
             Step::Call(Call::Maximum(1)),
-            Step::View(View::BecomesLive(1)),
+            Step::Becomes(View::Live(1)),
             RESTS,
             ONE_STAYS,
             LOOKS,

@@ -1,27 +1,19 @@
-// Who hears of a stop, and whom a cancel reaches that its submitter runs.
+//! Jobs that hear of a stop or of a cancel: in a worker's slot, and at their submitter.
 
-use super::chores::Deed;
-use super::lives::lives;
-use super::scripts::{
-    Answer, Cue, IS_OVER, LETS_GO, LIFE, LOOKS, Life, SETTINGS, SHUTS_DOWN, Step, TELLS,
+use crate::harness::boards::Signal;
+use crate::harness::calls::Call;
+use crate::harness::chores::Deed;
+use crate::harness::findings::Finding;
+use crate::harness::lives::lives;
+use crate::harness::scripts::{
+    Answer, Cue, HELD, IS_OVER, LETS_GO, LIFE, LOOKS, Life, PAIR, SETTINGS, SHUTS_DOWN, Step, TELLS,
 };
-use crate::stage::boards::Signal;
-use crate::stage::calls::Call;
-use crate::stage::findings::Finding;
-use crate::stage::users::{MANNER, Manner, Stance};
+use crate::harness::users::{MANNER, Manner, Stance};
 use std::test::Fail;
 use tp_record::entries::Did;
 use tp_types::configs::{Config, Policy, QueueKind};
 use tp_types::ids::TaskId;
 use tp_types::tasks::Kind;
-
-const HELD: Life = Life {
-    manner: Manner {
-        stance: Stance::Held,
-        ..MANNER
-    },
-    ..LIFE
-};
 
 const SHUT: Life = Life {
     manner: Manner {
@@ -33,13 +25,14 @@ const SHUT: Life = Life {
 
 const STOPS: Step = Step::Call(Call::Stop(0, 0));
 
-// Whom a stop finds in a slot finds its flag set: a job that is held before its body, and one that is yet to begin, since its
-// worker is held before its first take.
+// A stop sets the flag of each job that has a slot: one that is held before its body, and one whose worker is held before its first
+// take.
 static FLAGGED: [Life; 2] = [
     Life {
         first: &[LOOKS, STOPS, LETS_GO],
         findings: &[Finding::Ended(0, Ok(1)), Finding::Run(1)],
-        ..HELD
+        manner: HELD,
+        ..LIFE
     },
     Life {
         first: &[
@@ -58,7 +51,7 @@ fn stopped_job_sees_its_flag(rt: HostRuntime) -> Result<(), Fail> {
     lives(rt, rt.alloc(), &FLAGGED)
 }
 
-// The sole worker is held, so a second task is run by its submitter.
+// The one worker is held, so the submitter of a second task runs that one itself.
 const AT_SUBMITTER: Life = Life {
     settings: Config {
         core: 0,
@@ -67,10 +60,11 @@ const AT_SUBMITTER: Life = Life {
         policy: Policy::CallerRuns,
         ..SETTINGS
     },
-    ..HELD
+    manner: HELD,
+    ..PAIR
 };
 
-// A stop reaches the task in the worker's slot, and not the one that its submitter runs meanwhile.
+// A stop reaches the task in the worker's slot. It does not reach the one that the submitter runs meanwhile.
 static SPARED: [Life; 1] = [Life {
     first: &[
         LOOKS,
@@ -78,12 +72,12 @@ static SPARED: [Life; 1] = [Life {
         Step::Cue(Cue::Reaches(Signal::Over, 1)),
         LETS_GO,
     ],
-    beside: &[
+    beside: &[&[
         Step::Cue(Cue::Reaches(Signal::Begun, 1)),
         STOPS,
         TELLS,
         IS_OVER,
-    ],
+    ]],
     findings: &[
         Finding::Ended(0, Ok(1)),
         Finding::Told(1, Did::CallerEnd(TaskId(1), Ok(0))),
@@ -98,7 +92,7 @@ fn stop_spares_the_submitters_own_run(rt: HostRuntime) -> Result<(), Fail> {
     lives(rt, rt.alloc(), &SPARED)
 }
 
-// A future that its submitter runs finds its flag set, once it is cancelled with the flag.
+// A future that its submitter runs finds its flag set once it is cancelled with the flag.
 static REACHED: [Life; 1] = [Life {
     first: &[
         LOOKS,
@@ -107,12 +101,12 @@ static REACHED: [Life; 1] = [Life {
         LETS_GO,
         SHUTS_DOWN,
     ],
-    beside: &[
+    beside: &[&[
         Step::Cue(Cue::Reaches(Signal::Begun, 1)),
         Step::Call(Call::Cancel(TaskId(1), true, true)),
         TELLS,
         IS_OVER,
-    ],
+    ]],
     findings: &[
         Finding::Ended(0, Ok(0)),
         Finding::Told(1, Did::CallerEnd(TaskId(1), Ok(1))),

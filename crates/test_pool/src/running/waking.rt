@@ -1,34 +1,32 @@
-// Workers that sleep are woken, and nobody waits for one that is not.
+//! Workers that sleep are woken for tasks, and no task waits for a worker that is held.
 
-use super::chores::Deed;
-use super::lives::lives;
-use super::scripts::{Answer, Cue, LIFE, LOOKS, Life, SETTINGS, SHUTS_DOWN, Step, View};
-use crate::stage::boards::Signal;
-use crate::stage::calls::Call;
-use crate::stage::findings::Finding;
-use crate::stage::users::{MANNER, Manner, Stance};
+use crate::harness::boards::Signal;
+use crate::harness::calls::Call;
+use crate::harness::chores::Deed;
+use crate::harness::findings::Finding;
+use crate::harness::lives::lives;
+use crate::harness::scripts::{
+    Answer, Cue, LIFE, LOOKS, Life, ONE_WORKER, SETTINGS, SHUTS_DOWN, Step, View,
+};
+use crate::harness::users::{MANNER, Manner, Stance};
 use std::test::Fail;
 use tp_types::configs::Config;
 use tp_types::tasks::Kind;
 
 const VARIES: Step = Step::Cue(Cue::Vary);
 
-const ALL_DONE: Step = Step::View(View::AllCompleted);
+const ALL_DONE: Step = Step::Becomes(View::AllCompleted);
 
 const TWO_START: Step = Step::Call(Call::StartAll(2));
 
 // One of two tasks that wait for each other.
 const MEETS: Step = Step::Hand(Kind::Plain, Deed::Meet(0, 2), Answer::Accepted);
 
-// One task after the other, each once the one before it is completed.
+// One task after the other, each once the last one is completed.
 static WOKEN: [Life; 1] = [Life {
-    settings: Config {
-        core: 1,
-        maximum: 1,
-        ..SETTINGS
-    },
+    settings: ONE_WORKER,
     rounds: 500,
-    round: &[LOOKS, ALL_DONE, VARIES],
+    middle: &[LOOKS, ALL_DONE, VARIES],
     last: &[SHUTS_DOWN],
     findings: &[Finding::Run(500), Finding::NoFault],
     ..LIFE
@@ -39,10 +37,10 @@ fn sleeping_worker_is_woken(rt: HostRuntime) -> Result<(), Fail> {
     lives(rt, rt.alloc(), &WOKEN)
 }
 
-// Two tasks that wait for each other, for two workers that sleep, so many times.
+// Two sleeping workers get two tasks that wait for each other, so many times.
 const PAIRS: Life = Life {
     first: &[TWO_START],
-    round: &[VARIES, MEETS, MEETS, ALL_DONE],
+    middle: &[VARIES, MEETS, MEETS, ALL_DONE],
     last: &[SHUTS_DOWN],
     ..LIFE
 };
@@ -62,7 +60,7 @@ fn two_sleeping_workers_are_woken(rt: HostRuntime) -> Result<(), Fail> {
     lives(rt, rt.alloc(), &BOTH_WOKEN)
 }
 
-// The signal by which a worker heard that its slot is live may be left over when it sleeps first.
+// A new worker is signalled that its slot is live. That signal may be left over when the worker sleeps for the first time.
 static NEW_WOKEN: [Life; 1] = [Life {
     times: 50,
     rounds: 3,
@@ -75,7 +73,7 @@ fn new_workers_are_woken(rt: HostRuntime) -> Result<(), Fail> {
     lives(rt, rt.alloc(), &NEW_WOKEN)
 }
 
-// Two workers have passed the gate before their takes, which is shut behind them, and have had time to sleep.
+// Two workers have passed the gate before their takes, and have had time to sleep. The gate is shut behind them.
 const SHUT: Life = Life {
     manner: Manner {
         stance: Stance::Shut,
@@ -92,13 +90,12 @@ const SHUT: Life = Life {
 
 const OPENS: Step = Step::Cue(Cue::Put(Signal::Limit, u64::MAX));
 
-// Tasks that wait for each other meet all the same, since a worker that is woken takes without passing the gate
-// again.
+// Two tasks that wait for each other meet all the same: a worker that is woken takes its task without passing the gate again.
 static MET: [Life; 1] = [Life {
     last: &[
         MEETS,
         MEETS,
-        Step::View(View::BecomesCompleted(2)),
+        Step::Becomes(View::Completed(2)),
         Step::Cue(Cue::Is(Signal::Passed, 2)),
         OPENS,
         SHUTS_DOWN,
@@ -112,8 +109,8 @@ fn woken_workers_pass_no_gate(rt: HostRuntime) -> Result<(), Fail> {
     lives(rt, rt.alloc(), &MET)
 }
 
-// A worker that its gate holds before its take looks for no task: the other is woken for the next one. Where
-// both are held, a task waits until one may go on.
+// A worker that is held before its take looks for no task, so the other is woken for the next one. Where both are held, a task waits
+// until one of them may go on.
 static HELD_NOBODY: [Life; 1] = [Life {
     last: &[
         LOOKS,
@@ -122,9 +119,9 @@ static HELD_NOBODY: [Life; 1] = [Life {
         Step::Cue(Cue::Reaches(Signal::Came, 4)),
         LOOKS,
         Step::Cue(Cue::Rest(5000)),
-        Step::View(View::IsCompleted(2)),
+        Step::Is(View::Completed(2)),
         Step::Cue(Cue::Put(Signal::Limit, 3)),
-        Step::View(View::BecomesCompleted(3)),
+        Step::Becomes(View::Completed(3)),
         OPENS,
         SHUTS_DOWN,
     ],

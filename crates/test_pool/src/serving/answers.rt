@@ -1,9 +1,10 @@
-// What futures answer, those of single jobs, of many, and of groups.
+//! What the futures of single jobs, of many jobs and of groups answer.
 
-use super::chores::Deed;
-use super::lives::{ONE, lives_all};
-use super::scripts::{FIRST, Many, SHUTS_DOWN, Script, Step, Tale};
-use crate::stage::findings::Finding;
+use super::ONE;
+use crate::harness::chores::Deed;
+use crate::harness::findings::Finding;
+use crate::harness::lives::lives;
+use crate::harness::scripts::{FIRST, Life, Many, SHUTS_DOWN, Step};
 use std::test::Fail;
 use tp_types::ids::TaskId;
 use tp_types::refusals::PoolError;
@@ -30,20 +31,16 @@ const SINGLE: [Step; 18] = [
     SHUTS_DOWN,
 ];
 
-static SINGLE_TALE: [Tale; 1] = [Tale {
-    settings: ONE,
-    holds: false,
-    script: Script {
-        first: &[&SINGLE],
-        beside: &[],
-    },
+static SINGLES: [Life; 1] = [Life {
+    first: &SINGLE,
     findings: &[Finding::Submitted(4), Finding::Run(4)],
+    ..ONE
 }];
 
 // A value, a fault, a plain task, and a number that no task has.
 #[test]
 fn future_answers_its_job(rt: HostRuntime) -> Result<(), Fail> {
-    lives_all(rt, rt.alloc(), &SINGLE_TALE)
+    lives(rt, rt.alloc(), &SINGLES)
 }
 
 const TWO: [Deed; 2] = [Deed::End(Ok(1)), Deed::End(Err(2))];
@@ -66,23 +63,19 @@ const TOGETHER: [Step; 11] = [
     SHUTS_DOWN,
 ];
 
-static TOGETHER_TALE: [Tale; 1] = [Tale {
-    settings: ONE,
-    holds: false,
-    script: Script {
-        first: &[&TOGETHER],
-        beside: &[],
-    },
+static ALL_TOGETHER: [Life; 1] = [Life {
+    first: &TOGETHER,
     findings: &[
         Finding::Submitted(8),
         Finding::Run(8),
         Finding::Cancelled(0),
     ],
+    ..ONE
 }];
 
 #[test]
 fn many_jobs_answer_together(rt: HostRuntime) -> Result<(), Fail> {
-    lives_all(rt, rt.alloc(), &TOGETHER_TALE)
+    lives(rt, rt.alloc(), &ALL_TOGETHER)
 }
 
 const GROUP: [Step; 16] = [
@@ -104,18 +97,14 @@ const GROUP: [Step; 16] = [
     SHUTS_DOWN,
 ];
 
-static GROUP_TALE: [Tale; 1] = [Tale {
-    settings: ONE,
-    holds: false,
-    script: Script {
-        first: &[&GROUP],
-        beside: &[],
-    },
+static GROUPED: [Life; 1] = [Life {
+    first: &GROUP,
     findings: &[Finding::Run(4)],
+    ..ONE
 }];
 
 // Three jobs of a group come in the order in which they were submitted, and then none is open.
 #[test]
 fn group_comes_in_order(rt: HostRuntime) -> Result<(), Fail> {
-    lives_all(rt, rt.alloc(), &GROUP_TALE)
+    lives(rt, rt.alloc(), &GROUPED)
 }

@@ -1,11 +1,12 @@
-// Futures that are open, and what becomes of those that are cancelled, removed or handed back.
+//! Futures that are open, and what becomes of those that are cancelled, removed or handed back.
 
-use super::chores::Deed;
-use super::lives::{ONE, lives_all};
-use super::scripts::{CAME, Cue, FIRST, Many, OPENS, SHUTS_DOWN, Script, Step, TELLS, Tale};
-use crate::stage::boards::{Hook, Signal};
-use crate::stage::calls::Call;
-use crate::stage::findings::Finding;
+use super::{HELD_ONE, ONE};
+use crate::harness::boards::{Hook, Signal};
+use crate::harness::calls::Call;
+use crate::harness::chores::Deed;
+use crate::harness::findings::Finding;
+use crate::harness::lives::lives;
+use crate::harness::scripts::{CAME, Cue, FIRST, LETS_GO, Life, Many, SHUTS_DOWN, Step, TELLS};
 use std::test::Fail;
 use tp_types::ids::TaskId;
 use tp_types::refusals::PoolError;
@@ -13,8 +14,8 @@ use tp_types::tasks::{Fate, Kind};
 
 const CANCELLED: PoolError = PoolError::CancelledTask;
 
-// While job 0 is held, those behind it are cancelled, also by a call whose deadline has come. The worker that
-// takes them later calls both hooks for each, and no body.
+// Job 0 is held, and those behind it are cancelled; one of them by a call whose deadline has come. The worker that takes them later
+// calls both hooks for each, and no body.
 const OPEN: [Step; 18] = [
     FIRST,
     Step::TryGet(0, Ok(None)),
@@ -31,7 +32,7 @@ const OPEN: [Step; 18] = [
     Step::Poll(3, Ok(None)),
     Step::Call(Call::Cancel(TaskId(3), true, true)),
     Step::Take(3, Ok(TaskId(3))),
-    OPENS,
+    LETS_GO,
     Step::Get(0, Ok(6)),
     SHUTS_DOWN,
 ];
@@ -53,19 +54,15 @@ const HOOKED: [Finding; 14] = [
     Finding::Noted(Signal::Hooked(Hook::Skipped, TaskId(3)), 1),
 ];
 
-static OPEN_TALE: [Tale; 1] = [Tale {
-    settings: ONE,
-    holds: true,
-    script: Script {
-        first: &[&OPEN],
-        beside: &[],
-    },
+static CANCELLED_ONES: [Life; 1] = [Life {
+    first: &OPEN,
     findings: &HOOKED,
+    ..HELD_ONE
 }];
 
 #[test]
 fn open_futures_are_cancelled(rt: HostRuntime) -> Result<(), Fail> {
-    lives_all(rt, rt.alloc(), &OPEN_TALE)
+    lives(rt, rt.alloc(), &CANCELLED_ONES)
 }
 
 const LEFT: [Step; 13] = [
@@ -80,63 +77,50 @@ const LEFT: [Step; 13] = [
     Step::Call(Call::Stop(2, 3)),
     Step::Get(2, Err(PoolError::Lost(Fate::HandedBack))),
     Step::GetUntil(2, 0, Err(PoolError::Lost(Fate::HandedBack))),
-    OPENS,
+    LETS_GO,
     Step::Get(0, Ok(6)),
 ];
 
-static LEFT_TALE: [Tale; 1] = [Tale {
-    settings: ONE,
-    holds: true,
-    script: Script {
-        first: &[&LEFT],
-        beside: &[],
-    },
+static LOST: [Life; 1] = [Life {
+    first: &LEFT,
     findings: &[Finding::Run(1)],
+    ..HELD_ONE
 }];
 
-// Removed, and then handed back.
+// One task is removed, and the other handed back.
 #[test]
 fn tasks_that_leave_are_lost(rt: HostRuntime) -> Result<(), Fail> {
-    lives_all(rt, rt.alloc(), &LEFT_TALE)
+    lives(rt, rt.alloc(), &LOST)
 }
 
-const HELD: [Step; 2] = [Step::Submit(Kind::Future, Deed::Look, 0), CAME];
+// A job is held before its body, and its future is cancelled.
+const CANCELS: Life = Life {
+    first: &[Step::Submit(Kind::Future, Deed::Look, 0), CAME],
+    last: &[Step::Get(0, Err(CANCELLED)), LETS_GO, SHUTS_DOWN],
+    ..HELD_ONE
+};
 
-const FLAGGED: [Step; 1] = [Step::Call(Call::Cancel(TaskId(0), true, true))];
-
-const UNFLAGGED: [Step; 1] = [Step::Call(Call::Cancel(TaskId(0), false, true))];
-
-const GOES_ON: [Step; 3] = [Step::Get(0, Err(CANCELLED)), OPENS, SHUTS_DOWN];
-
-static FLAG_TALES: [Tale; 2] = [
-    Tale {
-        settings: ONE,
-        holds: true,
-        script: Script {
-            first: &[&HELD, &FLAGGED, &GOES_ON],
-            beside: &[],
-        },
+static FLAGGED: [Life; 2] = [
+    Life {
+        middle: &[Step::Call(Call::Cancel(TaskId(0), true, true))],
         findings: &[Finding::Ended(0, Ok(1)), Finding::Cancelled(1)],
+        ..CANCELS
     },
-    Tale {
-        settings: ONE,
-        holds: true,
-        script: Script {
-            first: &[&HELD, &UNFLAGGED, &GOES_ON],
-            beside: &[],
-        },
+    Life {
+        middle: &[Step::Call(Call::Cancel(TaskId(0), false, true))],
         findings: &[Finding::Ended(0, Ok(0)), Finding::Cancelled(1)],
+        ..CANCELS
     },
 ];
 
-// A job that is held before its body finds its flag set where it is cancelled with the flag, and only there.
+// The job finds its flag set where the cancel asks for that, and else not.
 #[test]
 fn held_job_finds_its_flag(rt: HostRuntime) -> Result<(), Fail> {
-    lives_all(rt, rt.alloc(), &FLAG_TALES)
+    lives(rt, rt.alloc(), &FLAGGED)
 }
 
 const UNLOOKING: [Step; 6] = [
-    Step::Submit(Kind::Future, Deed::Wait, 0),
+    Step::Submit(Kind::Future, Deed::WaitBlind, 0),
     Step::Cue(Cue::Reaches(Signal::Begun, 1)),
     Step::Call(Call::Cancel(TaskId(0), true, true)),
     Step::Get(0, Err(CANCELLED)),
@@ -144,47 +128,39 @@ const UNLOOKING: [Step; 6] = [
     SHUTS_DOWN,
 ];
 
-static UNLOOKING_TALE: [Tale; 1] = [Tale {
-    settings: ONE,
-    holds: false,
-    script: Script {
-        first: &[&UNLOOKING],
-        beside: &[],
-    },
+static ENDED_UNLOOKING: [Life; 1] = [Life {
+    first: &UNLOOKING,
     findings: &[
         Finding::Ended(0, Ok(5)),
         Finding::Cancelled(1),
         Finding::Noted(Signal::Hooked(Hook::Ran, TaskId(0)), 1),
         Finding::Noted(Signal::Hooked(Hook::Ran, TaskId(1)), 0),
     ],
+    ..ONE
 }];
 
-// Its future is cancelled, and the job still ends.
+// The job's future is cancelled, and the job still ends.
 #[test]
 fn job_that_never_looks_still_ends(rt: HostRuntime) -> Result<(), Fail> {
-    lives_all(rt, rt.alloc(), &UNLOOKING_TALE)
+    lives(rt, rt.alloc(), &ENDED_UNLOOKING)
 }
 
 const REST: [Step; 5] = [
-    Step::Many(Many::Any(&[Deed::End(Ok(3)), Deed::Wait], Ok(3))),
+    Step::Many(Many::Any(&[Deed::End(Ok(3)), Deed::WaitBlind], Ok(3))),
     Step::Get(0, Ok(3)),
     Step::Get(1, Err(CANCELLED)),
     TELLS,
     SHUTS_DOWN,
 ];
 
-static REST_TALE: [Tale; 1] = [Tale {
-    settings: ONE,
-    holds: false,
-    script: Script {
-        first: &[&REST],
-        beside: &[],
-    },
+static REST_CANCELLED: [Life; 1] = [Life {
+    first: &REST,
     findings: &[Finding::Run(1), Finding::Cancelled(1)],
+    ..ONE
 }];
 
-// One succeeds, and the other, which is open then, is cancelled.
+// One job succeeds. The other is open then, and is cancelled.
 #[test]
 fn rest_is_cancelled_where_one_succeeds(rt: HostRuntime) -> Result<(), Fail> {
-    lives_all(rt, rt.alloc(), &REST_TALE)
+    lives(rt, rt.alloc(), &REST_CANCELLED)
 }

@@ -1,9 +1,10 @@
-// A submission of many that is refused: the earlier ones are cancelled, and it and the later ones are dropped.
+//! Many jobs, of which one is refused. The earlier ones are cancelled, and it and the later ones are dropped.
 
-use super::chores::Deed;
-use super::lives::{ONE, lives_all};
-use super::scripts::{CAME, FIRST, Many, OPENS, SHUTS_DOWN, Script, Step, Tale};
-use crate::stage::findings::Finding;
+use super::HELD_ONE;
+use crate::harness::chores::Deed;
+use crate::harness::findings::Finding;
+use crate::harness::lives::lives;
+use crate::harness::scripts::{CAME, FIRST, LETS_GO, Life, Many, ONE_WORKER, SHUTS_DOWN, Step};
 use std::test::Fail;
 use tp_types::configs::{Config, QueueKind};
 use tp_types::ids::TaskId;
@@ -14,76 +15,56 @@ const LOOKS: [Deed; 3] = [Deed::Look, Deed::Look, Deed::Look];
 const REFUSED: PoolError = PoolError::Rejected(TaskId(2));
 
 // One place is left in the queue, so the second of three is rejected.
-const ONE_PLACE: Config = Config {
-    queue: QueueKind::Bounded(1),
-    ..ONE
+const ONE_PLACE: Life = Life {
+    settings: Config {
+        queue: QueueKind::Bounded(1),
+        ..ONE_WORKER
+    },
+    first: &[FIRST, CAME],
+    last: &[
+        Step::Get(1, Err(PoolError::CancelledTask)),
+        LETS_GO,
+        SHUTS_DOWN,
+    ],
+    findings: &[
+        Finding::Submitted(3),
+        Finding::Run(1),
+        Finding::Cancelled(1),
+    ],
+    ..HELD_ONE
 };
 
-const HELD: [Step; 2] = [FIRST, CAME];
-
-const ALL: [Step; 1] = [Step::Many(Many::AllRefused(&LOOKS, REFUSED))];
-
-const ANY: [Step; 1] = [Step::Many(Many::Any(&LOOKS, Err(REFUSED)))];
-
-const GOES_ON: [Step; 3] = [
-    Step::Get(1, Err(PoolError::CancelledTask)),
-    OPENS,
-    SHUTS_DOWN,
-];
-
-const FOUND: [Finding; 3] = [
-    Finding::Submitted(3),
-    Finding::Run(1),
-    Finding::Cancelled(1),
-];
-
-static REJECTED: [Tale; 2] = [
-    Tale {
-        settings: ONE_PLACE,
-        holds: true,
-        script: Script {
-            first: &[&HELD, &ALL, &GOES_ON],
-            beside: &[],
-        },
-        findings: &FOUND,
+static REJECTED: [Life; 2] = [
+    Life {
+        middle: &[Step::Many(Many::AllRefused(&LOOKS, REFUSED))],
+        ..ONE_PLACE
     },
-    Tale {
-        settings: ONE_PLACE,
-        holds: true,
-        script: Script {
-            first: &[&HELD, &ANY, &GOES_ON],
-            beside: &[],
-        },
-        findings: &FOUND,
+    Life {
+        middle: &[Step::Many(Many::Any(&LOOKS, Err(REFUSED)))],
+        ..ONE_PLACE
     },
 ];
 
 #[test]
 fn earlier_jobs_are_cancelled(rt: HostRuntime) -> Result<(), Fail> {
-    lives_all(rt, rt.alloc(), &REJECTED)
+    lives(rt, rt.alloc(), &REJECTED)
 }
 
-const FULL: [Step; 3] = [
-    Step::Many(Many::AllRefused(&[Deed::Look; 40], PoolError::BookFull)),
-    OPENS,
-    SHUTS_DOWN,
-];
-
-static FULL_TALE: [Tale; 1] = [Tale {
+static FULL: [Life; 1] = [Life {
     settings: Config {
         record_limit: 64,
-        ..ONE
+        ..ONE_WORKER
     },
-    holds: true,
-    script: Script {
-        first: &[&FULL],
-        beside: &[],
-    },
-    findings: &[],
+    first: &[
+        Step::Many(Many::AllRefused(&[Deed::Look; 40], PoolError::BookFull)),
+        LETS_GO,
+        SHUTS_DOWN,
+    ],
+    ..HELD_ONE
 }];
 
-// The record has no room for as many. A cancel that finds none either is left undone, and the pool still ends.
+// The record has no room for so many jobs. A cancel for which it has none either is left undone, and the pool still ends.
 #[test]
 fn full_record_refuses_many(rt: HostRuntime) -> Result<(), Fail> {
-    lives_all(rt, rt.alloc(), &FULL_TALE)
+    lives(rt, rt.alloc(), &FULL)
 }

@@ -1,22 +1,23 @@
-// What a thread sees that watches a pool and makes no step.
+//! What a thread sees that watches a pool and makes no step.
 
-use super::chores::Deed;
-use super::lives::{ONE, lives_all};
-use super::scripts::{CAME, FIRST, OPENS, SHUTS_DOWN, Script, Step, Tale, View};
-use crate::stage::findings::Finding;
+use super::HELD_ONE;
+use crate::harness::chores::Deed;
+use crate::harness::findings::Finding;
+use crate::harness::lives::lives;
+use crate::harness::scripts::{CAME, FIRST, LETS_GO, Life, SHUTS_DOWN, Seen, Step};
 use std::test::Fail;
 use tp_types::states::RunState;
 use tp_types::tasks::Kind;
 
 // Worker 0 is held in task 0 (submit, open, take, begin), and task 1 is queued behind it (submit, offer, second).
-const BUSY: View = View {
+const BUSY: Seen = Seen {
     state: RunState::Running,
     steps: 7,
     queued: 1,
     busy: &[(0, 0)],
 };
 
-const SHUT: View = View {
+const SHUT: Seen = Seen {
     state: RunState::Shutdown,
     steps: 8,
     ..BUSY
@@ -29,20 +30,16 @@ const WATCHED: [Step; 7] = [
     Step::Watch(BUSY),
     SHUTS_DOWN,
     Step::Watch(SHUT),
-    OPENS,
+    LETS_GO,
 ];
 
-static WATCHED_TALE: [Tale; 1] = [Tale {
-    settings: ONE,
-    holds: true,
-    script: Script {
-        first: &[&WATCHED],
-        beside: &[],
-    },
+static SEEN: [Life; 1] = [Life {
+    first: &WATCHED,
     findings: &[Finding::Run(2)],
+    ..HELD_ONE
 }];
 
 #[test]
 fn sight_sees_a_pool_at_work(rt: HostRuntime) -> Result<(), Fail> {
-    lives_all(rt, rt.alloc(), &WATCHED_TALE)
+    lives(rt, rt.alloc(), &SEEN)
 }

@@ -1,6 +1,6 @@
 //! A pool's factory, handler, hooks and gate, as tests have them.
 
-use crate::stage::boards::{Board, Hook, Signal, shared};
+use crate::harness::boards::{Board, Hook, Signal, shared};
 use std::sync::{Arc, Wait};
 use std::thread;
 use tp_pool::edges::Edge;
@@ -37,17 +37,20 @@ pub struct Manner {
     pub yields: bool,
     /// Whether factory, handler and hooks wait until the pool was read.
     pub talks: bool,
+    /// Whether the hook of the pool's end takes its time. Who waits for the end then looks at a pool that is tidying.
+    pub lingers: bool,
     /// The stack of a worker's thread, in bytes.
     pub stack: usize,
 }
 
-/// Users that let everything pass.
+/// Users that consent to everything and take no time.
 pub const MANNER: Manner = Manner {
     consents: u64::MAX,
     verdict: Verdict::Abort,
     stance: Stance::Free,
     yields: false,
     talks: false,
+    lingers: false,
     stack: 2_097_152,
 };
 
@@ -69,6 +72,13 @@ impl Users {
         if self.manner.talks {
             self.board.talk();
         }
+    }
+}
+
+// Lets other threads run for a while.
+fn linger() {
+    for _ in 0..20_000u32 {
+        thread::yield_now();
     }
 }
 
@@ -101,6 +111,9 @@ impl Edge for Users {
     fn terminated<R: Wait>(&self, _rt: &R) {
         self.board.raise(Signal::Ends);
         self.talk();
+        if self.manner.lingers {
+            linger();
+        }
     }
 
     fn pass(&self, p: Point, _w: SlotId) {

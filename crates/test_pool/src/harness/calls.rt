@@ -1,16 +1,20 @@
-//! What callers ask of a pool, in tables of calls. None of these functions says a clause, since nobody reads it.
+//! What callers ask of a pool, as lines of a table. None of these functions says a clause, since nobody reads it.
 
+use crate::harness::chores::Chore;
+use crate::harness::users::Users;
 use std::sync::Wait;
-use std::thread::Threads;
 use tp_book::passes::Pass;
+use tp_machine::machine::releases::Keeper;
 use tp_pool::answers::{Drained, Removal};
-use tp_pool::edges::Edge;
-use tp_pool::jobs::Job;
-use tp_pool::names::PoolNaming;
+use tp_pool::callers::{PoolName, Runtime};
 use tp_pool::pool::PoolOf;
+use tp_record::recorders::Full;
 use tp_types::ids::TaskId;
 use tp_types::refusals::PoolError;
-use tp_types::states::{Counts, RunState};
+use tp_types::states::RunState;
+
+/// A test's pool.
+pub type Tested<G, K = Full> = PoolOf<G, Chore, Users, K>;
 
 /// A call, with what it says where it is not refused.
 #[derive(Clone, Copy)]
@@ -33,17 +37,14 @@ pub enum Call {
     /// The tasks from one number to below another are handed back, with their jobs.
     Stop(u32, u32),
     Await(u64),
-    TakeDone(u32),
+    /// A done task of this group, which is this one.
+    TakeDone(u32, TaskId),
     AwaitDone(u32),
+    Fate(TaskId),
     Result(TaskId),
     AwaitResult(TaskId, u64),
-    /// Waits until the pool has made more steps than so many.
-    WaitStep(u64),
-    /// The run state, and the moment, are these.
-    IsState(RunState),
-    IsNow(u64),
-    /// No counter is above 0.
-    CountsNothing,
+    /// Waits until the pool has made more steps than the first number; it has made as many as the second at least.
+    WaitStep(u64, u64),
     /// The run state that is published is this one or a later one.
     Sees(RunState),
 }
@@ -58,31 +59,6 @@ fn are_handed_back<J>(drained: &[Drained<J>], from: u32, to: u32) -> bool {
         next = next.saturating_add(1);
     }
     next == to
-}
-
-fn stops<G: PoolNaming, J: Job, E: Edge, R: Wait>(
-    rt: &R,
-    pool: &PoolOf<G, J, E>,
-    from: u32,
-    to: u32,
-    pass: &mut Pass<G>,
-) -> Result<bool, PoolError> {
-    match pool.shutdown_now(rt, pass) {
-        Ok(drained) => Ok(are_handed_back(drained.as_slice(), from, to)),
-        Err(error) => Err(error),
-    }
-}
-
-fn removes<G: PoolNaming, J: Job, E: Edge, R: Wait>(
-    rt: &R,
-    pool: &PoolOf<G, J, E>,
-    t: TaskId,
-    pass: &mut Pass<G>,
-) -> Result<bool, PoolError> {
-    match pool.remove(rt, t, pass) {
-        Ok(removal) => Ok(matches!(removal, Removal::Yes(Some(_)))),
-        Err(error) => Err(error),
-    }
 }
 
 // Whether what is answered, where nothing is refused, is this.
@@ -100,43 +76,59 @@ fn is_made<T: Drop>(answer: Result<T, PoolError>) -> Result<bool, PoolError> {
     }
 }
 
-// Makes a call that asks for a result.
-fn asks<G: PoolNaming, J: Job, E: Edge, R: Wait>(
+fn is_removed<J: Drop>(answer: Result<Removal<J>, PoolError>) -> Result<bool, PoolError> {
+    match answer {
+        Ok(removal) => Ok(matches!(removal, Removal::Yes(Some(_)))),
+        Err(error) => Err(error),
+    }
+}
+
+fn stops<G: PoolName, K: Keeper + Send + 'static, R: Wait>(
     rt: &R,
-    pool: &PoolOf<G, J, E>,
+    pool: &Tested<G, K>,
+    from: u32,
+    to: u32,
+    pass: &mut Pass<G>,
+) -> Result<bool, PoolError> {
+    match pool.shutdown_now(rt, pass) {
+        Ok(drained) => Ok(are_handed_back(drained.as_slice(), from, to)),
+        Err(error) => Err(error),
+    }
+}
+
+fn goes_on<G: PoolName, K: Keeper + Send + 'static, R: Wait>(
+    rt: &R,
+    pool: &Tested<G, K>,
+    seen: u64,
+    least: u64,
+) -> bool {
+    let steps = pool.wait_step(rt, seen);
+    steps > seen && steps >= least
+}
+
+// Makes a call that asks for a result, or waits.
+fn asks<G: PoolName, K: Keeper + Send + 'static, R: Wait>(
+    rt: &R,
+    pool: &Tested<G, K>,
     call: Call,
     pass: &mut Pass<G>,
 ) -> Result<bool, PoolError> {
     match call {
-        Call::TakeDone(group) => is_made(pool.take_done(rt, group, pass)),
+        Call::TakeDone(group, t) => is(pool.take_done(rt, group, pass), t),
         Call::AwaitDone(group) => is_made(pool.await_done(rt, group, pass)),
+        Call::Fate(t) => is_made(pool.fate(rt, t)),
         Call::Result(t) => is_made(pool.result(rt, t)),
         Call::AwaitResult(t, deadline) => is_made(pool.await_result(rt, t, Some(deadline))),
-        _ => Ok(reads(rt, pool, call, pass)),
-    }
-}
-
-// Makes a call that reads the pool, or waits for a step.
-fn reads<G: PoolNaming, J: Job, E: Edge, R: Wait>(
-    rt: &R,
-    pool: &PoolOf<G, J, E>,
-    call: Call,
-    pass: &mut Pass<G>,
-) -> bool {
-    match call {
-        Call::WaitStep(seen) => pool.wait_step(rt, seen) > seen,
-        Call::IsState(state) => pool.state(rt) == state,
-        Call::IsNow(moment) => pool.now(rt) == moment,
-        Call::CountsNothing => pool.counts(rt) == Counts::default(),
-        Call::Sees(state) => pool.glance(pass).rank() >= state.rank(),
-        _ => false,
+        Call::WaitStep(seen, least) => Ok(goes_on(rt, pool, seen, least)),
+        Call::Sees(state) => Ok(pool.glance(pass).rank() >= state.rank()),
+        _ => Ok(false),
     }
 }
 
 // Makes a call that starts no worker.
-fn controls<G: PoolNaming, J: Job, E: Edge, R: Wait>(
+fn controls<G: PoolName, K: Keeper + Send + 'static, R: Wait>(
     rt: &R,
-    pool: &PoolOf<G, J, E>,
+    pool: &Tested<G, K>,
     call: Call,
     pass: &mut Pass<G>,
 ) -> Result<bool, PoolError> {
@@ -146,7 +138,7 @@ fn controls<G: PoolNaming, J: Job, E: Edge, R: Wait>(
         Call::CoreTimeout(on) => is_made(pool.allow_core_timeout(rt, on, pass)),
         Call::Tick(now) => is_made(pool.tick(rt, now, pass)),
         Call::Purge(cancelled) => is(pool.purge(rt, pass), cancelled),
-        Call::Remove(t) => removes(rt, pool, t, pass),
+        Call::Remove(t) => is_removed(pool.remove(rt, t, pass)),
         Call::Cancel(t, flag, could) => is(pool.cancel(rt, t, flag, pass), could),
         Call::Stop(from, to) => stops(rt, pool, from, to, pass),
         Call::Await(deadline) => is_made(pool.await_termination(rt, deadline, pass)),
@@ -155,12 +147,12 @@ fn controls<G: PoolNaming, J: Job, E: Edge, R: Wait>(
 }
 
 /// Makes the call: whether it says what is wanted.
-pub fn make<
-    G: PoolNaming + Send + Sync + 'static,
-    J: Job + 'static,
-    E: Edge + Send + Sync + 'static,
-    R: Threads + Wait + Copy + Send + 'static,
->(rt: &R, pool: &PoolOf<G, J, E>, call: Call, pass: &mut Pass<G>) -> Result<bool, PoolError> {
+pub fn make<G: PoolName, K: Keeper + Send + 'static, R: Runtime>(
+    rt: &R,
+    pool: &Tested<G, K>,
+    call: Call,
+    pass: &mut Pass<G>,
+) -> Result<bool, PoolError> {
     match call {
         Call::Core(core) => is_made(pool.set_core(rt, core, pass)),
         Call::StartAll(live) => is(pool.prestart_all(rt, pass), live),

@@ -1,4 +1,4 @@
-use Rattle.test_pool.proofs.serving.lives.lived.Given as goal
+use Rattle.test_pool.proofs.harness.lives.lived.Given as goal
 
 abbrev pub ghosts-open-G-Ledger : goal.ghosts-open-G-Ledger
 ghosts-open-G-Ledger g a = record { name = a.unopened.ledger; parts = a.unopened.parts }

@@ -1,15 +1,19 @@
 //! What a closed pool is to have left.
 
-use crate::stage::boards::{Board, Signal};
-use tp_pool::closing::Report;
-use tp_record::entries::{Did, Entry, Failed, Looked, Offered, Opened, Seconded, Took};
+use crate::harness::boards::{Board, Signal};
+use tp_record::entries::{Ask, Did, Entry, Failed, Looked, Offered, Opened, Seconded, Took};
 use tp_types::ids::{SlotId, TaskId};
 use tp_types::states::Counts;
 use tp_types::tasks::{Kind, Outcome};
 
+/// An entry: by which pass, what was asked, and what was done.
+pub type Row = (u32, Ask, Did);
+
 /// A finding.
 #[derive(Clone, Copy)]
 pub enum Finding {
+    /// All counters.
+    Counts(Counts),
     /// A counter.
     Submitted(u32),
     Run(u32),
@@ -19,9 +23,12 @@ pub enum Finding {
     Cancelled(u32),
     Completed(u32),
     Largest(u32),
-    /// Exactly one worker ended this task, so.
+    Live(u32),
+    /// Exactly one entry ends this task, with this outcome.
     Ended(u32, Outcome),
-    /// So many entries are answered so.
+    /// The whole record.
+    Record(&'static [Row]),
+    /// So many entries say this.
     Told(usize, Did),
     /// The whole record of a task that is handed back by a pool without workers, all by the one caller.
     Unstaffed,
@@ -37,10 +44,29 @@ pub enum Finding {
     /// A count of the test: what it is, or that it is not 0.
     Noted(Signal, u64),
     NotedSome(Signal),
+    /// The flag that a job shared is set, or not.
+    Hears(bool),
 }
+
+/// The counters of a pool without tasks.
+pub const NO_COUNTS: Counts = Counts {
+    submitted: 0,
+    run: 0,
+    caller: 0,
+    rejected: 0,
+    discarded: 0,
+    handedback: 0,
+    removed: 0,
+    cancelled: 0,
+    completed: 0,
+    queued: 0,
+    live: 0,
+    largest: 0,
+};
 
 fn counted(counts: Counts, finding: Finding) -> bool {
     match finding {
+        Finding::Counts(wanted) => counts == wanted,
         Finding::Submitted(n) => counts.submitted == n,
         Finding::Run(n) => counts.run == n,
         Finding::Caller(n) => counts.caller == n,
@@ -49,6 +75,7 @@ fn counted(counts: Counts, finding: Finding) -> bool {
         Finding::Cancelled(n) => counts.cancelled == n,
         Finding::Completed(n) => counts.completed == n,
         Finding::Largest(n) => counts.largest == n,
+        Finding::Live(n) => counts.live == n,
         _ => false,
     }
 }
@@ -68,6 +95,15 @@ fn ended(entries: &[Entry], t: u32, outcome: Outcome) -> bool {
         }
     }
     ends == 1
+}
+
+fn is_record(entries: &[Entry], rows: &[Row]) -> bool {
+    for (entry, row) in entries.iter().zip(rows) {
+        if (entry.by, entry.ask, entry.did) != *row {
+            return false;
+        }
+    }
+    entries.len() == rows.len()
 }
 
 fn told(entries: &[Entry], times: usize, did: Did) -> bool {
@@ -138,8 +174,8 @@ fn next_by(entries: &[Entry], by: u32) -> Option<(Did, &[Entry])> {
     None
 }
 
-// Whether a thread that faulted leaves next, with a slot reserved in its place, and then says of that slot that
-// a worker was made, or was not.
+// Whether a thread that faulted leaves next, with a slot reserved in its place. It then says of that slot that a worker was made, or that
+// none was.
 fn is_followed(later: &[Entry], by: u32, made: bool) -> bool {
     let Some((Did::Leave(_, Some(w)), later)) = next_by(later, by) else {
         return false;
@@ -151,7 +187,7 @@ fn is_followed(later: &[Entry], by: u32, made: bool) -> bool {
     }
 }
 
-// Whether so many tasks faulted, each of which is so followed.
+// Whether so many tasks faulted, and each was followed so.
 fn are_followed(entries: &[Entry], faults: u32, made: bool) -> bool {
     let mut found = 0u32;
     let mut rest = entries;
@@ -180,9 +216,9 @@ fn by_hand(entries: &[Entry]) -> usize {
     given
 }
 
-fn is_found(report: &Report, board: &Board, finding: Finding) -> bool {
-    let entries = report.entries.as_slice();
+fn is_found(counts: Counts, entries: &[Entry], board: &Board, finding: Finding) -> bool {
     match finding {
+        Finding::Record(rows) => is_record(entries, rows),
         Finding::Ended(t, outcome) => ended(entries, t, outcome),
         Finding::Told(times, did) => told(entries, times, did),
         Finding::Unstaffed => is_unstaffed(entries, 8),
@@ -193,14 +229,20 @@ fn is_found(report: &Report, board: &Board, finding: Finding) -> bool {
         Finding::ByHand(tasks) => by_hand(entries) == tasks,
         Finding::NotedSome(signal) => board.read(signal) > 0,
         Finding::Noted(signal, to) => board.read(signal) == to,
-        _ => counted(report.counts, finding),
+        Finding::Hears(is_set) => board.hears() == Some(is_set),
+        _ => counted(counts, finding),
     }
 }
 
-/// The first of these that is not found, counted from 0.
-pub fn missing(report: &Report, board: &Board, findings: &[Finding]) -> Option<usize> {
+/// The first of these that is not found, counted from 0. A pool without a record has left no entries.
+pub fn missing(
+    counts: Counts,
+    entries: &[Entry],
+    board: &Board,
+    findings: &[Finding],
+) -> Option<usize> {
     for (number, finding) in findings.iter().enumerate() {
-        if !is_found(report, board, *finding) {
+        if !is_found(counts, entries, board, *finding) {
             return Some(number);
         }
     }
