@@ -154,6 +154,3 @@ impl<R: Read, C: Clock, T: Write> Read for ToldReader<'_, R, C, T> {
         Ok(count)
     }
 }
-
-#[cfg(test)]
-mod tests;
