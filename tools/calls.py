@@ -29,13 +29,13 @@ In a signature `rt` is the runtime by which a call waits, `alloc` the allocator,
 """
 
 # The sections, each with a note, and with the calls of a type, of a module, or of a trait. +N are further sentences of its comment;
-# {twins} are the calls of the trait `Calls` that a pool has too, and that stand in no section.
+# {twins} are the calls of the traits `Calls` and `Controls` that a pool has too, and that stand in no section.
 SECTIONS = {
     "Settings": ("They are a value, as `Config::fixed(2).queue(QueueKind::Bounded(8)).policy(Policy::CallerRuns)`. `fixed`, as `Executors.newFixedThreadPool`, has so many workers that stay, a queue with room for any number of tasks, the policy abort, and a record of 4,096 entries. `core`, `maximum`, `queue`, `keep`, `core_timeout`, `policy` and `record_limit` each set one, in the range that the [pool line](SCENARIOS.md#the-pool-line) has.",
         "makers::single makers::cached makers::by_processors sizes::for_jobs"),
     "A pool's whole life in one call": ("A closure that is a job sends a value of any type by the two ends of a channel, `send` and `take`.", "running::run_tasks lives::with_pool lives::with_tally lives::run_all tasks::job oneshot::oneshot"),
-    "What a caller of `with_pool` asks": ("The trait `Calls`. Its `pool` is lent to each caller, and has the caller's pass and runtime. It has these calls, too, which are the pool's of the same name: {twins}. `state` is a `glance`.",
-        "Calls::execute Calls::submit Calls::get Calls::get_for"),
+    "What a caller of `with_pool` asks": ("The trait `Calls`, with those of `Controls`. Its `pool` is lent to each caller, and has the caller's pass and runtime. A `Group` keeps its tasks' tickets, by `submit_to` and `take`. There are these calls, too, which are the pool's of the same name: {twins}. `state` is a `glance`.",
+        "Calls::execute Calls::submit Calls::get Calls::get_for Group::submit Group::next"),
     "Open, share and close": ("Where the pool itself is wanted, for threads and passes of one's own. `Pool::new` is `ThreadPoolExecutor`'s constructor; it takes boxes of a factory, a handler, hooks and a gate. `close_one` takes the pass of a single caller.",
         "PoolOf::over PoolOf::split_pass PoolOf::handle+1 PoolOf::close PoolOf::let_go reports::outcome_of"),
     "Submit": ("A submission that is refused with 4 or 5 has made no step, and gives its job back. 12 comes after the task's steps, with the job unless it was cancelled. `execute_at` takes the priority too. `invoke_all_until` cancels what is open at a moment in ticks.",
@@ -54,15 +54,15 @@ SECTIONS = {
 LEFT_OUT = """PoolOf::new invoking::invoke_all_until futures::get_until PoolOf::prestart_all CompletionService::new PoolOf::close_one CloseFault::let_go Sender::send Receiver::take PoolOf::sight reports::faulted PoolOf::execute_at PoolOf::kept PoolOf::abandon PoolOf::forget_abandoned
     Config::fixed Config::core Config::maximum Config::queue Config::keep Config::core_timeout Config::policy Config::record_limit Boxes::new Find::take futures::task_of PoolOf::look_by PoolOf::snapshot_by PoolOf::record_since_by PoolOf::release PoolOf::result PoolOf::result_with
     PoolOf::await_result PoolOf::await_result_with PoolOf::await_result_for PoolOf::take_done PoolOf::await_done PoolOf::group_open PoolOf::state PoolOf::counts PoolOf::now PoolOf::steps PoolOf::place PoolOf::fate PoolOf::promise PoolOf::task_in PoolOf::await_end
-    futures::get_with futures::get_until_with futures::try_get_with Calls::host""".split()
+    futures::get_with futures::get_until_with futures::try_get_with Calls::host Calls::set Calls::enter Calls::ticket Calls::submit_to Calls::take Group::new Group::len""".split()
 # Public for crates of the pool alone.
 INSIDE = """orders::staffed_by orders::rescue_tasks_by sizes::law_jobs_have_room Held::placed Held::run Held::into_task PoolOf::execute_by PoolOf::shutdown_by PoolOf::obey
     PoolOf::shut PoolOf::await_shut orders::rescue_by running::found Desk::new Desk::ask Desk::close desk::starter Seat::into_pass""".split()
 
 # What a relation in a clause says; the first that stands in a call's clauses is taken.
 SAYS = {
-    "IsLived TellsCount": "*closed*, of a record that nobody keeps",
-    "IsLived": "*closed*",
+    "IsLived.*TellsCount": "as of `with_pool`, of a record that nobody keeps",
+    "IsLived": "*closed*; each caller's pass was new, and of its pass at first and at last, and of what came of its life, that life's `leaves` holds",
     "result ≡ record . core": "they are settings that a pool can have",
     "AreRun": "each answer is that of its own task; *closed*, with their submissions in order",
     "IsRun": "each answer is that of its own job; *closed*, with their submissions in order",
@@ -72,6 +72,7 @@ SAYS = {
     "IsConfig": "a pool is made only with good settings, and begins with no entry",
     "IsAllUntil|IsAll|AreTurnedBack": "the numbers are those of the jobs' submissions, in order, and no task is open at the pass's front",
     "IsAnyValue|HasNoValue": "the value is that of one of these tasks, and 18 comes only where none has one, at the pass's front",
+    "IsNext": "*step*, and what is told is so of the task that it took, at the pass's front",
     "IsAdmitted|Admits|AddsJob": "*path*",
     "AddsAndEnds": "*step*, and the pool's end where it comes next",
     "AddsStarts|AddsPrestart": "*step*, with the entries of the workers that were started",
@@ -90,7 +91,7 @@ SHORT = [(r"\b(PoolOf|Handle|Pass|Sight|Pool)<[^>]*>", r"\1"), (r"\brt: &R", "rt
          (r"\bpool: &PoolOf", "pool"), (r"\bt: TaskId", "t"), (r"<Self::Task as Task>::Output", "Output"), (r"\b(Self|K)::", ""),
          (r" -> Result<\(\), PoolError>$", ""), (r" -> Result<(.*), (PoolError|AllocError|Refused<.*>|Close(One)?Fault<.*>)>$", r" -> \1")]
 
-CALLED = {"PoolOf": "pool", "CompletionService": "service", "Calls": "pool", "Config": "config"}
+CALLED = {"PoolOf": "pool", "CompletionService": "service", "Calls": "pool", "Config": "config", "Group": "group"}
 
 
 def calls(path):
@@ -98,10 +99,10 @@ def calls(path):
     owner, doc, found = path.stem, [], []
     lines = iter(path.read_text().split("\n"))
     for line in lines:
-        text = line.strip()
+        text = line.strip().removeprefix("final ")
         if line.startswith("impl"):
             owner = re.match(r"impl(<.*?>)? (.* for )?(\w+)|.", line)[3] or "PoolOf"
-        elif line.startswith("pub trait Calls"):
+        elif line.startswith(("pub trait Calls", "pub trait Controls")):
             owner = "Calls"
         elif line == "}":
             owner = path.stem

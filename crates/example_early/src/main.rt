@@ -15,9 +15,15 @@ impl Task for Nap {
 }
 
 impl Life for Nap {
+    ghost use Rattle.std.specs.Prelude.{◌≤◌, OnOk};
+    ghost use Rattle.tp_record.specs.Fields.{rank};
+
     type Out = Result<(), PoolError>;
 
     type Task = Nap;
+
+    // A caller that does not give up has seen its pool shut down.
+    ghost leaves = { λ _ _ _ _ new out. OnOk out (1 ≤ rank new.front) };
 
     fn live<P: Calls<Task = Nap>>(&self, pool: &mut P, _who: u32) -> Self::Out {
         for _ in 0..4 {

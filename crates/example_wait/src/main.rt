@@ -1,4 +1,4 @@
-//! `example_wait`: a wait of at most 200 ms for a slow job, while the record is full.
+//! `example_wait`: a wait of at most 200 ms for a nap of three seconds, while the record is full. It prints what became of the caller.
 #![tactic(auto)]
 
 use tp_life::prelude::*;
@@ -21,7 +21,7 @@ impl Life for Nap {
 
     fn live<P: Calls<Task = Nap>>(&self, pool: &mut P, _who: u32) -> Told<()> {
         let slow = pool.submit(Nap(self.0, 3_000))?;
-        for _ in 0..64 {
+        for _ in 0..4_096 {
             let _ = pool.execute(Nap(self.0, 0));
         }
         pool.get_for(&slow, Duration::from_millis(200))
@@ -29,10 +29,6 @@ impl Life for Nap {
 }
 
 fn main(rt: HostRuntime) -> anyhow::Result<()> {
-    let settings = Config::fixed(1).record_limit(64);
-    let (outs, _) = with_pool(&rt, rt.alloc(), settings, Defaults, 1, &Nap(rt, 0))?;
-    for error in outs.into_iter().filter_map(Result::err) {
-        println!(&rt; "{}", Reason(error))?;
-    }
-    Ok(())
+    let (out, _) = with_pool(&rt, rt.alloc(), single(), Defaults, 1, &Nap(rt, 0))?;
+    Ok(println!(&rt; "{out:?}")?)
 }

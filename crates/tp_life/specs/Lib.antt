@@ -1,3 +1,5 @@
 pub mod Futures
+pub mod Groups
 pub mod Lived
 pub mod Ran
+pub mod Settings

@@ -1,5 +1,5 @@
 -- What the whole life of a pool leaves.
-use Rattle.std.specs.Prelude.{ℕ, Bool, ◌≡◌, ◌⊎◌, ◌≤◌, suc, List, length}
+use Rattle.std.specs.Prelude.{ℕ, Bool, ◌≡◌, ◌⊎◌, ◌≤◌, suc, List, [], ◌∷◌, ◌++◌}
 use Rattle.tp_types.specs.declared.configs.Config.{Config}
 use Rattle.tp_types.specs.declared.refusals.PoolError.{PoolError}
 use Rattle.tp_types.specs.declared.refusals.PoolError.TheVariants.{MissingPass, TornRecord}
@@ -9,10 +9,25 @@ use Rattle.tp_locked.specs.Moments.{AtSome}
 use Rattle.tp_pool.specs.Lives.{IsUnopened}
 use Rattle.tp_shared.specs.Closing.{Closes}
 
--- told of a pool with these settings, with which so many callers lived, each with a pass of its own, and which one more pass ended: the
--- record goes on from each pass's last front, and each pass's receipts are its own entries
-abbrev pub IsLived : {R : Type 0} → (Config → List Entry → R → Type 0) → Bool → Config → Config → ℕ → R → Type 0
-IsLived told keeps settings terms callers r = (passes : List PassView) × (length passes ≡ suc callers) × Closes told keeps settings terms passes r
+-- a caller's pass as its life begins: it has asked for nothing, and knows nothing of the pool's record
+abbrev pub IsNewPass : Bool → PassView → Type 0
+IsNewPass keeps p = p ≡ record { number = p.number; amount = 0; front = []; released = []; keeps = keeps; receipts = []; room = p.room }
+
+-- what a caller's life leaves, by its number, its pass at first and at last, and what came of it
+module _ {O : Type 0} (leaves : ℕ → PassView → PassView → O → Type 0) (keeps : Bool) where
+  -- these are what came of the callers' lives, from this number on, and their passes then
+  abbrev pub AreLived : ℕ → List O → List PassView → Type 0
+  AreLived who [] [] = Unit {0}
+  AreLived who (out ∷ outs) (new ∷ passes) = ((old : PassView) × IsNewPass keeps old × leaves who old new out) × AreLived (suc who) outs passes
+  AreLived who _ _ = ⊥
+
+  -- told of a pool with these settings, with which callers lived, each with a pass of its own, and which one more pass ended: the
+  -- record goes on from each pass's last front, and each pass's receipts are its own entries
+  pub record IsLived {R : Type 0} (told : Config → List Entry → R → Type 0) (settings terms : Config) (outs : List O) (r : R) : Type 0 where
+    pub passes : List PassView
+    pub lived : AreLived 0 outs passes
+    pub last : PassView
+    pub closes : Closes told keeps settings terms (passes ++ last ∷ []) r
 
 -- the close of a pool is refused that has come to where no slot is left
 abbrev pub IsUntold : Config → PoolError → Type 0

@@ -4,21 +4,24 @@
 
 pub mod calls;
 mod desk;
+pub mod groups;
 pub mod lives;
 pub mod running;
 mod seats;
 
 /// What a first program names: `use tp_life::prelude::*;`.
 pub mod prelude {
-    pub use crate::calls::{Calls, Life, Ticket};
+    pub use crate::calls::{Calls, Controls, Life, Setting, Ticket};
+    pub use crate::groups::Group;
     pub use crate::lives::{with_pool, with_tally};
     pub use crate::running::{Told, run_tasks};
     pub use std::thread::sleep;
     pub use std::time::Duration;
+    pub use tp_advice::makers::{by_processors, cached, single};
     pub use tp_advice::reasons::Reason;
     pub use tp_advice::sizes::for_jobs;
     pub use tp_book::reports::{Report, TallyReport};
-    pub use tp_locked::answers::{Admitted, Drained, Refused};
+    pub use tp_locked::answers::{Admitted, Drained, Refused, Removal};
     pub use tp_protocols::flags::CancelFlag;
     pub use tp_shared::defaults::Defaults;
     pub use tp_shared::edges::Edge;

@@ -1,10 +1,11 @@
 //! A pool for the time of one call: it is opened, its callers live, it is shut down, waited for and closed.
-ghost use Rattle.std.specs.Prelude.{ℕ, ◌≡◌, ◌⊎◌, ◌<◌, ◌≤◌, List, [], length, suc, true, false, slice_index_or, vec_len, vec_capacity, IfOk, IfErr, OnOk, IsSome};
+ghost use Rattle.std.specs.Prelude.{ℕ, ◌≡◌, ◌⊎◌, ◌<◌, ◌≤◌, [], ◌∷◌, ◌++◌, length, suc, true, false, Some, slice_index_or, vec_len, vec_capacity, IfOk, IfErr, IfSome, OnOk, IsSome, IsSomeAnd};
 ghost use Rattle.tp_record.specs.Terms.{without_end};
 ghost use Rattle.tp_book.specs.Reports.{TellsCount, TellsRecord};
 ghost use Rattle.tp_book.specs.PassView.{PassView};
 ghost use Rattle.tp_shared.specs.Closing.{Closes};
-ghost use Rattle.tp_life.specs.Lived.{IsLived, IsUnlived, IsUntold};
+ghost use Rattle.tp_life.specs.Lived.{AreLived, IsLived, IsNewPass, IsUnlived, IsUntold};
+ghost use Rattle.tp_life.specs.Ran.{Pairwise};
 
 use crate::calls::Life;
 use crate::desk::{Desk, starter};
@@ -19,7 +20,7 @@ use tp_book::passes::Pass;
 use tp_book::reports::{Report, Reporter, TallyReport};
 use tp_locked::names::PoolNaming;
 use tp_machine::machine::releases::Keeper;
-use tp_pool::{PoolOf, Runtime};
+use tp_pool::{Handle, PoolOf, Runtime};
 use tp_protocols::jobs::Job;
 use tp_record::recorders::{Full, Tally};
 use tp_shared::edges::Edge;
@@ -42,7 +43,8 @@ use tp_values::tasks::{Held, Task};
 pub fn with_pool<
     V: Send + Drop + 'static,
     W: Task<Output = V> + Send + 'static,
-    L: Life<Task = W> + Sync,
+    O: Send + Drop,
+    L: Life<Task = W, Out = O> + Sync,
     E: Edge + Send + Sync + 'static,
     R: Runtime + Clock,
 >(
@@ -52,16 +54,16 @@ pub fn with_pool<
     edge: E,
     callers: u32,
     life: &L,
-) -> Result<(Vec<L::Out>, Report), PoolError>
+) -> Result<(Vec<O>, Report), PoolError>
     ensures outs { IfOk result (λ r. vec_len r.0 ≡ callers) }
-    ensures lived { IfOk result (λ r. IsLived TellsRecord true settings settings callers r.1) }
+    ensures lived { IfOk result (λ r. IsLived (L.leaves life.now settings) true TellsRecord settings settings r.0.items r.1) }
     ensures refused { IfErr result (IsUnlived settings settings) }
 {
     let unopened = match Unopened::new(alloc) {
         Ok(unopened) => unopened,
         Err(error) => return Err(error),
     };
-    opened::<Brand, V, W, L, E, Full, R>(rt, alloc, unopened, settings, edge, callers, life)
+    opened::<Brand, V, W, O, L, E, Full, R>(rt, alloc, unopened, settings, edge, callers, life)
 }
 
 /// As `with_pool`, with a pool that keeps no record, and forgets its plain tasks: it answers how many steps were made, the counters,
@@ -69,7 +71,8 @@ pub fn with_pool<
 pub fn with_tally<
     V: Send + Drop + 'static,
     W: Task<Output = V> + Send + 'static,
-    L: Life<Task = W> + Sync,
+    O: Send + Drop,
+    L: Life<Task = W, Out = O> + Sync,
     E: Edge + Send + Sync + 'static,
     R: Runtime + Clock,
 >(
@@ -79,16 +82,16 @@ pub fn with_tally<
     edge: E,
     callers: u32,
     life: &L,
-) -> Result<(Vec<L::Out>, TallyReport), PoolError>
+) -> Result<(Vec<O>, TallyReport), PoolError>
     ensures outs { IfOk result (λ r. vec_len r.0 ≡ callers) }
-    ensures lived { IfOk result (λ r. IsLived TellsCount false settings (without_end settings) callers r.1) }
+    ensures lived { IfOk result (λ r. IsLived (L.leaves life.now (without_end settings)) false TellsCount settings (without_end settings) r.0.items r.1) }
     ensures refused { IfErr result (IsUnlived settings (without_end settings)) }
 {
     let unopened = match Unopened::new(alloc) {
         Ok(unopened) => unopened,
         Err(error) => return Err(error),
     };
-    opened::<Brand, V, W, L, E, Tally, R>(rt, alloc, unopened, settings, edge, callers, life)
+    opened::<Brand, V, W, O, L, E, Tally, R>(rt, alloc, unopened, settings, edge, callers, life)
 }
 
 // The same under a name of the pool's own.
@@ -96,7 +99,8 @@ fn opened<
     G: PoolNaming + Send + Sync + 'static,
     V: Send + Drop + 'static,
     W: Task<Output = V> + Send + 'static,
-    L: Life<Task = W> + Sync,
+    O: Send + Drop,
+    L: Life<Task = W, Out = O> + Sync,
     E: Edge + Send + Sync + 'static,
     K: Reporter + Send + 'static,
     R: Runtime + Clock,
@@ -108,11 +112,11 @@ fn opened<
     edge: E,
     callers: u32,
     life: &L,
-) -> Result<(Vec<L::Out>, K::Report), PoolError>
+) -> Result<(Vec<O>, K::Report), PoolError>
     requires named { unopened ≡ record { ledger = G.name; parts = G.parts; table = G.table } }
     requires settings { settings ≡ G.config }
     ensures outs { IfOk result (λ r. vec_len r.0 ≡ callers) }
-    ensures lived { IfOk result (λ r. IsLived K.told K.RECEIPTS settings (K.terms settings) callers r.1) }
+    ensures lived { IfOk result (λ r. IsLived (L.leaves life.now (K.terms settings)) K.RECEIPTS K.told settings (K.terms settings) r.0.items r.1) }
     ensures refused { IfErr result (IsUnlived settings (K.terms settings)) }
 {
     let rooms = match make_rooms(alloc, callers) {
@@ -161,7 +165,8 @@ fn lived<
     G: PoolNaming + Send + Sync + 'static,
     V: Send + Drop + 'static,
     W: Task<Output = V> + Send + 'static,
-    L: Life<Task = W> + Sync,
+    O: Send + Drop,
+    L: Life<Task = W, Out = O> + Sync,
     E: Edge + Send + Sync + 'static,
     K: Reporter + Send + 'static,
     R: Runtime + Clock,
@@ -171,18 +176,26 @@ fn lived<
     pool: PoolOf<G, Held<W>, E, K>,
     pass: Pass<G>,
     callers: u32,
-    rooms: Rooms<G, L::Out>,
+    rooms: Rooms<G, O>,
     life: &L,
-) -> Result<(Vec<L::Out>, K::Report), PoolError>
+) -> Result<(Vec<O>, K::Report), PoolError>
     requires outs { (rooms.outs.items ≡ []) × (callers ≤ vec_capacity rooms.outs) }
     requires passes { (rooms.passes.items ≡ []) × (suc callers ≤ vec_capacity rooms.passes) }
+    requires new { (pass.front ≡ []) × (pass.released ≡ []) }
     ensures outs { IfOk result (λ r. vec_len r.0 ≡ callers) }
-    ensures lived { IfOk result (λ r. IsLived K.told K.RECEIPTS G.config (K.terms G.config) callers r.1) }
+    ensures lived { IfOk result (λ r. IsLived (L.leaves life.now (K.terms G.config)) K.RECEIPTS K.told G.config (K.terms G.config) r.0.items r.1) }
     ensures refused { IfErr result (IsUnlived G.config (K.terms G.config)) }
 {
     let Rooms { outs, passes, desk } = rooms;
     let mut last = pass;
-    let seated = match seats(rt, alloc, &pool, &desk, &mut last, callers) {
+    let theirs = match handles(alloc, &pool, callers) {
+        Ok(theirs) => theirs,
+        Err(error) => {
+            pool.let_go();
+            return Err(error);
+        }
+    };
+    let seated = match seats(rt, alloc, theirs, &desk, &mut last, callers) {
         Ok(seated) => seated,
         Err(error) => {
             pool.let_go();
@@ -202,31 +215,57 @@ fn lived<
     }
 }
 
-// A seat for each caller, with a pass that is split from this one, which then has room for all receipts of the pool's end. NoMemory (4)
-// or BookFull (5).
-fn seats<G: PoolNaming, W: Task + Send, H: Wait + Copy, E: Edge, K: Keeper, O: Drop>(
+// Handles of the pool, one for each caller. NoMemory (4).
+fn handles<
+    G: PoolNaming + Send + Sync + 'static,
+    J: Job + 'static,
+    E: Edge + Send + Sync + 'static,
+    K: Keeper + Send + 'static,
+>(
+    alloc: Global,
+    pool: &PoolOf<G, J, E, K>,
+    callers: u32,
+) -> Result<Vec<Handle<G, J, E, K>>, PoolError>
+    ensures refused { IfErr result (λ e. e ≡ PoolError.NoMemory) }
+{
+    let mut made = Vec::new(alloc);
+    for _ in 0..callers {
+        match pool.handle() {
+            Ok(handle) => made.push(handle)?,
+            Err(_) => return Err(PoolError::NoMemory),
+        }
+    }
+    Ok(made)
+}
+
+// A seat for each caller, with one of these handles, and with a pass that is split from this one, which then has room for all receipts of
+// the pool's end. NoMemory (4) or BookFull (5).
+fn seats<G: PoolNaming, W: Task, H: Wait + Copy, E: Edge, K: Keeper, O: Drop>(
     rt: &H,
     alloc: Global,
-    pool: &PoolOf<G, Held<W>, E, K>,
+    handles: Vec<Handle<G, Held<W>, E, K>>,
     desk: &Arc<Desk>,
     first: &mut Pass<G>,
     callers: u32,
 ) -> Result<Vec<Caller<G, W, H, E, K, O>>, PoolError>
-where
-    W::Output: Send,
+    requires new { (first.old.front ≡ []) × (first.old.released ≡ []) }
     ensures callers { IfOk result (λ v. vec_len v ≡ callers) }
+    ensures seated { IfOk result (λ v. (i : ℕ) (d : _) → i < length v.items → ((slice_index_or v.items i d).who ≡ i) × IsNewPass K.RECEIPTS (slice_index_or v.items i d).seat.pass) }
     ensures room { OnOk result (4 ≤ first.new.room) }
     ensures refused { IfErr result (λ e. (e ≡ PoolError.NoMemory) ⊎ (e ≡ PoolError.BookFull)) }
 {
-    first.reserve(4)?;
+    if first.reserve(4).is_err() {
+        return Err(PoolError::NoMemory);
+    }
+    let mut handles = handles;
     let mut seated = Vec::new(alloc);
     for who in 0..callers {
-        let pass = match pool.split_pass(rt, first) {
+        let (Some(theirs), Ok(at)) = (handles.pop(), Arc::try_clone(desk)) else {
+            return Err(PoolError::NoMemory);
+        };
+        let pass = match theirs.split_pass(rt, first) {
             Ok(pass) => pass,
             Err(error) => return Err(error),
-        };
-        let (Ok(theirs), Ok(at)) = (pool.handle(), Arc::try_clone(desk)) else {
-            return Err(PoolError::NoMemory);
         };
         let seat = Seat {
             pass,
@@ -264,21 +303,24 @@ fn gathered<
     G: PoolNaming + Send + Sync + 'static,
     V: Send + Drop + 'static,
     W: Task<Output = V> + Send + 'static,
-    L: Life<Task = W> + Sync,
+    O: Send + Drop,
+    L: Life<Task = W, Out = O> + Sync,
     E: Edge + Send + Sync + 'static,
     K: Reporter + Send + 'static,
     R: Runtime + Clock,
 >(
     rt: &R,
     life: &L,
-    callers: Vec<Caller<G, W, R, E, K, L::Out>>,
-    outs: Vec<L::Out>,
+    callers: Vec<Caller<G, W, R, E, K, O>>,
+    outs: Vec<O>,
     passes: Vec<Pass<G>>,
-) -> (Vec<L::Out>, Vec<Pass<G>>)
+) -> (Vec<O>, Vec<Pass<G>>)
     requires outs { (outs.items ≡ []) × (vec_len callers ≤ vec_capacity outs) }
     requires passes { (passes.items ≡ []) × (vec_len callers ≤ vec_capacity passes) }
+    requires seated { (i : ℕ) (d : _) → i < length callers.items → ((slice_index_or callers.items i d).who ≡ i) × IsNewPass K.RECEIPTS (slice_index_or callers.items i d).seat.pass }
     ensures outs { vec_len result.0 ≡ vec_len callers }
     ensures callers { vec_len result.1 ≡ vec_len callers }
+    ensures lived { AreLived (L.leaves life.now (K.terms G.config)) K.RECEIPTS 0 result.0.items result.1.items }
     ensures room { vec_capacity result.1 ≡ vec_capacity passes }
 {
     let mut callers = callers;
@@ -291,27 +333,40 @@ fn live_all<
     G: PoolNaming + Send + Sync + 'static,
     V: Send + Drop + 'static,
     W: Task<Output = V> + Send + 'static,
-    L: Life<Task = W> + Sync,
+    O: Send + Drop,
+    L: Life<Task = W, Out = O> + Sync,
     E: Edge + Send + Sync + 'static,
     K: Reporter + Send + 'static,
     R: Runtime + Clock,
->(rt: &R, life: &L, callers: &mut [Caller<G, W, R, E, K, L::Out>])
+>(rt: &R, life: &L, callers: &mut [Caller<G, W, R, E, K, O>])
     ensures many { length callers.new ≡ length callers.old }
-    ensures lived { (i : ℕ) (d : _) → i < length callers.new → IsSome (slice_index_or callers.new i d).out }
+    ensures lived { (i : ℕ) (d : _) → i < length callers.new → IsSomeAnd (slice_index_or callers.new i d).out (L.leaves life.now (K.terms G.config) (slice_index_or callers.old i d).who (slice_index_or callers.old i d).seat.pass (slice_index_or callers.new i d).seat.pass) }
 {
     let threads = callers.len().max(1);
-    let live = |_: usize, caller: &mut Caller<G, W, R, E, K, L::Out>|
-        ensures { IsSome caller.exit.now.out }
+    let live = |_: usize, caller: &mut Caller<G, W, R, E, K, O>|
+        ensures lived { IsSomeAnd caller.exit.now.out (L.leaves life.entry.now (K.terms G.config) caller.entry.now.who caller.entry.now.seat.pass caller.exit.now.seat.pass) }
     {
-        caller.out = Some(life.live(&mut caller.seat, caller.who));
+        caller.out = Some(live_one(life, &mut caller.seat, caller.who));
     };
     thread::for_each_mut(rt, callers, threads, &live);
+}
+
+// One caller's life, at its seat. It is a function of its own, so that the check compares the calls of a life with those of a pool where
+// nothing else is known.
+fn live_one<G: PoolNaming, L: Life, E: Edge, K: Keeper, R: Wait + Clock + Copy>(
+    life: &L,
+    seat: &mut Seat<G, L::Task, R, E, K>,
+    who: u32,
+) -> L::Out
+    ensures { L.leaves life.now (K.terms G.config) who seat.old.pass seat.new.pass result }
+{
+    life.live(seat, who)
 }
 
 // Keeps what came of a life, in a list that has room for it.
 fn keep<O: Drop>(outs: &mut Vec<O>, out: Option<O>)
     requires { vec_len outs.old < vec_capacity outs.old }
-    ensures kept { IsSome out → vec_len outs.new ≡ suc (vec_len outs.old) }
+    ensures kept { IfSome out (λ o. outs.new.items ≡ outs.old.items ++ o ∷ []) }
     ensures room { vec_capacity outs.new ≡ vec_capacity outs.old }
 {
     if let Some(out) = out {
@@ -327,9 +382,11 @@ fn parted<G: PoolNaming, W: Task, H: Wait + Copy, E: Edge, K: Keeper, O: Drop>(
 ) -> (Vec<O>, Vec<Pass<G>>)
     requires outs { (outs.items ≡ []) × (vec_len callers ≤ vec_capacity outs) }
     requires passes { (passes.items ≡ []) × (vec_len callers ≤ vec_capacity passes) }
-    requires lived { (i : ℕ) (d : _) → i < length callers.items → IsSome (slice_index_or callers.items i d).out }
+    requires some { (i : ℕ) (d : _) → i < length callers.items → IsSome (slice_index_or callers.items i d).out }
     ensures outs { vec_len result.0 ≡ vec_len callers }
     ensures callers { vec_len result.1 ≡ vec_len callers }
+    ensures came { Pairwise (λ k o. k.out ≡ Some o) callers.items result.0.items }
+    ensures passes { Pairwise (λ k p. p ≡ k.seat.pass) callers.items result.1.items }
     ensures room { vec_capacity result.1 ≡ vec_capacity passes }
 {
     let mut outs = outs;
@@ -357,7 +414,7 @@ fn end<
 ) -> Result<K::Report, PoolError>
     requires room { 4 ≤ last.room }
     requires place { vec_len passes < vec_capacity passes }
-    ensures report { IfOk result (λ r. (ps : List PassView) × (length ps ≡ suc (length passes.items)) × Closes K.told K.RECEIPTS G.config (K.terms G.config) ps r) }
+    ensures report { IfOk result (λ r. (one : PassView) × Closes K.told K.RECEIPTS G.config (K.terms G.config) (passes.items ++ one ∷ []) r) }
     ensures untold { IfErr result (IsUntold (K.terms G.config)) }
 {
     let mut last = last;

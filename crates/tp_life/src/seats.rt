@@ -1,21 +1,19 @@
 //! A caller's seat at a pool: its pass, the pool, and the desk where it asks for workers.
-ghost use Rattle.std.specs.Prelude.{◌≡◌, IfOk, IfErr};
-ghost use Rattle.tp_pool.specs.Admissions.{AtPriority, IsAdmitted, IsTurnedAway};
-ghost use Rattle.tp_values.specs.declared.tasks.TheConstants.{VOID};
+ghost use Rattle.std.specs.Prelude.{◌≡◌};
 
-use crate::calls::{Calls, Ticket};
+use crate::calls::{Calls, Controls, Setting, Ticket};
 use crate::desk::Desk;
 use crate::running::found;
 use std::alloc::Global;
 use std::sync::{Arc, Wait};
 use std::time::{Clock, Duration};
 use tp_book::passes::Pass;
-use tp_locked::answers::{Admitted, Drained, Refused};
+use tp_locked::answers::{Admitted, Drained, Refused, Removal};
 use tp_locked::names::PoolNaming;
 use tp_machine::machine::releases::Keeper;
 use tp_machine::typed::submitters::Submit;
 use tp_pool::readings::Reading;
-use tp_pool::{Handle, task_of};
+use tp_pool::Handle;
 use tp_protocols::flags::CancelFlag;
 use tp_shared::edges::Edge;
 use tp_types::ids::TaskId;
@@ -72,12 +70,69 @@ impl<G: PoolNaming, W: Task, H: Wait + Copy, E: Edge, K: Keeper> Seat<G, W, H, E
         } = self;
         pass
     }
+}
 
-    // Submits a task of this kind, with where its value is found. Workers are made by the pool's own thread.
-    fn enter(&mut self, kind: Kind, task: W) -> Result<(Admitted, Find<W>), Refused<W>>
-        ensures admitted { IfOk result (λ r. AtPriority (W.urgency task) (λ p. IsAdmitted (K.terms G.config) kind p task VOID self.old.pass self.new.pass r.0)) }
-        ensures refused { IfErr result (λ r. AtPriority (W.urgency task) (λ p. IsTurnedAway K.RECEIPTS (K.terms G.config) kind p task VOID self.old.pass self.new.pass r)) }
-    {
+impl<G: PoolNaming, W: Task, H: Wait + Clock + Copy, E: Edge, K: Keeper> Controls
+    for Seat<G, W, H, E, K> {
+    ghost terms = { K.terms G.config };
+
+    ghost keeps = { K.RECEIPTS };
+
+    ghost pass = { λ s. s.pass };
+
+    fn cancel(&mut self, t: TaskId, flag: bool) -> Result<bool, PoolError> {
+        let rt = self.host;
+        self.pool.cancel(&rt, t, flag, &mut self.pass)
+    }
+
+    fn purge(&mut self) -> Result<u32, PoolError> {
+        let rt = self.host;
+        self.pool.purge(&rt, &mut self.pass)
+    }
+
+    fn set(&mut self, setting: Setting) -> Result<(), PoolError> {
+        let rt = self.host;
+        match setting {
+            Setting::Maximum(most) => self.pool.set_maximum(&rt, most, &mut self.pass),
+            Setting::Keep(keep) => self.pool.set_keep(&rt, keep, &mut self.pass),
+            Setting::CoreTimeout(on) => self.pool.allow_core_timeout(&rt, on, &mut self.pass),
+            Setting::Tick(now) => self.pool.tick(&rt, now, &mut self.pass),
+        }
+    }
+
+    fn shutdown(&mut self) -> Result<(), PoolError> {
+        let (rt, desk) = (self.host, &*self.desk);
+        self.pool
+            .shutdown_by(&rt, &|order| desk.ask(&rt, order), &mut self.pass)
+    }
+
+    fn await_end_for(&mut self, most: Duration) -> Result<(), PoolError> {
+        let rt = self.host;
+        self.pool.await_end_for(&rt, most, &mut self.pass)
+    }
+
+    fn state(&mut self) -> RunState {
+        self.pool.glance(&mut self.pass)
+    }
+
+    fn look(&mut self) -> Reading {
+        let rt = self.host;
+        self.pool.look(&rt, &mut self.pass)
+    }
+}
+
+impl<G: PoolNaming, W: Task, H: Wait + Clock + Copy, E: Edge, K: Keeper> Calls
+    for Seat<G, W, H, E, K> {
+    type Task = W;
+
+    type Host = H;
+
+    fn host(&self) -> &H {
+        &self.host
+    }
+
+    // Workers are made by the pool's own thread.
+    fn enter(&mut self, kind: Kind, task: W) -> Result<(Admitted, Find<W>), Refused<W>> {
         let priority = task.priority();
         let (held, found) = match Held::placed(self.alloc, task) {
             Ok(placed) => placed,
@@ -104,39 +159,10 @@ impl<G: PoolNaming, W: Task, H: Wait + Copy, E: Edge, K: Keeper> Seat<G, W, H, E
             Err(refused) => Err(untaken(refused)),
         }
     }
-}
 
-impl<G: PoolNaming, W: Task, H: Wait + Clock + Copy, E: Edge, K: Keeper> Calls
-    for Seat<G, W, H, E, K> {
-    type Task = W;
-
-    type Host = H;
-
-    ghost terms = { K.terms G.config };
-
-    ghost keeps = { K.RECEIPTS };
-
-    ghost pass = { λ s. s.pass };
-
-    fn host(&self) -> &H {
-        &self.host
-    }
-
-    fn execute(&mut self, task: W) -> Result<Admitted, Refused<W>> {
-        match self.enter(Kind::Plain, task) {
-            Ok((admitted, _)) => Ok(admitted),
-            Err(refused) => Err(refused),
-        }
-    }
-
-    fn submit(&mut self, task: W) -> Result<Ticket<W>, Refused<W>> {
-        match self.enter(Kind::Future, task) {
-            Ok((admitted, value)) => Ok(Ticket {
-                task: task_of(admitted),
-                value,
-            }),
-            Err(refused) => Err(refused),
-        }
+    fn take(&mut self, group: u32) -> Result<TaskId, PoolError> {
+        let rt = self.host;
+        self.pool.await_done(&rt, group, &mut self.pass)
     }
 
     fn get(&mut self, ticket: &Ticket<W>) -> Result<W::Output, PoolError> {
@@ -151,33 +177,13 @@ impl<G: PoolNaming, W: Task, H: Wait + Clock + Copy, E: Edge, K: Keeper> Calls
         found(&rt, answer, &ticket.value)
     }
 
-    fn cancel(&mut self, t: TaskId, flag: bool) -> Result<bool, PoolError> {
+    fn remove(&mut self, t: TaskId) -> Result<Removal<Held<W>>, PoolError> {
         let rt = self.host;
-        self.pool.cancel(&rt, t, flag, &mut self.pass)
-    }
-
-    fn shutdown(&mut self) -> Result<(), PoolError> {
-        let (rt, desk) = (self.host, &*self.desk);
-        self.pool
-            .shutdown_by(&rt, &|order| desk.ask(&rt, order), &mut self.pass)
+        self.pool.remove(&rt, t, &mut self.pass)
     }
 
     fn shutdown_now(&mut self) -> Result<Vec<Drained<Held<W>>>, PoolError> {
         let rt = self.host;
         self.pool.shutdown_now(&rt, &mut self.pass)
-    }
-
-    fn await_end_for(&mut self, most: Duration) -> Result<(), PoolError> {
-        let rt = self.host;
-        self.pool.await_end_for(&rt, most, &mut self.pass)
-    }
-
-    fn state(&mut self) -> RunState {
-        self.pool.glance(&mut self.pass)
-    }
-
-    fn look(&mut self) -> Reading {
-        let rt = self.host;
-        self.pool.look(&rt, &mut self.pass)
     }
 }

@@ -1,5 +1,4 @@
-use Rattle.std.proofs.Common.{[], ◌∷◌, ◌++◌, inr, subst, sym, arith}
-use Rattle.std.proofs.lemmas.List.{length_push}
+use Rattle.std.proofs.Common.{inr, subst, sym}
 use Rattle.tp_locked.specs.Closing.{KeepsOpen}
 use Rattle.tp_locked.specs.declared.tasks.Task.{Task}
 use Rattle.tp_shared.specs.Closing.{Closes}
@@ -12,10 +11,8 @@ returns-in-Err-clause-untold g c = (inr c.in-Err.ensures.torn, record { history 
 
 pub returns-in-Ok-clause-report : goal.returns-in-Ok-clause-report
 returns-in-Ok-clause-report g c =
-    let all = c.args.passes.items ++ c.await_shut.new.pass ∷ [] in
     let config = g.G.PoolNaming.config in
-    let report = subst (λ ps. Closes g.K.Reporter.told g.K.Recorder.RECEIPTS config (g.K.Recorder.terms config) ps c.in-Ok.report) c.push_reserved.ensures.items c.in-Ok.ensures.report in
-    (all, omega (arith, length_push c.args.passes.items c.await_shut.new.pass), report)
+    (c.await_shut.new.pass, subst (λ ps. Closes g.K.Reporter.told g.K.Recorder.RECEIPTS config (g.K.Recorder.terms config) ps c.in-Ok.report) c.push_reserved.ensures.items c.in-Ok.ensures.report)
 
 pub returns-in-Err-close-clause-untold : goal.returns-in-Err-close-clause-untold
 returns-in-Err-close-clause-untold g c =

@@ -1,0 +1,71 @@
+//! `example_server`: a server with three callers, one worker and a queue of two places. Who finds the queue full runs the request itself.
+//! It prints what became of each request.
+#![tactic(auto)]
+
+use tp_life::prelude::*;
+
+/// A request for six less a number. There is none for a greater number.
+#[derive(Drop)]
+struct Request(u32);
+
+impl Task for Request {
+    type Output = u32;
+
+    fn run(&mut self, _cancel: &CancelFlag) -> Result<u32, u32> {
+        6u32.checked_sub(self.0).ok_or(400)
+    }
+}
+
+/// A caller's life: it hands in four requests, and then waits for each answer.
+#[derive(Drop)]
+struct Serving(HostRuntime);
+
+impl Serving {
+    // Shuts the server down behind the requests of the two others. It waits for them for ten seconds at most.
+    fn close<P: Calls<Task = Request>>(&self, server: &mut P) -> Result<(), PoolError> {
+        for _ in 0..10_000 {
+            if 8 <= server.look().counts.submitted {
+                break;
+            }
+            sleep(&self.0, Duration::from_millis(1));
+        }
+        server.shutdown()
+    }
+}
+
+impl Life for Serving {
+    type Out = Result<Vec<Told<u32>>, PoolError>;
+
+    type Task = Request;
+
+    fn live<P: Calls<Task = Request>>(&self, server: &mut P, who: u32) -> Self::Out {
+        let first = who.saturating_mul(4);
+        if who == 2 {
+            self.close(server)?;
+        }
+        let mut tickets = Vec::new(self.0.alloc());
+        for number in first..first.saturating_add(4) {
+            tickets.push(server.submit(Request(number))?)?;
+        }
+        let mut answers = Vec::new(self.0.alloc());
+        for ticket in &tickets {
+            answers.push(server.get(ticket))?;
+        }
+        Ok(answers)
+    }
+}
+
+fn main(rt: HostRuntime) -> anyhow::Result<()> {
+    let queue = QueueKind::Bounded(2);
+    let settings = Config::fixed(1).queue(queue).policy(Policy::CallerRuns);
+    let (served, _) = with_pool(&rt, rt.alloc(), settings, Defaults, 3, &Serving(rt))?;
+    for (who, answers) in served.into_iter().enumerate() {
+        for answer in &answers? {
+            match answer {
+                Ok(value) => println!(&rt; "caller {who}: {value}")?,
+                Err(error) => println!(&rt; "caller {who}: {}", Reason(*error))?,
+            }
+        }
+    }
+    Ok(())
+}
