@@ -33,12 +33,12 @@ In a signature `rt` is the runtime by which a call waits, `alloc` the allocator,
 SECTIONS = {
     "Settings": ("They are a value, as `Config::fixed(2).queue(QueueKind::Bounded(8)).policy(Policy::CallerRuns)`. `fixed`, as `Executors.newFixedThreadPool`, has so many workers that stay, a queue with room for any number of tasks, the policy abort, and a record of 4,096 entries. `core`, `maximum`, `queue`, `keep`, `core_timeout`, `policy` and `record_limit` each set one, in the range that the [pool line](SCENARIOS.md#the-pool-line) has.",
         "makers::single makers::cached makers::by_processors sizes::for_jobs"),
-    "A pool's whole life in one call": ("A closure that is a job sends a value of any type by the two ends of a channel, `send` and `take`.", "running::run_tasks lives::with_pool lives::with_tally lives::run_all tasks::job oneshot::oneshot"),
-    "What a caller of `with_pool` asks": ("The trait `Calls`, with those of `Controls`. Its `pool` is lent to each caller, and has the caller's pass and runtime. A `Group` keeps its tasks' tickets, by `submit_to` and `take`. There are these calls, too, which are the pool's of the same name: {twins}. `state` is a `glance`.",
+    "A pool's whole life in one call": ("A closure that is a job sends a value of any type by the two ends of a channel, `send` and `take`.", "running::run_tasks lives::with_pool lives::with_tally ticking::with_ticker lives::run_all tasks::job oneshot::oneshot"),
+    "What a caller of `with_pool` asks": ("The trait `Calls`, with those of `Controls`. Its `pool` is lent to each caller, and has the caller's pass and runtime. A `Group` keeps its tasks' tickets, by `submit_to` and `take`; its `results` goes through all. `take_for` and `next_for` wait for at most so long by the clock, else 16. There are these calls, too, which are the pool's of the same name: {twins}. `state` is a `glance`.",
         "Calls::execute Calls::submit Calls::get Calls::get_for Group::submit Group::next"),
     "Open, share and close": ("Where the pool itself is wanted, for threads and passes of one's own. `Pool::new` is `ThreadPoolExecutor`'s constructor; it takes boxes of a factory, a handler, hooks and a gate. `close_one` takes the pass of a single caller.",
         "PoolOf::over PoolOf::split_pass PoolOf::handle+1 PoolOf::close PoolOf::let_go reports::outcome_of"),
-    "Submit": ("A submission that is refused with 4 or 5 has made no step, and gives its job back. 12 comes after the task's steps, with the job unless it was cancelled. `execute_at` takes the priority too. `invoke_all_until` cancels what is open at a moment in ticks.",
+    "Submit": ("A submission that is refused with 4 or 5 has made no step, and gives its job back. 12 comes after the task's steps, with the job unless it was cancelled. `execute_at` takes the priority too. `invoke_all_until` cancels what is open at a moment in ticks, `invoke_all_for` by the clock.",
         "PoolOf::execute PoolOf::execute_as+3 futures::submit invoking::invoke_all invoking::invoke_any+1"),
     "Ask a future": ("They stand on `pool.result`, `pool.await_result` and their like, in `tp_pool`. `get_with`, `get_until_with` and `try_get_with` take a pass, and answer at its new front; `get_until` waits until a moment in ticks.",
         "futures::get futures::get_for futures::try_get PoolOf::cancel+2"),
@@ -51,16 +51,17 @@ SECTIONS = {
         "PoolOf::glance+1 PoolOf::look PoolOf::snapshot PoolOf::record_since PoolOf::wait_step"),
 }
 # Calls that the page leaves out: others stand on them, or do the same in another form.
-LEFT_OUT = """PoolOf::new invoking::invoke_all_until futures::get_until PoolOf::prestart_all CompletionService::new PoolOf::close_one CloseFault::let_go Sender::send Receiver::take PoolOf::sight reports::faulted PoolOf::execute_at PoolOf::kept PoolOf::abandon PoolOf::forget_abandoned
+LEFT_OUT = """PoolOf::new invoking::invoke_all_until invoking::invoke_all_for futures::get_until PoolOf::prestart_all CompletionService::new PoolOf::close_one CloseFault::let_go Sender::send Receiver::take PoolOf::sight reports::faulted PoolOf::execute_at PoolOf::kept PoolOf::abandon PoolOf::forget_abandoned
     Config::fixed Config::core Config::maximum Config::queue Config::keep Config::core_timeout Config::policy Config::record_limit Boxes::new Find::take futures::task_of PoolOf::look_by PoolOf::snapshot_by PoolOf::record_since_by PoolOf::release PoolOf::result PoolOf::result_with
     PoolOf::await_result PoolOf::await_result_with PoolOf::await_result_for PoolOf::take_done PoolOf::await_done PoolOf::group_open PoolOf::state PoolOf::counts PoolOf::now PoolOf::steps PoolOf::place PoolOf::fate PoolOf::promise PoolOf::task_in PoolOf::await_end
-    futures::get_with futures::get_until_with futures::try_get_with Calls::host Calls::set Calls::enter Calls::ticket Calls::submit_to Calls::take Group::new Group::len""".split()
+    futures::get_with futures::get_until_with futures::try_get_with Calls::host Calls::set Calls::enter Calls::ticket Calls::submit_to Calls::take Group::new Group::len Group::results Group::next_for Calls::take_for PoolOf::await_done_for""".split()
 # Public for crates of the pool alone.
 INSIDE = """orders::staffed_by orders::rescue_tasks_by sizes::law_jobs_have_room Held::placed Held::run Held::into_task PoolOf::execute_by PoolOf::shutdown_by PoolOf::obey
-    PoolOf::shut PoolOf::await_shut orders::rescue_by running::found Desk::new Desk::ask Desk::close desk::starter Seat::into_pass""".split()
+    PoolOf::shut PoolOf::await_shut Timer::new Timer::left orders::rescue_by running::found Desk::new Desk::ask Desk::close desk::starter Seat::into_pass""".split()
 
 # What a relation in a clause says; the first that stands in a call's clauses is taken.
 SAYS = {
+    "LeavesTicked": "as of `with_pool`; the ticker's own entries are ticks",
     "IsLived.*TellsCount": "as of `with_pool`, of a record that nobody keeps",
     "IsLived": "*closed*; each caller's pass was new, and of its pass at first and at last, and of what came of its life, that life's `leaves` holds",
     "result ≡ record . core": "they are settings that a pool can have",

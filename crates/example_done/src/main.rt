@@ -29,13 +29,7 @@ impl Life for Client {
         for number in [81, 50, 49] {
             group.submit(pool, Root(number))?;
         }
-        let mut told = Vec::new(self.0);
-        for _ in 0..group.len() {
-            if let Some(next) = group.next(pool) {
-                told.push(next)?;
-            }
-        }
-        Ok(told)
+        Ok(group.results(pool).collect(self.0)?)
     }
 }
 

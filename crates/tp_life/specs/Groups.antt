@@ -46,3 +46,8 @@ module _ {X : Type 0} (had has : List X) (task : X → TaskId) where
       abbrev pub IsNext : Option (Result V PoolError) → PassView → PassView → Type 0
       IsNext None old new = IsUntaken NothingOpen old new
       IsNext (Some told) old new = ((t : TaskId) × IsTaken t told old new) ⊎ ((e : PoolError) × (e ≢ NothingOpen) × (told ≡ Err e) × IsUntaken e old new)
+
+      -- of results of which at most so many are left, this is the next one; or none is left, or none is open
+      abbrev pub IsResult : ℕ → Option (Result V PoolError) → PassView → PassView → Type 0
+      IsResult left None old new = ((left ≡ 0) × (new ≡ old) × (has ≡ had)) ⊎ ((0 < left) × IsNext None old new)
+      IsResult left (Some told) old new = (0 < left) × IsNext (Some told) old new

@@ -3,3 +3,4 @@ pub mod Groups
 pub mod Lived
 pub mod Ran
 pub mod Settings
+pub mod Ticking

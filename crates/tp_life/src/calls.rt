@@ -170,7 +170,7 @@ pub trait Calls: Controls {
     ghost use Rattle.tp_locked.specs.declared.tasks.Task.{Task as TaskOf};
     ghost use Rattle.tp_pool.specs.Admissions.{Admits, AtPriority, IsAdmitted, IsTurnedAway};
     ghost use Rattle.tp_pool.specs.Submissions.{AddsJob};
-    ghost use Rattle.tp_pool.specs.Timed.{IsFoundInTime};
+    ghost use Rattle.tp_pool.specs.Timed.{IsFoundInTime, IsUndoneInTime};
     ghost use Rattle.tp_shared.specs.Endings.{AddsAndEnds};
     ghost use Rattle.tp_life.specs.Futures.{IsAnswer};
     ghost use Rattle.tp_values.specs.declared.tasks.TheConstants.{VOID};
@@ -201,6 +201,13 @@ pub trait Calls: Controls {
     fn take(&mut self, group: u32) -> Result<TaskId, PoolError>
         ensures step { IfOk result (λ t. AddsStep Self.terms (Self.pass self.old) (Ask.TakeDone group) (Did.TakeDone group t) (Self.pass self.new)) }
         ensures refused { IfErr result (λ e. ((e ≡ PoolError.NoMemory) × ((Self.pass self.old).room < 1)) ⊎ AtFront Self.terms (Self.pass self.new).front (λ s. IsUndoneAt Self.terms s group e)) }
+        ensures unchanged { OnErr result (AddsNone (Self.pass self.old) (Self.pass self.new)) };
+
+    /// As `take`, but for at most so long by the clock, as `CompletionService.poll` with a timeout. TimedOut (16) where the time is over, or
+    /// the clock can't be read, and none is done and one is open. Then the call made no step and no tick.
+    fn take_for(&mut self, group: u32, most: Duration) -> Result<TaskId, PoolError>
+        ensures step { IfOk result (λ t. AddsStep Self.terms (Self.pass self.old) (Ask.TakeDone group) (Did.TakeDone group t) (Self.pass self.new)) }
+        ensures refused { IfErr result (λ e. ((e ≡ PoolError.NoMemory) × ((Self.pass self.old).room < 1)) ⊎ AtFront Self.terms (Self.pass self.new).front (λ s. IsUndoneInTime Self.terms s group e)) }
         ensures unchanged { OnErr result (AddsNone (Self.pass self.old) (Self.pass self.new)) };
 
     /// Waits until the future is not open any more, and takes its value, as `Future.get`. The call makes no step.

@@ -4,11 +4,14 @@ ghost use Rattle.tp_pool.specs.Admissions.{AtPriority, IsTurnedAway};
 ghost use Rattle.tp_pool.specs.Submissions.{AddsJob};
 ghost use Rattle.tp_values.specs.declared.tasks.TheConstants.{VOID};
 ghost use Rattle.tp_locked.specs.Readings.{IsUndoneAt};
-ghost use Rattle.tp_life.specs.Groups.{HadNone, IsNext, IsOut, IsToldOf};
+ghost use Rattle.tp_pool.specs.Timed.{IsUndoneInTime};
+ghost use Rattle.tp_life.specs.Groups.{HadNone, IsNext, IsOut, IsResult, IsToldOf};
+ghost use Rattle.std.specs.Iterator.{at_most};
 
 use crate::calls::{Calls, Ticket};
 use crate::running::Told;
 use std::alloc::Global;
+use std::time::Duration;
 use tp_locked::answers::Refused;
 use tp_types::ids::TaskId;
 use tp_types::refusals::PoolError;
@@ -80,6 +83,34 @@ impl<W: Task> Group<W> {
         }
     }
 
+    /// As `next`, but for at most so long by the clock, as `CompletionService.poll` with a timeout. TimedOut (16) where the time is over,
+    /// or the clock can't be read, and none is done. Then nothing was taken, and the call made no step and no tick.
+    pub fn next_for<P: Calls<Task = W>>(
+        &mut self,
+        pool: &mut P,
+        most: Duration,
+    ) -> Option<Told<W::Output>>
+        ensures told { IsNext self.old.tickets.items self.new.tickets.items (λ k. k.task) W.gives P.keeps P.terms self.old.number (λ s e. IsUndoneInTime P.terms s self.old.number e) result (P.pass pool.old) (P.pass pool.new) }
+        ensures number { self.new.number ≡ self.old.number }
+    {
+        match pool.take_for(self.number, most) {
+            Ok(t) => Some(self.told_of(pool, t)),
+            Err(PoolError::NothingOpen) => None,
+            Err(error) => Some(Err(error)),
+        }
+    }
+
+    /// What becomes of its tasks, in the order of completion, until none is open: as `next`, at most as often as `len` says now.
+    pub fn results<'a, P: Calls<Task = W>>(&'a mut self, pool: &'a mut P) -> Results<'a, P, W>
+        ensures { result.left ≡ length self.old.tickets.items }
+    {
+        Results {
+            left: self.tickets.len(),
+            group: self,
+            pool,
+        }
+    }
+
     // What is told of a task that was taken.
     fn told_of<P: Calls<Task = W>>(&mut self, pool: &mut P, t: TaskId) -> Told<W::Output>
         ensures told { IsToldOf self.old.tickets.items self.new.tickets.items (λ k. k.task) W.gives P.keeps P.terms self.old.number t result (P.pass pool.old) (P.pass pool.new) }
@@ -99,5 +130,29 @@ impl<W: Task> Group<W> {
     {
         let at = self.tickets.iter().position(|ticket| ticket.task == t)?;
         Some(self.tickets.swap_remove(at))
+    }
+}
+
+/// The results of a group, in the order of completion.
+#[derive(Drop)]
+pub struct Results<'a, P: Calls<Task = W>, W: Task> {
+    group: &'a mut Group<W>,
+    pool: &'a mut P,
+    left: usize,
+}
+
+impl<'a, W: Task, P: Calls<Task = W>> Iterator for Results<'a, P, W> {
+    type Item = Told<W::Output>;
+
+    ghost remaining = { λ s. at_most s.left };
+
+    ghost next_gives = { λ s told t. IsResult s.group.now.tickets.items t.group.now.tickets.items (λ k. k.task) W.gives P.keeps P.terms s.group.now.number (λ x e. IsUndoneAt P.terms x s.group.now.number e) s.left told (P.pass s.pool.now) (P.pass t.pool.now) };
+
+    fn next(&mut self) -> Option<Told<W::Output>> {
+        if self.left == 0 {
+            return None;
+        }
+        self.left -= 1;
+        self.group.next(self.pool)
     }
 }

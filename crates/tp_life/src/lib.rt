@@ -8,6 +8,7 @@ pub mod groups;
 pub mod lives;
 pub mod running;
 mod seats;
+pub mod ticking;
 
 /// What a first program names: `use tp_life::prelude::*;`.
 pub mod prelude {
@@ -15,6 +16,7 @@ pub mod prelude {
     pub use crate::groups::Group;
     pub use crate::lives::{with_pool, with_tally};
     pub use crate::running::{Told, run_tasks};
+    pub use crate::ticking::{End, with_ticker};
     pub use std::thread::sleep;
     pub use std::time::Duration;
     pub use tp_advice::makers::{by_processors, cached, single};

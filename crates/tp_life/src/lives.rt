@@ -20,7 +20,7 @@ use tp_book::passes::Pass;
 use tp_book::reports::{Report, Reporter, TallyReport};
 use tp_locked::names::PoolNaming;
 use tp_machine::machine::releases::Keeper;
-use tp_pool::{Handle, PoolOf, Runtime};
+use tp_pool::{PoolOf, Runtime};
 use tp_protocols::jobs::Job;
 use tp_record::recorders::{Full, Tally};
 use tp_shared::edges::Edge;
@@ -188,14 +188,7 @@ fn lived<
 {
     let Rooms { outs, passes, desk } = rooms;
     let mut last = pass;
-    let theirs = match handles(alloc, &pool, callers) {
-        Ok(theirs) => theirs,
-        Err(error) => {
-            pool.let_go();
-            return Err(error);
-        }
-    };
-    let seated = match seats(rt, alloc, theirs, &desk, &mut last, callers) {
+    let seated = match seats(rt, alloc, &pool, &desk, &mut last, callers) {
         Ok(seated) => seated,
         Err(error) => {
             pool.let_go();
@@ -215,35 +208,20 @@ fn lived<
     }
 }
 
-// Handles of the pool, one for each caller. NoMemory (4).
-fn handles<
-    G: PoolNaming + Send + Sync + 'static,
-    J: Job + 'static,
-    E: Edge + Send + Sync + 'static,
-    K: Keeper + Send + 'static,
+// A seat for each caller, with a pass that is split from this one, which then has room for all receipts of the pool's end. NoMemory (4)
+// or BookFull (5).
+fn seats<
+    G: PoolNaming,
+    V: Send + Drop,
+    W: Task<Output = V> + Send,
+    H: Wait + Copy,
+    E: Edge,
+    K: Keeper,
+    O: Drop,
 >(
-    alloc: Global,
-    pool: &PoolOf<G, J, E, K>,
-    callers: u32,
-) -> Result<Vec<Handle<G, J, E, K>>, PoolError>
-    ensures refused { IfErr result (λ e. e ≡ PoolError.NoMemory) }
-{
-    let mut made = Vec::new(alloc);
-    for _ in 0..callers {
-        match pool.handle() {
-            Ok(handle) => made.push(handle)?,
-            Err(_) => return Err(PoolError::NoMemory),
-        }
-    }
-    Ok(made)
-}
-
-// A seat for each caller, with one of these handles, and with a pass that is split from this one, which then has room for all receipts of
-// the pool's end. NoMemory (4) or BookFull (5).
-fn seats<G: PoolNaming, W: Task, H: Wait + Copy, E: Edge, K: Keeper, O: Drop>(
     rt: &H,
     alloc: Global,
-    handles: Vec<Handle<G, Held<W>, E, K>>,
+    pool: &PoolOf<G, Held<W>, E, K>,
     desk: &Arc<Desk>,
     first: &mut Pass<G>,
     callers: u32,
@@ -257,15 +235,14 @@ fn seats<G: PoolNaming, W: Task, H: Wait + Copy, E: Edge, K: Keeper, O: Drop>(
     if first.reserve(4).is_err() {
         return Err(PoolError::NoMemory);
     }
-    let mut handles = handles;
     let mut seated = Vec::new(alloc);
     for who in 0..callers {
-        let (Some(theirs), Ok(at)) = (handles.pop(), Arc::try_clone(desk)) else {
-            return Err(PoolError::NoMemory);
-        };
-        let pass = match theirs.split_pass(rt, first) {
+        let pass = match pool.split_pass(rt, first) {
             Ok(pass) => pass,
             Err(error) => return Err(error),
+        };
+        let (Ok(theirs), Ok(at)) = (pool.handle(), Arc::try_clone(desk)) else {
+            return Err(PoolError::NoMemory);
         };
         let seat = Seat {
             pass,

@@ -165,6 +165,11 @@ impl<G: PoolNaming, W: Task, H: Wait + Clock + Copy, E: Edge, K: Keeper> Calls
         self.pool.await_done(&rt, group, &mut self.pass)
     }
 
+    fn take_for(&mut self, group: u32, most: Duration) -> Result<TaskId, PoolError> {
+        let rt = self.host;
+        self.pool.await_done_for(&rt, group, most, &mut self.pass)
+    }
+
     fn get(&mut self, ticket: &Ticket<W>) -> Result<W::Output, PoolError> {
         let (rt, pool) = (self.host, &*self.pool);
         let answer = pool.await_result_with(&rt, ticket.task, None, &mut self.pass);

@@ -83,6 +83,20 @@ impl<G: PoolNaming, J: Drop, E: Edge, K: Keeper> PoolOf<G, J, E, K> {
         reading_of(&core, state)
     }
 
+    /// Lets a sight and a pass know the record as it is now, which goes on from what each of them knew. It makes no step. A pool that is
+    /// closed with this pass goes on from what the sight knew.
+    pub fn catch_up<R: Wait>(&self, rt: &R, sight: &mut Sight<G>, pass: &mut Pass<G>)
+        ensures same { sight.new ≡ pass.new.front }
+        ensures goes_on { IsFrontOf sight.old sight.new }
+        ensures looks { LooksOnly (K.terms G.config) pass.old pass.new }
+    {
+        let shared = self.shared();
+        let mut core = shared.hold(rt);
+        core.law_is_book();
+        core.show_sight(&shared.around.glance, sight);
+        core.show(&shared.around.glance, pass);
+    }
+
     /// A sight, which knows what the pass knows. It is no pass: a close wants none back, and it may be dropped.
     pub fn sight(&self, pass: &mut Pass<G>) -> Sight<G>
         ensures begins { result ≡ pass.old.front }

@@ -1,14 +1,14 @@
 //! Waits by the clock. They make no tick, and a wait for a future no step at all. A waiter begins to wait with the guard of the hold
 //! in which its look failed, so no step falls between the look and the sleep.
-ghost use Rattle.std.specs.Prelude.{◌≡◌, ◌⊎◌, ◌<◌, ◌≤◌, [], ◌∷◌, IfErr, OnOk};
+ghost use Rattle.std.specs.Prelude.{◌≡◌, ◌⊎◌, ◌<◌, ◌≤◌, [], ◌∷◌, IfOk, IfErr, OnOk, OnErr};
 ghost use Rattle.tp_record.specs.Fields.{rank};
 ghost use Rattle.tp_glance.specs.Word.{IsFrontOf};
 ghost use Rattle.tp_locked.specs.Moments.{AtFront, BookOf};
-ghost use Rattle.tp_locked.specs.Passes.{Adds, AddsNone, LooksOnly, tidied, ended};
+ghost use Rattle.tp_locked.specs.Passes.{Adds, AddsNone, AddsStep, LooksOnly, tidied, ended};
 ghost use Rattle.tp_locked.specs.Readings.{got};
 ghost use Rattle.tp_locked.specs.declared.tasks.Task.{Task};
 ghost use Rattle.tp_shared.specs.Endings.{IsBarred};
-ghost use Rattle.tp_pool.specs.Timed.{IsFoundInTime};
+ghost use Rattle.tp_pool.specs.Timed.{IsFoundInTime, IsUndoneInTime};
 
 use crate::pool::PoolOf;
 use std::sync::Wait;
@@ -17,29 +17,29 @@ use tp_book::passes::Pass;
 use tp_locked::locked::Look;
 use tp_locked::names::PoolNaming;
 use tp_machine::machine::releases::Keeper;
-use tp_record::entries::Ask;
+use tp_record::entries::{Ask, Did};
 use tp_shared::edges::Edge;
 use tp_types::ids::TaskId;
 use tp_types::refusals::PoolError;
 
-// A wait by the clock: when it began, None where the clock could not be read, and how long it may last.
+/// The time of a wait by the clock: when it began, None where the clock could not be read, and how long it may last.
 #[derive(Clone, Copy)]
-struct Timer {
+pub struct Timer {
     begun: Option<Instant>,
     most: Duration,
 }
 
 impl Timer {
-    // A wait begins, of at most so long.
-    fn new<R: Clock>(rt: &R, most: Duration) -> Timer {
+    /// A wait begins, of at most so long.
+    pub fn new<R: Clock>(rt: &R, most: Duration) -> Timer {
         Timer {
             begun: Instant::now(rt).ok(),
             most,
         }
     }
 
-    // How much of its time is left: None where none is, or the clock can't be read.
-    fn left<R: Clock>(&self, rt: &R) -> Option<Duration> {
+    /// How much of its time is left: None where none is, or the clock can't be read.
+    pub fn left<R: Clock>(&self, rt: &R) -> Option<Duration> {
         let spent = self.begun?.elapsed(rt).ok()?;
         self.most.checked_sub(spent)
     }
@@ -78,6 +78,67 @@ impl<G: PoolNaming, J: Drop, E: Edge, K: Keeper> PoolOf<G, J, E, K> {
                 .conditions
                 .results
                 .wait_timeout(rt, core, left);
+        }
+        unreachable!()
+    }
+
+    /// As `await_done`, but for at most so long by the clock, as `ExecutorCompletionService.poll` with a timeout.
+    ///
+    /// NoMemory (4) for its receipt, else NothingOpen (19) where none is done and none is open, TimedOut (16) where the time is over, or the
+    /// clock can't be read, and one is open, or BookFull (5). After a refusal nothing was taken. It makes no tick.
+    pub fn await_done_for<R: Wait + Clock>(
+        &self,
+        rt: &R,
+        group: u32,
+        most: Duration,
+        pass: &mut Pass<G>,
+    ) -> Result<TaskId, PoolError>
+        ensures step { IfOk result (λ t. AddsStep (K.terms G.config) pass.old (Ask.TakeDone group) (Did.TakeDone group t) pass.new) }
+        ensures refused { IfErr result (λ e. ((e ≡ PoolError.NoMemory) × (pass.old.room < 1)) ⊎ AtFront (K.terms G.config) pass.new.front (λ s. IsUndoneInTime (K.terms G.config) s group e)) }
+        ensures unchanged { OnErr result (AddsNone pass.old pass.new) }
+    {
+        if let Err(error) = pass.reserve(1) {
+            return Err(error);
+        }
+        self.done_in_time(rt, group, Timer::new(rt, most), pass)
+    }
+
+    // The same with a pass that has room for the receipt.
+    fn done_in_time<R: Wait + Clock>(
+        &self,
+        rt: &R,
+        group: u32,
+        timer: Timer,
+        pass: &mut Pass<G>,
+    ) -> Result<TaskId, PoolError>
+        requires room { 0 < pass.old.room }
+        ensures step { IfOk result (λ t. AddsStep (K.terms G.config) pass.old (Ask.TakeDone group) (Did.TakeDone group t) pass.new) }
+        ensures refused { IfErr result (λ e. AtFront (K.terms G.config) pass.new.front (λ s. IsUndoneInTime (K.terms G.config) s group e)) }
+        ensures unchanged { OnErr result (LooksOnly (K.terms G.config) pass.old pass.new) }
+    {
+        let shared = self.shared();
+        let mut core = shared.hold(rt);
+        for _ in rt.forever() {
+            match core.await_done(group, &shared.around.glance, pass) {
+                Ok(Some(t)) => {
+                    shared.release(core);
+                    return Ok(t);
+                }
+                Ok(None) => {
+                    let Some(left) = timer.left(rt) else {
+                        return Err(PoolError::TimedOut);
+                    };
+                    (core, _) = shared
+                        .around
+                        .conditions
+                        .results
+                        .wait_timeout(rt, core, left);
+                }
+                Err(error) => {
+                    shared.release(core);
+                    return Err(error);
+                }
+            }
         }
         unreachable!()
     }

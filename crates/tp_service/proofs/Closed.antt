@@ -1,5 +1,5 @@
 -- What answers of the pool tell of a future.
-use Rattle.std.proofs.Common.{◌≡◌, ◌⊎◌, ℕ, List, [], ◌∷◌, Bool, true, false, inl, inr, refl, sym, ap, subst, ◌∙◌}
+use Rattle.std.proofs.Common.{◌≡◌, ◌⊎◌, ℕ, List, [], ◌∷◌, Bool, true, false, inl, inr, ⊎_elim, refl, sym, ap, subst, ◌∙◌}
 use Rattle.std.specs.Prelude.{ℤ, Option, Some, None, Result, Ok, Err}
 use Rattle.tp_types.specs.declared.configs.Config.{Config}
 use Rattle.tp_types.specs.declared.ids.TaskId.{TaskId}
@@ -13,7 +13,8 @@ use Rattle.tp_locked.specs.Passes.{AddsNone}
 use Rattle.tp_locked.proofs.Receipts.{looks_none, none_added, none_behind}
 use Rattle.tp_locked.specs.Readings.{got, has_come, unless_late, IsFound, IsResult}
 use Rattle.tp_locked.specs.Moments.{BookOf}
-use Rattle.tp_service.specs.Futures.{IsClosed, IsLate, HasValue, CloseAll}
+use Rattle.tp_pool.specs.Timed.{IsFoundInTime}
+use Rattle.tp_service.specs.Futures.{IsClosed, IsLate, IsOverdue, HasValue, CloseAll}
 
 -- an answer that is not 'none yet', and not 'too late', is the future's own
 own_answer : (late : Bool) (found : Result (Option ℤ) PoolError) (r : Result ℤ PoolError) → got r ≡ unless_late late found → ¬ (r ≡ Err TimedOut) → ¬ (found ≡ Ok None)
@@ -41,8 +42,20 @@ never_open : (found : Result (Option ℤ) PoolError) → (found ≡ Ok None) ⊎
 never_open found (inl none) is = absurd (cc)
 never_open found (inr late) is = absurd (cc)
 
+-- an open future is none of an unknown task
+never_unknown : ¬ (◌≡◌ {A = Result (Option ℤ) PoolError} (Ok None) (Err UnknownTask))
+never_unknown is = absurd (cc)
+
 never_valued : (v : ℤ) → ¬ (◌≡◌ {A = Result (Option ℤ) PoolError} (Ok (Some v)) (Err UnknownTask))
 never_valued v is = absurd (cc)
+
+never_late : ¬ (◌≡◌ {A = Result (Option ℤ) PoolError} (Err TimedOut) (Err UnknownTask))
+never_late is = absurd (cc)
+
+-- who is told that the time is over was answered so
+got_late : (r : Result ℤ PoolError) → got r ≡ Err TimedOut → r ≡ Err TimedOut
+got_late (Ok v) is = absurd (cc)
+got_late (Err e) is = cc
 
 module _ {P : Type 0} (keeps : Bool) (c : Config) (t : TaskId) (p : PassView) where
   pub closed_found : (deadline : ℕ) (r : Result ℤ PoolError) → BookOf P c p (λ b. IsFound b t.0 keeps (Some deadline) (got r)) → ¬ (r ≡ Err TimedOut) → IsClosed P keeps c p t
@@ -68,6 +81,30 @@ module _ {P : Type 0} (keeps : Bool) (c : Config) (t : TaskId) (p : PassView) wh
       let own = value_in (recalled keeps found.book) t.0 in
       let whole : own ≡ value_in (state_of found.book) t.0 = value_certain keeps found.book t.0 own refl (never_open own (late_open come own found.holds.0)) in
       record { book = found.book; is = found.is; at = found.at; released = found.released; holds = (found.holds.0 ∙ ap (unless_late come) whole, found.holds.1) }
+
+  -- a wait by the clock that is not over
+  pub closed_in_time : (r : Result ℤ PoolError) → BookOf P c p (λ b. IsFoundInTime b t.0 keeps (got r)) → ¬ (r ≡ Err TimedOut) → IsClosed P keeps c p t
+  closed_in_time r is on = record {
+    book = is.book;
+    is = is.is;
+    at = is.at;
+    released = is.released;
+    holds = ⊎_elim (λ found. own_in_time (value_in (recalled keeps is.book) t.0) r found.0) (λ over. absurd (on (got_late r over.0))) is.holds;
+  }
+
+  -- a wait by the clock that is over
+  pub overdue_found : (r : Result ℤ PoolError) → BookOf P c p (λ b. IsFoundInTime b t.0 keeps (got r)) → r ≡ Err TimedOut → IsOverdue P c p t
+  overdue_found r is late =
+      let found = subst (λ r. BookOf P c p (λ b. IsFoundInTime b t.0 keeps (got r))) late is in
+      let b = found.book in
+      let own = value_in (recalled keeps b) t.0 in
+      record {
+        book = b;
+        is = found.is;
+        at = found.at;
+        released = found.released;
+        holds = ⊎_elim (λ told. inl (value_certain keeps b t.0 (Err TimedOut) told.0 never_late, told.1)) (λ over. inr (refl, value_certain keeps b t.0 (Ok None) over.1.0 never_unknown, over.1.1)) found.holds;
+      }
 
   -- a look that finds a value
   pub value_found : (v : ℤ) → BookOf P c p (λ b. IsResult b t.0 keeps (Ok (Some v))) → HasValue P c v p t

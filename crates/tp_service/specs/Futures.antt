@@ -11,6 +11,7 @@ use Rattle.tp_book.specs.PassView.{PassView}
 use Rattle.tp_locked.specs.Passes.{LooksOnly}
 use Rattle.tp_locked.specs.Readings.{IsFound, IsResult}
 use Rattle.tp_locked.specs.Moments.{BookOf}
+use Rattle.tp_pool.specs.Timed.{IsFoundInTime}
 use Rattle.tp_pool.specs.Turns.{Through}
 
 -- the last fault, where this one came before this refusal
@@ -23,6 +24,10 @@ module _ (P : Type 0) (c : Config) where
   -- as this pass knows the pool, a wait for the future finds that now has reached the deadline
   abbrev pub IsLate : ℕ → PassView → TaskId → Type 0
   IsLate deadline p t = BookOf P c p (λ b. IsFound b t.0 true (Some deadline) (Err TimedOut))
+
+  -- as this pass knows the pool, the future is open, and the time of the wait is over
+  abbrev pub IsOverdue : PassView → TaskId → Type 0
+  IsOverdue p t = BookOf P c p (λ b. IsFoundInTime b t.0 true (Err TimedOut))
 
   -- it has this value there
   abbrev pub HasValue : ℤ → PassView → TaskId → Type 0

@@ -13,7 +13,7 @@ use Rattle.tp_locked.specs.Passes.{AddsNone, AddsStep, Refuses}
 use Rattle.tp_locked.specs.declared.tasks.Task.{Task}
 use Rattle.tp_pool.specs.Submissions.{AddsJob, Submits}
 use Rattle.tp_pool.specs.Turns.{Through, ThroughBoth}
-use Rattle.tp_service.specs.Futures.{IsClosed, IsLate, HasValue, CloseAll, HaveFailed}
+use Rattle.tp_service.specs.Futures.{IsClosed, HasValue, CloseAll, HaveFailed}
 
 -- P is what the pool keeps of a job, keeps says whether it keeps its record, c are its settings
 module _ (P : Type 0) (keeps : Bool) (c : Config) where
@@ -28,8 +28,8 @@ module _ (P : Type 0) (keeps : Bool) (c : Config) where
   AddsCancels ts old new = Through AddsCancel ts old new
 
 -- the pass looks, and at its new front one of these is late
-abbrev pub IsOneLate : Type 0 → Config → ℕ → List TaskId → PassView → PassView → Type 0
-IsOneLate P c deadline ts old new = AddsNone old new × Any (IsLate P c deadline new) ts
+abbrev pub IsOneLate : (PassView → TaskId → Type 0) → List TaskId → PassView → PassView → Type 0
+IsOneLate late ts old new = AddsNone old new × Any (late new) ts
 
 -- c are the pool's settings, and a job promises so and names this priority
 module _ {J : Type 0} (c : Config) (promised : J → Promise) (urgency : J → ℕ) where
@@ -61,10 +61,10 @@ module _ {J : Type 0} (keeps : Bool) (c : Config) (promised : J → Promise) (ur
   IsAll jobs ts old new = (mid : PassView) × AddsSubmissions c promised urgency jobs ts old mid × CloseAll (Task J) keeps c ts mid new
 
   -- all are submitted, and then found not open; or one of them is late, and all are cancelled
-  abbrev pub IsAllUntil : ℕ → List J → List TaskId → PassView → PassView → Type 0
-  IsAllUntil deadline jobs ts old new =
+  abbrev pub IsAllUntil : (PassView → TaskId → Type 0) → List J → List TaskId → PassView → PassView → Type 0
+  IsAllUntil late jobs ts old new =
       IsAll jobs ts old new
-      ⊎ ((mid : PassView) × (late : PassView) × AddsSubmissions c promised urgency jobs ts old mid × IsOneLate (Task J) c deadline ts mid late × AddsCancels (Task J) keeps c ts late new)
+      ⊎ ((mid : PassView) × (told : PassView) × AddsSubmissions c promised urgency jobs ts old mid × IsOneLate late ts mid told × AddsCancels (Task J) keeps c ts told new)
 
   -- these jobs are submitted; at a later front of the pass one of them has this value, and then all are cancelled
   pub record IsAnyValue (jobs : List J) (v : ℤ) (old new : PassView) : Type 0 where

@@ -4,7 +4,7 @@ ghost use Rattle.std.specs.Prelude.{◌≡◌, vec_len, Any, IsTrue, IfOk, IfErr
 ghost use Rattle.tp_locked.specs.declared.tasks.Task.{Task};
 ghost use Rattle.tp_book.specs.PassView.{PassView};
 ghost use Rattle.tp_locked.specs.Passes.{AddsNone, LooksOnly};
-ghost use Rattle.tp_service.specs.Futures.{later_fault as later_fault_of, Closes, CloseAll, HasValue, HaveFailed, IsLate};
+ghost use Rattle.tp_service.specs.Futures.{later_fault as later_fault_of, Closes, CloseAll, HasValue, HaveFailed, IsLate, IsOverdue};
 ghost use Rattle.tp_service.specs.Submitted.{AddsCancel, AddsCancels, AddsSubmissions, AreTurnedBack, HasNoValue, IsAll, IsAllUntil, IsAnyValue, IsOneLate};
 
 use crate::futures::submit;
@@ -12,12 +12,14 @@ use crate::leaving::Leaving;
 use std::alloc::Global;
 use std::sync::Wait;
 use std::thread::Threads;
+use std::time::{Clock, Duration};
 use tp_book::passes::Pass;
 use tp_machine::machine::releases::Keeper;
 use tp_pool::edges::Edge;
 use tp_pool::jobs::Job;
 use tp_pool::names::PoolNaming;
 use tp_pool::pool::PoolOf;
+use tp_pool::timed::Timer;
 use tp_types::ids::TaskId;
 use tp_types::refusals::PoolError;
 
@@ -106,10 +108,44 @@ fn all_close_by<G: PoolNaming, J: Job, E: Edge, K: Keeper, R: Wait>(
     pass: &mut Pass<G>,
 ) -> bool
     ensures closed { IsTrue result → CloseAll (Task J) K.RECEIPTS (K.terms G.config) tasks.now pass.old pass.new }
-    ensures late { ¬ IsTrue result → IsOneLate (Task J) (K.terms G.config) deadline tasks.now pass.old pass.new }
+    ensures late { ¬ IsTrue result → IsOneLate (IsLate (Task J) (K.terms G.config) deadline) tasks.now pass.old pass.new }
 {
     for t in tasks {
         if !closes_by(pool, rt, *t, deadline, pass) {
+            return false;
+        }
+    }
+    true
+}
+
+// Waits until a future is not open any more, and answers whether that comes before the time is over.
+fn closes_in<G: PoolNaming, J: Job, E: Edge, K: Keeper, R: Wait + Clock>(
+    pool: &PoolOf<G, J, E, K>,
+    rt: &R,
+    t: TaskId,
+    timer: Timer,
+    pass: &mut Pass<G>,
+) -> bool
+    ensures closed { IsTrue result → Closes (Task J) K.RECEIPTS (K.terms G.config) t pass.old pass.new }
+    ensures late { ¬ IsTrue result → LooksOnly (K.terms G.config) pass.old pass.new × IsOverdue (Task J) (K.terms G.config) pass.new t }
+{
+    let left = timer.left(rt).unwrap_or(Duration::ZERO);
+    pool.await_result_for(rt, t, left, pass) != Err(PoolError::TimedOut)
+}
+
+// Waits until none of these futures is open, or the time is over.
+fn all_close_in<G: PoolNaming, J: Job, E: Edge, K: Keeper, R: Wait + Clock>(
+    pool: &PoolOf<G, J, E, K>,
+    rt: &R,
+    tasks: &[TaskId],
+    timer: Timer,
+    pass: &mut Pass<G>,
+) -> bool
+    ensures closed { IsTrue result → CloseAll (Task J) K.RECEIPTS (K.terms G.config) tasks.now pass.old pass.new }
+    ensures late { ¬ IsTrue result → IsOneLate (IsOverdue (Task J) (K.terms G.config)) tasks.now pass.old pass.new }
+{
+    for t in tasks {
+        if !closes_in(pool, rt, *t, timer, pass) {
             return false;
         }
     }
@@ -259,11 +295,41 @@ pub fn invoke_all_until<
     pass: &mut Pass<G>,
 ) -> Result<Vec<TaskId>, PoolError>
     ensures count { IfOk result (λ tasks. vec_len tasks ≡ vec_len jobs) }
-    ensures all { IfOk result (λ tasks. IsAllUntil K.RECEIPTS (K.terms G.config) J.promised J.urgency deadline jobs.items tasks.items pass.old pass.new) }
+    ensures all { IfOk result (λ tasks. IsAllUntil K.RECEIPTS (K.terms G.config) J.promised J.urgency (IsLate (Task J) (K.terms G.config) deadline) jobs.items tasks.items pass.old pass.new) }
     ensures refused { IfErr result (λ e. AreTurnedBack K.RECEIPTS (K.terms G.config) J.promised J.urgency jobs.items e pass.old pass.new) }
 {
     let tasks = submit_all(pool, rt, alloc, jobs, pass)?;
     if all_close_by(pool, rt, tasks.as_slice(), deadline, pass) {
+        return Ok(tasks);
+    }
+    cancel_all(pool, rt, tasks.as_slice(), pass);
+    Ok(tasks)
+}
+
+/// As `invoke_all`, but for at most so long by the clock, as `invokeAll` with a timeout. All jobs are submitted, and the time begins
+/// before the first. The tasks that are open when it is over, or the clock can't be read, are cancelled with their flags, and the
+/// numbers are answered. Refused as `invoke_all`. The call makes no tick.
+pub fn invoke_all_for<
+    G: PoolNaming + Send + Sync + 'static,
+    J: Job + 'static,
+    E: Edge + Send + Sync + 'static,
+    K: Leaving<G, J, E, R> + Send + 'static,
+    R: Threads + Wait + Clock + Copy + Send + 'static,
+>(
+    pool: &PoolOf<G, J, E, K>,
+    rt: &R,
+    alloc: Global,
+    jobs: Vec<J>,
+    most: Duration,
+    pass: &mut Pass<G>,
+) -> Result<Vec<TaskId>, PoolError>
+    ensures count { IfOk result (λ tasks. vec_len tasks ≡ vec_len jobs) }
+    ensures all { IfOk result (λ tasks. IsAllUntil K.RECEIPTS (K.terms G.config) J.promised J.urgency (IsOverdue (Task J) (K.terms G.config)) jobs.items tasks.items pass.old pass.new) }
+    ensures refused { IfErr result (λ e. AreTurnedBack K.RECEIPTS (K.terms G.config) J.promised J.urgency jobs.items e pass.old pass.new) }
+{
+    let timer = Timer::new(rt, most);
+    let tasks = submit_all(pool, rt, alloc, jobs, pass)?;
+    if all_close_in(pool, rt, tasks.as_slice(), timer, pass) {
         return Ok(tasks);
     }
     cancel_all(pool, rt, tasks.as_slice(), pass);
