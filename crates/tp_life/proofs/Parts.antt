@@ -12,22 +12,27 @@ next_at : {X : Type 0} (xs ys : List X) (x d : X) → slice_index_or (xs ++ x �
 next_at [] ys x d = refl
 next_at (z ∷ xs) ys x d = next_at xs ys x d
 
--- what is so at each place is so of the next element
 -- one that is still to come
 pub one_left : {X : Type 0} (xs ys all : List X) (x : X) → xs ++ x ∷ ys ≡ all → length xs < length all
 one_left xs ys all x whole = subst (λ zs. length xs < length zs) whole (omega (arith, length-append xs (x ∷ ys)))
 
+-- what is so at each place is so of the next element
 pub next_is : {X : Type 0} (P : X → Type 0) (all xs ys : List X) (x : X) → xs ++ x ∷ ys ≡ all → ((i : ℕ) (d : X) → i < length all → P (slice_index_or all i d)) → P x
 next_is P all xs ys x whole each =
     subst P (ap (λ zs. slice_index_or zs (length xs) x) (sym whole) ∙ next_at xs ys x x) (each (length xs) x (one_left xs ys all x whole))
 
 -- what is so at each place of a list, and of one more, is so at each place of both
-pub each_more : {X : Type 0} (P : ℕ → X → Type 0) (xs : List X) (x : X) → ((i : ℕ) (d : X) → i < length xs → P i (slice_index_or xs i d)) → P (length xs) x →
+each_more : {X : Type 0} (P : ℕ → X → Type 0) (xs : List X) (x : X) → ((i : ℕ) (d : X) → i < length xs → P i (slice_index_or xs i d)) → P (length xs) x →
     (i : ℕ) (d : X) → i < length (xs ++ x ∷ []) → P i (slice_index_or (xs ++ x ∷ []) i d)
 each_more P [] x each last zero d below = last
 each_more P [] x each last (suc i) d below = absurd (omega (arith, below))
 each_more P (z ∷ xs) x each last zero d below = each 0 d (omega (arith))
 each_more P (z ∷ xs) x each last (suc i) d below = each_more (λ n y. P (suc n) y) xs x (λ n e early. each (suc n) e (omega (arith, early))) last i d (omega (arith, below))
+
+-- so it is of the list that a push makes
+pub each_pushed : {X : Type 0} (P : ℕ → X → Type 0) (xs ys : List X) (x : X) → ys ≡ xs ++ x ∷ [] → ((i : ℕ) (d : X) → i < length xs → P i (slice_index_or xs i d)) → P (length xs) x →
+    (i : ℕ) (d : X) → i < length ys → P i (slice_index_or ys i d)
+each_pushed P xs ys x pushed each last = subst (λ ks. (i : _) (d : _) → i < length ks → P i (slice_index_or ks i d)) (sym pushed) (each_more P xs x each last)
 
 -- what is there
 pub some_of : {X : Type 0} (o : Option X) → IsSome o → (x : X) × (o ≡ Some x)

@@ -210,15 +210,7 @@ fn lived<
 
 // A seat for each caller, with a pass that is split from this one, which then has room for all receipts of the pool's end. NoMemory (4)
 // or BookFull (5).
-fn seats<
-    G: PoolNaming,
-    V: Send + Drop,
-    W: Task<Output = V> + Send,
-    H: Wait + Copy,
-    E: Edge,
-    K: Keeper,
-    O: Drop,
->(
+fn seats<G: PoolNaming, W: Task + Send, H: Wait + Copy, E: Edge, K: Keeper, O: Drop>(
     rt: &H,
     alloc: Global,
     pool: &PoolOf<G, Held<W>, E, K>,
@@ -226,15 +218,15 @@ fn seats<
     first: &mut Pass<G>,
     callers: u32,
 ) -> Result<Vec<Caller<G, W, H, E, K, O>>, PoolError>
+where
+    W::Output: Send,
     requires new { (first.old.front ≡ []) × (first.old.released ≡ []) }
     ensures callers { IfOk result (λ v. vec_len v ≡ callers) }
     ensures seated { IfOk result (λ v. (i : ℕ) (d : _) → i < length v.items → ((slice_index_or v.items i d).who ≡ i) × IsNewPass K.RECEIPTS (slice_index_or v.items i d).seat.pass) }
     ensures room { OnOk result (4 ≤ first.new.room) }
     ensures refused { IfErr result (λ e. (e ≡ PoolError.NoMemory) ⊎ (e ≡ PoolError.BookFull)) }
 {
-    if first.reserve(4).is_err() {
-        return Err(PoolError::NoMemory);
-    }
+    first.reserve(4)?;
     let mut seated = Vec::new(alloc);
     for who in 0..callers {
         let pass = match pool.split_pass(rt, first) {
