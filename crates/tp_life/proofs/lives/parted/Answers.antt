@@ -58,11 +58,11 @@ returns-clause-outs g c =
     let rest = c.loop-caller.caller-iterator.rest in
     let gives : c.into_iter-caller-iterator.result.rest.items ≡ c.args.callers.items = search rules in
     let all = all_passed c.loop-caller.yielded rest.items c.args.callers.items (c.loop-caller.invariant.6 ∙ gives) (omega (arith, c.in-None.ensures.steps.0, rest.ok.0)) in
-    c.loop-caller.invariant.2 ∙ ap (λ ks. length ks) all
+    omega (arith, c.loop-caller.invariant.2, ap (λ ks. length ks) all)
 
 pub returns-clause-callers : goal.returns-clause-callers
 returns-clause-callers g c =
     let rest = c.loop-caller.caller-iterator.rest in
     let gives : c.into_iter-caller-iterator.result.rest.items ≡ c.args.callers.items = search rules in
     let all = all_passed c.loop-caller.yielded rest.items c.args.callers.items (c.loop-caller.invariant.6 ∙ gives) (omega (arith, c.in-None.ensures.steps.0, rest.ok.0)) in
-    c.loop-caller.invariant.3 ∙ ap (λ ks. length ks) all
+    omega (arith, c.loop-caller.invariant.3, ap (λ ks. length ks) all)

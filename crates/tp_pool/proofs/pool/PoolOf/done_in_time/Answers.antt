@@ -25,7 +25,7 @@ pub returns-in_default-clause-refused : goal.returns-in_default-clause-refused
 returns-in_default-clause-refused g c =
     let config = (g.K.Recorder.terms g.G.PoolNaming.config) in
     let waits : AtFront config c.await_done.new.pass.front (λ s. HasOpen c.args.group s × IsRefusedAt config s (ask.TakeDone c.args.group) NotThere) = search rules in
-    record { legal = waits.legal; holds = inr (refl, waits.holds) }
+    record { legal = waits.legal; holds = inr (refl, waits.holds.0, waits.holds.1) }
 
 pub returns-in_default-clause-unchanged : goal.returns-in_default-clause-unchanged
 returns-in_default-clause-unchanged g c =
