@@ -1,5 +1,5 @@
 -- Ticks that a pass tells, one after another.
-use Rattle.std.proofs.Common.{ℕ, ◌≡◌, [], ◌∷◌, ◌++◌, refl, ap, subst}
+use Rattle.std.proofs.Common.{ℕ, ◌≡◌, [], ◌∷◌, ◌++◌, refl}
 use Rattle.std.specs.Prelude.{All}
 use Rattle.std.proofs.lemmas.List.Elements.{All-nil, All-push}
 use Rattle.tp_types.specs.declared.configs.Config.{Config}
@@ -7,7 +7,7 @@ use Rattle.tp_record.specs.declared.entries.Ask.TheVariants as ask
 use Rattle.tp_record.specs.declared.entries.Did.TheVariants as did
 use Rattle.tp_book.specs.PassView.{PassView}
 use Rattle.tp_locked.specs.Passes.{AddsStep, LooksOnly, entry_of}
-use Rattle.tp_locked.proofs.Receipts.{adds_behind, adds_looks, adds_then, looks_adds, looks_none}
+use Rattle.tp_locked.proofs.Receipts.{adds_looks, adds_then, looks_adds}
 use Rattle.tp_life.specs.Ticking.{IsTick, OnlyTicks}
 
 -- c are the settings that judge a pool's steps
@@ -19,11 +19,6 @@ module _ (c : Config) where
   -- a look after ticks
   pub ticks_look : (old mid new : PassView) → OnlyTicks c old mid → LooksOnly c mid new → OnlyTicks c old new
   ticks_look old mid new told looks = (told.0, adds_looks c old mid new told.0 told.1 looks, told.2)
-
-  -- a look before them
-  pub ticks_behind : (old mid new : PassView) → LooksOnly c old mid → OnlyTicks c mid new → OnlyTicks c old new
-  ticks_behind old mid new looks told =
-      (told.0, adds_behind c old mid new told.0 (looks_none c old mid looks) told.1, subst (λ n. All (IsTick n) told.0) (ap (λ p. p.number) looks.0) told.2)
 
   -- one tick more
   pub ticks_more : (old mid new : PassView) (moment : ℕ) → OnlyTicks c old mid → AddsStep c mid (ask.Tick moment) (did.Tick moment) new → OnlyTicks c old new

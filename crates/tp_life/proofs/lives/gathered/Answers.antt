@@ -1,4 +1,4 @@
-use Rattle.std.proofs.Common.{ℕ, ◌≡◌, ◌<◌, Some, length, sym, subst, arith}
+use Rattle.std.proofs.Common.{ℕ, ◌≡◌, ◌<◌, Some, length, ap, sym, subst, arith}
 use Rattle.std.proofs.lemmas.List.{with_items_is}
 use Rattle.std.specs.Prelude.{IsSome, slice_index_or}
 use Rattle.tp_life.specs.Ran.{Pairwise}
@@ -15,7 +15,8 @@ returns-clause-lived g c =
     c.parted.result.0.items c.parted.result.1.items (sym c.as_mut_slice.ensures.value) c.requires.seated c.live_all.ensures.many c.live_all.ensures.lived came passes
 
 pub parted-requires-clause-some : goal.parted-requires-clause-some
-parted-requires-clause-some g c =
+parted-requires-clause-some g c i d below =
     let news = c.live_all.new.callers in
     let after = with_items_is c.args.callers news (omega (arith, c.live_all.ensures.many, c.as_mut_slice.ensures.len)) in
-    subst (λ ks. (i : ℕ) (d : _) → i < length ks → IsSome (slice_index_or ks i d).out) (sym after) (λ i d below. some_and _ (slice_index_or news i d).out (c.live_all.ensures.lived i d below))
+    let early = subst (λ (n : ℕ). i < n) (ap (λ ks. length ks) after) below in
+    subst (λ k. IsSome k.out) (ap (λ ks. slice_index_or ks i d) (sym after)) (some_and _ (slice_index_or news i d).out (c.live_all.ensures.lived i d early))
