@@ -11,4 +11,3 @@ returns-clause-lived g c i d below =
     let left = subst (λ k. IsSomeAnd k.out (leaves at.argument.now.who at.argument.now.seat.pass k.seat.pass)) at.left lived in
     let new = slice_index_or c.for_each_mut.new.s i d in
     subst (λ k. IsSomeAnd new.out (leaves k.who k.seat.pass new.seat.pass)) at.argument_is left
-
