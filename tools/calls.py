@@ -47,12 +47,12 @@ SECTIONS = {
         "CompletionService::submit CompletionService::take CompletionService::poll"),
     "Shut down and wait": ("`await_end` is `await_termination` with no deadline where it is None.", "PoolOf::shutdown PoolOf::shutdown_now+1 PoolOf::await_termination PoolOf::await_end_for PoolOf::is_stranded+1"),
     "Change settings and single tasks": ("`prestart_all` starts workers up to the core size, as `prestartAllCoreThreads`, and answers how many.", "PoolOf::set_core+1 PoolOf::set_maximum PoolOf::set_keep PoolOf::allow_core_timeout PoolOf::prestart_core PoolOf::tick+1 PoolOf::remove+1 PoolOf::purge"),
-    "Look": ("`look_by`, `snapshot_by` and `record_since_by` take a sight, which `sight` splits off a pass, and answer at its new front. `state`, `counts`, `now`, `steps`, `place`, `fate`, `promise`, `task_in` and `group_open` tell one thing each, of *some pool*.",
+    "Look": ("`look_by`, `snapshot_by` and `record_since_by` take a sight, which `sight` splits off a pass, and answer at its new front. `catch_up` lets a sight and a pass know the record as it is now. `state`, `counts`, `now`, `steps`, `place`, `fate`, `promise`, `task_in` and `group_open` tell one thing each, of *some pool*.",
         "PoolOf::glance+1 PoolOf::look PoolOf::snapshot PoolOf::record_since PoolOf::wait_step"),
 }
 # Calls that the page leaves out: others stand on them, or do the same in another form.
 LEFT_OUT = """PoolOf::new invoking::invoke_all_until invoking::invoke_all_for futures::get_until PoolOf::prestart_all CompletionService::new PoolOf::close_one CloseFault::let_go Sender::send Receiver::take PoolOf::sight reports::faulted PoolOf::execute_at PoolOf::kept PoolOf::abandon PoolOf::forget_abandoned
-    Config::fixed Config::core Config::maximum Config::queue Config::keep Config::core_timeout Config::policy Config::record_limit Boxes::new Find::take futures::task_of PoolOf::look_by PoolOf::snapshot_by PoolOf::record_since_by PoolOf::release PoolOf::result PoolOf::result_with
+    Config::fixed Config::core Config::maximum Config::queue Config::keep Config::core_timeout Config::policy Config::record_limit Boxes::new Find::take futures::task_of PoolOf::look_by PoolOf::catch_up PoolOf::snapshot_by PoolOf::record_since_by PoolOf::release PoolOf::result PoolOf::result_with
     PoolOf::await_result PoolOf::await_result_with PoolOf::await_result_for PoolOf::take_done PoolOf::await_done PoolOf::group_open PoolOf::state PoolOf::counts PoolOf::now PoolOf::steps PoolOf::place PoolOf::fate PoolOf::promise PoolOf::task_in PoolOf::await_end
     futures::get_with futures::get_until_with futures::try_get_with Calls::host Calls::set Calls::enter Calls::ticket Calls::submit_to Calls::take Group::new Group::len Group::results Group::next_for Calls::take_for PoolOf::await_done_for""".split()
 # Public for crates of the pool alone.

@@ -103,7 +103,7 @@ module _ {P : Type 0} (keeps : Bool) (c : Config) (t : TaskId) (p : PassView) wh
         is = found.is;
         at = found.at;
         released = found.released;
-        holds = ⊎_elim (λ told. inl (value_certain keeps b t.0 (Err TimedOut) told.0 never_late, told.1)) (λ over. inr (refl, value_certain keeps b t.0 (Ok None) over.1.0 never_unknown, over.1.1)) found.holds;
+        holds = ⊎_elim (λ told. inl (value_certain keeps b t.0 (Err TimedOut) told.0 never_late, told.1)) (λ over. inr (refl, (value_certain keeps b t.0 (Ok None) over.1.0 never_unknown, over.1.1))) found.holds;
       }
 
   -- a look that finds a value

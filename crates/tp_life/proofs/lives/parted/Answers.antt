@@ -1,4 +1,4 @@
-use Rattle.std.proofs.Common.{◌≡◌, [], ◌∷◌, ◌++◌, ◌+◌, append_assoc, length, refl, ap, ◌∙◌, sym, subst, arith, rules}
+use Rattle.std.proofs.Common.{◌≡◌, [], ◌∷◌, ◌++◌, ◌+◌, append_assoc, length, ap, ◌∙◌, sym, subst, arith, rules}
 use Rattle.std.proofs.lemmas.List.{length_push}
 use Rattle.std.specs.Prelude.{Some, IfSome, IsSome}
 use Rattle.tp_pool.proofs.Turned.{all_passed}
