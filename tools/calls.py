@@ -18,7 +18,7 @@ HEAD = """# The calls
 
 `tools/calls.py` makes this page of the sources, whose comments say more. Each call has its signature, what it does and the Java call that it mirrors ([what differs](JAVA.md)), its [refusals](TROUBLE.md), and what is proved of it.
 
-In a signature `rt` is the runtime by which a call waits, `alloc` the allocator, and `edge` your own objects or `Defaults`. `pool` is a `PoolOf`, `pass` the caller's pass, `t` a task's number. A call with refusals answers a `Result`, of which the Ok is shown. `tp_life::prelude` has whole lives, `tp_pool::prelude` the pool; `futures`, `invoking` and the completion service are modules of `tp_service`. A pass knows a **front**: the record as it was at the pass's last call. Short forms of what is proved:
+In a signature `rt` is the runtime by which a call waits, `alloc` the allocator, and `edge` your own objects or `Defaults`. `pool` is a `PoolOf`, `pass` the caller's pass, `t` a task's number. A call with refusals answers a `Result`, of which the Ok is shown. `tp_life::prelude` has whole lives, `tp_pool::prelude` the pool; `futures`, `invoking` and the completion service are modules of `tp_service`. A pass knows a **front**: the record's first entries, up to some length, which grows at the pass's calls. Short forms of what is proved:
 
 - *step*: exactly this call's entry is added to the pass. A refused call adds none, and the [model](MODEL.md) refuses it at the pass's new front.
 - *front*: the answer is so at the pass's new front. No entry is added.

@@ -22,7 +22,7 @@ struct Serving(HostRuntime);
 
 impl Serving {
     // Shuts the server down behind the requests of the two others. It waits for them for ten seconds at most.
-    fn close<P: Calls<Task = Request>>(&self, server: &mut P) -> Result<(), PoolError> {
+    fn shut<P: Calls<Task = Request>>(&self, server: &mut P) -> Result<(), PoolError> {
         for _ in 0..10_000 {
             if 8 <= server.look().counts.submitted {
                 break;
@@ -41,7 +41,7 @@ impl Life for Serving {
     fn live<P: Calls<Task = Request>>(&self, server: &mut P, who: u32) -> Self::Out {
         let first = who.saturating_mul(4);
         if who == 2 {
-            self.close(server)?;
+            self.shut(server)?;
         }
         let mut tickets = Vec::new(self.0.alloc());
         for number in first..first.saturating_add(4) {
