@@ -2,12 +2,14 @@
 
 ghost use Rattle.std.specs.Prelude.{◌<◌, length, IfOk};
 
+use crate::journals::{JournalFile, journal_at, tell_journal};
 use std::alloc::Global;
 use std::fs;
 use std::io::{ErrorKind, Read, Write};
 use std::rt::Files;
 use std::sync::Wait;
 use std::thread::Threads;
+use std::time::Clock;
 use tp_advice::sizes::for_jobs;
 use tp_choices::choices::Running;
 use tp_commands::objects::record_objects;
@@ -21,6 +23,7 @@ use tp_messages::tellings::Room;
 use tp_telling::forms::Form;
 use tp_text::watched::{WatchedReader, WatchedWriter};
 use tp_text::writing::write_text;
+use tp_threads::recorded::Ended;
 use tp_threads::tallies::tally_text;
 use tp_threads::texts::{Unfinished, run_text};
 use tp_types::configs::Policy;
@@ -87,25 +90,30 @@ fn jobs_text<R: Read, W: Write, E: Write>(
 }
 
 /// Runs the jobs of a text by threads. The record, or what stands in its place, goes to `out`, and the record's text to the file at the
-/// path too, if there is one. What is left of a run where a submission is refused, or no thread could be made, is kept.
-fn run_jobs<H: Files + Threads + Wait + Copy + Send + 'static, W: Write, E: Write>(
+/// path too, if there is one. What is left of a run where a submission is refused, or no thread could be made, is kept, and so is the end
+/// of its journal.
+fn run_jobs<H: Files + Threads + Wait + Clock + Copy + Send + 'static, W: Write, E: Write>(
     rt: H,
     alloc: Global,
     running: &Running,
     text: &[u8],
     out: &mut WatchedWriter<W>,
     errors: &mut E,
+    ended: &mut Option<Ended<JournalFile<H>>>,
     kept: &mut Option<Unfinished>,
 ) -> Result<bool, PoolError>
+where
+    H::File: Send + 'static,
     requires { length text.now < 4294967295 }
 {
     if !running.keeps_record {
         tally_text(rt, alloc, text, out)?;
         return Ok(true);
     }
+    let wish = journal_at(rt, alloc, running.journal.as_deref())?;
     let mut written = Vec::new(alloc);
     let mut writer = WatchedWriter::new(&mut written);
-    run_text(rt, alloc, text, &mut writer, kept)?;
+    run_text(rt, alloc, text, &mut writer, wish, ended, kept)?;
     write_file(&rt, running.record.as_deref(), written.as_slice(), errors)?;
     match running.form {
         Form::Words => write_text(out, written.as_slice())?,
@@ -206,8 +214,13 @@ fn tell_run<H: Files, E: Write>(
 }
 
 /// Runs the jobs that a reader of this name gives, as `poolrun threads`, and gives the status of the program. What is wrong with a text
-/// that is refused, or which job is, goes to `errors`.
-pub fn run_threads<H: Files + Threads + Wait + Copy + Send + 'static, R: Read, W: Write, E: Write>(
+/// that is refused, or which job is, goes to `errors`, and so does why a journal is not whole.
+pub fn run_threads<
+    H: Files + Threads + Wait + Clock + Copy + Send + 'static,
+    R: Read,
+    W: Write,
+    E: Write,
+>(
     rt: H,
     alloc: Global,
     running: &Running,
@@ -216,19 +229,24 @@ pub fn run_threads<H: Files + Threads + Wait + Copy + Send + 'static, R: Read, W
     out: &mut WatchedWriter<W>,
     errors: &mut E,
     style: Style,
-) -> u8 {
+) -> u8
+where
+    H::File: Send + 'static,
+{
     let text = match jobs_text(alloc, running, name, reader, out, errors) {
         Ok(text) => text,
         Err(status) => return status,
     };
     let text = text.as_slice();
+    let mut ended = None;
     let mut kept = None;
-    let outcome = run_jobs(rt, alloc, running, text, out, errors, &mut kept);
+    let outcome = run_jobs(rt, alloc, running, text, out, errors, &mut ended, &mut kept);
     let status = finish(out, &outcome);
     if let Err(refusal) = outcome {
         tell_run(
             &rt, alloc, running, name, text, refusal, kept, errors, style,
         );
     }
+    tell_journal(errors, running.journal.as_deref(), &ended);
     status
 }

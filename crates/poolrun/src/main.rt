@@ -11,6 +11,7 @@
 #![tactic(auto)]
 
 mod jobs;
+mod journals;
 mod program;
 mod progress;
 

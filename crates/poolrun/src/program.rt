@@ -31,7 +31,7 @@ use tp_types::refusals::PoolError;
 
 /// Does what was chosen with what a reader gives, and gives the status.
 fn run_reader<
-    H: Files + Input + Threads + Wait + Copy + Send + 'static,
+    H: Files + Input + Threads + Wait + Clock + Copy + Send + 'static,
     R: Read + Drop,
     W: Write,
     E: Write,
@@ -43,7 +43,10 @@ fn run_reader<
     out: &mut WatchedWriter<W>,
     errors: &mut E,
     style: Style,
-) -> u8 {
+) -> u8
+where
+    H::File: Send + 'static,
+{
     let name = name_of(choice.path());
     let reader = &mut WatchedReader::new(reader);
     match choice {
@@ -173,7 +176,10 @@ fn run_choice<
     errors: &mut E,
     progress: &'a mut T,
     style: Style,
-) -> u8 {
+) -> u8
+where
+    H::File: Send + 'static,
+{
     let path = choice.path();
     let total = if style.shows_progress {
         bytes_at(rt, path)
@@ -259,7 +265,10 @@ pub fn program<
     errors: &mut E,
     progress: &mut T,
     terminal: Terminal,
-) -> u8 {
+) -> u8
+where
+    H::File: Send + 'static,
+{
     let mut out = WatchedWriter::new(out);
     let status = match chosen(alloc, words) {
         Ok(chosen) => {

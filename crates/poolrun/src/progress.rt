@@ -154,3 +154,6 @@ impl<R: Read, C: Clock, T: Write> Read for ToldReader<'_, R, C, T> {
         Ok(count)
     }
 }
+
+#[cfg(test)]
+mod tests;

@@ -132,7 +132,7 @@ text{font:11px sans-serif;fill:#767676}
 <text class=\"name\" x=\"8\" y=\"172\">pass 1</text>
 <rect class=\"lane\" x=\"110\" y=\"160\" width=\"750\" height=\"16\"><title>pass 1</title></rect>
 <rect class=\"run\" x=\"110\" y=\"160\" width=\"2\" height=\"16\"><title>submits t0 at entry 1: run</title></rect>
-<rect class=\"cancelled\" x=\"172.50\" y=\"160\" width=\"2\" height=\"16\"><title>submits t1 at entry 2: cancelled</title></rect>
+<rect class=\"cancelled\" x=\"172.50\" y=\"160\" width=\"3\" height=\"16\"><title>submits t1 at entry 2: cancelled</title></rect>
 <rect class=\"call\" x=\"235\" y=\"171\" width=\"2\" height=\"5\"><title>entry 3</title></rect>
 <rect class=\"call\" x=\"297.50\" y=\"171\" width=\"2\" height=\"5\"><title>entry 4</title></rect>
 <text class=\"name\" x=\"8\" y=\"192\">pass 2</text>

@@ -11,6 +11,7 @@ ghost use Rattle.tp_c.specs.Texts.{Audits, Plays};
 use crate::rooms::{lay, lay_closed};
 use crate::statuses::Status;
 use std::alloc::Global;
+use tp_scenario::listeners::Nobody;
 use tp_scenario::play::play;
 use tp_text::ends::refusal_line;
 use tp_text_record::judgments::judge_text;
@@ -70,7 +71,7 @@ pub extern "C" fn zk_core_steps(
     if MAX_TEXT_BYTES < text.len() {
         return refuse(&[], PoolError::ReadFailed, room, needed);
     }
-    let played = play(alloc, text);
+    let played = play(alloc, text, &mut Nobody);
     match played.ending {
         Ok(()) => lay(played.output.as_slice(), Status::Done, room, needed),
         Err(error) => refuse(played.output.as_slice(), error, room, needed),

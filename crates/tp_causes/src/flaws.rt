@@ -6,7 +6,6 @@ ghost use Rattle.tp_record.specs.State as states;
 ghost use Rattle.tp_record.specs.Step as steps;
 ghost use Rattle.tp_auditor.specs.Audited.{settings, Judged, IsDenied};
 
-use crate::asks::ShownAsk;
 use crate::causes::{Cause, asked_slot, asked_task};
 use crate::rows::{ShownSlot, ShownTask};
 use std::alloc::{AllocError, Global};
@@ -15,6 +14,7 @@ use tp_auditor::auditor::Auditor;
 use tp_auditor::tables::Tables;
 use tp_plain::effects::reserved_by;
 use tp_record::entries::{Ask, Did, Entry};
+use tp_text::asks::ShownAsk;
 use tp_text::entries::write_entry;
 use tp_types::configs::Config;
 use tp_types::ids::SlotId;
@@ -107,7 +107,7 @@ pub fn flaw_text(
     entry: &Entry,
 ) -> Result<String, AllocError> {
     let line = number.saturating_add(2);
-    let ask = ShownAsk(entry.ask);
+    let ask = ShownAsk::of_entry(entry.ask);
     let tables = auditor.tables();
     let mut text = format!(in alloc; "line {line}: {ask}: ")?;
     match given_instead(auditor, entry) {

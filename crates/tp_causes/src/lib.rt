@@ -1,7 +1,6 @@
 //! Why a step is refused, and why an entry is a flaw. Both are told from an auditor's tables.
 #![tactic(auto)]
 
-pub mod asks;
 pub mod causes;
 pub mod flaws;
 pub mod rows;

@@ -25,6 +25,8 @@ pub struct Running {
     pub keeps_record: bool,
     /// The record is written to the file at this path too.
     pub record: Option<String>,
+    /// The record is written to the file at this path while the jobs run.
+    pub journal: Option<String>,
     /// The jobs' text may be longer than 1,048,576 bytes.
     pub has_any_length: bool,
     /// The form of the output.
@@ -293,12 +295,18 @@ fn threads_command<'a>(alloc: Global) -> Result<Command<'a>, AllocError> {
         .value_name("PATH")
         .action(ArgAction::Set)
         .help("Writes the record there too, also where the run is refused");
+    let journal = Arg::new(alloc, "journal")
+        .long("journal")
+        .value_name("PATH")
+        .action(ArgAction::Set)
+        .help("Writes the record there while the jobs run, so that a killed run leaves one");
     let tally = flag(
         alloc,
         "tally",
         "Keeps no record: prints the run state and the counters in its place",
     )
     .conflicts_with("record")?
+    .conflicts_with("journal")?
     .conflicts_with("json")?;
     let any_length = flag(
         alloc,
@@ -312,6 +320,7 @@ fn threads_command<'a>(alloc: Global) -> Result<Command<'a>, AllocError> {
         "the jobs' text, - for the standard input",
     )?
     .arg(record)?
+    .arg(journal)?
     .arg(tally)?
     .arg(any_length)?
     .arg(json_flag(alloc))
@@ -692,6 +701,7 @@ fn running_by(alloc: Global, inner: &ArgMatches<'_>) -> Result<Running, AllocErr
     Ok(Running {
         keeps_record: !inner.get_flag("tally"),
         record: copy_of(alloc, inner, "record")?,
+        journal: copy_of(alloc, inner, "journal")?,
         has_any_length: inner.get_flag("any-length"),
         form: form_of(inner),
     })

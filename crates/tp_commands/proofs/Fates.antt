@@ -1,5 +1,5 @@
 -- The fates of two records, side by side.
-use Rattle.std.proofs.Common.{◌≡◌, ℕ, Bool, List, Option, Result, Err, Ok, refl, sym, subst}
+use Rattle.std.proofs.Common.{◌≡◌, ℕ, Bool, List, Option, Result, Err, Ok, IfOk, IsOkUnless, refl, sym, subst}
 use Rattle.std.specs.Io.KnownBytes.{Appends}
 use Rattle.std.specs.declared.vec.Vec.{Vec}
 use Rattle.std.specs.declared.alloc.Global.{Global}
@@ -21,12 +21,14 @@ module _ {R S W : Type 0} (one_left : R → Option (List ℕ)) (other_left : S �
   sets_refused e = refl
 
   -- a writer failed
-  pub sets_unwritten : (e : PoolError) (new : WatchedWriter W) → e ≡ WriteFailed → SetsFates one_left other_left contents f one other old (Err e) new
+  sets_unwritten : (e : PoolError) (new : WatchedWriter W) → e ≡ WriteFailed → SetsFates one_left other_left contents f one other old (Err e) new
   sets_unwritten e new is = subst (λ x. SetsFates one_left other_left contents f one other old (Err x) new) (sym is) tt
 
-  -- what is said of both was written
-  pub sets_both : (first second : Option (Vec (Option Fate) Global)) (out : List ℕ) (same : Bool) (new : WatchedWriter W) → OfReader (one_left (source one)) (λ a. AreFatesOf a first)
-      → OfReader (other_left (source other)) (λ b. AreFatesOf b second) → Says f first second out same → Appends (contents (sink old)) (contents (sink new)) out
-      → SetsFates one_left other_left contents f one other old (Ok same) new
-  sets_both first second out same new of_one of_other says appends =
-      (out, (of_one.0, of_one.1, (of_other.0, of_other.1, record { first = first; second = second; first_fates = of_one.2; second_fates = of_other.2; says = says })), appends)
+  -- what is said of both was written, or the writer failed
+  pub sets_told : (first second : Option (Vec (Option Fate) Global)) (out : List ℕ) (same : Bool) (r : Result Bool PoolError) (new : WatchedWriter W) → OfReader (one_left (source one)) (λ a. AreFatesOf a first)
+      → OfReader (other_left (source other)) (λ b. AreFatesOf b second) → Says f first second out same → IfOk r (λ b. (b ≡ same) × Appends (contents (sink old)) (contents (sink new)) out) → IsOkUnless r WriteFailed
+      → SetsFates one_left other_left contents f one other old r new
+  sets_told first second out same (Ok b) new of_one of_other says wrote only =
+      let so : Says f first second out b = subst (λ x. Says f first second out x) (sym wrote.0) says in
+      (out, (of_one.0, of_one.1, (of_other.0, of_other.1, record { first = first; second = second; first_fates = of_one.2; second_fates = of_other.2; says = so })), wrote.1)
+  sets_told first second out same (Err e) new of_one of_other says wrote only = sets_unwritten e new only

@@ -1,26 +1,22 @@
 -- What the command steps does with a scenario.
-use Rattle.std.specs.Prelude.{◌≡◌, ◌⊎◌, ◌<◌, ◌==◌, ℕ, Bool, true, false, List, length, Option, Some, None, Result, Ok, Err, IfOk, IfSome}
+use Rattle.std.specs.Prelude.{◌≡◌, ◌⊎◌, ◌<◌, ◌==◌, ℕ, Bool, true, false, List, length, Option, None, Result, Ok, Err, IfOk, IfSome}
 use Rattle.std.specs.Io.KnownBytes.{Appends, Keeps}
+use Rattle.tp_types.specs.declared.configs.Config.{Config}
 use Rattle.tp_types.specs.declared.refusals.PoolError.{PoolError}
-use Rattle.tp_types.specs.declared.refusals.PoolError.TheVariants.{BadLine, NoMemory, ReadFailed, WriteFailed}
+use Rattle.tp_types.specs.declared.refusals.PoolError.TheVariants.{NoMemory, ReadFailed, WriteFailed}
 use Rattle.tp_text.specs.declared.watched.WatchedReader.{WatchedReader}
 use Rattle.tp_text.specs.declared.watched.WatchedWriter.{WatchedWriter}
 use Rattle.tp_text.specs.Watching.{TellsReader, TellsWriter, sink, source}
 use Rattle.tp_text_record.specs.declared.versions.Version.TheVariants as version
 use Rattle.tp_text_record.specs.RecordText.{record_text}
 use Rattle.tp_scenario.specs.Played.{Ending, IsRun}
-use Rattle.tp_replay.specs.declared.plays.Play.{Play}
-use Rattle.tp_replay.specs.Plays.{IsPlayIn, RefusesPlay, entries_in, refusals_in}
+use Rattle.tp_scenario.specs.Plays.{Answered, IsPlayOf, RefusesPlay, entries_in, refusals_in}
 use Rattle.tp_choices.specs.declared.choices.Playing.{Playing}
 
 -- the text has no bad line, and the text of its play's record was written
 abbrev pub PrintsRecord : List ℕ → Option (List ℕ) → Option (List ℕ) → Type 0
 PrintsRecord text old new =
-    (p : Play) × IsPlayIn text p × (p.bad ≡ None) × Appends old new (record_text version.Two p.config (entries_in p.answers.items))
-
--- there is no record to print: no play, or one with a bad line
-abbrev pub RefusesRecord : List ℕ → PoolError → Type 0
-RefusesRecord text e = RefusesPlay text e ⊎ ((p : Play) × (k : ℕ) × IsPlayIn text p × (p.bad ≡ Some k) × (e ≡ BadLine k))
+    (c : Config) × (xs : List Answered) × IsPlayOf text c None xs × Appends old new (record_text version.Two c (entries_in xs))
 
 -- a reader with these bytes, where they are known, gave a text of which this holds
 abbrev pub OfText : Option (List ℕ) → (List ℕ → Type 0) → Type 0
@@ -32,12 +28,12 @@ abbrev pub IsRecordRun : Option (List ℕ) → Option (List ℕ) → Option (Lis
 IsRecordRun input old new (Ok passed) = OfText input (λ text. PrintsRecord text old new)
 IsRecordRun input old new (Err ReadFailed) = Keeps old new
 IsRecordRun input old new (Err WriteFailed) = Unit {0}
-IsRecordRun input old new (Err e) = OfText input (λ text. RefusesRecord text e) × Keeps old new
+IsRecordRun input old new (Err e) = OfText input (λ text. RefusesPlay text e) × Keeps old new
 
 -- whether a run that went to its end is let pass: each is, or where that is asked for each without a refused step
 abbrev pub IsPassed : Bool → List ℕ → Bool → Type 0
 IsPassed false text passed = passed ≡ true
-IsPassed true text passed = (p : Play) × IsPlayIn text p × (passed ≡ (refusals_in p.answers.items == 0))
+IsPassed true text passed = (c : Config) × (xs : List Answered) × IsPlayOf text c None xs × (passed ≡ (refusals_in xs == 0))
 
 -- how a run ended, which is let pass or not
 abbrev pub ending : Result Bool PoolError → Ending

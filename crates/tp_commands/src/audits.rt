@@ -4,9 +4,9 @@ ghost use Rattle.std.specs.Prelude.{◌≤◌, false, true};
 ghost use Rattle.tp_commands.specs.Audits.{Audits};
 ghost use Rattle.tp_commands.specs.Status.{Ends};
 
-use crate::explains::explain_record;
+use crate::explains::judge_explained;
 use crate::statuses::finish;
-use crate::telling::{finding_in, tell_finding, tell_flaw, tell_refusal, tell_unread};
+use crate::telling::{tell_flaw, tell_refusal, tell_refused};
 use crate::texts::text_or_status;
 use std::alloc::Global;
 use std::io::{Read, Write};
@@ -15,7 +15,7 @@ use tp_messages::messages::Style;
 use tp_messages::mistakes::Kind;
 use tp_text::watched::{WatchedReader, WatchedWriter};
 use tp_text_record::audits::write_judgment;
-use tp_text_record::judgments::{Judgment, judge_stream, judge_text};
+use tp_text_record::judgments::{Judgment, judge_stream};
 use tp_types::refusals::PoolError;
 
 /// Tells why a record has a flaw, where it has one.
@@ -43,10 +43,11 @@ fn audit_whole<R: Read, W: Write, E: Write>(
         Err(status) => return status,
     };
     let text = text.as_slice();
-    let judgment = judge_text(alloc, text);
+    let mut told = String::new(alloc);
+    let judgment = judge_explained(alloc, explains, text, &mut told);
     let outcome = write_judgment(&judgment, out);
     let status = finish(out, &outcome);
-    explain_record(alloc, explains, text, errors);
+    let _ = errors.write_all(told.as_bytes());
     tell_judged(errors, name, &judgment);
     if let Err(refusal) = outcome {
         tell_refusal(alloc, errors, Kind::Record, name, text, refusal, style);
@@ -68,20 +69,11 @@ fn audit_stream<R: Read, W: Write, E: Write>(
 {
     let mut line = None;
     let judgment = judge_stream(alloc, reader, &mut line);
-    if let Err(PoolError::ReadFailed) = judgment {
-        tell_unread(errors, Kind::Record, name, reader);
-    }
     let outcome = write_judgment(&judgment, out);
     let status = finish(out, &outcome);
     tell_judged(errors, name, &judgment);
     if let Err(refusal) = outcome {
-        tell_finding(
-            alloc,
-            errors,
-            name,
-            finding_in(alloc, &line, refusal),
-            style,
-        );
+        tell_refused(alloc, errors, name, reader, &line, refusal, style);
     }
     status
 }

@@ -1,16 +1,17 @@
 //! The command `diff`: two records are set side by side.
 
-ghost use Rattle.std.specs.Prelude.{◌≡◌, ◌≤◌, true, IfOk};
+ghost use Rattle.std.specs.Prelude.{◌≡◌, ◌≤◌, true, IfOk, IsOkUnless};
+ghost use Rattle.std.specs.Io.KnownBytes.{Appends};
 ghost use Rattle.tp_types.specs.Config.{IsConfig};
 ghost use Rattle.tp_claims.specs.Endings.{AreFatesOf};
-ghost use Rattle.tp_text.specs.Watching.{source};
+ghost use Rattle.tp_text.specs.Watching.{sink, source};
 ghost use Rattle.tp_text_record.specs.Reading.{OfReader};
 ghost use Rattle.tp_commands.specs.Differences.{Says, SetsFates};
 ghost use Rattle.tp_commands.specs.Status.{Ends};
 
 use crate::questions::tell_notes;
 use crate::statuses::finish;
-use crate::telling::{finding_in, tell_cut, tell_finding, tell_flaw, tell_unread};
+use crate::telling::{tell_cut, tell_flaw, tell_refused};
 use std::alloc::Global;
 use std::io::{Read, Write};
 use tp_causes::flaws::flaw_text;
@@ -18,7 +19,6 @@ use tp_claims::differences::{Meeting, Refused, Side, follow, parting_text};
 use tp_claims::endings::{ended_otherwise, fates_in, otherwise_text};
 use tp_claims::sources::RecordText;
 use tp_messages::messages::Style;
-use tp_messages::mistakes::Kind;
 use tp_now::fronts::Front;
 use tp_questions::questions::Notes;
 use tp_telling::forms::Form;
@@ -50,11 +50,8 @@ fn fates_of<R: Read, E: Write>(
     let mut notes = Notes::none();
     let fates = fates_in(alloc, reader, &mut notes);
     if let Err(refusal) = &fates {
-        if *refusal == PoolError::ReadFailed {
-            tell_unread(errors, Kind::Record, name, reader);
-        }
-        let finding = finding_in(alloc, &notes.refused, *refusal);
-        tell_finding(alloc, errors, name, finding, style);
+        let line = &notes.refused;
+        tell_refused(alloc, errors, name, reader, line, *refusal, style);
     }
     tell_notes(errors, name, &notes);
     fates
@@ -81,6 +78,17 @@ fn told_of(
         text,
         is_same: found.is_empty(),
     })
+}
+
+/// Writes what is told of two records. The answer says whether there is no difference; WriteFailed (26).
+fn write_told<W: Write>(out: &mut WatchedWriter<W>, told: &Told) -> Result<bool, PoolError>
+    ensures written { IfOk result (λ same. (same ≡ told.now.is_same) × Appends (W.contents (sink out.old)) (W.contents (sink out.new)) told.now.text.items) }
+    ensures only_writing { IsOkUnless result PoolError.WriteFailed }
+{
+    match write_text(out, told.text.as_slice()) {
+        Ok(()) => Ok(told.is_same),
+        Err(refusal) => Err(refusal),
+    }
 }
 
 /// Tells which tasks ended otherwise in the records that two readers of these names give, as `poolrun diff --fates`, and gives the
@@ -110,10 +118,8 @@ fn run_fates<R: Read, S: Read, W: Write, E: Write>(
         Ok(told) => told,
         Err(refusal) => return finish(out, &Err(refusal)),
     };
-    match write_text(out, told.text.as_slice()) {
-        Ok(()) => finish(out, &Ok(told.is_same)),
-        Err(refusal) => finish(out, &Err(refusal)),
-    }
+    let outcome = write_told(out, &told);
+    finish(out, &outcome)
 }
 
 /// A record that is read beside another one, and its name.
@@ -132,11 +138,8 @@ impl<R: Read> Beside<'_, '_, R> {
         errors: &mut E,
         style: Style,
     ) {
-        if refusal == PoolError::ReadFailed {
-            tell_unread(errors, Kind::Record, self.name, self.text.reader());
-        }
-        let finding = finding_in(alloc, self.text.refused(), refusal);
-        tell_finding(alloc, errors, self.name, finding, style);
+        let (reader, line) = (self.text.reader(), self.text.refused());
+        tell_refused(alloc, errors, self.name, reader, line, refusal, style);
     }
 
     /// Tells where it is cut off.
@@ -243,10 +246,10 @@ fn run_parting<R: Read, S: Read, W: Write, E: Write>(
         text: RecordText::new(alloc, second),
     };
     match told_beside(alloc, &mut first, &mut second, form, errors) {
-        Ok(told) => match write_text(out, told.text.as_slice()) {
-            Ok(()) => finish(out, &Ok(told.is_same)),
-            Err(refusal) => finish(out, &Err(refusal)),
-        },
+        Ok(told) => {
+            let outcome = write_told(out, &told);
+            finish(out, &outcome)
+        }
         Err((side, refusal)) => {
             match side {
                 Side::First => first.tell_refused(alloc, refusal, errors, style),

@@ -23,7 +23,8 @@ use tp_explore_text::pictures::{MOST_DRAWN, dot_text};
 use tp_explore_text::texts::{ends_text, json_text, witness_text};
 use tp_messages::messages::Style;
 use tp_messages::mistakes::Kind;
-use tp_replay::plays::play_text;
+use tp_replay::records::Recording;
+use tp_scenario::play::play;
 use tp_text::watched::{WatchedReader, WatchedWriter};
 use tp_text::writing::write_text;
 use tp_types::limits::MAX_TEXT_BYTES;
@@ -140,9 +141,11 @@ fn record_to(alloc: Global, explored: &Explored, place: usize) -> Result<Option<
     if text.len() > MAX_TEXT_BYTES {
         return Ok(None);
     }
-    let play = play_text(alloc, text)?;
+    let mut recording = Recording::new(alloc);
+    let played = play(alloc, text, &mut recording);
+    played.ending?;
     let mut record = Vec::new(alloc);
-    play.write_record(alloc, &mut WatchedWriter::new(&mut record))?;
+    recording.write(alloc, &mut WatchedWriter::new(&mut record))?;
     Ok(Some(record))
 }
 

@@ -1,8 +1,7 @@
-//! Lines that are written of a record's entries, as they come.
+//! The objects of a record's entries, written as they come.
 
-use crate::explains::write_reason;
 use crate::objects::write_object;
-use std::alloc::{AllocError, Global};
+use std::alloc::Global;
 use tp_audit::summary::Flaw;
 use tp_auditor::auditor::Auditor;
 use tp_record::entries::Entry;
@@ -11,20 +10,10 @@ use tp_text_record::versions::Version;
 use tp_types::configs::Config;
 use tp_types::refusals::PoolError;
 
-/// What is written of an entry.
-#[derive(Clone, Copy, Debug, PartialEq, Eq)]
-pub(crate) enum Lines {
-    /// Its object, as JSON.
-    Objects,
-    /// Why it turns a task away, where it does.
-    Reasons,
-}
-
-/// What is written of the entries that it takes, up to the first flaw.
+/// The objects of the entries that it takes, as JSON, up to the first flaw.
 #[derive(Drop)]
 pub(crate) struct Listing {
     alloc: Global,
-    lines: Lines,
     is_flawed: bool,
     /// What the entries so far say of the pool.
     pub(crate) auditor: Auditor,
@@ -32,19 +21,8 @@ pub(crate) struct Listing {
     pub(crate) text: String,
 }
 
-impl Listing {
-    /// Writes of the next entry.
-    fn write(&mut self, entry: &Entry) -> Result<(), AllocError> {
-        let tables = self.auditor.tables();
-        match self.lines {
-            Lines::Objects => write_object(self.alloc, &mut self.text, tables, entry),
-            Lines::Reasons => write_reason(&mut self.text, tables, entry),
-        }
-    }
-}
-
 impl Taker for Listing {
-    type Question = Lines;
+    type Question = ();
 
     ghost about = { λ q t v c. Unit {0} };
 
@@ -52,14 +30,13 @@ impl Taker for Listing {
 
     fn new(
         alloc: Global,
-        question: &Lines,
+        _question: &(),
         _version: Version,
         config: &Config,
     ) -> Result<Listing, PoolError> {
         match Auditor::new(alloc, config) {
             Ok(auditor) => Ok(Listing {
                 alloc,
-                lines: *question,
                 is_flawed: false,
                 auditor,
                 text: String::new(alloc),
@@ -72,7 +49,8 @@ impl Taker for Listing {
         if self.is_flawed {
             return Ok(());
         }
-        if self.write(entry).is_err() {
+        let tables = self.auditor.tables();
+        if write_object(self.alloc, &mut self.text, tables, entry).is_err() {
             return Err(PoolError::NoMemory);
         }
         match self.auditor.push(entry) {

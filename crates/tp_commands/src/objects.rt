@@ -3,27 +3,30 @@
 ghost use Rattle.std.specs.Prelude.{◌≤◌, length, IfOk};
 ghost use Rattle.tp_commands.specs.Steps.{IsPassed};
 
-use crate::listings::{Lines, Listing};
+use crate::listings::Listing;
 use crate::statuses::finish;
-use crate::steps::{passes, play_told};
+use crate::steps::passes;
 use crate::telling::tell_refusal;
 use crate::texts::text_or_status;
 use std::alloc::{AllocError, Global};
 use std::io::{Read, Write};
 use tp_audit::summary::Summary;
 use tp_auditor::tables::Tables;
-use tp_causes::asks::ShownAsk;
 use tp_choices::choices::Playing;
 use tp_messages::messages::Style;
 use tp_messages::mistakes::Kind;
 use tp_record::entries::Entry;
-use tp_replay::plays::Play;
+use tp_replay::refusals::Refusals;
+use tp_scenario::listeners::{Answered, Both, Listener};
+use tp_scenario::play::play;
 use tp_scenario::step::Refusal;
 use tp_telling::objects::{CountMembers, entry_members};
+use tp_text::asks::ShownAsk;
 use tp_text::watched::{WatchedReader, WatchedWriter};
 use tp_text::writing::write_text;
 use tp_text_record::reading::{Ending, Taker, read_stream};
 use tp_text_record::versions::Version;
+use tp_types::configs::Config;
 use tp_types::refusals::PoolError;
 
 /// Writes the object of an entry, by the tables before it, as `{"number":1,"by":0,"did":"tidy"}`.
@@ -43,7 +46,7 @@ pub(crate) fn write_object(
 fn write_refusal(text: &mut String, refusal: &Refusal) -> Result<(), AllocError> {
     let number = refusal.error.number();
     let name = refusal.error.name();
-    let ask = ShownAsk(refusal.ask);
+    let ask = ShownAsk::of_entry(refusal.ask);
     write!(
         text,
         "{{\"refused\":{number},\"name\":\"{name}\",\"ask\":\"{ask}\"}}\n"
@@ -87,33 +90,59 @@ fn ended(listing: Listing) -> Result<String, PoolError> {
 pub fn record_objects(alloc: Global, text: &[u8]) -> Result<String, PoolError> {
     let mut refused = None;
     let mut reader = WatchedReader::new(text);
-    let lines = Lines::Objects;
-    let body = read_stream::<&[u8], Listing>(
-        alloc,
-        &lines,
-        Ending::Whole,
-        &mut reader,
-        &mut refused,
-    )?;
+    let body = read_stream::<&[u8], Listing>(alloc, &(), Ending::Whole, &mut reader, &mut refused)?;
     ended(body.taker)
 }
 
-/// The objects of a play: one for each step; and where no line is bad, one for each task and one for the end. NoMemory (4).
-fn play_objects(alloc: Global, play: &Play) -> Result<String, PoolError> {
-    if play.config.check().is_err() {
-        return Ok(String::new(alloc));
-    }
-    let mut objects = Listing::new(alloc, &Lines::Objects, Version::Two, &play.config)?;
-    for answered in play.answers.as_slice() {
-        match answered {
-            Ok(entry) => objects.take(entry)?,
-            Err(refusal) => write_refusal(&mut objects.text, refusal)?,
+/// The objects of a play, written as its steps are answered; None until it begins.
+#[derive(Drop)]
+struct PlayObjects {
+    alloc: Global,
+    listing: Option<Listing>,
+}
+
+impl Listener for PlayObjects {
+    ghost heard = { λ _ _ _. Unit {0} };
+
+    fn begin(&mut self, config: &Config) -> Result<(), AllocError> {
+        match Listing::new(self.alloc, &(), Version::Two, config) {
+            Ok(listing) => {
+                self.listing = Some(listing);
+                Ok(())
+            }
+            Err(_) => Err(AllocError),
         }
     }
-    if play.bad.is_some() {
-        return Ok(objects.text);
+
+    fn hear(&mut self, _number: u32, _line: &[u8], answered: &Answered) -> Result<(), AllocError> {
+        let Some(listing) = &mut self.listing else {
+            return Ok(());
+        };
+        match answered {
+            Ok(entry) => match listing.take(entry) {
+                Ok(()) => Ok(()),
+                Err(_) => Err(AllocError),
+            },
+            Err(refusal) => write_refusal(&mut listing.text, refusal),
+        }
     }
-    ended(objects)
+}
+
+impl PlayObjects {
+    /// The text of a play that ended so. Where a line behind the pool line is bad, it has no objects of its end. A refusal before the play
+    /// began, and want of memory, have no text.
+    fn text(self, ending: Result<(), PoolError>) -> Result<String, PoolError> {
+        let PlayObjects { alloc, listing } = self;
+        let Some(listing) = listing else {
+            ending?;
+            return Ok(String::new(alloc));
+        };
+        match ending {
+            Ok(()) => ended(listing),
+            Err(PoolError::BadLine(_)) => Ok(listing.text),
+            Err(refusal) => Err(refusal),
+        }
+    }
 }
 
 /// Plays a scenario, and writes the objects of its steps to `out`. The answer says whether a refused step is let pass.
@@ -127,20 +156,30 @@ fn play_as_json<W: Write, E: Write>(
     requires { length text.now ≤ 1048576 }
     ensures passed { IfOk result (IsPassed playing.is_strict text.now) }
 {
-    let play = match play_told(alloc, playing, text, errors) {
-        Ok(play) => play,
-        Err(refusal) => return Err(refusal),
+    let mut heard = Both {
+        one: PlayObjects {
+            alloc,
+            listing: None,
+        },
+        other: Refusals::new(alloc, playing.explains),
     };
-    let objects = match play_objects(alloc, &play) {
+    let played = play(alloc, text, &mut heard);
+    let ending = played.ending;
+    let Both {
+        one: objects,
+        other: refusals,
+    } = heard;
+    refusals.write(errors);
+    let objects = match objects.text(ending) {
         Ok(objects) => objects,
         Err(refusal) => return Err(refusal),
     };
     if let Err(refusal) = write_text(out, objects.as_bytes()) {
         return Err(refusal);
     }
-    match play.bad {
-        None => Ok(passes(playing, &play)),
-        Some(line) => Err(PoolError::BadLine(line)),
+    match ending {
+        Ok(()) => Ok(passes(playing, &refusals)),
+        Err(refusal) => Err(refusal),
     }
 }
 

@@ -5,13 +5,12 @@ ghost use Rattle.tp_commands.specs.Questions.{Asks, AsksChosen};
 ghost use Rattle.tp_commands.specs.Status.{Ends};
 
 use crate::statuses::finish;
-use crate::telling::{finding_in, tell_cut, tell_finding, tell_flaw, tell_unread};
+use crate::telling::{tell_cut, tell_flaw, tell_refused};
 use std::alloc::Global;
 use std::io::{Read, Write};
 use tp_auditor::auditor::Auditor;
 use tp_choices::choices::Question;
 use tp_messages::messages::Style;
-use tp_messages::mistakes::Kind;
 use tp_now::fronts::Front;
 use tp_questions::accounts::Account;
 use tp_questions::numbers::Counted;
@@ -21,7 +20,6 @@ use tp_story::subjects::Subject;
 use tp_telling::forms::Form;
 use tp_text::watched::{WatchedReader, WatchedWriter};
 use tp_types::ids::{SlotId, TaskId};
-use tp_types::refusals::PoolError;
 
 /// Tells why there is no answer, and where a record is cut off.
 pub fn tell_notes<E: Write>(errors: &mut E, name: &str, notes: &Notes) {
@@ -50,13 +48,10 @@ pub fn run_question<R: Read, W: Write, E: Write, T: Account + Drop>(
 {
     let mut notes = Notes::none();
     let outcome = answer_question::<R, W, T>(alloc, question, form, reader, out, &mut notes);
-    if let Err(PoolError::ReadFailed) = outcome {
-        tell_unread(errors, Kind::Record, name, reader);
-    }
     let status = finish(out, &outcome);
     if let Err(refusal) = outcome {
-        let finding = finding_in(alloc, &notes.refused, refusal);
-        tell_finding(alloc, errors, name, finding, style);
+        let line = &notes.refused;
+        tell_refused(alloc, errors, name, reader, line, refusal, style);
     }
     tell_notes(errors, name, &notes);
     status

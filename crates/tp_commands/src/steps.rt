@@ -1,8 +1,7 @@
 //! The command `steps`: a scenario is played.
 
-ghost use Rattle.std.specs.Prelude.{◌≡◌, ◌≢◌, ◌≤◌, ◌==◌, false, length, true, Err, Ok, IfErr, IfOk, IsOkUnless, Some};
+ghost use Rattle.std.specs.Prelude.{◌≡◌, ◌≢◌, ◌≤◌, false, length, true, Err, IfOk, Some};
 ghost use Rattle.tp_text.specs.Watching.{TellsWriter, sink};
-ghost use Rattle.tp_replay.specs.Plays.{IsPlayIn, RefusesPlay, refusals_in};
 ghost use Rattle.tp_commands.specs.Status.{Ends};
 ghost use Rattle.tp_commands.specs.Steps.{IsPassed, IsRecordRun, Plays, RunsSteps};
 
@@ -15,40 +14,20 @@ use std::io::{Read, Write};
 use tp_choices::choices::Playing;
 use tp_messages::messages::Style;
 use tp_messages::mistakes::Kind;
-use tp_replay::plays::{Play, play_text};
+use tp_replay::records::Recording;
+use tp_replay::refusals::Refusals;
+use tp_scenario::listeners::Both;
+use tp_scenario::play::play as play_scenario;
 use tp_scenario::run::run_text;
 use tp_text::watched::{WatchedReader, WatchedWriter};
 use tp_types::refusals::PoolError;
 
 /// Whether a play lets the program end well.
-pub(crate) fn passes(playing: Playing, play: &Play) -> bool
+pub(crate) fn passes(playing: Playing, refusals: &Refusals) -> bool
     ensures each { playing.is_strict ≡ false → result ≡ true }
-    ensures strict { playing.is_strict ≡ true → result ≡ (refusals_in play.now.answers.items == 0) }
+    ensures strict { playing.is_strict ≡ true → result ≡ refusals.now.is_whole }
 {
-    !playing.is_strict || play.refused() == 0
-}
-
-/// Plays a scenario. Why steps are refused goes to `errors`, where that is asked for.
-pub(crate) fn play_told<E: Write>(
-    alloc: Global,
-    playing: Playing,
-    text: &[u8],
-    errors: &mut E,
-) -> Result<Play, PoolError>
-    requires { length text.now ≤ 1048576 }
-    ensures plays { IfOk result (IsPlayIn text.now) }
-    ensures refuses { IfErr result (RefusesPlay text.now) }
-{
-    let play = match play_text(alloc, text) {
-        Ok(play) => play,
-        Err(refusal) => return Err(refusal),
-    };
-    if playing.explains {
-        if play.explain(alloc, text, errors).is_err() {
-            return Err(PoolError::NoMemory);
-        }
-    }
-    Ok(play)
+    !playing.is_strict || refusals.is_whole
 }
 
 /// Plays a scenario, and writes its record's text to `out`. The answer says whether a refused step is let pass.
@@ -65,38 +44,18 @@ fn play_for_record<W: Write, E: Write>(
     ensures reads { result ≢ Err PoolError.ReadFailed }
     ensures tells_writer { TellsWriter out.old result out.new }
 {
-    let play = match play_told(alloc, playing, text, errors) {
-        Ok(play) => play,
-        Err(refusal) => return Err(refusal),
+    let mut heard = Both {
+        one: Recording::new(alloc),
+        other: Refusals::new(alloc, playing.explains),
     };
-    if let Some(line) = play.bad {
-        return Err(PoolError::BadLine(line));
+    let played = play_scenario(alloc, text, &mut heard);
+    heard.other.write(errors);
+    if let Err(refusal) = played.ending {
+        return Err(refusal);
     }
-    match play.write_record(alloc, out) {
-        Ok(()) => Ok(passes(playing, &play)),
+    match heard.one.write(alloc, out) {
+        Ok(()) => Ok(passes(playing, &heard.other)),
         Err(refusal) => Err(refusal),
-    }
-}
-
-/// Plays a scenario once more after its run, where a flag asks for it. The answer says whether a refused step is let pass; want of
-/// memory is NoMemory (4).
-fn play_again<E: Write>(
-    alloc: Global,
-    playing: Playing,
-    text: &[u8],
-    errors: &mut E,
-) -> Result<bool, PoolError>
-    requires { length text.now ≤ 1048576 }
-    ensures passed { IfOk result (IsPassed playing.is_strict text.now) }
-    ensures only_memory { IsOkUnless result PoolError.NoMemory }
-{
-    if !playing.explains && !playing.is_strict {
-        return Ok(true);
-    }
-    match play_told(alloc, playing, text, errors) {
-        Ok(play) => Ok(passes(playing, &play)),
-        // The run went to its end, so that nothing but memory can be wanting now.
-        Err(_) => Err(PoolError::NoMemory),
     }
 }
 
@@ -116,10 +75,11 @@ pub fn play<W: Write, E: Write>(
     if playing.prints_record {
         return play_for_record(alloc, playing, text, out, errors);
     }
-    let outcome = run_text(alloc, text, out);
-    let again = play_again(alloc, playing, text, errors);
+    let mut refusals = Refusals::new(alloc, playing.explains);
+    let outcome = run_text(alloc, text, &mut refusals, out);
+    refusals.write(errors);
     match outcome {
-        Ok(()) => again,
+        Ok(()) => Ok(passes(playing, &refusals)),
         Err(refusal) => Err(refusal),
     }
 }

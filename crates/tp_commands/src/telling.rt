@@ -84,7 +84,7 @@ pub fn tell_flaw<E: Write>(errors: &mut E, name: &str, why: &str) {
 }
 
 /// What is wrong with a record that was read line by line, and refused so at this line, where there is one.
-pub fn finding_in(
+fn finding_in(
     alloc: Global,
     line: &Option<RefusedLine>,
     refusal: PoolError,
@@ -101,4 +101,21 @@ pub fn finding_in(
         is_ended: line.is_ended,
     };
     reason_of_line(alloc, shown, line.is_behind_end, refusal).unwrap_or(None)
+}
+
+/// Tells why the record that a reader of this name gives is refused, at this line, where there is one.
+pub fn tell_refused<R, E: Write>(
+    alloc: Global,
+    errors: &mut E,
+    name: &str,
+    reader: &WatchedReader<R>,
+    line: &Option<RefusedLine>,
+    refusal: PoolError,
+    style: Style,
+) {
+    if refusal == PoolError::ReadFailed {
+        tell_unread(errors, Kind::Record, name, reader);
+    }
+    let finding = finding_in(alloc, line, refusal);
+    tell_finding(alloc, errors, name, finding, style);
 }

@@ -69,6 +69,14 @@ fn class_of(drawing: &Drawing, task: u32) -> &'static str {
     }
 }
 
+/// How wide a caller's step of this class is. A bar with an outline is wider, so that its own colour shows.
+fn width_of(class: &str) -> Length {
+    match class {
+        "cancelled" => Length(300),
+        _ => Length(200),
+    }
+}
+
 /// The class of a number within a bar of this class, which is read well on its colour.
 fn ink_of(class: &str) -> &'static str {
     match class {
@@ -431,7 +439,7 @@ impl Canvas<'_> {
         self.svg.rectangle(Rectangle {
             x: self.scale.at(call.time),
             y: self.top.and(Length::pixels(LANE.saturating_sub(height))),
-            width: Length(200),
+            width: width_of(class),
             height: Length::pixels(height),
             class,
             density: 100,

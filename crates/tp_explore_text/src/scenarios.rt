@@ -6,8 +6,9 @@ use std::alloc::{AllocError, Global};
 use tp_explore::moves::Move;
 use tp_explore::plans::Plan;
 use tp_record::entries::{Ask, Did};
-use tp_types::configs::{Config, QueueKind};
-use tp_types::ids::{SlotId, TaskId};
+use tp_text::asks::{ShownAsk, ShownKind};
+use tp_text::pools::ShownQueue;
+use tp_types::configs::Config;
 use tp_types::limits::DEFAULT_RECORD_LIMIT;
 use tp_types::tasks::{Kind, Outcome};
 
@@ -18,12 +19,8 @@ fn write_submission(
     priority: u32,
     outcome: Outcome,
 ) -> Result<(), AllocError> {
-    match kind {
-        Kind::Plain => line.push_str("submit plain")?,
-        Kind::Future => line.push_str("submit future")?,
-        Kind::Group(group) => write!(line, "submit group {group}")?,
-    }
-    line.push_str(" ")?;
+    let kind = ShownKind(kind);
+    write!(line, "submit {kind} ")?;
     write_outcome(line, outcome)?;
     if priority != 0 {
         write!(line, " prio {priority}")?;
@@ -31,57 +28,16 @@ fn write_submission(
     Ok(())
 }
 
-// Writes an ask of a task; nothing for another ask.
-fn write_task_ask(line: &mut String, ask: Ask) -> Result<(), AllocError> {
+// The ask, with the pool's number of its slot.
+fn numbered(slots: &Slots, ask: Ask) -> Ask {
     match ask {
-        Ask::Look(TaskId(t)) => write!(line, "look {t}"),
-        Ask::Offer(TaskId(t)) => write!(line, "offer {t}"),
-        Ask::Second(TaskId(t)) => write!(line, "second {t}"),
-        Ask::Grow(TaskId(t)) => write!(line, "grow {t}"),
-        Ask::CallerEnd(TaskId(t), _) => write!(line, "callerend {t}"),
-        Ask::Remove(TaskId(t)) => write!(line, "remove {t}"),
-        Ask::Verdict(TaskId(t), verdict) => {
-            let verdict = verdict.name();
-            write!(line, "verdict {t} {verdict}")
-        }
-        Ask::Cancel(TaskId(t), flag) => {
-            let flag = if flag { " flag" } else { "" };
-            write!(line, "cancel {t}{flag}")
-        }
-        _ => Ok(()),
-    }
-}
-
-// The word of a slot's step, and the slot.
-fn slot_ask(ask: Ask) -> Option<(&'static str, SlotId)> {
-    match ask {
-        Ask::Open(w) => Some(("open", w)),
-        Ask::Fail(w) => Some(("fail", w)),
-        Ask::Take(w) => Some(("take", w)),
-        Ask::Begin(w) => Some(("begin", w)),
-        Ask::End(w, _) => Some(("end", w)),
-        Ask::Leave(w) => Some(("leave", w)),
-        _ => None,
-    }
-}
-
-// Writes an ask of the pool; nothing for another ask.
-fn write_pool_ask(line: &mut String, ask: Ask) -> Result<(), AllocError> {
-    match ask {
-        Ask::Shutdown => line.push_str("shutdown"),
-        Ask::Stop => line.push_str("stop"),
-        Ask::Tidy => line.push_str("tidy"),
-        Ask::Ended => line.push_str("ended"),
-        Ask::Purge => line.push_str("purge"),
-        Ask::Prestart => line.push_str("prestart"),
-        Ask::TakeDone(group) => write!(line, "takedone {group}"),
-        Ask::Core(size) => write!(line, "core {size}"),
-        Ask::Maximum(size) => write!(line, "max {size}"),
-        Ask::Keep(ticks) => write!(line, "keep {ticks}"),
-        Ask::CoreTimeout(true) => line.push_str("coretimeout on"),
-        Ask::CoreTimeout(false) => line.push_str("coretimeout off"),
-        Ask::Tick(ticks) => write!(line, "tick {ticks}"),
-        _ => Ok(()),
+        Ask::Open(w) => Ask::Open(slots.number(w)),
+        Ask::Fail(w) => Ask::Fail(slots.number(w)),
+        Ask::Take(w) => Ask::Take(slots.number(w)),
+        Ask::Begin(w) => Ask::Begin(slots.number(w)),
+        Ask::End(w, outcome) => Ask::End(slots.number(w), outcome),
+        Ask::Leave(w) => Ask::Leave(slots.number(w)),
+        ask => ask,
     }
 }
 
@@ -92,15 +48,13 @@ fn write_ask(
     ask: Ask,
     outcome: Outcome,
 ) -> Result<(), AllocError> {
-    if let Ask::Submit(kind, priority) = ask {
-        return write_submission(line, kind, priority, outcome);
+    match ask {
+        Ask::Submit(kind, priority) => write_submission(line, kind, priority, outcome),
+        ask => {
+            let ask = ShownAsk::of_line(numbered(slots, ask));
+            write!(line, "{ask}")
+        }
     }
-    if let Some((word, w)) = slot_ask(ask) {
-        let number = slots.number(w);
-        return write!(line, "{word} {number}");
-    }
-    write_task_ask(line, ask)?;
-    write_pool_ask(line, ask)
 }
 
 // Writes the pool line of these settings.
@@ -114,15 +68,9 @@ fn write_pool(line: &mut String, config: &Config) -> Result<(), AllocError> {
         policy,
         record_limit,
     } = *config;
-    write!(line, "pool {core} {maximum} ")?;
-    match queue {
-        QueueKind::Handoff => line.push_str("handoff")?,
-        QueueKind::Unbounded => line.push_str("unbounded")?,
-        QueueKind::Bounded(places) => write!(line, "bounded {places}")?,
-        QueueKind::Priority => line.push_str("priority")?,
-    }
+    let queue = ShownQueue(queue);
     let policy = policy.name();
-    write!(line, " keep {keep} {policy}")?;
+    write!(line, "pool {core} {maximum} {queue} keep {keep} {policy}")?;
     if core_timeout {
         line.push_str(" coretimeout")?;
     }

@@ -28,16 +28,16 @@ impl Slots {
     }
 
     /// The pool's number of a slot of the model; of one that there is not, the same number.
-    pub fn number(&self, w: SlotId) -> usize {
+    pub fn number(&self, w: SlotId) -> SlotId {
         match self.given.get(w.0) {
-            Some(Some(number)) => *number,
-            _ => w.0,
+            Some(Some(number)) => SlotId(*number),
+            _ => w,
         }
     }
 
     // The slot is free.
     fn free(&mut self, w: SlotId) -> Result<(), AllocError> {
-        let number = self.number(w);
+        let SlotId(number) = self.number(w);
         self.free.push(number)?;
         if w.0 < self.given.len() {
             self.given[w.0] = None;

@@ -12,44 +12,45 @@ use tp_text::pools::{PoolLine, pool_of};
 use tp_text::words::first_word;
 use tp_types::refusals::PoolError;
 
-/// The number of the line that says something behind so many others; past the end if there is none.
-fn line_behind(text: &[u8], lines: usize) -> u32 {
-    let mut rest = text;
-    let mut before = lines;
-    for number in 1..u32::MAX {
-        let Some((line, behind)) = next_line(rest) else {
-            return number;
-        };
-        if !is_skipped(line) {
-            if before == 0 {
-                return number;
-            }
-            before -= 1;
-        }
-        rest = behind;
-    }
-    u32::MAX
+/// A place in a text: so many lines before it say something.
+#[derive(Clone, Copy)]
+struct Place {
+    before: usize,
+    /// The number of the line there.
+    number: u32,
 }
 
-/// How many lines of a text say something.
-fn count_said(text: &[u8]) -> usize {
-    let mut count = 0usize;
+/// The line that says something behind so many others; past the end if there is none.
+fn place_behind(text: &[u8], lines: usize) -> Place {
     let mut rest = text;
-    for _ in text {
+    let mut before = 0usize;
+    for number in 1..u32::MAX {
         let Some((line, behind)) = next_line(rest) else {
-            return count;
+            return Place { before, number };
         };
         if !is_skipped(line) {
-            count = count.saturating_add(1);
+            if before == lines {
+                return Place { before, number };
+            }
+            before = before.saturating_add(1);
         }
         rest = behind;
     }
-    count
+    Place {
+        before,
+        number: u32::MAX,
+    }
+}
+
+/// The number of the line that says something behind so many others; past the end if there is none.
+fn line_behind(text: &[u8], lines: usize) -> u32 {
+    place_behind(text, lines).number
 }
 
 /// How many jobs a file of jobs has.
 pub fn count_jobs(text: &[u8]) -> usize {
-    count_said(text).saturating_sub(1)
+    // The first line that says something is the pool line.
+    place_behind(text, usize::MAX).before.saturating_sub(1)
 }
 
 /// The pool line of a text, where it has one.

@@ -1,1 +1,1 @@
-pub mod Plays
+pub mod Records

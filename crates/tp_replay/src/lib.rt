@@ -1,6 +1,5 @@
-//! Scenarios played once more: what their steps asked and how the pool answered, their records' texts, and why steps are refused.
+//! What hears a scenario's play: the text of its record, and which steps are refused, and why.
 #![tactic(auto)]
 
-pub mod plays;
 pub mod records;
-pub mod telling;
+pub mod refusals;

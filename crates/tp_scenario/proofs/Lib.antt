@@ -11,3 +11,4 @@ pub mod Endings
 pub mod OneText
 pub mod OneScenario
 pub mod JobLaws
+pub mod HeardLaws

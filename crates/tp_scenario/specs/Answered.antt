@@ -98,12 +98,14 @@ pub record Tells (p : Playing) (a : Ask) (o : Option Outcome) (x : Told) (new : 
 abbrev pub TellsLine : Playing → ScenarioLine → Told → Running → Type 0
 TellsLine p l x new = Tells p (ask_of (state p.config p.history) p.outcomes l) (outcome_said l) x new
 
--- a line is answered there, and the answer written: so many entries are in the record then
-pub record PlaysLine (p : Playing) (l : ScenarioLine) (new : Running) (accepted : ℕ) (old out : List ℕ) : Type 0 where
-  pub answer : Answer
-  pub told : AnswersLine p l answer new
-  pub counted : accepted ≡ length (after p.history answer)
-  pub written : out ≡ old ++ answer_lines p.config p.history answer
+-- a line is answered there, this holds of the answer, and it is written: so many entries are in the record then
+pub record PlaysLine (holds : Result Entry Refusal → Type 0) (p : Playing) (l : ScenarioLine) (new : Running) (accepted : ℕ) (old out : List ℕ) : Type 0 where
+  pub answer : Result Entry Refusal
+  pub told : AnswersLine p l (answer_of answer) new
+  pub asks : asked_by answer ≡ ask_of (state p.config p.history) p.outcomes l
+  pub held : holds answer
+  pub counted : accepted ≡ length (after p.history (answer_of answer))
+  pub written : out ≡ old ++ answer_lines p.config p.history (answer_of answer)
 
 -- lines that are answered so from the history h
 abbrev pub PlaysFrom : Config → List Entry → Outcomes → List ScenarioLine → List Answer → Type 0

@@ -4,5 +4,6 @@ pub mod Read
 pub mod Scenario
 pub mod Played
 pub mod Answered
+pub mod Plays
 pub mod Jobs
 pub mod Codes

@@ -1,9 +1,11 @@
 //! The runner: a scenario's text is read, played, and what comes of it is written.
 
-ghost use Rattle.std.specs.Prelude.{◌≡◌, ◌≢◌, ◌⊎◌, ◌≤◌, ◌<◌, length, Err, Some, IfSome};
+ghost use Rattle.std.specs.Prelude.{◌≡◌, ◌≢◌, ◌⊎◌, ◌≤◌, ◌<◌, length, Err, Some, IfSome, OnOk};
 ghost use Rattle.tp_text.specs.Watching.{TellsReader, TellsWriter, sink, source};
 ghost use Rattle.tp_scenario.specs.Played.{IsRun};
+ghost use Rattle.tp_scenario.specs.Plays.{HeardText};
 
+use crate::listeners::{Listener, Nobody};
 use crate::play::play;
 use std::alloc::Global;
 use std::io::{Read, Write};
@@ -14,18 +16,20 @@ use tp_types::refusals::PoolError;
 
 /// Plays the scenario of a text, and writes what comes of it. The run ends at its end, with 23 at the first bad line, with the refusal
 /// of a pool's configuration, or with 4 where the runner itself finds no memory. 26 comes just where the writer fails now, which
-/// keeps why.
-pub fn run_text<W: Write>(
+/// keeps why. The listener hears each step's answer.
+pub fn run_text<L: Listener, W: Write>(
     alloc: Global,
     text: &[u8],
+    listener: &mut L,
     writer: &mut WatchedWriter<W>,
 ) -> Result<(), PoolError>
     requires { length text.now ≤ 1048576 }
     ensures runs { IsRun (Some text.now) (W.contents (sink writer.old)) (W.contents (sink writer.new)) result }
     ensures reads { result ≢ Err PoolError.ReadFailed }
     ensures tells_writer { TellsWriter writer.old result writer.new }
+    ensures heard { OnOk result (HeardText L.heard text.now listener.new) }
 {
-    let played = play(alloc, text);
+    let played = play(alloc, text, listener);
     if let Err(error) = write_text(writer, played.output.as_slice()) {
         return Err(error);
     }
@@ -50,5 +54,5 @@ pub fn run<R: Read, W: Write>(
         Ok(text) => text,
         Err(error) => return Err(error),
     };
-    run_text(alloc, text.as_slice(), writer)
+    run_text(alloc, text.as_slice(), &mut Nobody, writer)
 }

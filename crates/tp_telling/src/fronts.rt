@@ -12,27 +12,13 @@ use std::io::{self, Write};
 use tp_auditor::tables::Tables;
 use tp_causes::rows::{ShownSlot, ShownTask};
 use tp_now::fronts::Front;
+use tp_text::pools::ShownQueue;
 use tp_times::times::Since;
-use tp_types::configs::{Config, QueueKind};
+use tp_types::configs::Config;
 use tp_types::ids::{SlotId, TaskId};
 use tp_types::refusals::PoolError;
 use tp_types::states::RunState;
 use tp_types::tasks::Place;
-
-/// A work queue's kind, as `bounded 8`.
-#[derive(Clone, Copy)]
-pub(crate) struct ShownQueue(pub QueueKind);
-
-impl fmt::Display for ShownQueue {
-    fn fmt<W: fmt::Write>(&self, f: &mut fmt::Formatter<W>) -> fmt::Result {
-        match self.0 {
-            QueueKind::Handoff => f.write_str("handoff"),
-            QueueKind::Unbounded => f.write_str("unbounded"),
-            QueueKind::Bounded(places) => write!(f, "bounded {places}"),
-            QueueKind::Priority => f.write_str("priority"),
-        }
-    }
-}
 
 /// A setting, and what it was at first where it was changed.
 #[derive(Clone, Copy)]

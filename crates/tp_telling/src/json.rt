@@ -1,13 +1,14 @@
 //! A pool after an entry, as JSON: an object a line.
 
 use crate::forms::Quoted;
-use crate::fronts::{ShownQueue, is_cancelled, is_with_submitter};
+use crate::fronts::{is_cancelled, is_with_submitter};
 use std::alloc::{AllocError, Global};
 use std::fmt;
 use std::io::{self, Write};
 use tp_auditor::tables::Tables;
 use tp_causes::rows::{ShownSlot, ShownTask};
 use tp_now::fronts::Front;
+use tp_text::pools::ShownQueue;
 use tp_times::times::Since;
 use tp_types::configs::Config;
 use tp_types::ids::{SlotId, TaskId};

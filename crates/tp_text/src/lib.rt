@@ -7,6 +7,7 @@
 #![tactic(auto)]
 
 mod answers;
+pub mod asks;
 pub mod commands;
 pub mod ends;
 pub mod entries;

@@ -5,11 +5,12 @@ ghost use Rattle.std.specs.Option.{option_map};
 ghost use Rattle.std.specs.Fmt.{decimal};
 ghost use Rattle.tp_text.specs.Reads.{Any, ReadsAs, ReadsNumberOn, spaced};
 ghost use Rattle.tp_text.specs.Fits.{Fits32, Fits64};
-ghost use Rattle.tp_text.specs.Pools.{FitsOptions, FitsPool, FitsQueue, FitsSizes, config_of, sizes_text, keep_text, limit_text, options_text, policy_text, pool_text, waiting_text};
+ghost use Rattle.tp_text.specs.Pools.{FitsOptions, FitsPool, FitsQueue, FitsSizes, config_of, sizes_text, keep_text, limit_text, options_text, policy_text, pool_text, queue_text, waiting_text};
 ghost use Rattle.tp_types.specs.Policy.{policy_name};
 
 use crate::numbers::{long_number, number};
 use crate::words::{behind, first_word};
+use std::fmt;
 use tp_types::configs::{Config, Policy, QueueKind};
 use tp_types::limits::DEFAULT_RECORD_LIMIT;
 
@@ -30,6 +31,23 @@ pub struct PoolLine {
     pub core_timeout: bool,
     /// The record limit in entries, where the line says one.
     pub limit: Option<u32>,
+}
+
+/// A work queue, as a pool line says it: `bounded 8`.
+#[derive(Clone, Copy)]
+pub struct ShownQueue(pub QueueKind);
+
+impl fmt::Display for ShownQueue {
+    ghost output = { λ queue. Some (queue_text queue.0) };
+
+    fn fmt<W: fmt::Write>(&self, f: &mut fmt::Formatter<W>) -> fmt::Result {
+        match self.0 {
+            QueueKind::Handoff => f.write_str("handoff"),
+            QueueKind::Unbounded => f.write_str("unbounded"),
+            QueueKind::Bounded(places) => write!(f, "bounded {places}"),
+            QueueKind::Priority => f.write_str("priority"),
+        }
+    }
 }
 
 /// Whether core workers time out, and the record limit where one is said.

@@ -1,30 +1,13 @@
 //! The first two lines of a record text.
 ghost use Rattle.std.specs.Prelude.{Some};
-ghost use Rattle.tp_text.specs.Pools.{queue_text};
 ghost use Rattle.tp_text_record.specs.declared.versions.Version.{Version};
 ghost use Rattle.tp_text_record.specs.ReadRecord.{head};
 ghost use Rattle.tp_text_record.specs.RecordText.{written_options};
 
 use std::fmt;
-use tp_types::configs::{Config, QueueKind};
+use tp_text::pools::ShownQueue;
+use tp_types::configs::Config;
 use tp_types::limits::DEFAULT_RECORD_LIMIT;
-
-/// The queue that a pool line says, as `bounded 8`.
-#[derive(Clone, Copy)]
-struct Queue(QueueKind);
-
-impl fmt::Display for Queue {
-    ghost output = { λ queue. Some (queue_text queue.0) };
-
-    fn fmt<W: fmt::Write>(&self, f: &mut fmt::Formatter<W>) -> fmt::Result {
-        match self.0 {
-            QueueKind::Handoff => f.write_str("handoff"),
-            QueueKind::Unbounded => f.write_str("unbounded"),
-            QueueKind::Bounded(places) => write!(f, "bounded {places}"),
-            QueueKind::Priority => f.write_str("priority"),
-        }
-    }
-}
 
 /// What a pool line says behind the policy, as ` coretimeout limit 64`.
 #[derive(Clone, Copy)]
@@ -61,7 +44,7 @@ impl fmt::Display for Head<'_> {
             keep,
             ..
         } = *config;
-        let queue = Queue(config.queue);
+        let queue = ShownQueue(config.queue);
         let policy = config.policy.name();
         let options = Options(config);
         write!(

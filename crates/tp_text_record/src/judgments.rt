@@ -81,7 +81,7 @@ fn legal_judgment(alloc: Global, auditor: &Auditor, entries: u32) -> Result<Judg
 }
 
 /// The judgment of a record of so many entries, which were told.
-fn judge(alloc: Global, judging: Judging, entries: u32) -> Result<Judgment, PoolError>
+pub fn judge(alloc: Global, judging: Judging, entries: u32) -> Result<Judgment, PoolError>
     ensures judged { IfOk result (λ j. (es : List Told) → IsToldBy judging.auditor judging.flaw es → entries ≡ length es
         → IsJudged (settings judging.auditor) es j.legal j.lines.items) }
     ensures only_memory { IsOkUnless result PoolError.NoMemory }

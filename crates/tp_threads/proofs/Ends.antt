@@ -1,5 +1,5 @@
 -- The end of a pool, and what its record says of the caller that made it run.
-use Rattle.std.proofs.Common.{◌≡◌, ◌⊎◌, ℕ, Bool, true, List, [], ◌∷◌, ◌++◌, reverse, refl, sym, ap, subst, ◌∙◌, inl, inr, ⊎_elim}
+use Rattle.std.proofs.Common.{◌≡◌, ◌⊎◌, ℕ, Bool, true, List, [], ◌∷◌, ◌++◌, reverse, refl, sym, ap, subst, ◌∙◌, inl, inr, ⊎_elim, arith}
 use Rattle.std.specs.Prelude.{◌↔◌, IsTrue, All, Some, if◌then◌else◌}
 use Rattle.std.proofs.lemmas.List.{append-nil, reverse-reverse}
 use Rattle.std.proofs.lemmas.List.Elements.{All-nil, All-cons, All-append, All-pop}
@@ -17,10 +17,13 @@ use Rattle.tp_book.specs.Reports.{IsOwn, TellsRecord}
 use Rattle.tp_book.specs.declared.reports.Report.{Report}
 use Rattle.tp_locked.specs.Left.{IsStranded}
 use Rattle.tp_locked.specs.Moments.{AtSome}
-use Rattle.tp_locked.specs.Passes.{Adds, entry_of, tidied, ended}
+use Rattle.tp_locked.specs.Passes.{Adds, LooksOnly, entry_of, tidied, ended}
 use Rattle.tp_shared.specs.Closing.{Reports}
 use Rattle.tp_shared.specs.Endings.{AddsAndEnds, IsBarred, IsEnding}
-use Rattle.tp_locked.proofs.Receipts.{adds_both}
+use Rattle.tp_glance.specs.Word.{IsFrontOf}
+use Rattle.tp_glance.proofs.Fronts.{rank_grows}
+use Rattle.tp_locked.proofs.Moments.{rank_top}
+use Rattle.tp_locked.proofs.Receipts.{adds_both, adds_looks}
 use Rattle.tp_threads.specs.Runs.{AddsEnd, AddsSubmissions, Asked, IsEnd, IsLife, IsRun}
 
 two_ended : (by : ℕ) → All (λ e. (e ≡ tidied by) ⊎ (e ≡ ended by)) (tidied by ∷ ended by ∷ [])
@@ -60,9 +63,30 @@ pub adds_own_end : (c : Config) (old mid left new : PassView) → AddsAndEnds c 
 adds_own_end c old mid left new first same waited seen =
     adds_end c old mid new first (subst (λ p. Adds c p [] new ⊎ Adds c p (tidied p.number ∷ ended p.number ∷ []) new) same waited) seen
 
+-- and then a look
+pub ends_looks : (c : Config) (old mid new : PassView) → AddsEnd c old mid → (new ≡ mid) ⊎ LooksOnly c mid new → AddsEnd c old new
+ends_looks c old mid new end looked =
+    ⊎_elim (λ (x : new ≡ mid). subst (λ p. AddsEnd c old p) (sym x) end)
+    (λ (x : LooksOnly c mid new). (
+      end.0,
+      end.1,
+      adds_looks c old mid new end.0 end.2 x,
+      (
+          let grown = rank_grows x.1 in
+          let top = rank_top new.front in omega (arith, grown, top, end.3)
+          ),
+    ))
+    looked
+
 -- where a reading says that tasks are stranded, they are so somewhere
 pub stranded_there : (c : Config) (reading : Bool) → IsTrue reading → AtSome c (λ s. IsTrue reading ↔ IsStranded s) → AtSome c IsStranded
 stranded_there c reading says is = record { history = is.history; is = record { legal = is.is.legal; holds = is.is.holds.0 says } }
+
+-- the record of a pool that was closed with this pass goes on from what it knew
+pub front_of_report : (c : Config) (pass : PassView) (r : Report) → Reports c (pass ∷ []) r → IsFrontOf pass.front (reverse r.entries.items)
+front_of_report c pass r reports =
+    let turned : reports.history ≡ reverse r.entries.items = sym (ap reverse reports.tells.entries ∙ reverse-reverse reports.history) in
+    subst (λ h. IsFrontOf pass.front h) turned (All-pop (λ (p : PassView). IsFrontOf p.front reports.history) (pass ∷ []) [] (Some pass) refl reports.fronts).1
 
 -- the list of one caller's pass
 pub one_pass : (passes pushed : List PassView) (now : PassView) → passes ≡ [] → pushed ≡ passes ++ now ∷ [] → pushed ≡ now ∷ []

@@ -1,6 +1,6 @@
 -- Submissions one after another, with their receipts.
-use Rattle.std.proofs.Common.{suc, Bool, true, ◌≡◌, ◌≢◌, ◌⊎◌, ◌+◌, ◌<◌, ℕ, List, [], ◌∷◌, ◌++◌, length, get_or, take, drop, drop-cons, refl, sym, ap, subst, ◌∙◌, inl, inr, ⊎_elim, append_assoc, arith}
-use Rattle.std.specs.Prelude.{map, Some, ⊤}
+use Rattle.std.proofs.Common.{suc, Bool, true, ◌≡◌, ◌≢◌, ◌+◌, ◌<◌, ℕ, List, [], ◌∷◌, ◌++◌, length, get_or, take, drop, drop-cons, refl, sym, ap, subst, ◌∙◌, inl, inr, ⊎_elim, append_assoc, arith}
+use Rattle.std.specs.Prelude.{Some, ⊤}
 use Rattle.std.proofs.lemmas.List.{append-nil, length-map, take_all, take_more, take-append-drop, get_or-map}
 use Rattle.tp_types.specs.declared.configs.Config.{Config}
 use Rattle.tp_types.specs.declared.ids.TaskId.{TaskId}
@@ -11,7 +11,7 @@ use Rattle.tp_record.specs.declared.entries.Ask.TheVariants as ask
 use Rattle.tp_record.specs.declared.entries.Entry.{Entry}
 use Rattle.tp_record.specs.Paths.{Admission, Rejected}
 use Rattle.tp_book.specs.PassView.{PassView}
-use Rattle.tp_locked.specs.Passes.{Adds, AddsNone, Refuses}
+use Rattle.tp_locked.specs.Passes.{AddsNone, Refuses}
 use Rattle.tp_locked.specs.declared.answers.Refused.{Refused}
 use Rattle.tp_scenario.specs.declared.jobs.JobLine.{JobLine}
 use Rattle.tp_types.specs.declared.tasks.Promise.{Promise}

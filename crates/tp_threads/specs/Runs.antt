@@ -23,7 +23,7 @@ use Rattle.tp_text_record.specs.RecordText.{record_text}
 use Rattle.tp_scenario.specs.Jobs.{IsRead}
 use Rattle.tp_scenario.specs.declared.jobs.JobLine.{JobLine}
 use Rattle.tp_scenario.specs.declared.jobs.Jobs.{Jobs}
-use Rattle.tp_book.specs.PassView.{PassView, receipts_with}
+use Rattle.tp_book.specs.PassView.{PassView}
 use Rattle.tp_book.specs.Reports.{TellsCount}
 use Rattle.tp_book.specs.declared.reports.Report.{Report}
 use Rattle.tp_book.specs.declared.reports.TallyReport.{TallyReport}

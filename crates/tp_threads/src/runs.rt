@@ -1,16 +1,22 @@
 //! A pool's whole life: it runs the jobs of a file, with its record or without one.
-ghost use Rattle.std.specs.Prelude.{◌≡◌, [], ◌∷◌, IsTrue, IfOk, IfErr};
+ghost use Rattle.std.specs.Prelude.{◌≡◌, [], ◌∷◌, true, IsTrue, IfOk, IfErr, IfSome, Ok};
 ghost use Rattle.tp_book.specs.PassView.{PassView};
 ghost use Rattle.tp_locked.specs.Left.{IsStranded};
 ghost use Rattle.tp_locked.specs.Moments.{AtSome};
 ghost use Rattle.tp_shared.specs.Closing.{Closes};
+ghost use Rattle.tp_text_record.specs.declared.versions.Version.{Version};
+ghost use Rattle.tp_text_record.specs.RecordText.{record_text};
+ghost use Rattle.tp_threads.specs.Recorded.{IsWhole};
 ghost use Rattle.tp_threads.specs.Runs.{AddsEnd, IsLife, IsRun, IsShort, IsTally, RefusesRun, asked};
 
+use crate::recorded::{Ended, Wish, recorded};
 use crate::submissions::{Company, submit_all};
 use std::alloc::Global;
+use std::io::Write;
 use std::marker::Brand;
 use std::sync::Wait;
 use std::thread::Threads;
+use std::time::Clock;
 use tp_book::opening::Unopened;
 use tp_book::passes::Pass;
 use tp_machine::machine::releases::Keeper;
@@ -62,7 +68,7 @@ fn ends_by_itself<
 }
 
 // Shuts the pool down and waits for its end, and tells whether that came by itself.
-fn end<
+pub(crate) fn end<
     G: PoolNaming + Send + Sync + 'static,
     K: Keeper + Send + 'static,
     R: Threads + Wait + Copy + Send + 'static,
@@ -84,8 +90,57 @@ fn end<
     }
 }
 
-// Ends the pool and closes it with this pass, for which the list has room. NoMemory (4) where tasks were stranded: what is
-// told of the pool is kept then.
+// Closes the pool with this pass, for which the list has room, where its end came: whether that came by itself, and the report.
+pub(crate) fn close_with<G: PoolNaming, K: Reporter, R: Wait>(
+    rt: &R,
+    pool: Company<G, K>,
+    pass: Pass<G>,
+    passes: Vec<Pass<G>>,
+    ended: Result<bool, PoolError>,
+) -> Result<(bool, K::Report), PoolError>
+    requires alone { passes.items ≡ [] }
+    requires short { IfErr ended IsShort }
+    ensures report { IfOk result (λ r. (ended ≡ Ok r.0) × Closes K.told K.RECEIPTS G.config (K.terms G.config) (pass ∷ []) r.1) }
+    ensures refused { IfErr result IsShort }
+{
+    let mut passes = passes;
+    let by_itself = match ended {
+        Ok(by_itself) => by_itself,
+        Err(error) => {
+            pool.let_go();
+            return Err(error);
+        }
+    };
+    if passes.push(pass).is_err() {
+        pool.let_go();
+        return Err(PoolError::NoMemory);
+    }
+    match pool.close(rt, passes) {
+        Ok(report) => Ok((by_itself, report)),
+        Err(fault) => Err(at_the_end(fault.let_go())),
+    }
+}
+
+// What a close is to a run. NoMemory (4) where tasks were stranded: what is told of the pool is kept then.
+pub(crate) fn answered<T: Drop>(
+    closed: Result<(bool, T), PoolError>,
+    kept: &mut Option<T>,
+) -> Result<T, PoolError>
+    requires short { IfErr closed IsShort }
+    ensures report { IfOk result (λ r. closed ≡ Ok (true, r)) }
+    ensures refused { IfErr result IsShort }
+{
+    match closed {
+        Ok((true, report)) => Ok(report),
+        Ok((false, report)) => {
+            *kept = Some(report);
+            Err(PoolError::NoMemory)
+        }
+        Err(error) => Err(error),
+    }
+}
+
+// Ends the pool and closes it with this pass, for which the list has room.
 fn closed<
     G: PoolNaming + Send + Sync + 'static,
     K: Reporter + Send + 'static,
@@ -102,26 +157,8 @@ fn closed<
     ensures refused { IfErr result IsShort }
 {
     let mut pass = pass;
-    let mut passes = passes;
-    let by_itself = match end(rt, &pool, &mut pass) {
-        Ok(by_itself) => by_itself,
-        Err(error) => {
-            pool.let_go();
-            return Err(error);
-        }
-    };
-    if passes.push(pass).is_err() {
-        pool.let_go();
-        return Err(PoolError::NoMemory);
-    }
-    match pool.close(rt, passes) {
-        Ok(report) if by_itself => Ok(report),
-        Ok(report) => {
-            *kept = Some(report);
-            Err(PoolError::NoMemory)
-        }
-        Err(fault) => Err(at_the_end(fault.let_go())),
-    }
+    let ended = end(rt, &pool, &mut pass);
+    answered(close_with(rt, pool, pass, passes, ended), kept)
 }
 
 // A pool's life under a name of its own: it runs the jobs, ends and is closed. Where a submission is refused, or no thread
@@ -181,16 +218,8 @@ fn lived<K: Reporter + Send + 'static, R: Threads + Wait + Copy + Send + 'static
     life::<Brand, K, R>(rt, alloc, unopened, jobs.config, jobs.jobs.as_slice(), kept)
 }
 
-/// Runs the jobs by threads: one thread submits them in their order to a pool with these settings, whose
-/// factory consents always and whose own handler answers Abort. Then the pool is shut down, waited for until
-/// it is terminated, and closed; its report is the answer. A job that is rejected is so in the record, and the
-/// next is submitted.
-///
-/// NoMemory (4), BookFull (5) and TornRecord (22) at a submission end the run: no further job is submitted, the
-/// pool is shut down and closed, its report is kept, and the refusal is the answer. So it is with NoMemory (4) where no thread
-/// could be made for jobs that are queued: the pool is stopped, and these jobs have the fate HandedBack. BadSizes (1),
-/// BadCapacity (2), BadLimit (3) and KeepZero (11) where no pool has these settings.
-pub fn run_jobs<R: Threads + Wait + Copy + Send + 'static>(
+// As `run_jobs`, without a journal.
+fn run_alone<R: Threads + Wait + Copy + Send + 'static>(
     rt: R,
     alloc: Global,
     jobs: &Jobs,
@@ -200,6 +229,39 @@ pub fn run_jobs<R: Threads + Wait + Copy + Send + 'static>(
     ensures refused { IfErr result (RefusesRun jobs.now.config) }
 {
     lived::<Full, R>(rt, alloc, jobs, kept)
+}
+
+/// Runs the jobs by threads: one thread submits them in their order to a pool with these settings, whose
+/// factory consents always and whose own handler answers Abort. Then the pool is shut down, waited for until
+/// it is terminated, and closed; its report is the answer. A job that is rejected is so in the record, and the
+/// next is submitted.
+///
+/// NoMemory (4), BookFull (5) and TornRecord (22) at a submission end the run: no further job is submitted, the
+/// pool is shut down and closed, its report is kept, and the refusal is the answer. So it is with NoMemory (4) where no thread
+/// could be made for jobs that are queued: the pool is stopped, and these jobs have the fate HandedBack. BadSizes (1),
+/// BadCapacity (2), BadLimit (3) and KeepZero (11) where no pool has these settings.
+///
+/// Where a journal is wished for, it is written while the pool runs, and no step waits for it. Its end is told once the pool is closed.
+/// NoMemory (4) where there is none for it, or no thread: then no job was submitted, and no end is told.
+pub fn run_jobs<
+    V: Write + Send + Drop + 'static,
+    R: Threads + Wait + Clock + Copy + Send + 'static,
+>(
+    rt: R,
+    alloc: Global,
+    jobs: &Jobs,
+    wish: Option<Wish<V>>,
+    ended: &mut Option<Ended<V>>,
+    kept: &mut Option<Report>,
+) -> Result<Report, PoolError>
+    ensures run { IfOk result (IsRun jobs.now.config (asked jobs.now.jobs.items)) }
+    ensures whole { IfOk result (λ r. IfSome wish (λ w. IfSome ended.new (IsWhole V.contents (V.contents w.writer) (record_text Version.Two jobs.now.config r.entries.items)))) }
+    ensures refused { IfErr result (RefusesRun jobs.now.config) }
+{
+    match wish {
+        Some(wish) => recorded(rt, alloc, jobs, wish, ended, kept),
+        None => run_alone(rt, alloc, jobs, kept),
+    }
 }
 
 /// Runs the jobs by threads, as `run_jobs`, on a pool that keeps no record, and answers its report.

@@ -1,13 +1,17 @@
 //! From the text of a file of jobs to the text of its pool's record.
-ghost use Rattle.std.specs.Prelude.{◌≡◌, ◌≢◌, ◌⊎◌, ◌<◌, length, Err, IfErr, OnOk, Some};
+ghost use Rattle.std.specs.Prelude.{◌≡◌, ◌≢◌, ◌⊎◌, ◌<◌, ℕ, List, length, Err, IfErr, IfSome, OnOk, Some};
+ghost use Rattle.std.specs.Io.KnownBytes.{Appends};
 ghost use Rattle.tp_text.specs.Watching.{TellsWriter, sink};
+ghost use Rattle.tp_threads.specs.Recorded.{IsWhole};
 ghost use Rattle.tp_threads.specs.Runs.{RefusesText, WritesRun};
 
+use crate::recorded::{Ended, Wish};
 use crate::runs::run_jobs;
 use std::alloc::Global;
 use std::io::Write;
 use std::sync::Wait;
 use std::thread::Threads;
+use std::time::Clock;
 use tp_pool::closing::Report;
 use tp_record::entries::{Did, Entry};
 use tp_scenario::jobs::jobs_of;
@@ -53,16 +57,23 @@ fn left_of(alloc: Global, config: &Config, report: Option<Report>) -> Option<Unf
 /// read whole before a thread starts, and has at most 4,294,967,294 bytes. Refused as `jobs_of` and `run_jobs` are, with nothing written,
 /// or by NoMemory (4) where there is no memory for the text of the record. WriteFailed (26) comes just where the writer fails now, which
 /// keeps why; it may come after some of the text was written. Where a submission is refused, or no thread could be made, what the run
-/// leaves is kept.
-pub fn run_text<R: Threads + Wait + Copy + Send + 'static, W: Write>(
+/// leaves is kept. A journal that is wished for is written while the pool runs, as by `run_jobs`; where it is whole, it has the same text.
+pub fn run_text<
+    R: Threads + Wait + Clock + Copy + Send + 'static,
+    W: Write,
+    V: Write + Send + Drop + 'static,
+>(
     rt: R,
     alloc: Global,
     text: &[u8],
     writer: &mut WatchedWriter<W>,
+    wish: Option<Wish<V>>,
+    ended: &mut Option<Ended<V>>,
     kept: &mut Option<Unfinished>,
 ) -> Result<(), PoolError>
     requires { length text.now < 4294967295 }
     ensures written { OnOk result (WritesRun (Some text.now) (W.contents (sink writer.old)) (W.contents (sink writer.new))) }
+    ensures journal { OnOk result ((bytes : List ℕ) × Appends (W.contents (sink writer.old)) (W.contents (sink writer.new)) bytes × IfSome wish (λ w. IfSome ended.new (IsWhole V.contents (V.contents w.writer) bytes))) }
     ensures refused { IfErr result (λ e. (e ≡ PoolError.WriteFailed) ⊎ (RefusesText (Some text.now) e × (writer.new ≡ writer.old))) }
     ensures reads { result ≢ Err PoolError.ReadFailed }
     ensures tells_writer { TellsWriter writer.old result writer.new }
@@ -72,7 +83,7 @@ pub fn run_text<R: Threads + Wait + Copy + Send + 'static, W: Write>(
         Err(error) => return Err(error),
     };
     let mut closed = None;
-    let report = match run_jobs(rt, alloc, &jobs, &mut closed) {
+    let report = match run_jobs(rt, alloc, &jobs, wish, ended, &mut closed) {
         Ok(report) => report,
         Err(error) => {
             *kept = left_of(alloc, &jobs.config, closed);

@@ -1,6 +1,6 @@
 //! The commands `check` and `diff`, with their whole outputs, and `draw`. What is expected was written by hand.
 
-use crate::commands::calls::{Called, call, has};
+use crate::commands::calls::{Called, call, call_pair, has};
 use std::process::Abort;
 use std::test::Fail;
 
@@ -23,6 +23,37 @@ pool 1 1 bounded 1 keep 5 abort
 end 13
 ";
 
+/// The same, but that the second task is not cancelled, and the record is cut off.
+const UNCANCELLED: &str = "tprecord 2
+pool 1 1 bounded 1 keep 5 abort
+1 submit t0 plain reserve w0
+2 p1 submit t1 future queue
+3 p1 offer t1 queued
+4 p1 second t1 stay
+5 p2 submit t2 plain queue
+6 p2 offer t2 full
+7 p2 grow t2 refuse
+8 p2 verdict t2 abort rejected
+9 open w0 live
+10 take w0 held t0
+11 begin w0 t0
+12 end w0 t0 value 1
+13 take w0 hea";
+
+/// Another first entry.
+const SHUT: &str = "tprecord 2
+pool 1 1 bounded 1 keep 5 abort
+1 shutdown
+end 1
+";
+
+/// Other settings.
+const TWO: &str = "tprecord 2
+pool 1 2 bounded 1 keep 5 abort
+1 shutdown
+end 1
+";
+
 /// A record with a flaw at its first entry.
 const FLAWED: &str = "tprecord 2
 pool 1 1 bounded 1 keep 5 abort
@@ -31,6 +62,69 @@ end 1
 ";
 
 const FLAW: &str = "poolrun: a.txt: line 3: ";
+
+const CUT: &str = "poolrun: b.txt: the record ends at entry 12, without its last line\n";
+
+const PARTED: &str = "the records part at entry 1
+< 1 submit t0 plain reserve w0
+> 1 shutdown
+after entry 0: running, at moment 0, 0 tasks submitted
+settings: core 1, max 1, bounded 1, keep 5, abort
+slots: 0, 0 of them live, at most 0 so far
+queue: 0
+owed: 4 entries
+";
+
+const PARTED_LATER: &str = "the records part at entry 12
+< 12 cancel t1 yes
+> 12 end w0 t0 value 1
+after entry 11: running, at moment 0, 3 tasks submitted
+settings: core 1, max 1, bounded 1, keep 5, abort
+";
+
+/// A command line, two records, the status, the whole output, and the standard error or a part of it.
+const PAIRS: [(&str, &str, &str, u8, &str, &str); 9] = [
+    ("diff a.txt b.txt", THREE, THREE, 0, "", ""),
+    ("diff a.txt b.txt", THREE, SHUT, 1, PARTED, ""),
+    (
+        "diff a.txt b.txt",
+        SHUT,
+        TWO,
+        1,
+        "",
+        "poolrun: b.txt: the pool was made with other settings: line 2 differs\n",
+    ),
+    ("diff a.txt b.txt", FLAWED, FLAWED, 1, "", FLAW),
+    (
+        "diff --fates a.txt b.txt",
+        THREE,
+        UNCANCELLED,
+        1,
+        "t1: cancelled, and open\n",
+        CUT,
+    ),
+    (
+        "diff --fates --json a.txt b.txt",
+        THREE,
+        SHUT,
+        1,
+        "{\"task\":0,\"first\":\"run\",\"second\":\"not submitted\"}
+{\"task\":1,\"first\":\"cancelled\",\"second\":\"not submitted\"}
+{\"task\":2,\"first\":\"rejected\",\"second\":\"not submitted\"}
+",
+        "",
+    ),
+    ("diff --fates a.txt b.txt", SHUT, TWO, 0, "", ""),
+    ("diff --fates a.txt b.txt", FLAWED, SHUT, 1, "", FLAW),
+    (
+        "diff a.txt b.txt",
+        "",
+        SHUT,
+        1,
+        "refused 24 BadEntry 1\n",
+        " --> a.txt:1:1\n",
+    ),
+];
 
 /// Claims beside the record of three tasks, and their lines.
 const HELD: &str = "holds: rejected + cancelled = 2, with 2
@@ -85,6 +179,21 @@ fn is_as_wanted(rt: &impl Abort, line: &str, told: &Called, wanted: (u8, &str, &
     let is_told = told.errors.is_empty() == errors.is_empty() && has(&told.errors, errors);
     let is_so = told.status == status && told.out.as_slice() == out.as_bytes() && is_told;
     assert!(rt; is_so, "{line}: {told:?}");
+}
+
+#[test]
+fn sets_records_side_by_side(rt: HostRuntime) -> Result<(), Fail> {
+    for (line, first, second, status, out, errors) in PAIRS {
+        let told = call_pair(rt.alloc(), line, first.as_bytes(), second.as_bytes())?;
+        is_as_wanted(&rt, line, &told, (status, out, errors));
+    }
+    let line = "diff a.txt b.txt";
+    let told = call_pair(rt.alloc(), line, THREE.as_bytes(), UNCANCELLED.as_bytes())?;
+    assert!(rt;
+        told.status == 1 && has(&told.out, PARTED_LATER),
+        "{told:?}"
+    );
+    Ok(())
 }
 
 #[test]

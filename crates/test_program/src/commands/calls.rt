@@ -6,6 +6,7 @@ use std::test::Fail;
 use tp_choices::choices::{Choice, chosen};
 use tp_commands::audits::run_audit;
 use tp_commands::checks::run_check;
+use tp_commands::differences::run_diff;
 use tp_commands::drawings::run_draw;
 use tp_commands::explores::{Callers, run_explore};
 use tp_commands::objects::run_objects;
@@ -123,6 +124,44 @@ pub fn call<R: Read + Drop>(alloc: Global, line: &str, reader: R) -> Result<Call
     let status = match choice_of(alloc, line)? {
         Some(choice) => status_of(alloc, &choice, reader, &mut out, &mut errors),
         None => 99,
+    };
+    Ok(Called {
+        status,
+        out,
+        errors,
+    })
+}
+
+/// Calls `diff` by this command line, where the files give what these readers give. The status is 99 for another line.
+pub fn call_pair<R: Read + Drop>(
+    alloc: Global,
+    line: &str,
+    first: R,
+    second: R,
+) -> Result<Called, Fail> {
+    let mut out = Vec::new(alloc);
+    let mut errors = Vec::new(alloc);
+    let choice = choice_of(alloc, line)?;
+    let status = match &choice {
+        Some(Choice::Diff(pair, form)) => {
+            let names = (name_of(pair.first.as_str()), name_of(pair.second.as_str()));
+            let first = &mut WatchedReader::new(first);
+            let second = &mut WatchedReader::new(second);
+            let writer = &mut WatchedWriter::new(&mut out);
+            let plain = UNADORNED;
+            run_diff(
+                alloc,
+                pair.by_fates,
+                *form,
+                names,
+                first,
+                second,
+                writer,
+                &mut errors,
+                plain,
+            )
+        }
+        _ => 99,
     };
     Ok(Called {
         status,

@@ -7,7 +7,8 @@ use std::test::Fail;
 use tp_explore_text::ends::End;
 use tp_explore_text::explored::Explored;
 use tp_explore_text::texts::witness_text;
-use tp_replay::plays::{Play, play_text};
+use tp_replay::records::Recording;
+use tp_scenario::play::play;
 use tp_text::watched::WatchedWriter;
 use tp_text_record::judgments::{Judgment, judge_text};
 
@@ -53,23 +54,22 @@ fn state(alloc: Global, end: &str) -> Result<String, Fail> {
     Ok(format!(in alloc; "\nstate {name}\n")?)
 }
 
-/// The scenario of a shortest interleaving to an end, played.
-fn played(alloc: Global, explored: &Explored, end: &End) -> Result<Play, Fail>
-    requires explored { IsExplored explored.now }
-    requires within { end.now.place < length explored.now.graph.states.items }
-{
-    let scenario = witness_text(alloc, explored, end.place)?;
-    let text = scenario.as_bytes();
-    if text.len() > 1_048_576 {
+/// The record of a scenario, which has no bad line.
+fn record(alloc: Global, scenario: &[u8]) -> Result<Vec<u8>, Fail> {
+    if scenario.len() > 1_048_576 {
         return Err(Fail::new("a long scenario"));
     }
-    Ok(play_text(alloc, text)?)
+    let mut recording = Recording::new(alloc);
+    let played = play(alloc, scenario, &mut recording);
+    played.ending?;
+    let mut record = Vec::new(alloc);
+    recording.write(alloc, &mut WatchedWriter::new(&mut record))?;
+    Ok(record)
 }
 
-/// What is judged of the record of a play.
-fn judged(alloc: Global, play: &Play) -> Result<Judgment, Fail> {
-    let mut record = Vec::new(alloc);
-    play.write_record(alloc, &mut WatchedWriter::new(&mut record))?;
+/// What is judged of the record of a scenario.
+fn judged(alloc: Global, scenario: &[u8]) -> Result<Judgment, Fail> {
+    let record = record(alloc, scenario)?;
     if record.len() > 1_048_576 {
         return Err(Fail::new("a long record"));
     }
@@ -81,20 +81,15 @@ fn is_played(alloc: Global, explored: &Explored, end: &End) -> Result<bool, Fail
     requires explored { IsExplored explored.now }
     requires within { end.now.place < length explored.now.graph.states.items }
 {
-    let play = played(alloc, explored, end)?;
-    let judgment = judged(alloc, &play)?;
+    let scenario = witness_text(alloc, explored, end.place)?;
+    let judgment = judged(alloc, scenario.as_bytes())?;
     let Ok(lines) = str::from_utf8(judgment.lines.as_slice()) else {
         return Ok(false);
     };
     let told = end.text.as_str();
     let state = state(alloc, told)?;
     let counters = counters(alloc, told)?;
-    Ok(
-        play.bad.is_none()
-            && judgment.legal
-            && lines.contains(state.as_str())
-            && lines.contains(counters.as_str()),
-    )
+    Ok(judgment.legal && lines.contains(state.as_str()) && lines.contains(counters.as_str()))
 }
 
 /// Whether this holds of each end.

@@ -1,10 +1,15 @@
 //! What is told of refused steps; and the record of a scenario.
 
+ghost use Rattle.std.specs.Prelude.{◌≤◌, length};
+
 use crate::messages::compare::same;
 use std::alloc::Global;
 use std::process::Abort;
 use std::test::Fail;
-use tp_replay::plays::{Play, play_text};
+use tp_replay::records::Recording;
+use tp_replay::refusals::Refusals;
+use tp_scenario::listeners::Both;
+use tp_scenario::play::play;
 use tp_text::watched::WatchedWriter;
 
 const REFUSED: &[u8] = b"pool 1 1 unbounded keep 5 abort limit 64
@@ -28,6 +33,11 @@ takedone 3
 tidy
 end 0
 second 0
+";
+
+const ACCEPTED: &[u8] = b"pool 1 1 unbounded keep 5 abort
+submit plain 5
+open 0
 ";
 
 const TOLD: &[u8] = b"line 3: take 3: refused 7 UnknownSlot (no slots)
@@ -56,33 +66,54 @@ pool 1 1 unbounded keep 5 abort limit 64
 end 7
 ";
 
-/// What a scenario's play tells of its refused steps, as a text.
-fn told(alloc: Global, play: &Play) -> Option<Vec<u8>> {
+/// What is heard of a scenario's play.
+#[derive(Drop)]
+struct Heard {
+    /// Whether each step was accepted.
+    is_whole: bool,
+    /// Why steps were refused.
+    told: Vec<u8>,
+    /// The text of the record.
+    record: Vec<u8>,
+}
+
+/// What is heard of a scenario that is played to its end.
+fn hear_play(alloc: Global, text: &[u8]) -> Result<Heard, Fail>
+    requires { length text.now ≤ 1048576 }
+{
+    let mut listener = Both {
+        one: Recording::new(alloc),
+        other: Refusals::new(alloc, true),
+    };
+    let played = play(alloc, text, &mut listener);
+    played.ending?;
     let mut told = Vec::new(alloc);
-    play.explain(alloc, REFUSED, &mut told).ok()?;
-    Some(told)
-}
-
-/// The text of its record.
-fn record(alloc: Global, play: &Play) -> Option<Vec<u8>> {
+    listener.other.write(&mut told);
     let mut record = Vec::new(alloc);
-    let mut out = WatchedWriter::new(&mut record);
-    play.write_record(alloc, &mut out).ok()?;
-    Some(record)
+    listener
+        .one
+        .write(alloc, &mut WatchedWriter::new(&mut record))?;
+    Ok(Heard {
+        is_whole: listener.other.is_whole,
+        told,
+        record,
+    })
 }
 
-/// This was written, if anything was.
-fn is_written(rt: &impl Abort, line: usize, written: Option<Vec<u8>>, wanted: &[u8]) {
-    let bytes = written.as_ref().map(|bytes| bytes.as_slice());
-    let text = str::from_utf8(bytes.unwrap_or(b"nothing")).unwrap_or("");
+/// This was written.
+fn is_written(rt: &impl Abort, line: usize, written: &[u8], wanted: &[u8]) {
+    let text = str::from_utf8(written).unwrap_or("");
     same(rt, line, &text, &str::from_utf8(wanted).unwrap_or("?"));
 }
 
 #[test]
 fn tells_why_steps_are_refused(rt: HostRuntime) -> Result<(), Fail> {
-    let play = play_text(rt.alloc(), REFUSED)?;
-    same(&rt, 0, &play.refused(), &12);
-    is_written(&rt, 1, told(rt.alloc(), &play), TOLD);
-    is_written(&rt, 2, record(rt.alloc(), &play), RECORD);
+    let refused = hear_play(rt.alloc(), REFUSED)?;
+    same(&rt, 0, &refused.is_whole, &false);
+    is_written(&rt, 1, refused.told.as_slice(), TOLD);
+    is_written(&rt, 2, refused.record.as_slice(), RECORD);
+    let accepted = hear_play(rt.alloc(), ACCEPTED)?;
+    same(&rt, 3, &accepted.is_whole, &true);
+    is_written(&rt, 4, accepted.told.as_slice(), b"");
     Ok(())
 }

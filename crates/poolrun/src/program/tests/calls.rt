@@ -111,7 +111,10 @@ fn call<H: Files + Input + Threads + Wait + Clock + Copy + Send + 'static>(
     alloc: Global,
     line: &str,
     room: usize,
-) -> Result<Called, AllocError> {
+) -> Result<Called, AllocError>
+where
+    H::File: Send + 'static,
+{
     let words = words_of(alloc, line)?;
     let mut out = Shelf {
         room,
@@ -145,7 +148,10 @@ pub fn call_on<H: Files + Input + Threads + Wait + Clock + Copy + Send + 'static
     line: &str,
     (name, text): (&str, &[u8]),
     room: usize,
-) -> Result<Called, Fail> {
+) -> Result<Called, Fail>
+where
+    H::File: Send + 'static,
+{
     fs::write(rt, name, text)?;
     let called = call(rt, alloc, line, room);
     fs::remove_file(rt, name)?;
@@ -156,7 +162,10 @@ fn called_by<H: Files + Input + Threads + Wait + Clock + Copy + Send + 'static>(
     rt: &H,
     alloc: Global,
     row: &Row,
-) -> Result<Called, Fail> {
+) -> Result<Called, Fail>
+where
+    H::File: Send + 'static,
+{
     match row.file {
         Some((name, text)) => call_on(rt, alloc, row.line, (name, text.as_bytes()), row.room),
         None => Ok(call(rt, alloc, row.line, row.room)?),
@@ -173,7 +182,10 @@ pub fn plays<H: Abort + Files + Input + Threads + Wait + Clock + Copy + Send + '
     rt: &H,
     alloc: Global,
     rows: &[Row],
-) -> Result<(), Fail> {
+) -> Result<(), Fail>
+where
+    H::File: Send + 'static,
+{
     for row in rows {
         let called = called_by(rt, alloc, row)?;
         gave(rt, row.line, &called, row.gives);

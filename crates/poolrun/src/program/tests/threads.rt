@@ -29,7 +29,10 @@ fn run_judged<H: Abort + Files + Input + Threads + Wait + Clock + Copy + Send + 
     rt: &H,
     alloc: Global,
     run: &Run,
-) -> Result<(), Fail> {
+) -> Result<(), Fail>
+where
+    H::File: Send + 'static,
+{
     let text = format!(in alloc; "pool {}\n{}", run.pool, run.jobs)?;
     let file = ("some-jobs.txt", text.as_bytes());
     let ran = call_on(rt, alloc, "poolrun threads some-jobs.txt", file, ALL)?;
@@ -44,7 +47,10 @@ fn run_all<H: Abort + Files + Input + Threads + Wait + Clock + Copy + Send + 'st
     rt: &H,
     alloc: Global,
     runs: &[Run],
-) -> Result<(), Fail> {
+) -> Result<(), Fail>
+where
+    H::File: Send + 'static,
+{
     for jobs in runs {
         run_judged(rt, alloc, jobs)?;
     }
@@ -310,7 +316,7 @@ fn ends_a_run_of_jobs_with_its_refusal(rt: HostRuntime) -> Result<(), Fail> {
     plays(&rt, rt.alloc(), &REFUSED)
 }
 
-static KEPT: [Row; 2] = [
+static KEPT: [Row; 4] = [
     Row {
         line: "poolrun threads --record kept-record.txt full-jobs.txt",
         file: Some(("full-jobs.txt", TOO_MANY)),
@@ -330,36 +336,92 @@ static KEPT: [Row; 2] = [
         room: ALL,
         gives: Gives(0, Wanted::Parts("", &["\nstate terminated\n"]), SOME),
     },
+    Row {
+        line: "poolrun threads --journal kept-journal.txt full-jobs.txt",
+        file: Some(("full-jobs.txt", TOO_MANY)),
+        room: ALL,
+        gives: Gives(1, Wanted::Text("refused 5 BookFull\n"), SOME),
+    },
+    Row {
+        line: "poolrun audit kept-journal.txt",
+        file: None,
+        room: ALL,
+        gives: Gives(0, Wanted::Parts("", &["\nstate terminated\n"]), SOME),
+    },
 ];
 
-const KEEPS: &str = "poolrun threads --record kept-record.txt few-jobs.txt";
+/// Lines that write the record to a file too, and where.
+const KEEPS: [(&str, &str); 2] = [
+    (
+        "poolrun threads --record kept-record.txt few-jobs.txt",
+        "kept-record.txt",
+    ),
+    (
+        "poolrun threads --journal kept-journal.txt few-jobs.txt",
+        "kept-journal.txt",
+    ),
+];
 
 /// Twenty jobs, and room for fewer: the record of those that were run is written all the same, and is legal. One that is printed goes
 /// to the file just as it is.
 #[test]
 fn keeps_the_record_of_a_full_pool(rt: HostRuntime) -> Result<(), Fail> {
     plays(&rt, rt.alloc(), &KEPT)?;
-    let file = ("few-jobs.txt", ROW_23.as_bytes());
-    let ran = call_on(&rt, rt.alloc(), KEEPS, file, ALL)?;
-    let record = fs::read(&rt, "kept-record.txt")?;
-    let is_kept = ran.status == 0 && ran.out == record && ran.errors.is_empty();
-    holds(&rt, KEEPS, &ran, is_kept);
-    fs::remove_file(&rt, "kept-record.txt")?;
+    for (line, path) in KEEPS {
+        let file = ("few-jobs.txt", ROW_23.as_bytes());
+        let ran = call_on(&rt, rt.alloc(), line, file, ALL)?;
+        let record = fs::read(&rt, path)?;
+        let is_kept = ran.status == 0 && ran.out == record && ran.errors.is_empty();
+        holds(&rt, line, &ran, is_kept);
+        fs::remove_file(&rt, path)?;
+    }
     Ok(())
 }
 
-static UNKEPT: [Row; 1] = [Row {
-    line: "poolrun threads --record no-such-folder/record.txt unkept-jobs.txt",
-    file: Some(("unkept-jobs.txt", ROW_23)),
-    room: ALL,
-    gives: Gives(
-        1,
-        Wanted::Text("refused 26 WriteFailed\n"),
-        Wanted::Text(
-            "poolrun: no-such-folder/record.txt: No such file or directory (os error 2)\n",
+static UNKEPT: [Row; 4] = [
+    Row {
+        line: "poolrun threads --record no-such-folder/record.txt unkept-jobs.txt",
+        file: Some(("unkept-jobs.txt", ROW_23)),
+        room: ALL,
+        gives: Gives(
+            1,
+            Wanted::Text("refused 26 WriteFailed\n"),
+            Wanted::Text(
+                "poolrun: no-such-folder/record.txt: No such file or directory (os error 2)\n",
+            ),
         ),
-    ),
-}];
+    },
+    Row {
+        line: "poolrun threads --journal no-such-folder/journal.txt unkept-jobs.txt",
+        file: Some(("unkept-jobs.txt", ROW_23)),
+        room: ALL,
+        gives: Gives(
+            0,
+            Wanted::Parts("tprecord 2\n", &[" end w0 t1 value 6\n", "\nend 1"]),
+            Wanted::Text(
+                "poolrun: no-such-folder/journal.txt: No such file or directory (os error 2); the journal is cut off behind entry 0\n",
+            ),
+        ),
+    },
+    Row {
+        line: "poolrun threads --journal /dev/full unkept-jobs.txt",
+        file: Some(("unkept-jobs.txt", ROW_23)),
+        room: ALL,
+        gives: Gives(
+            0,
+            Wanted::Parts("tprecord 2\n", &[" end w0 t1 value 6\n", "\nend 1"]),
+            Wanted::Text(
+                "poolrun: /dev/full: No space left on device (os error 28); the journal is cut off behind entry 0\n",
+            ),
+        ),
+    },
+    Row {
+        line: "poolrun threads --tally --journal a b",
+        file: None,
+        room: ALL,
+        gives: Gives(2, NONE, SOME),
+    },
+];
 
 #[test]
 fn tells_that_the_record_is_not_written(rt: HostRuntime) -> Result<(), Fail> {

@@ -16,7 +16,7 @@ returns-in-Ok c =
     let out = c.play-played.result.output.items in (
       out,
       Ok c.in-Ok.field-0,
-      (grind (arith, nat_tests, c.if-text-gt-MAX_TEXT_BYTES.false), subst (IsPlayed c.args.text.now out) c.in-Ok.is c.play-played.ensures),
+      (grind (arith, nat_tests, c.if-text-gt-MAX_TEXT_BYTES.false), subst (IsPlayed c.args.text.now out) c.in-Ok.is c.play-played.ensures.played),
       subst (λ xs. IsLaid xs Done c.args.room.now c.lay.new.room c.lay.new.needed c.lay.result) c.as_slice.ensures.value c.lay.ensures,
     )
 
@@ -26,6 +26,6 @@ returns c =
     let e = c.in-Err.error in (
       out ++ refusal_line e,
       Err e,
-      (out, refl, inl (grind (arith, nat_tests, c.if-text-gt-MAX_TEXT_BYTES.false), subst (IsPlayed c.args.text.now out) c.in-Err.is c.play-played.ensures)),
+      (out, refl, inl (grind (arith, nat_tests, c.if-text-gt-MAX_TEXT_BYTES.false), subst (IsPlayed c.args.text.now out) c.in-Err.is c.play-played.ensures.played)),
       subst (λ xs. IsLaid (xs ++ refusal_line e) (Refused e) c.args.room.now c.refuse-in-Err.new.room c.refuse-in-Err.new.needed c.refuse-in-Err.result) c.as_slice-in-Err.ensures.value c.refuse-in-Err.ensures,
     )

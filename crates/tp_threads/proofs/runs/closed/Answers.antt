@@ -1,11 +1,16 @@
-use Rattle.std.proofs.Common.{◌≡◌, true, not, ap, subst, ◌∙◌}
-use Rattle.std.specs.Result.{is_ok}
+use Rattle.std.proofs.Common.{◌≡◌, ◌∷◌, [], refl, subst, Ok, true}
+use Rattle.std.specs.Prelude.{IfOk, IsTrue}
+use Rattle.std.proofs.lemmas.Result.{IfOk-weaker}
 use Rattle.tp_shared.specs.Closing.{Closes}
-use Rattle.tp_threads.proofs.Ends.{one_pass}
+use Rattle.tp_threads.specs.Runs.{AddsEnd}
 use Rattle.tp_threads.proofs.runs.closed.Goals as goal
 
-pub returns-in-Ok-close-clause-report : goal.returns-in-Ok-close-clause-report
-returns-in-Ok-close-clause-report g c =
-    let ok : is_ok c.push.result ≡ true = c.is_err.ensures.negation ∙ ap not c.if-is_err.false in
-    let passes = one_pass c.args.passes.items c.push.new.self.items c.end.new.pass c.requires.alone (rw ok at c.push.ensures.items) in
-    (c.end.new.pass, c.in-Ok.ensures.ends c.if-by_itself.true, subst (λ ps. Closes g.K.Reporter.told g.K.Recorder.RECEIPTS g.G.PoolNaming.config (g.K.Recorder.terms g.G.PoolNaming.config) ps c.in-Ok-close.report) passes c.in-Ok-close.ensures.report)
+pub returns-clause-report : goal.returns-clause-report
+returns-clause-report g c =
+    let terms = g.K.Recorder.terms g.G.PoolNaming.config in
+    let told = Closes g.K.Reporter.told g.K.Recorder.RECEIPTS g.G.PoolNaming.config terms in
+    IfOk-weaker c.answered.result _ _
+    (λ r (is : c.close_with.result ≡ Ok (true, r)).
+    let closed = subst (λ x. IfOk x (λ y. (c.end-ended.result ≡ Ok y.0) × told (c.end-ended.new.pass ∷ []) y.1)) is c.close_with.ensures.report in
+    (c.end-ended.new.pass, subst (λ x. IfOk x (λ by_itself. IsTrue by_itself → AddsEnd terms c.args.pass c.end-ended.new.pass)) closed.0 c.end-ended.ensures.ends refl, closed.1))
+    c.answered.ensures.report

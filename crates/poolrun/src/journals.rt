@@ -1,0 +1,104 @@
+//! The journal of a run: where it is written, and what is told of its end.
+
+use std::alloc::{AllocError, Global};
+use std::fs;
+use std::io::{self, Write};
+use std::rt::Files;
+use std::time::Duration;
+use tp_journal::journals::MILLIS;
+use tp_journal::writers::Cut;
+use tp_threads::recorded::{Ended, Wish};
+
+/// For how many milliseconds the end of a run waits for a writer that takes nothing.
+const PATIENCE: u64 = 5_000;
+
+/// A file that is made when the first text is written to it, by the journal's thread: who opens a pipe that nobody reads waits, and
+/// the pool must not.
+#[derive(Drop)]
+pub struct JournalFile<H: Files + Copy> {
+    host: H,
+    path: String,
+    file: Option<H::File>,
+}
+
+impl<H: Files + Copy> Write for JournalFile<H> {
+    fn write(&mut self, buf: &[u8]) -> io::Result<usize> {
+        if self.file.is_none() {
+            self.file = Some(fs::create(&self.host, self.path.as_str())?);
+        }
+        match &mut self.file {
+            Some(file) => file.write(buf),
+            None => Ok(0),
+        }
+    }
+
+    fn flush(&mut self) -> io::Result<()> {
+        match &mut self.file {
+            Some(file) => file.flush(),
+            None => Ok(()),
+        }
+    }
+}
+
+/// The journal that is wanted at this path, if there is one.
+pub fn journal_at<H: Files + Copy>(
+    host: H,
+    alloc: Global,
+    path: Option<&str>,
+) -> Result<Option<Wish<JournalFile<H>>>, AllocError> {
+    let Some(path) = path else {
+        return Ok(None);
+    };
+    let writer = JournalFile {
+        host,
+        path: String::from_str(alloc, path)?,
+        file: None,
+    };
+    Ok(Some(Wish {
+        writer,
+        every: Duration::from_millis(MILLIS),
+        patience: Duration::from_millis(PATIENCE),
+    }))
+}
+
+/// Tells why a journal is cut off.
+fn tell_cut<W: Write, E: Write>(errors: &mut E, path: &str, cut: &Cut<W>) {
+    let entries = cut.writer.entries();
+    let _ = match cut.writer.failure() {
+        Some(reason) => writeln!(
+            errors,
+            "poolrun: {path}: {reason}; the journal is cut off behind entry {entries}"
+        ),
+        None => {
+            let refusal = cut.error;
+            writeln!(
+                errors,
+                "poolrun: {path}: the journal is cut off behind entry {entries}, by refusal {refusal}"
+            )
+        }
+    };
+}
+
+/// Tells what became of a journal that is not whole.
+pub fn tell_journal<W: Write, E: Write>(
+    errors: &mut E,
+    path: Option<&str>,
+    ended: &Option<Ended<W>>,
+) {
+    let (Some(path), Some(ended)) = (path, ended) else {
+        return;
+    };
+    match ended {
+        Ended::Whole(_) => (),
+        Ended::Cut(cut) => tell_cut(errors, path, cut),
+        Ended::Left => {
+            let _ = writeln!(
+                errors,
+                "poolrun: {path}: the journal waits to be written, and is cut off"
+            );
+        }
+    }
+}
+
+#[cfg(test)]
+mod tests;

@@ -1,0 +1,12 @@
+use Rattle.std.proofs.Common.{◌≡◌, ◌+◌, ◌∙◌, length, rules, subst}
+use Rattle.std.specs.Io.KnownBytes.{Appends}
+use Rattle.tp_journal.proofs.Written.{more_written}
+use Rattle.tp_journal.proofs.writers.RecordWriter.add.Goals as goal
+
+pub returns-in-Ok-write-clause-added : goal.returns-in-Ok-write-clause-added
+returns-in-Ok-write-clause-added g c before c' es has =
+    let old = g.W.Write.contents c.args.self.now.writer in
+    let new = g.W.Write.contents c.write.new.self.writer in
+    let counted : c.in-Some.count ≡ c.args.self.now.entries + length c.args.entries.now = search rules in
+    more_written g.W.Write.contents before c' es c.args.entries.now c.args.self.now _ has
+    (subst (Appends old new) (c.as_slice.ensures.value ∙ c.in-Ok.ensures.text) c.in-Ok-write.ensures.written) counted
