@@ -2,7 +2,7 @@
 
 ghost use Rattle.std.specs.Prelude.{◌<◌, length, IfOk};
 
-use crate::journals::{JournalFile, journal_at, tell_journal};
+use crate::journals::{Disk, JournalFile, journal_at, tell_journal};
 use std::alloc::Global;
 use std::fs;
 use std::io::{ErrorKind, Read, Write};
@@ -92,7 +92,7 @@ fn jobs_text<R: Read, W: Write, E: Write>(
 /// Runs the jobs of a text by threads. The record, or what stands in its place, goes to `out`, and the record's text to the file at the
 /// path too, if there is one. What is left of a run where a submission is refused, or no thread could be made, is kept, and so is the end
 /// of its journal.
-fn run_jobs<H: Files + Threads + Wait + Clock + Copy + Send + 'static, W: Write, E: Write>(
+fn run_jobs<H: Files + Threads + Wait + Clock + Disk + Copy + Send + 'static, W: Write, E: Write>(
     rt: H,
     alloc: Global,
     running: &Running,
@@ -102,8 +102,6 @@ fn run_jobs<H: Files + Threads + Wait + Clock + Copy + Send + 'static, W: Write,
     ended: &mut Option<Ended<JournalFile<H>>>,
     kept: &mut Option<Unfinished>,
 ) -> Result<bool, PoolError>
-where
-    H::File: Send + 'static,
     requires { length text.now < 4294967295 }
 {
     if !running.keeps_record {
@@ -216,7 +214,7 @@ fn tell_run<H: Files, E: Write>(
 /// Runs the jobs that a reader of this name gives, as `poolrun threads`, and gives the status of the program. What is wrong with a text
 /// that is refused, or which job is, goes to `errors`, and so does why a journal is not whole.
 pub fn run_threads<
-    H: Files + Threads + Wait + Clock + Copy + Send + 'static,
+    H: Files + Threads + Wait + Clock + Disk + Copy + Send + 'static,
     R: Read,
     W: Write,
     E: Write,
@@ -229,10 +227,7 @@ pub fn run_threads<
     out: &mut WatchedWriter<W>,
     errors: &mut E,
     style: Style,
-) -> u8
-where
-    H::File: Send + 'static,
-{
+) -> u8 {
     let text = match jobs_text(alloc, running, name, reader, out, errors) {
         Ok(text) => text,
         Err(status) => return status,

@@ -1,9 +1,8 @@
 //! The journal of a run: where it is written, and what is told of its end.
 
 use std::alloc::{AllocError, Global};
-use std::fs;
+use std::fs::{self, File};
 use std::io::{self, Write};
-use std::rt::Files;
 use std::time::Duration;
 use tp_journal::journals::MILLIS;
 use tp_journal::writers::Cut;
@@ -12,19 +11,36 @@ use tp_threads::recorded::{Ended, Wish};
 /// For how many milliseconds the end of a run waits for a writer that takes nothing.
 const PATIENCE: u64 = 5_000;
 
+/// A host whose files any of its threads can make and write. `Files` lets the thread alone that it was handed to.
+pub trait Disk {
+    /// A file that is written.
+    type Written: Write + Send + Drop + 'static;
+
+    /// The file at a path, made anew.
+    fn create(&self, path: &str) -> io::Result<Self::Written>;
+}
+
+impl Disk for HostRuntime {
+    type Written = File;
+
+    fn create(&self, path: &str) -> io::Result<File> {
+        fs::create(self, path)
+    }
+}
+
 /// A file that is made when the first text is written to it, by the journal's thread: who opens a pipe that nobody reads waits, and
 /// the pool must not.
 #[derive(Drop)]
-pub struct JournalFile<H: Files + Copy> {
-    host: H,
+pub struct JournalFile<D: Disk + Copy> {
+    disk: D,
     path: String,
-    file: Option<H::File>,
+    file: Option<D::Written>,
 }
 
-impl<H: Files + Copy> Write for JournalFile<H> {
+impl<D: Disk + Copy> Write for JournalFile<D> {
     fn write(&mut self, buf: &[u8]) -> io::Result<usize> {
         if self.file.is_none() {
-            self.file = Some(fs::create(&self.host, self.path.as_str())?);
+            self.file = Some(self.disk.create(self.path.as_str())?);
         }
         match &mut self.file {
             Some(file) => file.write(buf),
@@ -41,16 +57,16 @@ impl<H: Files + Copy> Write for JournalFile<H> {
 }
 
 /// The journal that is wanted at this path, if there is one.
-pub fn journal_at<H: Files + Copy>(
-    host: H,
+pub fn journal_at<D: Disk + Copy>(
+    disk: D,
     alloc: Global,
     path: Option<&str>,
-) -> Result<Option<Wish<JournalFile<H>>>, AllocError> {
+) -> Result<Option<Wish<JournalFile<D>>>, AllocError> {
     let Some(path) = path else {
         return Ok(None);
     };
     let writer = JournalFile {
-        host,
+        disk,
         path: String::from_str(alloc, path)?,
         file: None,
     };

@@ -1,6 +1,7 @@
 //! The program over any files, words and writers.
 
 use crate::jobs::{run_threads, write_file};
+use crate::journals::Disk;
 use crate::progress::{Progress, ToldReader};
 use clap::error::ErrorKind;
 use std::alloc::Global;
@@ -31,7 +32,7 @@ use tp_types::refusals::PoolError;
 
 /// Does what was chosen with what a reader gives, and gives the status.
 fn run_reader<
-    H: Files + Input + Threads + Wait + Clock + Copy + Send + 'static,
+    H: Files + Input + Threads + Wait + Clock + Disk + Copy + Send + 'static,
     R: Read + Drop,
     W: Write,
     E: Write,
@@ -43,10 +44,7 @@ fn run_reader<
     out: &mut WatchedWriter<W>,
     errors: &mut E,
     style: Style,
-) -> u8
-where
-    H::File: Send + 'static,
-{
+) -> u8 {
     let name = name_of(choice.path());
     let reader = &mut WatchedReader::new(reader);
     match choice {
@@ -164,7 +162,7 @@ fn bytes_at<H: Files>(rt: &H, path: &str) -> Option<u64> {
 /// `errors` what is told beside, and to `progress` how far a long text is read.
 fn run_choice<
     'a,
-    H: Files + Input + Threads + Wait + Clock + Copy + Send + 'static,
+    H: Files + Input + Threads + Wait + Clock + Disk + Copy + Send + 'static,
     W: Write,
     E: Write,
     T: Write,
@@ -176,10 +174,7 @@ fn run_choice<
     errors: &mut E,
     progress: &'a mut T,
     style: Style,
-) -> u8
-where
-    H::File: Send + 'static,
-{
+) -> u8 {
     let path = choice.path();
     let total = if style.shows_progress {
         bytes_at(rt, path)
@@ -253,7 +248,7 @@ fn style_on(terminal: Terminal, colour: Colour) -> Style {
 /// refused, the reason why a file can't be opened or read, or why `out` failed, and the parser's texts. To `progress`, which writes to the
 /// same terminal, goes how far a long text is read.
 pub fn program<
-    H: Files + Input + Threads + Wait + Clock + Copy + Send + 'static,
+    H: Files + Input + Threads + Wait + Clock + Disk + Copy + Send + 'static,
     W: Write,
     E: Write,
     T: Write,
@@ -265,10 +260,7 @@ pub fn program<
     errors: &mut E,
     progress: &mut T,
     terminal: Terminal,
-) -> u8
-where
-    H::File: Send + 'static,
-{
+) -> u8 {
     let mut out = WatchedWriter::new(out);
     let status = match chosen(alloc, words) {
         Ok(chosen) => {

@@ -2,9 +2,10 @@
 
 use std::alloc::Global;
 use std::io::{self, ErrorKind, Write};
-use std::sync::{Arc, Mutex, Wait};
+use std::sync::atomic::{AtomicBool, Ordering};
+use std::sync::{Arc, Wait};
 use std::test::Fail;
-use std::thread::Threads;
+use std::thread::{Threads, sleep};
 use std::time::{Clock, Duration};
 use tp_journal::writers::Cut;
 use tp_text::watched::WatchedWriter;
@@ -20,18 +21,26 @@ submit 6
 /// How many bytes come before the first entry of their record.
 const HEAD: usize = 43;
 
-/// A writer that goes through a door before it takes bytes, and fails where it has no room for them.
+/// For how many milliseconds a writer waits at a shut door.
+const AT_MOST: usize = 10_000;
+
+/// A writer that waits at its door before it takes bytes, and fails where it has no room for them.
 #[derive(Drop)]
-struct Guarded<H: Copy> {
-    host: H,
-    door: Arc<Mutex<()>>,
+struct Guarded {
+    host: HostRuntime,
+    is_open: Arc<AtomicBool>,
     room: usize,
     taken: Vec<u8>,
 }
 
-impl<H: Wait + Copy> Write for Guarded<H> {
+impl Write for Guarded {
     fn write(&mut self, buf: &[u8]) -> io::Result<usize> {
-        drop(self.door.lock(&self.host));
+        for _ in 0..AT_MOST {
+            if self.is_open.load(Ordering::SeqCst) {
+                break;
+            }
+            sleep(&self.host, Duration::from_millis(1));
+        }
         if self.room < buf.len() {
             return Err(ErrorKind::StorageFull.into());
         }
@@ -44,20 +53,13 @@ impl<H: Wait + Copy> Write for Guarded<H> {
     }
 }
 
-/// Runs the jobs with a journal by a writer of so much room behind this door: the text of their record, and what became of the journal.
-fn run_with<R: Threads + Wait + Clock + Copy + Send + 'static>(
+/// Runs the jobs with a journal by this writer: the text of their record, and what became of the journal.
+fn run_with<R: Threads + Wait + Clock + Copy + Send + 'static, V: Write + Send + Drop + 'static>(
     rt: R,
     alloc: Global,
-    door: &Arc<Mutex<()>>,
-    room: usize,
+    writer: V,
     patience: Duration,
-) -> Result<(Vec<u8>, Option<Ended<Guarded<R>>>), Fail> {
-    let writer = Guarded {
-        host: rt,
-        door: Arc::try_clone(door)?,
-        room,
-        taken: Vec::new(alloc),
-    };
+) -> Result<(Vec<u8>, Option<Ended<V>>), Fail> {
     let wish = Some(Wish {
         writer,
         every: Duration::from_millis(1),
@@ -78,11 +80,7 @@ const ROWS: [(usize, Option<usize>); 3] = [
 ];
 
 /// The writer took just so many bytes of this text, and what is told of it says so.
-fn took<H: Wait + Copy>(
-    ended: Option<Ended<Guarded<H>>>,
-    text: &[u8],
-    count: Option<usize>,
-) -> bool {
+fn took(ended: Option<Ended<Guarded>>, text: &[u8], count: Option<usize>) -> bool {
     match (ended, count) {
         (Some(Ended::Whole(writer)), None) => writer.taken.as_slice() == text,
         (Some(Ended::Cut(cut)), Some(count)) => {
@@ -98,9 +96,15 @@ fn took<H: Wait + Copy>(
 /// A journal is the text of the record, or as much of it as its writer took: the run is the same.
 #[test]
 fn journal_is_the_record(rt: HostRuntime) -> Result<(), Fail> {
-    let door = Arc::new(rt.alloc(), Mutex::new(()))?;
+    let door = Arc::new(rt.alloc(), AtomicBool::new(true))?;
     for (room, count) in ROWS {
-        let (text, ended) = run_with(rt, rt.alloc(), &door, room, Duration::from_secs(60))?;
+        let writer = Guarded {
+            host: rt,
+            is_open: Arc::try_clone(&door)?,
+            room,
+            taken: Vec::new(rt.alloc()),
+        };
+        let (text, ended) = run_with(rt, rt.alloc(), writer, Duration::from_secs(60))?;
         assert!(&rt; took(ended, text.as_slice(), count), "room {room}");
     }
     Ok(())
@@ -109,11 +113,16 @@ fn journal_is_the_record(rt: HostRuntime) -> Result<(), Fail> {
 /// A run leaves a journal whose writer takes nothing.
 #[test]
 fn leaves_a_writer_that_waits(rt: HostRuntime) -> Result<(), Fail> {
-    let door = Arc::new(rt.alloc(), Mutex::new(()))?;
-    let shut = door.lock(&rt);
-    let (text, ended) = run_with(rt, rt.alloc(), &door, usize::MAX, Duration::from_millis(5))?;
+    let door = Arc::new(rt.alloc(), AtomicBool::new(false))?;
+    let writer = Guarded {
+        host: rt,
+        is_open: Arc::try_clone(&door)?,
+        room: usize::MAX,
+        taken: Vec::new(rt.alloc()),
+    };
+    let (text, ended) = run_with(rt, rt.alloc(), writer, Duration::from_millis(5))?;
     let is_left = matches!(ended, Some(Ended::Left)) && HEAD < text.len();
     assert!(&rt; is_left, "{} bytes", text.len());
-    drop(shut);
+    door.store(true, Ordering::SeqCst);
     Ok(())
 }

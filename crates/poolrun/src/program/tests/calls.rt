@@ -1,6 +1,7 @@
 //! Calls of the program: rows of tables, all played here, since a call costs a proof wherever it stands.
 
 use super::super::{Terminal, program, without_words};
+use crate::journals::Disk;
 use std::alloc::{AllocError, Global};
 use std::fs;
 use std::io::{self, ErrorKind, Write};
@@ -106,15 +107,12 @@ fn words_of(alloc: Global, line: &str) -> Result<Vec<String>, AllocError> {
 }
 
 /// Calls the program by this line, with a standard output that takes so many bytes.
-fn call<H: Files + Input + Threads + Wait + Clock + Copy + Send + 'static>(
+fn call<H: Files + Input + Threads + Wait + Clock + Disk + Copy + Send + 'static>(
     rt: &H,
     alloc: Global,
     line: &str,
     room: usize,
-) -> Result<Called, AllocError>
-where
-    H::File: Send + 'static,
-{
+) -> Result<Called, AllocError> {
     let words = words_of(alloc, line)?;
     let mut out = Shelf {
         room,
@@ -142,30 +140,24 @@ where
 }
 
 /// Calls the program while there is a file of this name and text.
-pub fn call_on<H: Files + Input + Threads + Wait + Clock + Copy + Send + 'static>(
+pub fn call_on<H: Files + Input + Threads + Wait + Clock + Disk + Copy + Send + 'static>(
     rt: &H,
     alloc: Global,
     line: &str,
     (name, text): (&str, &[u8]),
     room: usize,
-) -> Result<Called, Fail>
-where
-    H::File: Send + 'static,
-{
+) -> Result<Called, Fail> {
     fs::write(rt, name, text)?;
     let called = call(rt, alloc, line, room);
     fs::remove_file(rt, name)?;
     Ok(called?)
 }
 
-fn called_by<H: Files + Input + Threads + Wait + Clock + Copy + Send + 'static>(
+fn called_by<H: Files + Input + Threads + Wait + Clock + Disk + Copy + Send + 'static>(
     rt: &H,
     alloc: Global,
     row: &Row,
-) -> Result<Called, Fail>
-where
-    H::File: Send + 'static,
-{
+) -> Result<Called, Fail> {
     match row.file {
         Some((name, text)) => call_on(rt, alloc, row.line, (name, text.as_bytes()), row.room),
         None => Ok(call(rt, alloc, row.line, row.room)?),
@@ -178,14 +170,11 @@ pub fn gave(rt: &impl Abort, line: &str, called: &Called, gives: Gives) {
 }
 
 /// Makes each of these calls, in their order.
-pub fn plays<H: Abort + Files + Input + Threads + Wait + Clock + Copy + Send + 'static>(
+pub fn plays<H: Abort + Files + Input + Threads + Wait + Clock + Disk + Copy + Send + 'static>(
     rt: &H,
     alloc: Global,
     rows: &[Row],
-) -> Result<(), Fail>
-where
-    H::File: Send + 'static,
-{
+) -> Result<(), Fail> {
     for row in rows {
         let called = called_by(rt, alloc, row)?;
         gave(rt, row.line, &called, row.gives);

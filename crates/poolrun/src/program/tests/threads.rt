@@ -2,6 +2,7 @@
 
 use super::calls::{Gives, Row, Wanted, call_on, gave, holds, plays};
 use super::{ALL, NONE};
+use crate::journals::Disk;
 use std::alloc::Global;
 use std::fs;
 use std::process::Abort;
@@ -25,14 +26,11 @@ struct Run {
 }
 
 /// Runs the jobs by threads, and has what is printed judged.
-fn run_judged<H: Abort + Files + Input + Threads + Wait + Clock + Copy + Send + 'static>(
+fn run_judged<H: Abort + Files + Input + Threads + Wait + Clock + Disk + Copy + Send + 'static>(
     rt: &H,
     alloc: Global,
     run: &Run,
-) -> Result<(), Fail>
-where
-    H::File: Send + 'static,
-{
+) -> Result<(), Fail> {
     let text = format!(in alloc; "pool {}\n{}", run.pool, run.jobs)?;
     let file = ("some-jobs.txt", text.as_bytes());
     let ran = call_on(rt, alloc, "poolrun threads some-jobs.txt", file, ALL)?;
@@ -43,14 +41,11 @@ where
     Ok(())
 }
 
-fn run_all<H: Abort + Files + Input + Threads + Wait + Clock + Copy + Send + 'static>(
+fn run_all<H: Abort + Files + Input + Threads + Wait + Clock + Disk + Copy + Send + 'static>(
     rt: &H,
     alloc: Global,
     runs: &[Run],
-) -> Result<(), Fail>
-where
-    H::File: Send + 'static,
-{
+) -> Result<(), Fail> {
     for jobs in runs {
         run_judged(rt, alloc, jobs)?;
     }
