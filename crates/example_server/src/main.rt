@@ -1,7 +1,8 @@
 //! `example_server`: a server with three callers, one worker and a queue of two places. Who finds the queue full runs the request itself.
-//! It prints what became of each request.
+//! It prints what became of each request. With a path, it writes its journal there while it serves.
 #![tactic(auto)]
 
+use std::env;
 use tp_life::prelude::*;
 
 /// A request for six less a number. There is none for a greater number.
@@ -20,19 +21,6 @@ impl Task for Request {
 #[derive(Drop)]
 struct Serving(HostRuntime);
 
-impl Serving {
-    // Shuts the server down behind the requests of the two others. It waits for them for ten seconds at most.
-    fn shut<P: Calls<Task = Request>>(&self, server: &mut P) -> Result<(), PoolError> {
-        for _ in 0..10_000 {
-            if 8 <= server.look().counts.submitted {
-                break;
-            }
-            sleep(&self.0, Duration::from_millis(1));
-        }
-        server.shutdown()
-    }
-}
-
 impl Life for Serving {
     type Out = Result<Vec<Told<u32>>, PoolError>;
 
@@ -41,7 +29,14 @@ impl Life for Serving {
     fn live<P: Calls<Task = Request>>(&self, server: &mut P, who: u32) -> Self::Out {
         let first = who.saturating_mul(4);
         if who == 2 {
-            self.shut(server)?;
+            // It shuts the server down behind the requests of the two others, for which it waits ten seconds at most.
+            for _ in 0..10_000 {
+                if 8 <= server.look().counts.submitted {
+                    break;
+                }
+                sleep(&self.0, Duration::from_millis(1));
+            }
+            server.shutdown()?;
         }
         let mut tickets = Vec::new(self.0.alloc());
         for number in first..first.saturating_add(4) {
@@ -56,9 +51,12 @@ impl Life for Serving {
 }
 
 fn main(rt: HostRuntime) -> anyhow::Result<()> {
+    let alloc = rt.alloc();
     let queue = QueueKind::Bounded(2);
     let settings = Config::fixed(1).queue(queue).policy(Policy::CallerRuns);
-    let (served, _) = with_pool(&rt, rt.alloc(), settings, Defaults, 3, &Serving(rt))?;
+    let words = env::args(&rt)?.collect::<Vec<String>>(alloc)?;
+    let wish = wish_at(&rt, words.get(1))?;
+    let (served, _, end) = with_journal(&rt, alloc, settings, Defaults, 3, &Serving(rt), wish)?;
     for (who, answers) in served.into_iter().enumerate() {
         for answer in &answers? {
             match answer {
@@ -66,6 +64,9 @@ fn main(rt: HostRuntime) -> anyhow::Result<()> {
                 Err(error) => println!(&rt; "caller {who}: {}", Reason(*error))?,
             }
         }
+    }
+    if let Some(Ended::Cut(_) | Ended::Left) = end {
+        println!(&rt; "the journal is cut off")?;
     }
     Ok(())
 }

@@ -3,13 +3,8 @@
 use std::alloc::{AllocError, Global};
 use std::fs::{self, File};
 use std::io::{self, Write};
-use std::time::Duration;
-use tp_journal::journals::MILLIS;
+use tp_journal::endings::{Ended, Wish};
 use tp_journal::writers::Cut;
-use tp_threads::recorded::{Ended, Wish};
-
-/// For how many milliseconds the end of a run waits for a writer that takes nothing.
-const PATIENCE: u64 = 5_000;
 
 /// A host whose files any of its threads can make and write. `Files` lets the thread alone that it was handed to.
 pub trait Disk {
@@ -70,11 +65,7 @@ pub fn journal_at<D: Disk + Copy>(
         path: String::from_str(alloc, path)?,
         file: None,
     };
-    Ok(Some(Wish {
-        writer,
-        every: Duration::from_millis(MILLIS),
-        patience: Duration::from_millis(PATIENCE),
-    }))
+    Ok(Some(Wish::new(writer)))
 }
 
 /// Tells why a journal is cut off.

@@ -6,6 +6,7 @@
 //! reading does, and writes them behind it.
 #![tactic(auto)]
 
+pub mod endings;
 pub mod following;
 pub mod journals;
 pub mod windows;

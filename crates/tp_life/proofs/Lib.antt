@@ -1,4 +1,5 @@
 pub mod Answered
+pub mod Looked
 pub mod Parts
 pub mod Ticks
 pub mod Told

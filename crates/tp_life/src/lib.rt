@@ -6,6 +6,7 @@ pub mod calls;
 mod desk;
 pub mod groups;
 pub mod lives;
+pub mod recorded;
 pub mod running;
 mod seats;
 pub mod ticking;
@@ -15,6 +16,7 @@ pub mod prelude {
     pub use crate::calls::{Calls, Controls, Life, Setting, Ticket};
     pub use crate::groups::Group;
     pub use crate::lives::{with_pool, with_tally};
+    pub use crate::recorded::with_journal;
     pub use crate::running::{Told, run_tasks};
     pub use crate::ticking::{End, with_ticker};
     pub use std::thread::sleep;
@@ -23,6 +25,7 @@ pub mod prelude {
     pub use tp_advice::reasons::Reason;
     pub use tp_advice::sizes::for_jobs;
     pub use tp_book::reports::{Report, TallyReport};
+    pub use tp_journal::endings::{Ended, Wish, wish_at};
     pub use tp_locked::answers::{Admitted, Drained, Refused, Removal};
     pub use tp_protocols::flags::CancelFlag;
     pub use tp_shared::defaults::Defaults;

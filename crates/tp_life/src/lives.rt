@@ -1,8 +1,9 @@
 //! A pool for the time of one call: it is opened, its callers live, it is shut down, waited for and closed.
 ghost use Rattle.std.specs.Prelude.{ℕ, ◌≡◌, ◌⊎◌, ◌<◌, ◌≤◌, [], ◌∷◌, ◌++◌, length, suc, true, false, Some, slice_index_or, vec_len, vec_capacity, IfOk, IfErr, IfSome, OnOk, IsSome, IsSomeAnd};
+ghost use Rattle.tp_record.specs.Fields.{rank};
+ghost use Rattle.tp_record.specs.Step.{Legal};
 ghost use Rattle.tp_record.specs.Terms.{without_end};
 ghost use Rattle.tp_book.specs.Reports.{TellsCount, TellsRecord};
-ghost use Rattle.tp_book.specs.PassView.{PassView};
 ghost use Rattle.tp_shared.specs.Closing.{Closes};
 ghost use Rattle.tp_life.specs.Lived.{AreLived, IsLived, IsNewPass, IsUnlived, IsUntold};
 ghost use Rattle.tp_life.specs.Ran.{Pairwise};
@@ -132,14 +133,17 @@ fn opened<
 // What a life wants beside its pool: lists with room for what comes of its callers and for all passes, and the desk. The memory for it
 // is taken before the pool is made.
 #[derive(Drop)]
-struct Rooms<G: PoolNaming, O> {
-    outs: Vec<O>,
-    passes: Vec<Pass<G>>,
+pub(crate) struct Rooms<G: PoolNaming, O> {
+    pub(crate) outs: Vec<O>,
+    pub(crate) passes: Vec<Pass<G>>,
     desk: Arc<Desk>,
 }
 
 // The rooms for so many callers. NoMemory (4).
-fn make_rooms<G: PoolNaming, O: Drop>(alloc: Global, callers: u32) -> Result<Rooms<G, O>, PoolError>
+pub(crate) fn make_rooms<G: PoolNaming, O: Drop>(
+    alloc: Global,
+    callers: u32,
+) -> Result<Rooms<G, O>, PoolError>
     ensures outs { IfOk result (λ r. (r.outs.items ≡ []) × (callers ≤ vec_capacity r.outs)) }
     ensures passes { IfOk result (λ r. (r.passes.items ≡ []) × (suc callers ≤ vec_capacity r.passes)) }
     ensures refused { IfErr result (λ e. e ≡ PoolError.NoMemory) }
@@ -160,8 +164,8 @@ struct Caller<G: PoolNaming, W: Task, H, E, K: Keeper, O> {
     out: Option<O>,
 }
 
-// The lives with a new pool, each with a pass that is split from its first one, by which it is ended.
-fn lived<
+// The lives with a new pool, which is then ended.
+pub(crate) fn lived<
     G: PoolNaming + Send + Sync + 'static,
     V: Send + Drop + 'static,
     W: Task<Output = V> + Send + 'static,
@@ -186,26 +190,65 @@ fn lived<
     ensures lived { IfOk result (λ r. IsLived (L.leaves life.now (K.terms G.config)) K.RECEIPTS K.told G.config (K.terms G.config) r.0.items r.1) }
     ensures refused { IfErr result (IsUnlived G.config (K.terms G.config)) }
 {
-    let Rooms { outs, passes, desk } = rooms;
     let mut last = pass;
-    let seated = match seats(rt, alloc, &pool, &desk, &mut last, callers) {
-        Ok(seated) => seated,
+    let (outs, passes) = match all_lives(rt, alloc, &pool, &mut last, callers, rooms, life) {
+        Ok(lives) => lives,
         Err(error) => {
             pool.let_go();
             return Err(error);
         }
     };
-    let Some(starter) = staff(rt, &pool, &desk) else {
+    if let Err(error) = shut(rt, &pool, &mut last) {
         pool.let_go();
+        return Err(error);
+    }
+    match close(rt, pool, passes, last) {
+        Ok(report) => Ok((outs, report)),
+        Err(error) => Err(error),
+    }
+}
+
+// What comes of the lives with a new pool, each with a pass that is split from this one, and their passes. This one then has room for all
+// receipts of the pool's end. NoMemory (4) or BookFull (5), where nobody has lived.
+pub(crate) fn all_lives<
+    G: PoolNaming + Send + Sync + 'static,
+    V: Send + Drop + 'static,
+    W: Task<Output = V> + Send + 'static,
+    O: Send + Drop,
+    L: Life<Task = W, Out = O> + Sync,
+    E: Edge + Send + Sync + 'static,
+    K: Reporter + Send + 'static,
+    R: Runtime + Clock,
+>(
+    rt: &R,
+    alloc: Global,
+    pool: &PoolOf<G, Held<W>, E, K>,
+    last: &mut Pass<G>,
+    callers: u32,
+    rooms: Rooms<G, O>,
+    life: &L,
+) -> Result<(Vec<O>, Vec<Pass<G>>), PoolError>
+    requires outs { (rooms.outs.items ≡ []) × (callers ≤ vec_capacity rooms.outs) }
+    requires passes { (rooms.passes.items ≡ []) × (suc callers ≤ vec_capacity rooms.passes) }
+    requires new { (last.old.front ≡ []) × (last.old.released ≡ []) }
+    ensures outs { IfOk result (λ r. vec_len r.0 ≡ callers) }
+    ensures place { IfOk result (λ r. vec_len r.1 < vec_capacity r.1) }
+    ensures lived { IfOk result (λ r. AreLived (L.leaves life.now (K.terms G.config)) K.RECEIPTS 0 r.0.items r.1.items) }
+    ensures room { OnOk result (4 ≤ last.new.room) }
+    ensures refused { IfErr result (λ e. (e ≡ PoolError.NoMemory) ⊎ (e ≡ PoolError.BookFull)) }
+{
+    let Rooms { outs, passes, desk } = rooms;
+    let seated = match seats(rt, alloc, pool, &desk, last, callers) {
+        Ok(seated) => seated,
+        Err(error) => return Err(error),
+    };
+    let Some(starter) = staff(rt, pool, &desk) else {
         return Err(PoolError::NoMemory);
     };
     let (outs, passes) = gathered(rt, life, seated, outs, passes);
     desk.close(rt);
     starter.join(rt);
-    match end(rt, pool, passes, last) {
-        Ok(report) => Ok((outs, report)),
-        Err(error) => Err(error),
-    }
+    Ok((outs, passes))
 }
 
 // A seat for each caller, with a pass that is split from this one, which then has room for all receipts of the pool's end. NoMemory (4)
@@ -368,8 +411,28 @@ fn parted<G: PoolNaming, W: Task, H: Wait + Copy, E: Edge, K: Keeper, O: Drop>(
     (outs, passes)
 }
 
-// Ends the pool with this pass, and closes it with this and the callers' passes.
-fn end<
+// Shuts the pool down with this pass, and waits until it is terminated. TornRecord (22).
+pub(crate) fn shut<
+    G: PoolNaming + Send + Sync + 'static,
+    J: Job + 'static,
+    E: Edge + Send + Sync + 'static,
+    K: Reporter + Send + 'static,
+    R: Runtime,
+>(rt: &R, pool: &PoolOf<G, J, E, K>, last: &mut Pass<G>) -> Result<(), PoolError>
+    requires room { 4 ≤ last.old.room }
+    ensures seen { OnOk result (rank last.new.front ≡ 4) }
+    ensures legal { OnOk result (Legal (K.terms G.config) last.new.front) }
+    ensures untold { IfErr result (IsUntold (K.terms G.config)) }
+{
+    pool.shut(rt, last);
+    match pool.await_shut(rt, last) {
+        Ok(()) => Ok(()),
+        Err(error) => Err(error),
+    }
+}
+
+// Closes a terminated pool with the callers' passes and this one, for which their list has room.
+pub(crate) fn close<
     G: PoolNaming + Send + Sync + 'static,
     J: Job + 'static,
     E: Edge + Send + Sync + 'static,
@@ -381,18 +444,13 @@ fn end<
     passes: Vec<Pass<G>>,
     last: Pass<G>,
 ) -> Result<K::Report, PoolError>
-    requires room { 4 ≤ last.room }
     requires place { vec_len passes < vec_capacity passes }
-    ensures report { IfOk result (λ r. (one : PassView) × Closes K.told K.RECEIPTS G.config (K.terms G.config) (passes.items ++ one ∷ []) r) }
+    requires seen { rank last.front ≡ 4 }
+    requires legal { Legal (K.terms G.config) last.front }
+    ensures report { IfOk result (Closes K.told K.RECEIPTS G.config (K.terms G.config) (passes.items ++ last ∷ [])) }
     ensures untold { IfErr result (IsUntold (K.terms G.config)) }
 {
-    let mut last = last;
     let mut passes = passes;
-    pool.shut(rt, &mut last);
-    if let Err(error) = pool.await_shut(rt, &mut last) {
-        pool.let_go();
-        return Err(error);
-    }
     passes.push_reserved(last);
     match pool.close(rt, passes) {
         Ok(report) => Ok(report),

@@ -20,7 +20,6 @@ use Rattle.tp_locked.specs.Moments.{AtSome}
 use Rattle.tp_locked.specs.Passes.{Adds, LooksOnly, entry_of, tidied, ended}
 use Rattle.tp_shared.specs.Closing.{Reports}
 use Rattle.tp_shared.specs.Endings.{AddsAndEnds, IsBarred, IsEnding}
-use Rattle.tp_glance.specs.Word.{IsFrontOf}
 use Rattle.tp_glance.proofs.Fronts.{rank_grows}
 use Rattle.tp_locked.proofs.Moments.{rank_top}
 use Rattle.tp_locked.proofs.Receipts.{adds_both, adds_looks}
@@ -81,12 +80,6 @@ ends_looks c old mid new end looked =
 -- where a reading says that tasks are stranded, they are so somewhere
 pub stranded_there : (c : Config) (reading : Bool) → IsTrue reading → AtSome c (λ s. IsTrue reading ↔ IsStranded s) → AtSome c IsStranded
 stranded_there c reading says is = record { history = is.history; is = record { legal = is.is.legal; holds = is.is.holds.0 says } }
-
--- the record of a pool that was closed with this pass goes on from what it knew
-pub front_of_report : (c : Config) (pass : PassView) (r : Report) → Reports c (pass ∷ []) r → IsFrontOf pass.front (reverse r.entries.items)
-front_of_report c pass r reports =
-    let turned : reports.history ≡ reverse r.entries.items = sym (ap reverse reports.tells.entries ∙ reverse-reverse reports.history) in
-    subst (λ h. IsFrontOf pass.front h) turned (All-pop (λ (p : PassView). IsFrontOf p.front reports.history) (pass ∷ []) [] (Some pass) refl reports.fronts).1
 
 -- the list of one caller's pass
 pub one_pass : (passes pushed : List PassView) (now : PassView) → passes ≡ [] → pushed ≡ passes ++ now ∷ [] → pushed ≡ now ∷ []

@@ -5,12 +5,11 @@ ghost use Rattle.tp_record.specs.declared.entries.Entry.{Entry as Told};
 ghost use Rattle.tp_glance.specs.Word.{IsFrontOf};
 ghost use Rattle.tp_book.specs.PassView.{PassView};
 ghost use Rattle.tp_book.specs.Reports.{TellsRecord};
-ghost use Rattle.tp_locked.specs.Passes.{LooksOnly};
 ghost use Rattle.tp_shared.specs.Closing.{Reports};
 ghost use Rattle.tp_text_record.specs.declared.versions.Version.{Version};
 ghost use Rattle.tp_text_record.specs.RecordText.{record_text};
+ghost use Rattle.tp_journal.specs.Endings.{IsWhole};
 ghost use Rattle.tp_journal.specs.Journals.{IsJournalOf};
-ghost use Rattle.tp_threads.specs.Recorded.{IsWhole};
 ghost use Rattle.tp_threads.specs.Runs.{AddsEnd, IsLife, IsRun, IsShort, RefusesRun, asked};
 
 use crate::runs::{answered, close_with, end};
@@ -24,8 +23,9 @@ use std::thread::Threads;
 use std::time::{Clock, Duration};
 use tp_book::opening::Unopened;
 use tp_book::passes::Pass;
+use tp_journal::endings::{Ended, Wish, ended_cut, ended_whole};
 use tp_journal::journals::Journal;
-use tp_journal::writers::{Cut, RecordWriter};
+use tp_journal::writers::RecordWriter;
 use tp_pool::closing::Report;
 use tp_pool::defaults::Defaults;
 use tp_pool::names::PoolNaming;
@@ -33,60 +33,8 @@ use tp_scenario::jobs::{JobLine, Jobs};
 use tp_types::configs::Config;
 use tp_types::refusals::PoolError;
 
-/// A journal that is wanted of a run.
-#[derive(Drop)]
-pub struct Wish<V> {
-    /// Its writer.
-    pub writer: V,
-    /// How long the journal waits before it looks again.
-    pub every: Duration,
-    /// How long the run waits for the writer at its end: one whose write takes longer is left with what it has.
-    pub patience: Duration,
-}
-
-/// What became of the journal of a run.
-#[derive(Drop)]
-pub enum Ended<V> {
-    /// It has the whole text of the record. This is its writer.
-    Whole(V),
-    /// It is cut off.
-    Cut(Cut<V>),
-    /// Its writer waits, and was left.
-    Left,
-}
-
 // The journal of a pool of scripted jobs.
 type PoolJournal<G, V> = Journal<G, Scripted, Defaults, V>;
-
-// Stops a journal, or leaves it where that takes longer: None.
-fn stopped<
-    G: PoolNaming + Send + Sync + 'static,
-    V: Write + Send + Drop + 'static,
-    R: Threads + Wait + Clock,
->(
-    rt: &R,
-    alloc: Global,
-    pool: &Company<G>,
-    started: PoolJournal<G, V>,
-    patience: Duration,
-    pass: &mut Pass<G>,
-) -> Option<RecordWriter<V>>
-    ensures front { IfSome result (IsJournalOf V.contents (V.contents started.thread.promise.writer.value) G.config pass.new.front) }
-    ensures looks { (pass.new ≡ pass.old) ⊎ LooksOnly G.config pass.old pass.new }
-{
-    if !started.stops_within(rt, patience) {
-        started.leave(rt);
-        return None;
-    }
-    match started.stop(rt, alloc, pool, pass) {
-        Ok(writer) => Some(writer),
-        // What is missing is written behind the close.
-        Err(cut) => {
-            let Cut { error: _, writer } = cut;
-            Some(writer)
-        }
-    }
-}
 
 // Writes the rest of the record of a pool that was closed, behind what its journal has.
 fn finished<V: Write + Drop>(
@@ -97,18 +45,9 @@ fn finished<V: Write + Drop>(
     ensures { IfOk closed.now (λ r. (before : Option (List ℕ)) (c : Settings) (known : List Told) → IfSome writer (IsJournalOf V.contents before c known) → IsFrontOf known (reverse r.1.entries.items)
         → IsWhole V.contents before (record_text Version.Two c r.1.entries.items) result) }
 {
-    let Some(writer) = writer else {
-        return Ended::Left;
-    };
     match closed {
-        Ok((_, report)) => match writer.finish(alloc, report.entries.as_slice()) {
-            Ok(writer) => Ended::Whole(writer),
-            Err(cut) => Ended::Cut(cut),
-        },
-        Err(error) => Ended::Cut(Cut {
-            error: *error,
-            writer,
-        }),
+        Ok((_, report)) => ended_whole(alloc, writer, report.entries.as_slice()),
+        Err(error) => ended_cut(writer, *error),
     }
 }
 
@@ -135,7 +74,7 @@ fn closed<
 {
     let mut pass = pass;
     let over = end(rt, &pool, &mut pass);
-    let writer = stopped(rt, alloc, &pool, started, patience, &mut pass);
+    let writer = started.stop_in(rt, alloc, &pool, patience, &mut pass);
     let closed = close_with(rt, pool, pass, passes, over);
     *ended = Some(finished(alloc, writer, &closed));
     answered(closed, kept)

@@ -2,16 +2,16 @@
 ghost use Rattle.std.specs.Prelude.{◌≡◌, ◌≢◌, ◌⊎◌, ◌<◌, ℕ, List, length, Err, IfErr, IfSome, OnOk, Some};
 ghost use Rattle.std.specs.Io.KnownBytes.{Appends};
 ghost use Rattle.tp_text.specs.Watching.{TellsWriter, sink};
-ghost use Rattle.tp_threads.specs.Recorded.{IsWhole};
+ghost use Rattle.tp_journal.specs.Endings.{IsWhole};
 ghost use Rattle.tp_threads.specs.Runs.{RefusesText, WritesRun};
 
-use crate::recorded::{Ended, Wish};
 use crate::runs::run_jobs;
 use std::alloc::Global;
 use std::io::Write;
 use std::sync::Wait;
 use std::thread::Threads;
 use std::time::Clock;
+use tp_journal::endings::{Ended, Wish};
 use tp_pool::closing::Report;
 use tp_record::entries::{Did, Entry};
 use tp_scenario::jobs::jobs_of;

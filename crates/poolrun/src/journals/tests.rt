@@ -7,9 +7,9 @@ use std::sync::{Arc, Wait};
 use std::test::Fail;
 use std::thread::{Threads, sleep};
 use std::time::{Clock, Duration};
+use tp_journal::endings::{Ended, Wish};
 use tp_journal::writers::Cut;
 use tp_text::watched::WatchedWriter;
-use tp_threads::recorded::{Ended, Wish};
 use tp_threads::texts::run_text;
 use tp_types::refusals::PoolError;
 

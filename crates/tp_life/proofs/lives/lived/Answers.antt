@@ -1,6 +1,5 @@
 use Rattle.tp_life.proofs.lives.lived.Goals as goal
 
-pub returns-in-Ok-end-clause-lived : goal.returns-in-Ok-end-clause-lived
-returns-in-Ok-end-clause-lived g c =
-    let report = c.in-Ok-end.ensures.report in
-    record { passes = c.gathered-outs.result.1.items; lived = c.gathered-outs.ensures.lived; last = report.0; closes = report.1 }
+pub returns-in-Ok-close-clause-lived : goal.returns-in-Ok-close-clause-lived
+returns-in-Ok-close-clause-lived g c =
+    record { passes = c.all_lives.result.1.items; lived = c.all_lives.ensures.lived; last = c.shut.new.last; closes = c.in-Ok-close.ensures.report }

@@ -6,7 +6,7 @@ use Rattle.tp_text_record.specs.RecordText.{record_text as text_of}
 use Rattle.tp_text.proofs.Refusals.{is_outer}
 use Rattle.tp_text.proofs.Watchings.{none_written, not_read, not_written}
 use Rattle.tp_scenario.proofs.JobLaws.{jobs_inner}
-use Rattle.tp_threads.specs.Recorded.{IsWhole}
+use Rattle.tp_journal.specs.Endings.{IsWhole}
 use Rattle.tp_threads.specs.Runs.{WritesRun}
 use Rattle.tp_threads.proofs.Told.{on_ok, or_unwritten, run_inner, was_read}
 use Rattle.tp_threads.proofs.texts.run_text.Goals as goal

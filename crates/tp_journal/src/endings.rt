@@ -1,0 +1,134 @@
+//! A journal from its wish to its end: what is wanted of it, and what became of it.
+ghost use Rattle.std.specs.Prelude.{◌≡◌, ◌⊎◌, ℕ, List, Option, reverse, IfSome};
+ghost use Rattle.tp_types.specs.declared.configs.Config.{Config as Settings};
+ghost use Rattle.tp_record.specs.declared.entries.Entry.{Entry as Told};
+ghost use Rattle.tp_glance.specs.Word.{IsFrontOf};
+ghost use Rattle.tp_locked.specs.Passes.{LooksOnly};
+ghost use Rattle.tp_text_record.specs.declared.versions.Version.{Version};
+ghost use Rattle.tp_text_record.specs.RecordText.{record_text};
+ghost use Rattle.tp_journal.specs.Endings.{IsCut, IsWhole};
+ghost use Rattle.tp_journal.specs.Journals.{IsJournalOf};
+
+use crate::journals::{Journal, MILLIS};
+use crate::writers::{Cut, RecordWriter};
+use std::alloc::Global;
+use std::fs;
+use std::io::{self, Write};
+use std::rt::Files;
+use std::sync::Wait;
+use std::thread::Threads;
+use std::time::{Clock, Duration};
+use tp_book::passes::Pass;
+use tp_locked::names::PoolNaming;
+use tp_pool::PoolOf;
+use tp_protocols::jobs::Job;
+use tp_record::entries::Entry;
+use tp_shared::edges::Edge;
+use tp_types::refusals::PoolError;
+
+/// For how many milliseconds the end of a pool waits for a writer that takes nothing, where nobody says otherwise.
+const PATIENCE: u64 = 5_000;
+
+/// A journal that is wanted of a pool.
+#[derive(Drop)]
+pub struct Wish<W> {
+    /// Its writer.
+    pub writer: W,
+    /// How long the journal waits before it looks again.
+    pub every: Duration,
+    /// How long the pool's end waits for the writer: one whose write takes longer is left with what it has.
+    pub patience: Duration,
+}
+
+impl<W> Wish<W> {
+    /// A journal by this writer, that looks each tenth of a second, and for which the pool's end waits five seconds at most.
+    pub fn new(writer: W) -> Wish<W>
+        ensures { result.writer ≡ writer }
+    {
+        Wish {
+            writer,
+            every: Duration::from_millis(MILLIS),
+            patience: Duration::from_millis(PATIENCE),
+        }
+    }
+}
+
+/// A journal that is written to the file at this path, made anew, if there is a path. Where it can't be made, the answer says why.
+pub fn wish_at<H: Files>(rt: &H, path: Option<&String>) -> io::Result<Option<Wish<H::File>>> {
+    match path {
+        Some(path) => Ok(Some(Wish::new(fs::create(rt, path.as_str())?))),
+        None => Ok(None),
+    }
+}
+
+/// What became of the journal of a pool.
+#[derive(Drop)]
+pub enum Ended<W> {
+    /// It has the whole text of the record. This is its writer.
+    Whole(W),
+    /// It is cut off.
+    Cut(Cut<W>),
+    /// Its writer waits, and was left.
+    Left,
+}
+
+impl<
+    G: PoolNaming + Send + Sync + 'static,
+    J: Job + 'static,
+    E: Edge + Send + Sync + 'static,
+    W: Write + Send + Drop + 'static,
+> Journal<G, J, E, W> {
+    /// Stops the journal, as `stop`, or leaves it where that takes longer than this: None. Where a write was refused, the writer is there
+    /// too: what is missing may be written behind the close.
+    pub fn stop_in<R: Threads + Wait + Clock>(
+        self,
+        rt: &R,
+        alloc: Global,
+        pool: &PoolOf<G, J, E>,
+        patience: Duration,
+        pass: &mut Pass<G>,
+    ) -> Option<RecordWriter<W>>
+        ensures front { IfSome result (IsJournalOf W.contents (W.contents self.thread.promise.writer.value) G.config pass.new.front) }
+        ensures looks { (pass.new ≡ pass.old) ⊎ LooksOnly G.config pass.old pass.new }
+    {
+        if !self.stops_within(rt, patience) {
+            self.leave(rt);
+            return None;
+        }
+        match self.stop(rt, alloc, pool, pass) {
+            Ok(writer) => Some(writer),
+            Err(cut) => {
+                let Cut { error: _, writer } = cut;
+                Some(writer)
+            }
+        }
+    }
+}
+
+/// The end of a journal whose pool was closed with these entries: the rest of them is written behind what it has.
+pub fn ended_whole<W: Write + Drop>(
+    alloc: Global,
+    writer: Option<RecordWriter<W>>,
+    entries: &[Entry],
+) -> Ended<W>
+    ensures { (before : Option (List ℕ)) (c : Settings) (known : List Told) → IfSome writer (IsJournalOf W.contents before c known) → IsFrontOf known (reverse entries.now)
+        → IsWhole W.contents before (record_text Version.Two c entries.now) result }
+{
+    let Some(writer) = writer else {
+        return Ended::Left;
+    };
+    match writer.finish(alloc, entries) {
+        Ok(writer) => Ended::Whole(writer),
+        Err(cut) => Ended::Cut(cut),
+    }
+}
+
+/// The end of a journal whose pool's close was refused so.
+pub fn ended_cut<W>(writer: Option<RecordWriter<W>>, error: PoolError) -> Ended<W>
+    ensures { IsCut writer error result }
+{
+    match writer {
+        Some(writer) => Ended::Cut(Cut { error, writer }),
+        None => Ended::Left,
+    }
+}
