@@ -10,8 +10,6 @@ fn main(rt: HostRuntime) -> anyhow::Result<()> {
         jobs.push(job(double))?;
     }
     let (answers, report) = run_tasks(&rt, rt.alloc(), Config::fixed(2), Defaults, jobs)?;
-    for answer in answers {
-        println!(&rt; "{}", answer?)?;
-    }
+    println!(&rt; "{answers:?}")?;
     Ok(println!(&rt; "{} run", report.counts.run)?)
 }
