@@ -1,12 +1,11 @@
 //! Tasks on a pool of their own, in one call.
-ghost use Rattle.std.specs.Prelude.{◌≡◌, ◌⊎◌, ◌+◌, ◌*◌, ◌<◌, max, length, IfOk, IfErr};
-ghost use Rattle.tp_pool.specs.Lives.{IsOver};
+ghost use Rattle.std.specs.Prelude.{◌≡◌, ◌⊎◌, length, IfOk, IfErr};
+ghost use Rattle.tp_pool.specs.Lives.{IsUnrun, sized};
 ghost use Rattle.tp_values.specs.declared.tasks.TheConstants.{VOID};
 ghost use Rattle.tp_life.specs.Ran.{AreRun, IsTold, Pairwise};
 
 use std::alloc::Global;
 use std::sync::Wait;
-use tp_advice::sizes::for_jobs;
 use tp_book::reports::Report;
 use tp_pool::{Answer, Runtime, run_all};
 use tp_shared::edges::Edge;
@@ -18,7 +17,7 @@ use tp_values::tasks::{Find, Held, Task};
 pub type Told<V> = Result<V, PoolError>;
 
 /// Runs these tasks on a pool of their own, and answers what became of each, in their order, with the report of the closed pool:
-/// as `tp_pool::run_all`, with values of any type, and with a record that has room for all of them (`for_jobs`).
+/// as `tp_pool::run_all`, with values of any type.
 ///
 /// A task's answer is its value; Faulted (14) with the fault's code; Lost (15) with its fate, where a policy dropped it or no
 /// worker came for it; or the refusal of its submission: Rejected (12), NoMemory (4) or, under a policy that tries a task again,
@@ -39,14 +38,9 @@ pub fn run_tasks<
     edge: E,
     tasks: Vec<W>,
 ) -> Result<(Vec<Told<V>>, Report), PoolError>
-    ensures run { IfOk result (λ r. AreRun W.gives (record settings { record_limit = max (length tasks.items * 13 + 4) 64 }) VOID W.urgency tasks.items r.0.items r.1) }
-    ensures over { IfErr result (λ e. ((e ≡ PoolError.BadLimit) × (1048576 < length tasks.items * 13 + 4)) ⊎ (e ≡ PoolError.NoMemory)
-        ⊎ IsOver (record settings { record_limit = max (length tasks.items * 13 + 4) 64 }) e) }
+    ensures run { IfOk result (λ r. AreRun W.gives (sized settings (length tasks.items)) VOID W.urgency tasks.items r.0.items r.1) }
+    ensures over { IfErr result (λ e. (e ≡ PoolError.NoMemory) ⊎ IsUnrun settings (length tasks.items) e) }
 {
-    let settings = match for_jobs(settings, tasks.len()) {
-        Ok(settings) => settings,
-        Err(error) => return Err(error),
-    };
     let (jobs, finds) = match held(alloc, tasks) {
         Ok(held) => held,
         Err(error) => return Err(error),

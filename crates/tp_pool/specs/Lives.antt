@@ -1,10 +1,10 @@
 -- What a pool's whole life in one call leaves.
-use Rattle.std.specs.Prelude.{ℕ, ℤ, true, ◌≡◌, ◌⊎◌, ◌≤◌, List, [], ◌∷◌, None, Result, Ok, Err}
+use Rattle.std.specs.Prelude.{ℕ, ℤ, true, ◌≡◌, ◌⊎◌, ◌+◌, ◌*◌, ◌<◌, ◌≤◌, max, List, [], ◌∷◌, None, Result, Ok, Err}
 use Rattle.tp_types.specs.Config.{checked}
 use Rattle.tp_types.specs.declared.configs.Config.{Config}
 use Rattle.tp_types.specs.declared.ids.TaskId.{TaskId}
 use Rattle.tp_types.specs.declared.refusals.PoolError.{PoolError}
-use Rattle.tp_types.specs.declared.refusals.PoolError.TheVariants.{NoMemory, BookFull, MissingPass, TornRecord}
+use Rattle.tp_types.specs.declared.refusals.PoolError.TheVariants.{BadLimit, NoMemory, BookFull, MissingPass, TornRecord}
 use Rattle.tp_types.specs.declared.tasks.Promise.{Promise}
 use Rattle.tp_record.specs.declared.entries.Ask.TheVariants as ask
 use Rattle.tp_record.specs.declared.entries.Entry.{Entry}
@@ -65,6 +65,14 @@ IsCut e = (e ≡ NoMemory) ⊎ (e ≡ MissingPass) ⊎ (e ≡ TornRecord)
 -- no pool was opened; or one was, and it has come to where no slot is left
 abbrev pub IsOver : Config → PoolError → Type 0
 IsOver c e = IsUnopened c e ⊎ (IsCut e × AtSome c (λ s. 3 ≤ s.rank))
+
+-- these settings, with a record that has room for so many jobs
+abbrev pub sized : Config → ℕ → Config
+sized c jobs = record c { record_limit = max (jobs * 13 + 4) 64 }
+
+-- no record has room for so many jobs; or a pool of that size was not opened, or is over
+abbrev pub IsUnrun : Config → ℕ → PoolError → Type 0
+IsUnrun c jobs e = ((e ≡ BadLimit) × (1048576 < jobs * 13 + 4)) ⊎ IsOver (sized c jobs) e
 
 -- at this history the pool is shut down, or at a front of it a shutdown is refused
 abbrev pub IsShut : Config → List Entry → Type 0

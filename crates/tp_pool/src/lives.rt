@@ -1,10 +1,10 @@
 //! Jobs on a pool of their own, in one call: the pool is opened, runs them, is shut down, waited for and closed.
-ghost use Rattle.std.specs.Prelude.{◌≡◌, ◌⊎◌, ◌≤◌, true, [], ◌∷◌, IfOk, IfErr};
+ghost use Rattle.std.specs.Prelude.{◌≡◌, ◌⊎◌, ◌≤◌, true, [], ◌∷◌, length, IfOk, IfErr};
 ghost use Rattle.tp_record.specs.Fields.{rank};
 ghost use Rattle.tp_record.specs.Step.{Legal};
 ghost use Rattle.tp_book.specs.PassView.{PassView};
 ghost use Rattle.tp_shared.specs.Closing.{Reports};
-ghost use Rattle.tp_pool.specs.Lives.{AreAnswered, AreSubmitted, AreTold, IsCut, IsOver, IsRun, IsShut, IsTold};
+ghost use Rattle.tp_pool.specs.Lives.{AreAnswered, AreSubmitted, AreTold, IsCut, IsOver, IsRun, IsShut, IsTold, IsUnrun, sized};
 ghost use Rattle.tp_pool.specs.Submissions.{Submits};
 
 use crate::callers::{PoolName, Runtime};
@@ -14,6 +14,7 @@ use crate::pool::PoolOf;
 use std::alloc::Global;
 use std::marker::Brand;
 use std::sync::Wait;
+use tp_advice::sizes::for_jobs;
 use tp_book::opening::Unopened;
 use tp_book::passes::Pass;
 use tp_book::sights::Sight;
@@ -29,21 +30,39 @@ use tp_types::tasks::Kind;
 pub type Answer = Result<i64, PoolError>;
 
 /// Runs these jobs on a pool of their own, and answers what became of each, in their order, with the report of the
-/// closed pool. The pool is opened with these settings and objects; each job is submitted with a future; then the pool is
-/// shut down, and each future is waited for. Whatever comes of that, the pool is waited for and closed, as Java's
-/// `try (var pool = ..)` does since Java 19: no pool is left with threads that run.
+/// closed pool. The pool is opened with these settings and objects, and a record that has room for all of them (`for_jobs`); each
+/// job is submitted with a future; then the pool is shut down, and each future is waited for. Whatever comes of that, the pool is
+/// waited for and closed, as Java's `try (var pool = ..)` does since Java 19: no pool is left with threads that run.
 ///
 /// Where no worker could be made for the jobs that are queued, since the factory refused them, no thread could be made or
 /// the record is full, the pool is stopped, and each of these jobs is Lost (15) with the fate HandedBack. Java's pool throws
 /// `OutOfMemoryError` where it can make no thread.
 ///
 /// A job's answer is its value; Faulted (14) with the fault's code; Lost (15) with its fate, where a policy dropped it or
-/// no worker came for it; or the refusal of its submission: Rejected (12), BookFull (5) or NoMemory (4).
+/// no worker came for it; or the refusal of its submission: Rejected (12), NoMemory (4) or, under a policy that tries a task
+/// again, BookFull (5).
 ///
-/// BadSizes (1), BadCapacity (2), BadLimit (3) or KeepZero (11) where no pool has these settings, and NoMemory (4)
-/// where there is none for a pool: then the jobs are dropped. Else NoMemory (4) where there is none for the answers,
+/// BadLimit (3) where no record has room for so many; BadSizes (1), BadCapacity (2) or KeepZero (11) where no pool has these
+/// settings; NoMemory (4) where there is none for a pool: then the jobs are dropped. Else NoMemory (4) where there is none for the answers,
 /// or MissingPass (21) or TornRecord (22), which do not come as long as the pool's book is sound.
 pub fn run_all<J: Job + 'static, E: Edge + Send + Sync + 'static, R: Runtime>(
+    rt: &R,
+    alloc: Global,
+    settings: Config,
+    edge: E,
+    jobs: Vec<J>,
+) -> Result<(Vec<Answer>, Report), PoolError>
+    ensures run { IfOk result (λ r. IsRun (sized settings (length jobs.items)) J.promised J.urgency jobs.items r.0.items r.1) }
+    ensures over { IfErr result (IsUnrun settings (length jobs.items)) }
+{
+    match for_jobs(settings, jobs.len()) {
+        Ok(settings) => run_in(rt, alloc, settings, edge, jobs),
+        Err(error) => Err(error),
+    }
+}
+
+// The same on a pool with these settings, as they are.
+fn run_in<J: Job + 'static, E: Edge + Send + Sync + 'static, R: Runtime>(
     rt: &R,
     alloc: Global,
     settings: Config,

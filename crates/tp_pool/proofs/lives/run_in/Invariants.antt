@@ -1,4 +1,4 @@
-use Rattle.tp_pool.proofs.lives.run_all.Given as goal
+use Rattle.tp_pool.proofs.lives.run_in.Given as goal
 
 abbrev pub ghosts-opened-G-Ledger : goal.ghosts-opened-G-Ledger
 ghosts-opened-G-Ledger g a = record { name = a.unopened.ledger; parts = a.unopened.parts }
