@@ -5,6 +5,7 @@ ghost use Rattle.tp_record.specs.Step.{Legal};
 ghost use Rattle.tp_record.specs.Terms.{without_end};
 ghost use Rattle.tp_book.specs.Reports.{TellsCount, TellsRecord};
 ghost use Rattle.tp_shared.specs.Closing.{Closes};
+ghost use Rattle.tp_pool.specs.Lives.{IsShut};
 ghost use Rattle.tp_life.specs.Lived.{AreLived, IsLived, IsNewPass, IsUnlived, IsUntold};
 ghost use Rattle.tp_life.specs.Ran.{Pairwise};
 
@@ -15,7 +16,7 @@ use std::alloc::Global;
 use std::marker::Brand;
 use std::sync::{Arc, Wait};
 use std::thread::{self, JoinHandle};
-use std::time::Clock;
+use std::time::{Clock, Duration};
 use tp_book::opening::Unopened;
 use tp_book::passes::Pass;
 use tp_book::reports::{Report, Reporter, TallyReport};
@@ -27,6 +28,7 @@ use tp_record::recorders::{Full, Tally};
 use tp_shared::edges::Edge;
 use tp_types::configs::Config;
 use tp_types::refusals::PoolError;
+use tp_types::states::RunState;
 use tp_values::tasks::{Held, Task};
 
 /// Opens a pool with these settings and objects, has so many callers live with it, each in a thread of its own, and ends it: it is
@@ -190,14 +192,11 @@ pub(crate) fn lived<
     ensures lived { IfOk result (λ r. IsLived (L.leaves life.now (K.terms G.config)) K.RECEIPTS K.told G.config (K.terms G.config) r.0.items r.1) }
     ensures refused { IfErr result (IsUnlived G.config (K.terms G.config)) }
 {
-    let mut last = pass;
-    let (outs, passes) = match all_lives(rt, alloc, &pool, &mut last, callers, rooms, life) {
+    let (pool, last, outs, passes) = match all_lives(rt, alloc, pool, pass, callers, rooms, life) {
         Ok(lives) => lives,
-        Err(error) => {
-            pool.let_go();
-            return Err(error);
-        }
+        Err(error) => return Err(error),
     };
+    let mut last = last;
     if let Err(error) = shut(rt, &pool, &mut last) {
         pool.let_go();
         return Err(error);
@@ -208,8 +207,8 @@ pub(crate) fn lived<
     }
 }
 
-// What comes of the lives with a new pool, each with a pass that is split from this one, and their passes. This one then has room for all
-// receipts of the pool's end. NoMemory (4) or BookFull (5), where nobody has lived.
+// The pool and its first pass behind the lives with it, what came of them, and their passes, which are split from the first one. That has
+// room then for all receipts of the pool's end. NoMemory (4) or BookFull (5), where nobody has lived, and the pool is let go.
 pub(crate) fn all_lives<
     G: PoolNaming + Send + Sync + 'static,
     V: Send + Drop + 'static,
@@ -222,33 +221,38 @@ pub(crate) fn all_lives<
 >(
     rt: &R,
     alloc: Global,
-    pool: &PoolOf<G, Held<W>, E, K>,
-    last: &mut Pass<G>,
+    pool: PoolOf<G, Held<W>, E, K>,
+    pass: Pass<G>,
     callers: u32,
     rooms: Rooms<G, O>,
     life: &L,
-) -> Result<(Vec<O>, Vec<Pass<G>>), PoolError>
+) -> Result<(PoolOf<G, Held<W>, E, K>, Pass<G>, Vec<O>, Vec<Pass<G>>), PoolError>
     requires outs { (rooms.outs.items ≡ []) × (callers ≤ vec_capacity rooms.outs) }
     requires passes { (rooms.passes.items ≡ []) × (suc callers ≤ vec_capacity rooms.passes) }
-    requires new { (last.old.front ≡ []) × (last.old.released ≡ []) }
-    ensures outs { IfOk result (λ r. vec_len r.0 ≡ callers) }
-    ensures place { IfOk result (λ r. vec_len r.1 < vec_capacity r.1) }
-    ensures lived { IfOk result (λ r. AreLived (L.leaves life.now (K.terms G.config)) K.RECEIPTS 0 r.0.items r.1.items) }
-    ensures room { OnOk result (4 ≤ last.new.room) }
+    requires new { (pass.front ≡ []) × (pass.released ≡ []) }
+    ensures outs { IfOk result (λ r. vec_len r.2 ≡ callers) }
+    ensures place { IfOk result (λ r. vec_len r.3 < vec_capacity r.3) }
+    ensures lived { IfOk result (λ r. AreLived (L.leaves life.now (K.terms G.config)) K.RECEIPTS 0 r.2.items r.3.items) }
+    ensures room { IfOk result (λ r. 4 ≤ r.1.room) }
     ensures refused { IfErr result (λ e. (e ≡ PoolError.NoMemory) ⊎ (e ≡ PoolError.BookFull)) }
 {
     let Rooms { outs, passes, desk } = rooms;
-    let seated = match seats(rt, alloc, pool, &desk, last, callers) {
+    let mut last = pass;
+    let seated = match seats(rt, alloc, &pool, &desk, &mut last, callers) {
         Ok(seated) => seated,
-        Err(error) => return Err(error),
+        Err(error) => {
+            pool.let_go();
+            return Err(error);
+        }
     };
-    let Some(starter) = staff(rt, pool, &desk) else {
+    let Some(starter) = staff(rt, &pool, &desk) else {
+        pool.let_go();
         return Err(PoolError::NoMemory);
     };
     let (outs, passes) = gathered(rt, life, seated, outs, passes);
     desk.close(rt);
     starter.join(rt);
-    Ok((outs, passes))
+    Ok((pool, last, outs, passes))
 }
 
 // A seat for each caller, with a pass that is split from this one, which then has room for all receipts of the pool's end. NoMemory (4)
@@ -411,20 +415,49 @@ fn parted<G: PoolNaming, W: Task, H: Wait + Copy, E: Edge, K: Keeper, O: Drop>(
     (outs, passes)
 }
 
+// Shuts the pool down, where no caller did so, and stops it where its tasks are stranded. They may be so later, too: a worker fails, and none
+// can be made in its place. It looks after a step, but once in a millisecond at most, since a look takes the lock.
+fn see_off<
+    G: PoolNaming + Send + Sync + 'static,
+    J: Job + 'static,
+    E: Edge + Send + Sync + 'static,
+    K: Keeper + Send + 'static,
+    R: Runtime + Clock,
+>(rt: &R, pool: &PoolOf<G, J, E, K>, last: &mut Pass<G>)
+    requires room { 4 ≤ last.old.room }
+    ensures room { 2 ≤ last.new.room }
+    ensures shut { IsShut (K.terms G.config) last.new.front }
+{
+    pool.shut(rt, last);
+    for _ in rt.forever() {
+        let seen = pool.steps(rt);
+        if pool.state(rt) != RunState::Shutdown || pool.counts(rt).queued == 0 {
+            return;
+        }
+        if !pool.is_stranded(rt) {
+            pool.wait_step(rt, seen);
+            thread::sleep(rt, Duration::from_millis(1));
+        } else if last.reserve(4).is_ok() {
+            pool.shut(rt, last);
+        }
+    }
+    unreachable!()
+}
+
 // Shuts the pool down with this pass, and waits until it is terminated. TornRecord (22).
 pub(crate) fn shut<
     G: PoolNaming + Send + Sync + 'static,
     J: Job + 'static,
     E: Edge + Send + Sync + 'static,
     K: Reporter + Send + 'static,
-    R: Runtime,
+    R: Runtime + Clock,
 >(rt: &R, pool: &PoolOf<G, J, E, K>, last: &mut Pass<G>) -> Result<(), PoolError>
     requires room { 4 ≤ last.old.room }
     ensures seen { OnOk result (rank last.new.front ≡ 4) }
     ensures legal { OnOk result (Legal (K.terms G.config) last.new.front) }
     ensures untold { IfErr result (IsUntold (K.terms G.config)) }
 {
-    pool.shut(rt, last);
+    see_off(rt, pool, last);
     match pool.await_shut(rt, last) {
         Ok(()) => Ok(()),
         Err(error) => Err(error),

@@ -151,14 +151,14 @@ fn recorded<
             return Err(PoolError::NoMemory);
         }
     };
-    let (outs, passes) = match all_lives(rt, alloc, &pool, &mut last, callers, rooms, life) {
+    let (pool, last, outs, passes) = match all_lives(rt, alloc, pool, last, callers, rooms, life) {
         Ok(lives) => lives,
         Err(error) => {
             journal.leave(rt);
-            pool.let_go();
             return Err(error);
         }
     };
+    let mut last = last;
     if let Err(error) = shut(rt, &pool, &mut last) {
         journal.leave(rt);
         pool.let_go();
