@@ -86,6 +86,8 @@ pub enum Many {
     All(&'static [Deed], u32),
     /// Until this moment.
     AllUntil(&'static [Deed], u64, u32),
+    /// For at most so many microseconds by the clock.
+    AllFor(&'static [Deed], u64, u32),
     AllRefused(&'static [Deed], PoolError),
     Any(&'static [Deed], Result<i64, PoolError>),
 }
@@ -123,6 +125,8 @@ pub enum Step {
     EndFor(u64, Result<(), PoolError>),
     /// A done task of this group.
     Take(u32, Result<TaskId, PoolError>),
+    /// The same, but by the clock, for at most so many microseconds.
+    TakeFor(u32, u64, Result<TaskId, PoolError>),
     Poll(u32, Result<Option<TaskId>, PoolError>),
     Many(Many),
     /// A thread that watches the pool sees this. The pool keeps its record.

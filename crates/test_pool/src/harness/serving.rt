@@ -19,7 +19,7 @@ use tp_service::completions::CompletionService;
 use tp_service::futures::{
     get, get_for, get_until, get_until_with, get_with, submit, try_get, try_get_with,
 };
-use tp_service::invoking::{invoke_all, invoke_all_until, invoke_any};
+use tp_service::invoking::{invoke_all, invoke_all_for, invoke_all_until, invoke_any};
 use tp_service::leaving::Leaving;
 use tp_types::ids::{SlotId, TaskId};
 use tp_types::refusals::PoolError;
@@ -97,6 +97,9 @@ pub fn asked<G: PoolName, K: Keeper + Send + 'static, R: Clock + Runtime>(
         Step::EndFor(micros, answer) => {
             pool.await_end_for(rt, Duration::from_micros(micros), pass) == answer
         }
+        Step::TakeFor(group, micros, answer) => {
+            pool.await_done_for(rt, group, Duration::from_micros(micros), pass) == answer
+        }
         Step::Take(group, answer) => CompletionService::new(group).take(pool, rt, pass) == answer,
         Step::Poll(group, answer) => CompletionService::new(group).poll(pool, rt, pass) == answer,
         _ => gets(rt, pool, step, pass),
@@ -133,13 +136,14 @@ fn jobs_of(many: Many) -> &'static [Deed] {
     match many {
         Many::All(deeds, _)
         | Many::AllUntil(deeds, _, _)
+        | Many::AllFor(deeds, _, _)
         | Many::AllRefused(deeds, _)
         | Many::Any(deeds, _) => deeds,
     }
 }
 
 /// Has many jobs run: whether that is answered as it says.
-pub fn invokes<G: PoolName, K: Leaving<G, Chore, Users, R> + Send + 'static, R: Runtime>(
+pub fn invokes<G: PoolName, K: Leaving<G, Chore, Users, R> + Send + 'static, R: Clock + Runtime>(
     rt: &R,
     alloc: Global,
     pool: &Tested<G, K>,
@@ -159,6 +163,11 @@ pub fn invokes<G: PoolName, K: Leaving<G, Chore, Users, R> + Send + 'static, R: 
             let found = invoke_all_until(pool, rt, alloc, jobs, deadline, pass);
             are_answered(found, from, deeds.len())
         }
+        Many::AllFor(_, micros, from) => {
+            let most = Duration::from_micros(micros);
+            let found = invoke_all_for(pool, rt, alloc, jobs, most, pass);
+            are_answered(found, from, deeds.len())
+        }
         Many::AllRefused(_, error) => is_refused(invoke_all(pool, rt, alloc, jobs, pass), error),
         Many::Any(_, answer) => invoke_any(pool, rt, alloc, jobs, pass) == answer,
     }
@@ -171,7 +180,7 @@ fn are_busy(seen: &[Busy], wanted: &[(usize, u32)]) -> bool {
             == (SlotId(slot), TaskId(task)))
 }
 
-/// Whether a sight sees the pool so, in each of its three ways. Nobody makes a step meanwhile.
+/// Whether a sight that has caught up sees the pool so, in each of its three ways. Nobody makes a step meanwhile.
 pub fn watches<G: PoolName, R: Wait>(
     rt: &R,
     alloc: Global,
@@ -180,6 +189,7 @@ pub fn watches<G: PoolName, R: Wait>(
     pass: &mut Pass<G>,
 ) -> bool {
     let mut sight = pool.sight(pass);
+    pool.catch_up(rt, &mut sight, pass);
     let reading = pool.look_by(rt, &mut sight);
     let Ok(seen) = pool.snapshot_by(rt, alloc, &mut sight) else {
         return false;

@@ -1,12 +1,18 @@
 //! What becomes of workers whose plain tasks fault.
 
+use crate::compare::same;
+use crate::harness::boards::Board;
 use crate::harness::calls::Call;
-use crate::harness::chores::Deed;
+use crate::harness::chores::{Deed, chores};
 use crate::harness::findings::Finding;
 use crate::harness::lives::lives;
-use crate::harness::scripts::{Answer, LIFE, LOOKS, Life, ONE_WORKER, SHUTS_DOWN, Step, View};
+use crate::harness::scripts::{
+    Answer, LIFE, LOOKS, Life, ONE_WORKER, SETTINGS, SHUTS_DOWN, Step, View,
+};
 use crate::harness::users::{MANNER, Manner};
 use std::test::Fail;
+use tp_pool::defaults::Defaults;
+use tp_pool::{faulted, run_all};
 use tp_types::tasks::Kind;
 
 const FAULTS: Step = Step::Hand(Kind::Plain, Deed::End(Err(7)), Answer::Accepted);
@@ -70,4 +76,21 @@ static UNREPLACED: [Life; 1] = [Life {
 #[test]
 fn worker_that_is_not_replaced_leaves_its_tasks(rt: HostRuntime) -> Result<(), Fail> {
     lives(rt, rt.alloc(), &UNREPLACED)
+}
+
+// Two of these jobs fault.
+const FOUR_JOBS: [Deed; 4] = [
+    Deed::End(Err(0)),
+    Deed::End(Ok(1)),
+    Deed::Look,
+    Deed::End(Err(u32::MAX)),
+];
+
+#[test]
+fn faulted_counts_jobs_that_fault(rt: HostRuntime) -> Result<(), Fail> {
+    let board = Board::new(rt.alloc())?;
+    let jobs = chores(rt.alloc(), &board, &FOUR_JOBS)?;
+    let (_, report) = run_all(&rt, rt.alloc(), SETTINGS, Defaults, jobs)?;
+    same(&rt, 0, &faulted(&report), &2);
+    Ok(())
 }

@@ -119,28 +119,51 @@ fn lost_future_ends_a_get(rt: HostRuntime) -> Result<(), Fail> {
 }
 
 // Task 0 is held. A wait by the clock ends, and no step is made. Then the task goes on, and the pool ends.
-static CLOCKED: [Life; 1] = [Life {
-    first: &[
-        FIRST,
-        CAME,
-        Step::Is(View::Steps(4)),
-        Step::GetFor(0, 20_000, Err(PoolError::TimedOut)),
-        Step::GetFor(0, 0, Err(PoolError::TimedOut)),
-        SHUTS_DOWN,
-        Step::EndFor(20_000, Err(PoolError::TimedOut)),
-        Step::Is(View::Steps(5)),
-        LETS_GO,
-        Step::GetFor(0, 60_000_000, Ok(6)),
-        Step::EndFor(60_000_000, Ok(())),
-    ],
-    // A wait for what is known answers at once.
-    last: &[
-        Step::GetFor(0, 0, Ok(6)),
-        Step::GetFor(9, 0, Err(PoolError::UnknownTask)),
-    ],
-    findings: &[Finding::Submitted(1), Finding::Run(1)],
-    ..HELD_ONE
-}];
+static CLOCKED: [Life; 2] = [
+    Life {
+        first: &[
+            FIRST,
+            CAME,
+            Step::Is(View::Steps(4)),
+            Step::GetFor(0, 20_000, Err(PoolError::TimedOut)),
+            Step::GetFor(0, 0, Err(PoolError::TimedOut)),
+            SHUTS_DOWN,
+            Step::EndFor(20_000, Err(PoolError::TimedOut)),
+            Step::Is(View::Steps(5)),
+            LETS_GO,
+            Step::GetFor(0, 60_000_000, Ok(6)),
+            Step::EndFor(60_000_000, Ok(())),
+        ],
+        // A wait for what is known answers at once.
+        last: &[
+            Step::GetFor(0, 0, Ok(6)),
+            Step::GetFor(9, 0, Err(PoolError::UnknownTask)),
+        ],
+        findings: &[Finding::Submitted(1), Finding::Run(1)],
+        ..HELD_ONE
+    },
+    // The same for a group, and for many jobs: the one behind task 0 is cancelled, and a later one runs.
+    Life {
+        first: &[
+            Step::Submit(GROUP, Deed::End(Ok(6)), 0),
+            CAME,
+            Step::TakeFor(3, 20_000, Err(PoolError::TimedOut)),
+            Step::TakeFor(4, 20_000, Err(PoolError::NothingOpen)),
+            Step::Is(View::Steps(4)),
+            Step::Many(Many::AllFor(&ONE_JOB, 20_000, 1)),
+            LETS_GO,
+            Step::TakeFor(3, 60_000_000, Ok(TaskId(0))),
+            Step::Many(Many::AllFor(&ONE_JOB, 60_000_000, 2)),
+            SHUTS_DOWN,
+        ],
+        findings: &[
+            Finding::Submitted(3),
+            Finding::Run(2),
+            Finding::Cancelled(1),
+        ],
+        ..HELD_ONE
+    },
+];
 
 #[test]
 fn waits_by_the_clock_end(rt: HostRuntime) -> Result<(), Fail> {
