@@ -51,10 +51,12 @@ def killed(program, jobs, journal, after):
 
 
 def judged(program, journal, status):
-    """Has the journal of a killed run judged and asked; whether all of that answers."""
+    """Has the journal of a killed run judged and asked; whether all of that answers. An early kill leaves one without a task."""
     legal, front, _ = run([program, "audit", "--cut", journal])
     now, told, _ = run([program, "now", journal])
-    why, story, _ = run([program, "why", journal, "t0"])
+    with open(journal) as text:
+        has_task = " submit " in text.read()
+    why, story, _ = run([program, "why", journal, "t0"]) if has_task else (0, "no task yet", "")
     lines = told.splitlines()
     queue = next((line for line in lines if line.startswith("queue")), "?")
     runs = [line.strip() for line in lines if line.startswith("  w")]
