@@ -33,7 +33,7 @@ In a signature `rt` is the runtime by which a call waits, `alloc` the allocator,
 SECTIONS = {
     "Settings": ("They are a value, as `Config::fixed(2).queue(QueueKind::Bounded(8)).policy(Policy::CallerRuns)`. `fixed`, as `Executors.newFixedThreadPool`, has so many workers that stay, a queue with room for any number of tasks, the policy abort, and a record of 4,096 entries. `core`, `maximum`, `queue`, `keep`, `core_timeout`, `policy` and `record_limit` each set one, in the range that the [pool line](SCENARIOS.md#the-pool-line) has.",
         "makers::single makers::cached makers::by_processors sizes::for_jobs"),
-    "A pool's whole life in one call": ("A closure that is a job sends a value of any type by the two ends of a channel, `send` and `take`.", "running::run_tasks lives::with_pool lives::with_tally ticking::with_ticker lives::run_all tasks::job oneshot::oneshot"),
+    "A pool's whole life in one call": ("A closure that is a job sends a value of any type by the two ends of a channel, `send` and `take`.", "running::run_tasks lives::with_pool lives::with_tally recorded::with_journal ticking::with_ticker lives::run_all tasks::job oneshot::oneshot"),
     "What a caller of `with_pool` asks": ("The trait `Calls`, with those of `Controls`. Its `pool` is lent to each caller, and has the caller's pass and runtime. A `Group` keeps its tasks' tickets, by `submit_to` and `take`; its `results` goes through all. `take_for` and `next_for` wait for at most so long by the clock, else 16. There are these calls, too, which are the pool's of the same name: {twins}. `state` is a `glance`.",
         "Calls::execute Calls::submit Calls::get Calls::get_for Group::submit Group::next"),
     "Open, share and close": ("Where the pool itself is wanted, for threads and passes of one's own. `Pool::new` is `ThreadPoolExecutor`'s constructor; it takes boxes of a factory, a handler, hooks and a gate. `close_one` takes the pass of a single caller.",
@@ -62,8 +62,9 @@ INSIDE = """orders::staffed_by orders::rescue_tasks_by sizes::law_jobs_have_room
 # What a relation in a clause says; the first that stands in a call's clauses is taken.
 SAYS = {
     "LeavesTicked": "as of `with_pool`; the ticker's own entries are ticks",
+    "IsWhole": "as of `with_pool`; a whole journal has the record's text",
     "IsLived.*TellsCount": "as of `with_pool`, of a record that nobody keeps",
-    "IsLived": "*closed*; each caller's pass was new, and of its pass at first and at last, and of what came of its life, that life's `leaves` holds",
+    "IsLived": "*closed*; of each caller's pass, new at first, and of what came of its life, that life's `leaves` holds",
     "result ≡ record . core": "they are settings that a pool can have",
     "AreRun": "each answer is that of its own task; *closed*, with their submissions in order",
     "IsRun": "each answer is that of its own job; *closed*, with their submissions in order",
