@@ -108,6 +108,8 @@ fn tell<R: Print>(rt: &R, course: Course, aim: Option<u64>, medians: &Medians) -
         Course::Through(crowd) => tell_rates(rt, "", crowd, medians)?,
         Course::Life(crowd) => tell_rates(rt, "whole lives, ", crowd, medians)?,
         Course::Start(workers) => tell_start(rt, workers, medians)?,
+        // It is told by each of its times.
+        Course::Answer(..) => {}
     }
     let ratio = hundredths(medians.textbook, medians.recorded);
     let without = hundredths(medians.recorded, medians.tallied);
@@ -175,13 +177,46 @@ fn medians_of<R: Threads + Wait + Clock + Copy + Send + Sync + 'static>(
     let mut ours = Vec::new(alloc);
     let mut bare = Vec::new(alloc);
     for _ in 0..runs {
-        theirs.push(textbook(rt, alloc, course)?)?;
-        ours.push(recorded::<Full, R>(rt, alloc, course)?)?;
-        bare.push(recorded::<Tally, R>(rt, alloc, course)?)?;
+        theirs.push(median(&mut textbook(rt, alloc, course)?)?)?;
+        ours.push(median(&mut recorded::<Full, R>(rt, alloc, course)?)?)?;
+        bare.push(median(&mut recorded::<Tally, R>(rt, alloc, course)?)?)?;
     }
     Ok(Medians {
         textbook: median(&mut theirs)?,
         recorded: median(&mut ours)?,
         tallied: median(&mut bare)?,
     })
+}
+
+/// Prints each time of a course, in nanoseconds, behind the name of its pool: of so many runs, by turns; whether all went well.
+pub fn told_raw<R: Threads + Wait + Clock + Print + Copy + Send + Sync + 'static>(
+    rt: R,
+    alloc: Global,
+    runs: u32,
+    course: Course,
+) -> io::Result<bool> {
+    for _ in 0..runs {
+        let all = [
+            ("textbook", textbook(rt, alloc, course)),
+            ("recorded", recorded::<Full, R>(rt, alloc, course)),
+            ("tallied", recorded::<Tally, R>(rt, alloc, course)),
+        ];
+        for (name, times) in all {
+            match times {
+                Ok(times) => tell_times(&rt, name, &times)?,
+                Err(unmeasured) => {
+                    println!(&rt; "{unmeasured}")?;
+                    return Ok(false);
+                }
+            }
+        }
+    }
+    Ok(true)
+}
+
+fn tell_times<R: Print>(rt: &R, name: &str, times: &[Duration]) -> io::Result<()> {
+    for time in times {
+        println!(rt; "{name} {}", nanoseconds(*time))?;
+    }
+    Ok(())
 }

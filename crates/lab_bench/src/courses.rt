@@ -1,6 +1,7 @@
 //! What is timed of a pool.
 
 use crate::unmeasured::Unmeasured;
+use std::alloc::Global;
 use std::thread;
 use std::time::{Clock, Duration};
 
@@ -9,7 +10,7 @@ use std::time::{Clock, Duration};
 pub struct Crowd {
     /// The workers.
     pub workers: u32,
-    /// The submitters, 1 or 2.
+    /// The submitters, 1 at least.
     pub submitters: u32,
     /// The tasks that each of them submits.
     pub tasks: u32,
@@ -26,8 +27,11 @@ pub enum Course {
     /// anew whenever its record is full.
     Life(Crowd),
     /// From the submission of a task to an idle pool of so many workers until its body begins: the
-    /// median of many.
+    /// times of many.
     Start(u32),
+    /// From the submission of a task to a pool of so many workers until its submitter has its value: the times of so many,
+    /// one behind the other. A textbook's pool has no futures, and no times.
+    Answer(u32, u32),
 }
 
 impl Crowd {
@@ -43,6 +47,13 @@ pub const STARTS: u32 = 200;
 /// Lets the workers fall asleep.
 pub fn settle<R: Clock>(rt: &R) {
     thread::sleep(rt, Duration::from_micros(300));
+}
+
+/// A list of one time.
+pub fn alone(alloc: Global, time: Duration) -> Result<Vec<Duration>, Unmeasured> {
+    let mut times = Vec::new(alloc);
+    times.push(time)?;
+    Ok(times)
 }
 
 /// The median of these times, or 0 of none.

@@ -4,6 +4,9 @@
 //! `lab_bench cost [RUNS [COURSE]]`: compares the pool with a textbook's in so many runs of each, 7 where no
 //! number is given, in all courses or in the one of this number, from 0.
 //!
+//! `lab_bench raw COURSE WORKERS SUBMITTERS TASKS TURNS RUNS`: prints each time of these pools in so many runs, by turns. A course is
+//! `through`, `life`, `start` or `answer`. Each submitter has so many tasks, and each job passes so many turns of `spin_loop`.
+//!
 //! `lab_bench endless FARE TASKS`: has one pool without a record run so many tasks, `plain`, `futures`, `cancels`, `faults` or
 //! `groups`, and tells how far it has come.
 //!
@@ -22,7 +25,8 @@ mod textbooks;
 mod unmeasured;
 mod watches;
 
-use comparisons::{compared, rehearse_pools};
+use comparisons::{compared, rehearse_pools, told_raw};
+use courses::{Course, Crowd};
 use endless::{Fare, serves};
 use reports::{rehearse, time};
 use std::process::ExitCode;
@@ -39,6 +43,7 @@ enum Choice {
     Rehearse,
     Time(u32),
     Cost(u32, Option<u32>),
+    Raw(u32, Course),
     Endless(Fare, u32),
     Usage,
 }
@@ -76,6 +81,23 @@ fn service(words: &[String]) -> Choice {
     }
 }
 
+// The course of these words, where the first is `raw`.
+fn course(words: &[String]) -> Option<Course> {
+    let crowd = Crowd {
+        workers: number(words.get(3))?,
+        submitters: number(words.get(4))?,
+        tasks: number(words.get(5))?,
+        turns: number(words.get(6))?,
+    };
+    match words.get(2)?.as_str() {
+        "through" => Some(Course::Through(crowd)),
+        "life" => Some(Course::Life(crowd)),
+        "start" => Some(Course::Start(crowd.workers)),
+        "answer" => Some(Course::Answer(crowd.workers, crowd.tasks)),
+        _ => None,
+    }
+}
+
 /// The choice of these words, the program's own name first.
 fn chosen(words: &[String]) -> Choice {
     let Some(command) = words.get(1) else {
@@ -85,6 +107,10 @@ fn chosen(words: &[String]) -> Choice {
     let second = number(words.get(3));
     match (command.as_str(), words.len(), first, second) {
         ("endless", _, _, _) => service(words),
+        ("raw", 8, _, _) => match (course(words), number(words.get(7))) {
+            (Some(course), Some(runs)) => Choice::Raw(runs, course),
+            _ => Choice::Usage,
+        },
         ("time", 2, None, None) => Choice::Time(USUAL_TURNS),
         ("time", 3, Some(turns), None) => Choice::Time(turns),
         ("cost", 2, None, None) => Choice::Cost(USUAL_RUNS, None),
@@ -107,10 +133,11 @@ fn main(rt: HostRuntime) -> io::Result<ExitCode> {
             true
         }
         Choice::Cost(runs, only) => compared(rt, alloc, runs, only)?,
+        Choice::Raw(runs, course) => told_raw(rt, alloc, runs, course)?,
         Choice::Endless(fare, tasks) => serves(rt, alloc, fare, tasks)?,
         Choice::Usage => {
             eprintln!(&rt;
-                "usage: lab_bench [time [TURNS] | cost [RUNS [COURSE]] | endless FARE TASKS]"
+                "usage: lab_bench [time [TURNS] | cost [RUNS [COURSE]] | raw COURSE WORKERS SUBMITTERS TASKS TURNS RUNS | endless FARE TASKS]"
             )?;
             return Ok(ExitCode::from(2));
         }

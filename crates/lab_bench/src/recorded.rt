@@ -1,7 +1,7 @@
 //! The runs of the pool that are timed, with its record and without one.
 ghost use Rattle.std.specs.Prelude.{◌≡◌};
 
-use crate::courses::{Course, Crowd, STARTS, median, settle};
+use crate::courses::{Course, Crowd, STARTS, alone, settle};
 use crate::errands::Parcel;
 use crate::unmeasured::Unmeasured;
 use std::alloc::Global;
@@ -13,10 +13,10 @@ use std::time::{Clock, Duration, Instant};
 use tp_book::opening::Unopened;
 use tp_book::passes::Pass;
 use tp_machine::machine::releases::Keeper;
-use tp_pool::Handle;
 use tp_pool::defaults::Defaults;
 use tp_pool::names::PoolNaming;
 use tp_pool::pool::PoolOf;
+use tp_pool::{Handle, task_of};
 use tp_types::configs::{Config, Policy, QueueKind};
 use tp_types::limits::{DEFAULT_RECORD_LIMIT, MAX_RECORD_LIMIT};
 use tp_types::tasks::Kind;
@@ -36,16 +36,17 @@ fn settings_of(workers: u32, record_limit: u32) -> Config {
     }
 }
 
-/// Times the pool with what keeps its record.
+/// The times of the pool with what keeps its record: one, where nothing else is said.
 pub fn recorded<
     K: Keeper + Send + 'static,
     R: Threads + Wait + Clock + Copy + Send + Sync + 'static,
->(rt: R, alloc: Global, course: Course) -> Result<Duration, Unmeasured> {
+>(rt: R, alloc: Global, course: Course) -> Result<Vec<Duration>, Unmeasured> {
     let settings = match course {
         Course::Through(crowd) | Course::Life(crowd) => {
             settings_of(crowd.workers, MAX_RECORD_LIMIT)
         }
         Course::Start(workers) => settings_of(workers, DEFAULT_RECORD_LIMIT),
+        Course::Answer(workers, _) => settings_of(workers, MAX_RECORD_LIMIT),
     };
     let unopened = Unopened::new(alloc)?;
     open::<Brand, K, R>(rt, alloc, unopened, settings, course)
@@ -62,7 +63,7 @@ fn open<
     unopened: Unopened,
     settings: Config,
     course: Course,
-) -> Result<Duration, Unmeasured>
+) -> Result<Vec<Duration>, Unmeasured>
     requires named { unopened ≡ record { ledger = G.name; parts = G.parts; table = G.table } }
     requires settings { settings ≡ G.config }
 {
@@ -73,9 +74,9 @@ fn open<
     match course {
         Course::Life(_) => {
             measured?;
-            Ok(before.elapsed(&rt)?)
+            alone(alloc, before.elapsed(&rt)?)
         }
-        Course::Through(_) | Course::Start(_) => measured,
+        Course::Through(_) | Course::Start(_) | Course::Answer(..) => measured,
     }
 }
 
@@ -90,16 +91,17 @@ fn measure<
     pool: &Recorded<G, K, R>,
     first: Pass<G>,
     course: Course,
-) -> Result<Duration, Unmeasured> {
+) -> Result<Vec<Duration>, Unmeasured> {
     let mut pass = first;
     pool.prestart_all(&rt, &mut pass)?;
     match course {
         Course::Through(crowd) => {
             settle(&rt);
-            through(rt, alloc, pool, pass, crowd)
+            alone(alloc, through(rt, alloc, pool, pass, crowd)?)
         }
-        Course::Life(crowd) => through(rt, alloc, pool, pass, crowd),
+        Course::Life(crowd) => alone(alloc, through(rt, alloc, pool, pass, crowd)?),
         Course::Start(_) => start(rt, alloc, pool, pass),
+        Course::Answer(_, tasks) => answers(rt, alloc, pool, pass, tasks),
     }
 }
 
@@ -165,16 +167,35 @@ fn all_submit<
     alloc: Global,
     pool: &Recorded<G, K, R>,
     pass: &mut Pass<G>,
-    second: Pass<G>,
+    theirs: Vec<Pass<G>>,
     crowd: Crowd,
 ) -> Result<(), Unmeasured> {
-    if crowd.submitters > 1 {
-        let other = other(rt, alloc, pool, second, crowd)?;
-        submits(rt, alloc, pool, pass, crowd)?;
-        other.join(&rt)
-    } else {
-        submits(rt, alloc, pool, pass, crowd)
+    let mut others = Vec::new(alloc);
+    for pass in theirs {
+        others.push(other(rt, alloc, pool, pass, crowd)?)?;
     }
+    submits(rt, alloc, pool, pass, crowd)?;
+    for other in others {
+        other.join(&rt)?;
+    }
+    Ok(())
+}
+
+// The passes of the other submitters, with room for their receipts.
+fn passes_of<G: PoolNaming, K: Keeper + Send + 'static, R: Wait + Copy>(
+    rt: &R,
+    alloc: Global,
+    pool: &Recorded<G, K, R>,
+    pass: &mut Pass<G>,
+    crowd: Crowd,
+) -> Result<Vec<Pass<G>>, Unmeasured> {
+    let mut theirs = Vec::new(alloc);
+    for _ in 1..crowd.submitters {
+        let mut one = pool.split_pass(rt, pass)?;
+        one.reserve(receipts(crowd.tasks))?;
+        theirs.push(one)?;
+    }
+    Ok(theirs)
 }
 
 // Its own clock starts once receipts are reserved.
@@ -190,13 +211,10 @@ fn through<
     crowd: Crowd,
 ) -> Result<Duration, Unmeasured> {
     let mut pass = pass;
-    let mut second = pool.split_pass(&rt, &mut pass)?;
+    let theirs = passes_of(&rt, alloc, pool, &mut pass, crowd)?;
     pass.reserve(receipts(crowd.tasks))?;
-    if crowd.submitters > 1 {
-        second.reserve(receipts(crowd.tasks))?;
-    }
     let start = Instant::now(&rt)?;
-    all_submit(rt, alloc, pool, &mut pass, second, crowd)?;
+    all_submit(rt, alloc, pool, &mut pass, theirs, crowd)?;
     end(&rt, pool, &mut pass)?;
     let time = start.elapsed(&rt)?;
     if pool.counts(&rt).run != crowd.all_tasks() {
@@ -225,7 +243,12 @@ fn start<
     G: PoolNaming + Send + Sync + 'static,
     K: Keeper + Send + 'static,
     R: Threads + Wait + Clock + Copy + Send + Sync + 'static,
->(rt: R, alloc: Global, pool: &Recorded<G, K, R>, pass: Pass<G>) -> Result<Duration, Unmeasured> {
+>(
+    rt: R,
+    alloc: Global,
+    pool: &Recorded<G, K, R>,
+    pass: Pass<G>,
+) -> Result<Vec<Duration>, Unmeasured> {
     let mut pass = pass;
     let mut times = Vec::new(alloc);
     pass.reserve(receipts(STARTS))?;
@@ -234,7 +257,7 @@ fn start<
         times.push(one_start(rt, alloc, pool, &mut pass)?)?;
     }
     end(&rt, pool, &mut pass)?;
-    median(&mut times)
+    Ok(times)
 }
 
 // From a submission until its body begins.
@@ -254,4 +277,47 @@ fn one_start<
         return Err(Unmeasured::Refused(refused.error));
     }
     watch.begun_after(submitted)
+}
+
+fn answers<
+    G: PoolNaming + Send + Sync + 'static,
+    K: Keeper + Send + 'static,
+    R: Threads + Wait + Clock + Copy + Send + Sync + 'static,
+>(
+    rt: R,
+    alloc: Global,
+    pool: &Recorded<G, K, R>,
+    pass: Pass<G>,
+    tasks: u32,
+) -> Result<Vec<Duration>, Unmeasured> {
+    let mut pass = pass;
+    let mut times = Vec::new(alloc);
+    pass.reserve(receipts(tasks))?;
+    for _ in 0..tasks {
+        times.push(one_answer(rt, alloc, pool, &mut pass)?)?;
+    }
+    end(&rt, pool, &mut pass)?;
+    Ok(times)
+}
+
+// From a submission until its value is there.
+fn one_answer<
+    G: PoolNaming + Send + Sync + 'static,
+    K: Keeper + Send + 'static,
+    R: Threads + Wait + Clock + Copy + Send + Sync + 'static,
+>(
+    rt: R,
+    alloc: Global,
+    pool: &Recorded<G, K, R>,
+    pass: &mut Pass<G>,
+) -> Result<Duration, Unmeasured> {
+    let job = Parcel::new(alloc, 0)?;
+    let submitted = Instant::now(&rt)?;
+    match pool.execute_as(&rt, Kind::Future, job, pass) {
+        Ok(admitted) => {
+            pool.await_result(&rt, task_of(admitted), None)?;
+            Ok(submitted.elapsed(&rt)?)
+        }
+        Err(refused) => Err(Unmeasured::Refused(refused.error)),
+    }
 }

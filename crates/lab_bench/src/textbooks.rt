@@ -1,6 +1,6 @@
 //! The runs of the textbook's pool that are timed.
 
-use crate::courses::{Course, Crowd, STARTS, median, settle};
+use crate::courses::{Course, Crowd, STARTS, alone, settle};
 use crate::errands::Parcel;
 use crate::textbook::{Counter, Textbook};
 use crate::unmeasured::Unmeasured;
@@ -10,16 +10,17 @@ use std::thread;
 use std::thread::{JoinHandle, Threads};
 use std::time::{Clock, Duration, Instant};
 
-/// Times the textbook's pool.
+/// The times of the textbook's pool: one, where nothing else is said.
 pub fn textbook<R: Threads + Wait + Clock + Copy + Send + Sync + 'static>(
     rt: R,
     alloc: Global,
     course: Course,
-) -> Result<Duration, Unmeasured> {
+) -> Result<Vec<Duration>, Unmeasured> {
     match course {
-        Course::Through(crowd) => through(rt, alloc, crowd),
-        Course::Life(crowd) => life(rt, alloc, crowd),
+        Course::Through(crowd) => alone(alloc, through(rt, alloc, crowd)?),
+        Course::Life(crowd) => alone(alloc, life(rt, alloc, crowd)?),
         Course::Start(workers) => start(rt, alloc, workers),
+        Course::Answer(..) => Ok(Vec::new(alloc)),
     }
 }
 
@@ -64,13 +65,15 @@ fn all_submit<R: Threads + Wait + Clock + Copy + Send + Sync + 'static>(
     counter: &Arc<Counter<R>>,
     crowd: Crowd,
 ) -> Result<(), Unmeasured> {
-    if crowd.submitters > 1 {
-        let other = other(rt, alloc, counter, crowd)?;
-        submits(&rt, alloc, counter, crowd)?;
-        other.join(&rt)
-    } else {
-        submits(&rt, alloc, counter, crowd)
+    let mut others = Vec::new(alloc);
+    for _ in 1..crowd.submitters {
+        others.push(other(rt, alloc, counter, crowd)?)?;
     }
+    submits(&rt, alloc, counter, crowd)?;
+    for other in others {
+        other.join(&rt)?;
+    }
+    Ok(())
 }
 
 fn through<R: Threads + Wait + Clock + Copy + Send + Sync + 'static>(
@@ -115,7 +118,7 @@ fn start<R: Threads + Wait + Clock + Copy + Send + Sync + 'static>(
     rt: R,
     alloc: Global,
     workers: u32,
-) -> Result<Duration, Unmeasured> {
+) -> Result<Vec<Duration>, Unmeasured> {
     let pool = Textbook::new(rt, alloc, workers)?;
     let mut times = Vec::new(alloc);
     for _ in 0..STARTS {
@@ -123,7 +126,7 @@ fn start<R: Threads + Wait + Clock + Copy + Send + Sync + 'static>(
         times.push(one_start(rt, alloc, &pool.counter)?)?;
     }
     pool.join(&rt);
-    median(&mut times)
+    Ok(times)
 }
 
 // From a submission until its body begins.
