@@ -23,5 +23,5 @@ cut c pass last e seen is =
     is.refused.holds.1
 
 -- of a pool that has come to where no slot is left
-pub over_at : (c : Config) (seen : List Entry) (e : PoolError) → Legal c seen → 3 ≤ rank seen → IsCut e → IsOver c e
-over_at c seen e legal ranks is = inr (is, record { history = seen; is = record { legal = legal; holds = ranks } })
+pub over_at : (settings terms : Config) (seen : List Entry) (e : PoolError) → Legal terms seen → 3 ≤ rank seen → IsCut e → IsOver settings terms e
+over_at settings terms seen e legal ranks is = inr (is, record { history = seen; is = record { legal = legal; holds = ranks } })

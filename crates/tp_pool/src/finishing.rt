@@ -24,14 +24,15 @@ impl<
     E: Edge + Send + Sync + 'static,
     K: Keeper + Send + 'static,
 > PoolOf<G, J, E, K> {
-    /// Shuts the pool down, where it runs still, and stops it where no worker could be made for its tasks: their jobs are dropped.
+    /// Shuts the pool down, where it runs still, and waits until its workers are through. Where tasks are left to nobody then, since
+    /// no worker could be made for them, the pool is stopped: their jobs are dropped.
     pub fn shut<R: Runtime>(&self, rt: &R, pass: &mut Pass<G>)
         requires room { 4 ≤ pass.old.room }
         ensures room { 2 ≤ pass.new.room }
         ensures shut { IsShut (K.terms G.config) pass.new.front }
     {
         self.shut_down(rt, pass);
-        self.stop_stranded(rt, pass);
+        self.see_off(rt, pass);
     }
 
     // Shuts the pool down, where it runs still, and has a worker made where one is wanted for that.
@@ -49,15 +50,17 @@ impl<
         }
     }
 
-    // Stops a pool that is shut down, where tasks are stranded. Where there is no memory for the answer of the stop, it tries
-    // again: other threads may give some back.
-    fn stop_stranded<R: Runtime>(&self, rt: &R, pass: &mut Pass<G>)
+    // Waits until no worker is left, and stops the pool where tasks are stranded then. They are so at the shutdown, or later: a worker
+    // fails, and none can be made in its place. Each worker's thread makes the one in its place before it goes, so no worker comes
+    // behind the last.
+    fn see_off<R: Runtime>(&self, rt: &R, pass: &mut Pass<G>)
         requires shut { IsShut (K.terms G.config) pass.old.front }
         ensures room { 2 ≤ pass.new.room }
         ensures shut { IsShut (K.terms G.config) pass.new.front }
     {
         for _ in rt.forever() {
-            if self.none_stranded(rt, pass) {
+            self.shared().await_workers(rt);
+            if self.is_cleared(rt, pass) {
                 return;
             }
             thread::yield_now();
@@ -65,8 +68,9 @@ impl<
         unreachable!()
     }
 
-    // Whether no task is stranded, once the pool is stopped where one was. False for want of memory.
-    fn none_stranded<R: Runtime>(&self, rt: &R, pass: &mut Pass<G>) -> bool
+    // Whether no task is queued, once the pool is stopped where one was stranded. False where there is no memory for the answer of the
+    // stop: other threads may give some back. False, too, where another thread is making a worker.
+    fn is_cleared<R: Runtime>(&self, rt: &R, pass: &mut Pass<G>) -> bool
         requires shut { IsShut (K.terms G.config) pass.old.front }
         ensures room { IsTrue result → 2 ≤ pass.new.room }
         ensures shut { IsShut (K.terms G.config) pass.new.front }
@@ -75,7 +79,7 @@ impl<
             return false;
         }
         if !self.is_stranded(rt) {
-            return true;
+            return self.counts(rt).queued == 0;
         }
         self.shared().stop(rt, pass).is_ok()
     }

@@ -35,7 +35,7 @@ pub use callers::{PoolName, Runtime, in_two};
 pub use closing::{CloseFault, Report, Reporter, TallyReport};
 pub use futures::task_of;
 pub use handles::Handle;
-pub use lives::{Answer, run_all};
+pub use lives::{Answer, run_all, run_all_with_tally};
 pub use pool::PoolOf;
 pub use reports::{faulted, outcome_of};
 pub use snapshots::{Busy, Snapshot};
@@ -75,7 +75,7 @@ pub mod prelude {
     pub use crate::callers::{PoolName, Runtime, in_two};
     pub use crate::closing::{Report, Reporter, TallyReport};
     pub use crate::handles::Handle;
-    pub use crate::lives::{Answer, run_all};
+    pub use crate::lives::{Answer, run_all, run_all_with_tally};
     pub use crate::pool::PoolOf;
     pub use crate::reports::outcome_of;
     pub use tp_book::opening::Unopened;

@@ -1,14 +1,15 @@
 //! Jobs on a pool of their own, in one call: the pool is opened, runs them, is shut down, waited for and closed.
-ghost use Rattle.std.specs.Prelude.{◌≡◌, ◌⊎◌, ◌≤◌, true, [], ◌∷◌, length, IfOk, IfErr};
+ghost use Rattle.std.specs.Prelude.{◌≡◌, ◌⊎◌, ◌≤◌, [], ◌∷◌, length, IfOk, IfErr};
 ghost use Rattle.tp_record.specs.Fields.{rank};
 ghost use Rattle.tp_record.specs.Step.{Legal};
+ghost use Rattle.tp_record.specs.Terms.{without_end};
 ghost use Rattle.tp_book.specs.PassView.{PassView};
-ghost use Rattle.tp_shared.specs.Closing.{Reports};
-ghost use Rattle.tp_pool.specs.Lives.{AreAnswered, AreSubmitted, AreTold, IsCut, IsOver, IsRun, IsShut, IsTold, IsUnrun, sized};
+ghost use Rattle.tp_shared.specs.Closing.{Closes};
+ghost use Rattle.tp_pool.specs.Lives.{AreAnswered, AreSubmitted, AreTold, IsClosedRun, IsCut, IsOver, IsRun, IsShut, IsTallyRun, IsTold, IsUnrun, sized};
 ghost use Rattle.tp_pool.specs.Submissions.{Submits};
 
 use crate::callers::{PoolName, Runtime};
-use crate::closing::Report;
+use crate::closing::{Report, Reporter, TallyReport};
 use crate::futures::task_of;
 use crate::pool::PoolOf;
 use std::alloc::Global;
@@ -19,7 +20,9 @@ use tp_book::opening::Unopened;
 use tp_book::passes::Pass;
 use tp_book::sights::Sight;
 use tp_locked::names::PoolNaming;
+use tp_machine::machine::releases::Keeper;
 use tp_protocols::jobs::Job;
+use tp_record::recorders::{Full, Tally};
 use tp_shared::edges::Edge;
 use tp_types::configs::Config;
 use tp_types::ids::TaskId;
@@ -56,27 +59,51 @@ pub fn run_all<J: Job + 'static, E: Edge + Send + Sync + 'static, R: Runtime>(
     ensures over { IfErr result (IsUnrun settings (length jobs.items)) }
 {
     match for_jobs(settings, jobs.len()) {
-        Ok(settings) => run_in(rt, alloc, settings, edge, jobs),
+        Ok(settings) => run_in::<J, E, Full, R>(rt, alloc, settings, edge, jobs),
         Err(error) => Err(error),
     }
 }
 
-// The same on a pool with these settings, as they are.
-fn run_in<J: Job + 'static, E: Edge + Send + Sync + 'static, R: Runtime>(
+/// As `run_all`, on a pool that keeps no record, for any number of jobs: it answers how many steps were made, the counters, and how
+/// many tasks have no fate.
+///
+/// BadSizes (1), BadCapacity (2), BadLimit (3) or KeepZero (11) where no pool has these settings; NoMemory (4) where there is none for a
+/// pool: then the jobs are dropped. Else NoMemory (4) where there is none for the answers, or MissingPass (21) or TornRecord (22), which
+/// do not come as long as the pool's book is sound.
+pub fn run_all_with_tally<J: Job + 'static, E: Edge + Send + Sync + 'static, R: Runtime>(
     rt: &R,
     alloc: Global,
     settings: Config,
     edge: E,
     jobs: Vec<J>,
-) -> Result<(Vec<Answer>, Report), PoolError>
-    ensures run { IfOk result (λ r. IsRun settings J.promised J.urgency jobs.items r.0.items r.1) }
-    ensures over { IfErr result (IsOver settings) }
+) -> Result<(Vec<Answer>, TallyReport), PoolError>
+    ensures run { IfOk result (λ r. IsTallyRun settings J.promised J.urgency jobs.items r.0.items r.1) }
+    ensures over { IfErr result (IsOver settings (without_end settings)) }
+{
+    run_in::<J, E, Tally, R>(rt, alloc, settings, edge, jobs)
+}
+
+// The jobs on a pool with these settings, as they are.
+fn run_in<
+    J: Job + 'static,
+    E: Edge + Send + Sync + 'static,
+    K: Reporter + Send + 'static,
+    R: Runtime,
+>(
+    rt: &R,
+    alloc: Global,
+    settings: Config,
+    edge: E,
+    jobs: Vec<J>,
+) -> Result<(Vec<Answer>, K::Report), PoolError>
+    ensures run { IfOk result (λ r. IsClosedRun K.told K.RECEIPTS settings (K.terms settings) J.promised J.urgency jobs.items r.0.items r.1) }
+    ensures over { IfErr result (IsOver settings (K.terms settings)) }
 {
     let unopened = match Unopened::new(alloc) {
         Ok(unopened) => unopened,
         Err(error) => return Err(error),
     };
-    opened::<Brand, J, E, R>(rt, alloc, unopened, settings, edge, jobs)
+    opened::<Brand, J, E, K, R>(rt, alloc, unopened, settings, edge, jobs)
 }
 
 // The same under a name of the pool's own.
@@ -84,6 +111,7 @@ fn opened<
     G: PoolNaming + Send + Sync + 'static,
     J: Job + 'static,
     E: Edge + Send + Sync + 'static,
+    K: Reporter + Send + 'static,
     R: Runtime,
 >(
     rt: &R,
@@ -92,13 +120,13 @@ fn opened<
     settings: Config,
     edge: E,
     jobs: Vec<J>,
-) -> Result<(Vec<Answer>, Report), PoolError>
+) -> Result<(Vec<Answer>, K::Report), PoolError>
     requires named { unopened ≡ record { ledger = G.name; parts = G.parts; table = G.table } }
     requires settings { settings ≡ G.config }
-    ensures run { IfOk result (λ r. IsRun settings J.promised J.urgency jobs.items r.0.items r.1) }
-    ensures over { IfErr result (IsOver settings) }
+    ensures run { IfOk result (λ r. IsClosedRun K.told K.RECEIPTS settings (K.terms settings) J.promised J.urgency jobs.items r.0.items r.1) }
+    ensures over { IfErr result (IsOver settings (K.terms settings)) }
 {
-    match PoolOf::<G, J, E>::over(alloc, unopened, settings, edge) {
+    match PoolOf::<G, J, E, K>::over(alloc, unopened, settings, edge) {
         Ok((pool, pass)) => entered(rt, alloc, pool, jobs, pass),
         Err(error) => Err(error),
     }
@@ -106,15 +134,21 @@ fn opened<
 
 // The life of a new pool, with its first pass. The pass with which the pool is ended is made before the jobs are
 // submitted, so that no memory is wanted once the pool has threads.
-fn entered<G: PoolName, J: Job + 'static, E: Edge + Send + Sync + 'static, R: Runtime>(
+fn entered<
+    G: PoolName,
+    J: Job + 'static,
+    E: Edge + Send + Sync + 'static,
+    K: Reporter + Send + 'static,
+    R: Runtime,
+>(
     rt: &R,
     alloc: Global,
-    pool: PoolOf<G, J, E>,
+    pool: PoolOf<G, J, E, K>,
     jobs: Vec<J>,
     pass: Pass<G>,
-) -> Result<(Vec<Answer>, Report), PoolError>
-    ensures run { IfOk result (λ r. (new other : PassView) × AreAnswered G.config J.promised J.urgency jobs.items r.0.items pass new × Reports G.config (new ∷ other ∷ []) r.1) }
-    ensures over { IfErr result (IsOver G.config) }
+) -> Result<(Vec<Answer>, K::Report), PoolError>
+    ensures run { IfOk result (λ r. (new other : PassView) × AreAnswered K.RECEIPTS (K.terms G.config) J.promised J.urgency jobs.items r.0.items pass new × Closes K.told K.RECEIPTS G.config (K.terms G.config) (new ∷ other ∷ []) r.1) }
+    ensures over { IfErr result (IsOver G.config (K.terms G.config)) }
 {
     let mut pass = pass;
     let mut last = match ending_pass(rt, &pool, &mut pass) {
@@ -129,9 +163,9 @@ fn entered<G: PoolName, J: Job + 'static, E: Edge + Send + Sync + 'static, R: Ru
 }
 
 // The pass with which a pool is ended, with room for all receipts of the end. NoMemory (4), or BookFull (5).
-fn ending_pass<G: PoolNaming, J: Job, E: Edge, R: Wait>(
+fn ending_pass<G: PoolNaming, J: Job, E: Edge, K: Keeper, R: Wait>(
     rt: &R,
-    pool: &PoolOf<G, J, E>,
+    pool: &PoolOf<G, J, E, K>,
     pass: &mut Pass<G>,
 ) -> Result<Pass<G>, PoolError>
     ensures room { IfOk result (λ p. 4 ≤ p.room) }
@@ -149,20 +183,26 @@ fn ending_pass<G: PoolNaming, J: Job, E: Edge, R: Wait>(
 }
 
 // The jobs' runs, and the end after them: the sight has then seen that the pool has no worker any more.
-fn lived<G: PoolName, J: Job + 'static, E: Edge + Send + Sync + 'static, R: Runtime>(
+fn lived<
+    G: PoolName,
+    J: Job + 'static,
+    E: Edge + Send + Sync + 'static,
+    K: Reporter + Send + 'static,
+    R: Runtime,
+>(
     rt: &R,
     alloc: Global,
-    pool: PoolOf<G, J, E>,
+    pool: PoolOf<G, J, E, K>,
     jobs: Vec<J>,
     pass: Pass<G>,
     last: Pass<G>,
     seen: &mut Sight<G>,
-) -> Result<(Vec<Answer>, Report), PoolError>
+) -> Result<(Vec<Answer>, K::Report), PoolError>
     requires room { 4 ≤ last.room }
-    ensures run { IfOk result (λ r. (new other : PassView) × AreAnswered G.config J.promised J.urgency jobs.items r.0.items pass new × Reports G.config (new ∷ other ∷ []) r.1) }
+    ensures run { IfOk result (λ r. (new other : PassView) × AreAnswered K.RECEIPTS (K.terms G.config) J.promised J.urgency jobs.items r.0.items pass new × Closes K.told K.RECEIPTS G.config (K.terms G.config) (new ∷ other ∷ []) r.1) }
     ensures cut { IfErr result IsCut }
     ensures seen { 3 ≤ rank seen.new }
-    ensures legal { Legal G.config seen.new }
+    ensures legal { Legal (K.terms G.config) seen.new }
 {
     let mut pass = pass;
     let mut last = last;
@@ -177,19 +217,25 @@ fn lived<G: PoolName, J: Job + 'static, E: Edge + Send + Sync + 'static, R: Runt
 
 // Submits these jobs, shuts the pool down with its last pass, and waits for what becomes of each job. NoMemory (4) for the
 // answers.
-fn answers_of<G: PoolName, J: Job + 'static, E: Edge + Send + Sync + 'static, R: Runtime>(
+fn answers_of<
+    G: PoolName,
+    J: Job + 'static,
+    E: Edge + Send + Sync + 'static,
+    K: Keeper + Send + 'static,
+    R: Runtime,
+>(
     rt: &R,
     alloc: Global,
-    pool: &PoolOf<G, J, E>,
+    pool: &PoolOf<G, J, E, K>,
     jobs: Vec<J>,
     pass: &mut Pass<G>,
     last: &mut Pass<G>,
 ) -> Result<Vec<Answer>, PoolError>
     requires room { 4 ≤ last.old.room }
-    ensures answered { IfOk result (λ answers. AreAnswered G.config J.promised J.urgency jobs.items answers.items pass.old pass.new) }
+    ensures answered { IfOk result (λ answers. AreAnswered K.RECEIPTS (K.terms G.config) J.promised J.urgency jobs.items answers.items pass.old pass.new) }
     ensures refused { IfErr result (λ e. e ≡ PoolError.NoMemory) }
     ensures left { 2 ≤ last.new.room }
-    ensures shut { IsShut G.config last.new.front }
+    ensures shut { IsShut (K.terms G.config) last.new.front }
 {
     let tasks = submit_each(rt, alloc, pool, jobs, pass);
     pool.shut(rt, last);
@@ -200,14 +246,20 @@ fn answers_of<G: PoolName, J: Job + 'static, E: Edge + Send + Sync + 'static, R:
 }
 
 // Submits these jobs in their order: the task of each, or why it was refused.
-fn submit_each<G: PoolName, J: Job + 'static, E: Edge + Send + Sync + 'static, R: Runtime>(
+fn submit_each<
+    G: PoolName,
+    J: Job + 'static,
+    E: Edge + Send + Sync + 'static,
+    K: Keeper + Send + 'static,
+    R: Runtime,
+>(
     rt: &R,
     alloc: Global,
-    pool: &PoolOf<G, J, E>,
+    pool: &PoolOf<G, J, E, K>,
     jobs: Vec<J>,
     pass: &mut Pass<G>,
 ) -> Result<Vec<Result<TaskId, PoolError>>, PoolError>
-    ensures submitted { IfOk result (λ tasks. AreSubmitted G.config J.promised J.urgency jobs.items tasks.items pass.old pass.new) }
+    ensures submitted { IfOk result (λ tasks. AreSubmitted K.RECEIPTS (K.terms G.config) J.promised J.urgency jobs.items tasks.items pass.old pass.new) }
     ensures refused { IfErr result (λ e. e ≡ PoolError.NoMemory) }
 {
     let mut tasks = Vec::new(alloc);
@@ -218,13 +270,14 @@ fn submit_each<G: PoolName, J: Job + 'static, E: Edge + Send + Sync + 'static, R
 }
 
 // Submits a job with a future: its task, also where its submitter ran it or the policy discarded it.
-fn submitted<G: PoolName, J: Job + 'static, E: Edge + Send + Sync + 'static, R: Runtime>(
-    rt: &R,
-    pool: &PoolOf<G, J, E>,
-    job: J,
-    pass: &mut Pass<G>,
-) -> Result<TaskId, PoolError>
-    ensures { Submits true G.config job (J.promised job) (J.urgency job) result pass.old pass.new }
+fn submitted<
+    G: PoolName,
+    J: Job + 'static,
+    E: Edge + Send + Sync + 'static,
+    K: Keeper + Send + 'static,
+    R: Runtime,
+>(rt: &R, pool: &PoolOf<G, J, E, K>, job: J, pass: &mut Pass<G>) -> Result<TaskId, PoolError>
+    ensures { Submits K.RECEIPTS (K.terms G.config) job (J.promised job) (J.urgency job) result pass.old pass.new }
 {
     match pool.execute_as(rt, Kind::Future, job, pass) {
         Ok(admitted) => Ok(task_of(admitted)),
@@ -233,14 +286,14 @@ fn submitted<G: PoolName, J: Job + 'static, E: Edge + Send + Sync + 'static, R: 
 }
 
 // Waits for what becomes of each of these tasks, in their order.
-fn tell_each<G: PoolName, J: Job, E: Edge, R: Runtime>(
+fn tell_each<G: PoolName, J: Job, E: Edge, K: Keeper, R: Runtime>(
     rt: &R,
     alloc: Global,
-    pool: &PoolOf<G, J, E>,
+    pool: &PoolOf<G, J, E, K>,
     tasks: &[Result<TaskId, PoolError>],
     pass: &mut Pass<G>,
 ) -> Result<Vec<Answer>, PoolError>
-    ensures told { IfOk result (λ answers. AreTold J G.config tasks.now answers.items pass.old pass.new) }
+    ensures told { IfOk result (λ answers. AreTold J K.RECEIPTS (K.terms G.config) tasks.now answers.items pass.old pass.new) }
     ensures refused { IfErr result (λ e. e ≡ PoolError.NoMemory) }
 {
     let mut answers = Vec::new(alloc);
@@ -251,13 +304,13 @@ fn tell_each<G: PoolName, J: Job, E: Edge, R: Runtime>(
 }
 
 // Waits for what becomes of a task.
-fn told<G: PoolName, J: Job, E: Edge, R: Runtime>(
+fn told<G: PoolName, J: Job, E: Edge, K: Keeper, R: Runtime>(
     rt: &R,
-    pool: &PoolOf<G, J, E>,
+    pool: &PoolOf<G, J, E, K>,
     task: Result<TaskId, PoolError>,
     pass: &mut Pass<G>,
 ) -> Answer
-    ensures { IsTold J G.config task result pass.old pass.new }
+    ensures { IsTold J K.RECEIPTS (K.terms G.config) task result pass.old pass.new }
 {
     match task {
         Ok(t) => pool.await_result_with(rt, t, None, pass),
@@ -266,20 +319,26 @@ fn told<G: PoolName, J: Job, E: Edge, R: Runtime>(
 }
 
 // Waits for the end of a pool that is shut down, and closes it. Whatever comes of that, its threads are gone then.
-fn end<G: PoolName, J: Job + 'static, E: Edge + Send + Sync + 'static, R: Runtime>(
+fn end<
+    G: PoolName,
+    J: Job + 'static,
+    E: Edge + Send + Sync + 'static,
+    K: Reporter + Send + 'static,
+    R: Runtime,
+>(
     rt: &R,
     alloc: Global,
-    pool: PoolOf<G, J, E>,
+    pool: PoolOf<G, J, E, K>,
     pass: Pass<G>,
     last: Pass<G>,
     seen: &mut Sight<G>,
-) -> Result<Report, PoolError>
+) -> Result<K::Report, PoolError>
     requires room { 2 ≤ last.room }
-    requires shut { IsShut G.config last.front }
-    ensures report { IfOk result (λ r. (other : PassView) × Reports G.config (pass ∷ other ∷ []) r) }
+    requires shut { IsShut (K.terms G.config) last.front }
+    ensures report { IfOk result (λ r. (other : PassView) × Closes K.told K.RECEIPTS G.config (K.terms G.config) (pass ∷ other ∷ []) r) }
     ensures cut { IfErr result IsCut }
     ensures seen { 3 ≤ rank seen.new }
-    ensures legal { Legal G.config seen.new }
+    ensures legal { Legal (K.terms G.config) seen.new }
 {
     let mut last = last;
     let ended = pool.await_shut(rt, &mut last);

@@ -9,5 +9,5 @@ returns-clause-run g c = rw (sym c.ending_pass.ensures.same) c.lived.ensures.run
 pub returns-clause-over : goal.returns-clause-over
 returns-clause-over g c =
     IfErr-weaker c.lived.result _ _
-    (λ e is. over_at g.G.PoolNaming.config c.lived.new.seen e c.lived.ensures.legal c.lived.ensures.seen is)
+    (λ e is. over_at g.G.PoolNaming.config (g.K.Recorder.terms g.G.PoolNaming.config) c.lived.new.seen e c.lived.ensures.legal c.lived.ensures.seen is)
     c.lived.ensures.cut

@@ -15,4 +15,4 @@ returns-in-Ok-clause-over g c =
     let asked = c.args.settings in
     let room : c.in-Ok.settings.record_limit ≡ max (length c.args.jobs.items * 13 + 4) 64 = search rules in
     let same : c.in-Ok.settings ≡ sized asked (length c.args.jobs.items) = c.in-Ok.ensures.others ∙ ap (λ n. record asked { record_limit = n }) room in
-    IfErr-weaker c.run_in.result _ _ (λ e is. inr (subst (λ s. IsOver s e) same is)) c.run_in.ensures.over
+    IfErr-weaker c.run_in.result _ _ (λ e is. inr (subst (λ s. IsOver s s e) same is)) c.run_in.ensures.over

@@ -8,11 +8,11 @@ pub returns-in-Ok : goal.returns-in-Ok
 returns-in-Ok g c =
     let old = c.args.pass.now in
     let new = c.execute_as.new.pass in
-    let config = g.G.PoolNaming.config in
+    let terms = g.K.Recorder.terms g.G.PoolNaming.config in
     let job = c.args.job in
     let promise = g.J.Job.promised job in
     let urgency = g.J.Job.urgency job in
-    subst (λ t. AddsJob config kind.Future job promise urgency t old new) (sym c.task_of.ensures) (admits_job config kind.Future job promise urgency c.in-Ok.admitted old new c.in-Ok.ensures.admitted)
+    subst (λ t. AddsJob terms kind.Future job promise urgency t old new) (sym c.task_of.ensures) (admits_job terms kind.Future job promise urgency c.in-Ok.admitted old new c.in-Ok.ensures.admitted)
 
 pub returns-in-Err : goal.returns-in-Err
 returns-in-Err g c = (c.in-Err.refused, refl, c.in-Err.ensures.refused)

@@ -1,5 +1,5 @@
 use Rattle.tp_pool.specs.Lives.{IsShut}
-use Rattle.tp_pool.proofs.pool.PoolOf.stop_stranded.Given as goal
+use Rattle.tp_pool.proofs.pool.PoolOf.see_off.Given as goal
 
 abbrev pub invariant-loop : goal.invariant-loop
 invariant-loop g l =

@@ -2,7 +2,7 @@ use Rattle.std.proofs.Common.{length}
 use Rattle.tp_record.specs.declared.entries.Ask.TheVariants as ask
 use Rattle.tp_record.specs.declared.entries.Did.TheVariants as did
 use Rattle.tp_pool.proofs.Endless.{shut_asked, shut_reserved}
-use Rattle.tp_pool.proofs.pool.PoolOf.none_stranded.Goals as goal
+use Rattle.tp_pool.proofs.pool.PoolOf.is_cleared.Goals as goal
 
 pub returns-then-is_err-clause-shut : goal.returns-then-is_err-clause-shut
 returns-then-is_err-clause-shut g c = shut_reserved (g.K.Recorder.terms g.G.PoolNaming.config) c.args.pass.now c.reserve.new.self c.reserve.ensures.same c.requires.shut
