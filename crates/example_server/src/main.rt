@@ -52,10 +52,10 @@ impl Life for Serving {
 
 fn main(rt: HostRuntime) -> anyhow::Result<()> {
     let alloc = rt.alloc();
-    let queue = QueueKind::Bounded(2);
-    let settings = Config::fixed(1).queue(queue).policy(Policy::CallerRuns);
     let words = env::args(&rt)?.collect::<Vec<String>>(alloc)?;
     let wish = wish_at(&rt, words.get(1))?;
+    let queue = QueueKind::Bounded(2);
+    let settings = Config::fixed(1).queue(queue).policy(Policy::CallerRuns);
     let (served, _, end) = with_journal(&rt, alloc, settings, Defaults, 3, &Serving(rt), wish)?;
     for (who, answers) in served.into_iter().enumerate() {
         for answer in &answers? {

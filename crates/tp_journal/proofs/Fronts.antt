@@ -9,8 +9,11 @@ use Rattle.tp_types.specs.declared.refusals.PoolError.TheVariants.{BookFull, NoM
 use Rattle.tp_record.specs.declared.entries.Entry.{Entry}
 use Rattle.tp_glance.specs.Word.{IsFrontOf}
 use Rattle.tp_glance.proofs.Fronts.{IsFrontOf_empty, IsFrontOf_refl, IsFrontOf_trans}
+use Rattle.tp_journal.specs.declared.endings.Stopped.{Stopped}
+use Rattle.tp_journal.specs.declared.endings.Stopped.TheVariants.{Through, Left}
 use Rattle.tp_journal.specs.declared.writers.RecordWriter.{RecordWriter}
-use Rattle.tp_journal.specs.Journals.{HasBetween, HasWritten, IsJournalOf}
+use Rattle.tp_journal.specs.Endings.{IfThrough}
+use Rattle.tp_journal.specs.Journals.{HasWritten, IsJournalOf}
 
 -- what is dropped of a record behind the entries of a front of it is the rest
 pub rest_of : (es h : List Entry) → IsFrontOf (reverse es) h → es ++ drop (length es) (reverse h) ≡ reverse h
@@ -27,10 +30,10 @@ pub missing : (es rest known whole : List Entry) (n : ℕ) → rest ≡ drop n w
 missing es rest known whole n told counted front goes_on =
     ap (λ l. es ++ l) (told ∙ ap (λ k. drop k whole) counted) ∙ rest_of_whole es whole (IsFrontOf_trans front goes_on)
 
--- what is so of each case where there was a success
-pub on_ok_each : {A E X : Type 0} (P Q : X → Type 0) (r : Result A E) → ((x : X) → P x → OnOk r (Q x)) → OnOk r ((x : X) → P x → Q x)
-on_ok_each P Q (Ok a) each = each
-on_ok_each P Q (Err e) each = tt
+-- where there was a success, both hold, and so does what follows
+pub on_ok_two : {A E P Q X : Type 0} (r : Result A E) → (P → Q → X) → OnOk r P → OnOk r Q → OnOk r X
+on_ok_two (Ok a) both p q = both p q
+on_ok_two (Err e) both p q = tt
 
 -- a writer that has failed has not kept well
 pub failed_so : {A : Type 0} (o : Option A) → IsSome o → o ≡ None → ⊥
@@ -41,25 +44,18 @@ module _ {W : Type 0} (contents : W → Option (List ℕ)) (before : Option (Lis
   pub front_stays : (old new : List Entry) (w : RecordWriter W) → IsFrontOf old new → IsJournalOf contents before c old w → IsJournalOf contents before c new w
   front_stays old new w goes_on is none =
       let has = is none in
-      record { entries = has.entries; behind = has.behind; front = IsFrontOf_trans has.front goes_on; has_written = has.has_written }
+      record { entries = has.entries; front = IsFrontOf_trans has.front goes_on; has_written = has.has_written }
 
-  -- all of a history was written
-  pub between : (least all most : List Entry) (w : RecordWriter W) → IsFrontOf least all → IsFrontOf all most → HasWritten contents before c (reverse all) w
-      → HasBetween contents before c least most w
-  between least all most w low high has =
-      let same = sym (reverse-reverse all) in
-      record { entries = reverse all; behind = subst (λ h. IsFrontOf least h) same low; front = subst (λ h. IsFrontOf h most) same high; has_written = has }
+  pub through_later : (stopped : Stopped W) (old new : List Entry) → IsFrontOf old new → IfThrough stopped (IsJournalOf contents before c old) → IfThrough stopped (IsJournalOf contents before c new)
+  through_later (Through w) old new goes_on is = front_stays old new w goes_on is
+  through_later Left old new goes_on is = tt
 
   pub begun : (known : List Entry) (w : RecordWriter W) → HasWritten contents before c [] w → IsJournalOf contents before c known w
-  begun known w has none = record { entries = []; behind = IsFrontOf_refl []; front = IsFrontOf_empty known; has_written = has }
-
-  -- it is so whatever is asked of its end
-  pub journal_of : (least most : List Entry) (w : RecordWriter W) → HasBetween contents before c least most w → IsJournalOf contents before c most w
-  journal_of least most w has none = record { entries = has.entries; behind = IsFrontOf_empty (reverse has.entries); front = has.front; has_written = has.has_written }
+  begun known w has none = record { entries = []; front = IsFrontOf_empty known; has_written = has }
 
   module _ {A : Type 0} (r : Result A PoolError) (old new news : List Entry) (was is : RecordWriter W) where
     -- the news of a sight were added behind a front of what it knew
-    pub all_added : news ≡ drop was.entries (reverse new) → IsFrontOf old new
+    all_added : news ≡ drop was.entries (reverse new) → IsFrontOf old new
         → OnOk r ((es : List Entry) → HasWritten contents before c es was → HasWritten contents before c (es ++ news) is)
         → OnOk r (was.failure ≡ None) → IsJournalOf contents before c old was → OnOk r (HasWritten contents before c (reverse new) is)
     all_added told goes_on added sound kept = by r added sound
@@ -81,7 +77,7 @@ module _ {W : Type 0} (contents : W → Option (List ℕ)) (before : Option (Lis
       where
         by : (r : Result A PoolError) → OnOk r (HasWritten contents before c (reverse new) is)
             → IfErr r (λ e. (((e ≡ NoMemory) ⊎ (e ≡ BookFull)) × (is ≡ was)) ⊎ ((e ≡ WriteFailed) × IsSome is.failure)) → IsJournalOf contents before c new is
-        by (Ok a) all refused = λ none. between [] new new is (IsFrontOf_empty new) (IsFrontOf_refl new) all
+        by (Ok a) all refused = λ none. record { entries = reverse new; front = subst (λ h. IsFrontOf h new) (sym (reverse-reverse new)) (IsFrontOf_refl new); has_written = all }
         by (Err e) all refused =
             ⊎_elim (λ (x : ((e ≡ NoMemory) ⊎ (e ≡ BookFull)) × (is ≡ was)). subst (λ w. IsJournalOf contents before c new w) (sym x.1) (front_stays old new was goes_on kept))
             (λ (x : (e ≡ WriteFailed) × IsSome is.failure). λ none. absurd (failed_so is.failure x.1 none)) refused

@@ -1,5 +1,5 @@
 -- What a journal has written.
-use Rattle.std.specs.Prelude.{◌≡◌, ℕ, List, [], Option, None, false, length, reverse}
+use Rattle.std.specs.Prelude.{◌≡◌, ℕ, List, Option, None, false, length, reverse}
 use Rattle.std.specs.List.{flat_map}
 use Rattle.std.specs.Io.KnownBytes.{Appends}
 use Rattle.tp_types.specs.declared.configs.Config.{Config}
@@ -18,15 +18,15 @@ module _ {W : Type 0} (contents : W → Option (List ℕ)) (before : Option (Lis
   -- behind what its writer held before, the text of these entries was written, the oldest first
   pub record HasWritten (es : List Entry) (w : RecordWriter W) : Type 0 where
     pub counted : w.entries ≡ length es
+    pub long : w.bytes ≡ length (text_to c es)
     pub written : Appends before (contents w.writer) (text_to c es)
 
-  -- the text was written of a history that goes on from the first of these, and from which the second goes on
-  pub record HasBetween (least most : List Entry) (w : RecordWriter W) : Type 0 where
+  -- the text of a front of this history was written
+  pub record HasFront (known : List Entry) (w : RecordWriter W) : Type 0 where
     pub entries : List Entry
-    pub behind : IsFrontOf least (reverse entries)
-    pub front : IsFrontOf (reverse entries) most
+    pub front : IsFrontOf (reverse entries) known
     pub has_written : HasWritten entries w
 
-  -- the text of a front of this history was written, unless the writer failed
+  -- it was, unless the writer failed
   abbrev pub IsJournalOf : List Entry → RecordWriter W → Type 0
-  IsJournalOf known w = w.failure ≡ None → HasBetween [] known w
+  IsJournalOf known w = w.failure ≡ None → HasFront known w

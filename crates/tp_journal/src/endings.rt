@@ -1,12 +1,12 @@
 //! A journal from its wish to its end: what is wanted of it, and what became of it.
-ghost use Rattle.std.specs.Prelude.{◌≡◌, ◌⊎◌, ℕ, List, Option, reverse, IfSome};
+ghost use Rattle.std.specs.Prelude.{◌≡◌, ◌⊎◌, ℕ, List, Option, reverse};
 ghost use Rattle.tp_types.specs.declared.configs.Config.{Config as Settings};
 ghost use Rattle.tp_record.specs.declared.entries.Entry.{Entry as Told};
 ghost use Rattle.tp_glance.specs.Word.{IsFrontOf};
 ghost use Rattle.tp_locked.specs.Passes.{LooksOnly};
 ghost use Rattle.tp_text_record.specs.declared.versions.Version.{Version};
 ghost use Rattle.tp_text_record.specs.RecordText.{record_text};
-ghost use Rattle.tp_journal.specs.Endings.{IsCut, IsWhole};
+ghost use Rattle.tp_journal.specs.Endings.{IfThrough, IsCut, IsWhole};
 ghost use Rattle.tp_journal.specs.Journals.{IsJournalOf};
 
 use crate::journals::{Journal, MILLIS};
@@ -61,6 +61,15 @@ pub fn wish_at<H: Files>(rt: &H, path: Option<&String>) -> io::Result<Option<Wis
     }
 }
 
+/// A journal whose pool has come to its end.
+#[derive(Drop)]
+pub enum Stopped<W> {
+    /// Its thread is through. A front of the record was written, by this writer.
+    Through(RecordWriter<W>),
+    /// Its writer waits, and was left.
+    Left,
+}
+
 /// What became of the journal of a pool.
 #[derive(Drop)]
 pub enum Ended<W> {
@@ -78,43 +87,36 @@ impl<
     E: Edge + Send + Sync + 'static,
     W: Write + Send + Drop + 'static,
 > Journal<G, J, E, W> {
-    /// Stops the journal, as `stop`, or leaves it where that takes longer than this: None. Where a write was refused, the writer is there
-    /// too: what is missing may be written behind the close.
+    /// Stops the journal, as `stop`, or leaves it where that takes longer than this. Where a write was refused, the writer is there too:
+    /// what is missing may be written behind the close.
     pub fn stop_in<R: Threads + Wait + Clock>(
         self,
         rt: &R,
-        alloc: Global,
         pool: &PoolOf<G, J, E>,
         patience: Duration,
         pass: &mut Pass<G>,
-    ) -> Option<RecordWriter<W>>
-        ensures front { IfSome result (IsJournalOf W.contents (W.contents self.thread.promise.writer.value) G.config pass.new.front) }
+    ) -> Stopped<W>
+        ensures front { IfThrough result (IsJournalOf W.contents (W.contents self.thread.promise.writer.value) G.config pass.new.front) }
         ensures looks { (pass.new ≡ pass.old) ⊎ LooksOnly G.config pass.old pass.new }
     {
         if !self.stops_within(rt, patience) {
             self.leave(rt);
-            return None;
+            return Stopped::Left;
         }
-        match self.stop(rt, alloc, pool, pass) {
-            Ok(writer) => Some(writer),
-            Err(cut) => {
-                let Cut { error: _, writer } = cut;
-                Some(writer)
-            }
-        }
+        Stopped::Through(self.stop(rt, pool, pass))
     }
 }
 
 /// The end of a journal whose pool was closed with these entries: the rest of them is written behind what it has.
 pub fn ended_whole<W: Write + Drop>(
     alloc: Global,
-    writer: Option<RecordWriter<W>>,
+    stopped: Stopped<W>,
     entries: &[Entry],
 ) -> Ended<W>
-    ensures { (before : Option (List ℕ)) (c : Settings) (known : List Told) → IfSome writer (IsJournalOf W.contents before c known) → IsFrontOf known (reverse entries.now)
+    ensures { (before : Option (List ℕ)) (c : Settings) (known : List Told) → IfThrough stopped (IsJournalOf W.contents before c known) → IsFrontOf known (reverse entries.now)
         → IsWhole W.contents before (record_text Version.Two c entries.now) result }
 {
-    let Some(writer) = writer else {
+    let Stopped::Through(writer) = stopped else {
         return Ended::Left;
     };
     match writer.finish(alloc, entries) {
@@ -123,12 +125,26 @@ pub fn ended_whole<W: Write + Drop>(
     }
 }
 
-/// The end of a journal whose pool's close was refused so.
-pub fn ended_cut<W>(writer: Option<RecordWriter<W>>, error: PoolError) -> Ended<W>
-    ensures { IsCut writer error result }
+/// The same, by the text of the record, which is there already.
+pub fn ended_by<W: Write + Drop>(stopped: Stopped<W>, text: &[u8]) -> Ended<W>
+    ensures { (before : Option (List ℕ)) (c : Settings) (known es : List Told) → IfThrough stopped (IsJournalOf W.contents before c known) → IsFrontOf known (reverse es)
+        → text.now ≡ record_text Version.Two c es → IsWhole W.contents before text.now result }
 {
-    match writer {
-        Some(writer) => Ended::Cut(Cut { error, writer }),
-        None => Ended::Left,
+    let Stopped::Through(writer) = stopped else {
+        return Ended::Left;
+    };
+    match writer.finish_by(text) {
+        Ok(writer) => Ended::Whole(writer),
+        Err(cut) => Ended::Cut(cut),
+    }
+}
+
+/// The end of a journal whose pool's close was refused so, or for whose text there is no memory.
+pub fn ended_cut<W>(stopped: Stopped<W>, error: PoolError) -> Ended<W>
+    ensures { IsCut stopped error result }
+{
+    match stopped {
+        Stopped::Through(writer) => Ended::Cut(Cut { error, writer }),
+        Stopped::Left => Ended::Left,
     }
 }

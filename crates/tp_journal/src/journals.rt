@@ -1,13 +1,13 @@
 //! Journals of running pools, as a pool's owner has them.
-ghost use Rattle.std.specs.Prelude.{◌≡◌, ◌⊎◌, IfOk, IfErr, IfSome, IsOkUnless, IsSome};
+ghost use Rattle.std.specs.Prelude.{◌≡◌, ◌⊎◌, IfOk, IfErr, IfSome, IsOkUnless};
 ghost use Rattle.tp_locked.specs.Passes.{LooksOnly};
 ghost use Rattle.tp_text_record.specs.declared.versions.Version.{Version};
 ghost use Rattle.tp_text_record.specs.ReadRecord.{head};
-ghost use Rattle.tp_journal.specs.Journals.{HasBetween, IsJournalOf};
+ghost use Rattle.tp_journal.specs.Journals.{IsJournalOf};
 
-use crate::following::{keep, write_news};
+use crate::following::keep;
 use crate::windows::Window;
-use crate::writers::{Cut, RecordWriter, head_of};
+use crate::writers::{RecordWriter, head_of};
 use std::alloc::Global;
 use std::io::Write;
 use std::marker::PhantomData;
@@ -200,37 +200,23 @@ impl<
         self.window.is_through_within(rt, most)
     }
 
-    /// Tells the thread to stop, waits for it, and writes what the record has beyond what the thread wrote. The pass knows then the record
-    /// that was written, or a later one: a pool that is closed with it, or with what becomes of it, goes on from what was written, and
-    /// `RecordWriter::finish` writes the rest. It waits for ever for a writer that does, as a pipe that nobody reads.
-    ///
-    /// NoMemory (4) or BookFull (5), where what the thread wrote is all that was, or WriteFailed (26).
+    /// Tells the thread to stop, and waits for it. The pass knows then the record of which a front was written, or a later one: a pool that
+    /// is closed with it goes on from what was written, and `RecordWriter::finish` writes the rest. It waits for ever for a writer that
+    /// does, as a pipe that nobody reads.
     pub fn stop<R: Threads + Wait>(
         self,
         rt: &R,
-        alloc: Global,
         pool: &PoolOf<G, J, E>,
         pass: &mut Pass<G>,
-    ) -> Result<RecordWriter<W>, Cut<W>>
-        ensures all { IfOk result (HasBetween W.contents (W.contents self.thread.promise.writer.value) G.config pass.old.front pass.new.front) }
-        ensures front { IfOk result (IsJournalOf W.contents (W.contents self.thread.promise.writer.value) G.config pass.new.front) }
-        ensures cut { IfErr result (λ cut. IsJournalOf W.contents (W.contents self.thread.promise.writer.value) G.config pass.new.front cut.writer) }
-        ensures refused { IfErr result (λ cut. (cut.error ≡ PoolError.NoMemory) ⊎ (cut.error ≡ PoolError.BookFull) ⊎ ((cut.error ≡ PoolError.WriteFailed) × IsSome cut.writer.failure)) }
+    ) -> RecordWriter<W>
+        ensures front { IsJournalOf W.contents (W.contents self.thread.promise.writer.value) G.config pass.new.front result }
         ensures looks { LooksOnly G.config pass.old pass.new }
     {
         let Journal { window, thread } = self;
         window.shut(rt);
-        let Leaves {
-            mut writer,
-            mut sight,
-        } = thread.join(rt);
+        let Leaves { writer, mut sight } = thread.join(rt);
         pool.catch_up(rt, &mut sight, pass);
-        let written = write_news(rt, alloc, pool, &mut sight, &mut writer);
-        pool.catch_up(rt, &mut sight, pass);
-        match written {
-            Ok(()) => Ok(writer),
-            Err(error) => Err(Cut { error, writer }),
-        }
+        writer
     }
 
     /// Leaves the journal, whose writer may wait for ever: the thread is told to stop, and nobody waits for it, or gets its writer back. It

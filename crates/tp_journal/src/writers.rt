@@ -22,7 +22,7 @@ use tp_types::refusals::PoolError;
 /// The last line of a record without entries.
 const NO_ENTRIES: &str = "end 0\n";
 
-/// A writer of a record's text, with how many of its entries were written. Each call writes whole lines, and flushes.
+/// A writer of a record's text, with how many of its entries, and how many bytes, were written. Each call writes whole lines, and flushes.
 ///
 /// A call that is refused with NoMemory (4) wrote nothing, and may be made again. Once the writer has failed, the text may end within a
 /// line: `failure` says why, and each call is refused with WriteFailed (26).
@@ -30,6 +30,7 @@ const NO_ENTRIES: &str = "end 0\n";
 pub struct RecordWriter<W> {
     writer: W,
     entries: usize,
+    bytes: usize,
     failure: Option<io::Error>,
 }
 
@@ -91,11 +92,12 @@ fn put<W: Write>(writer: &mut W, text: &[u8]) -> io::Result<()>
 impl<W: Write> RecordWriter<W> {
     /// It writes to this writer. Nothing is written so far.
     pub fn new(writer: W) -> RecordWriter<W>
-        ensures { result ≡ record { writer = writer; entries = 0; failure = None } }
+        ensures { result ≡ record { writer = writer; entries = 0; bytes = 0; failure = None } }
     {
         RecordWriter {
             writer,
             entries: 0,
+            bytes: 0,
             failure: None,
         }
     }
@@ -119,6 +121,7 @@ impl<W: Write> RecordWriter<W> {
         let RecordWriter {
             writer,
             entries: _,
+            bytes: _,
             failure: _,
         } = self;
         writer
@@ -129,7 +132,7 @@ impl<W: Write> RecordWriter<W> {
         ensures written { OnOk result (Appends (W.contents self.old.writer) (W.contents self.new.writer) text.now) }
         ensures sound { OnOk result (self.old.failure ≡ None) }
         ensures failed { IfErr result (λ e. (e ≡ PoolError.WriteFailed) × IsSome self.new.failure) }
-        ensures same { self.new.entries ≡ self.old.entries }
+        ensures same { (self.new.entries ≡ self.old.entries) × (self.new.bytes ≡ self.old.bytes) }
     {
         if self.failure.is_some() {
             return Err(PoolError::WriteFailed);
@@ -149,7 +152,13 @@ impl<W: Write> RecordWriter<W> {
         ensures begun { OnOk result ((c : Settings) → text.now ≡ head Version.Two c → HasWritten W.contents (W.contents self.old.writer) c [] self.new) }
         ensures refused { IfErr result (λ e. (e ≡ PoolError.WriteFailed) × IsSome self.new.failure) }
     {
-        self.write(text)
+        match self.write(text) {
+            Ok(()) => {
+                self.bytes = text.len();
+                Ok(())
+            }
+            Err(refusal) => Err(refusal),
+        }
     }
 
     /// Writes the lines of the next entries, the oldest first. NoMemory (4) with nothing written, or WriteFailed (26); BookFull (5), with
@@ -166,9 +175,13 @@ impl<W: Write> RecordWriter<W> {
             Ok(text) => text,
             Err(refusal) => return Err(refusal),
         };
+        let Some(bytes) = self.bytes.checked_add(text.len()) else {
+            return Err(PoolError::BookFull);
+        };
         match self.write(text.as_slice()) {
             Ok(()) => {
                 self.entries = count;
+                self.bytes = bytes;
                 Ok(())
             }
             Err(refusal) => Err(refusal),
@@ -212,6 +225,31 @@ impl<W: Write> RecordWriter<W> {
     {
         let mut writer = self;
         match writer.write_rest(alloc, entries) {
+            Ok(()) => Ok(writer.into_writer()),
+            Err(error) => Err(Cut { error, writer }),
+        }
+    }
+
+    // Writes what is missing of the text of a whole record, as `finish_by`.
+    fn write_text_rest(&mut self, text: &[u8]) -> Result<(), PoolError>
+        ensures whole { OnOk result ((before : Option (List ℕ)) (c : Settings) (known es : List Told) → IsJournalOf W.contents before c known self.old → IsFrontOf known (reverse es) → text.now ≡ text_of Version.Two c es → Appends before (W.contents self.new.writer) text.now) }
+        ensures refused { IfErr result (λ e. ((e ≡ PoolError.TornRecord) × (length text.now < self.old.bytes)) ⊎ ((e ≡ PoolError.WriteFailed) × IsSome self.new.failure)) }
+    {
+        match text.get(self.bytes..) {
+            Some(rest) => self.write(rest),
+            None => Err(PoolError::TornRecord),
+        }
+    }
+
+    /// As `finish`, where the text of the whole record is there already, so that no line is made twice.
+    ///
+    /// WriteFailed (26), or TornRecord (22) where the text has fewer bytes than were written.
+    pub fn finish_by(self, text: &[u8]) -> Result<W, Cut<W>>
+        ensures whole { IfOk result (λ w. (before : Option (List ℕ)) (c : Settings) (known es : List Told) → IsJournalOf W.contents before c known self → IsFrontOf known (reverse es) → text.now ≡ text_of Version.Two c es → Appends before (W.contents w) text.now) }
+        ensures refused { IfErr result (λ cut. ((cut.error ≡ PoolError.TornRecord) × (length text.now < self.bytes)) ⊎ ((cut.error ≡ PoolError.WriteFailed) × IsSome cut.writer.failure)) }
+    {
+        let mut writer = self;
+        match writer.write_text_rest(text) {
             Ok(()) => Ok(writer.into_writer()),
             Err(error) => Err(Cut { error, writer }),
         }

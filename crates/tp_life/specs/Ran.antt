@@ -5,7 +5,8 @@ use Rattle.tp_types.specs.declared.refusals.PoolError.{PoolError}
 use Rattle.tp_types.specs.declared.refusals.PoolError.TheVariants.{NotThere}
 use Rattle.tp_types.specs.declared.tasks.Promise.{Promise}
 use Rattle.tp_book.specs.declared.reports.Report.{Report}
-use Rattle.tp_pool.specs.Lives.{IsRun}
+use Rattle.tp_book.specs.declared.reports.TallyReport.{TallyReport}
+use Rattle.tp_pool.specs.Lives.{IsRun, IsTallyRun}
 
 -- each of these fits its counterpart among those, of which there are as many
 abbrev pub Pairwise : {X Y : Type 0} → (X → Y → Type 0) → List X → List Y → Type 0
@@ -20,9 +21,16 @@ module _ {W V : Type 0} (gives : W → V → Type 0) where
   IsTold (Ok n) (Err e) = e ≡ NotThere
   IsTold (Err e) told = told ≡ Err e
 
-  -- c are the settings, and each task promises so, and names this priority: these tasks were run by a pool, and this is told of each, in
-  -- the same order
-  pub record AreRun (c : Config) (promise : Promise) (urgency : W → ℕ) (tasks : List W) (values : List (Result V PoolError)) (r : Report) : Type 0 where
+  -- each task promises so, and names this priority: a pool ran these as its jobs, and this is told of each, in the same order
+  pub record AreDone (runs : List W → List (Result ℤ PoolError) → Type 0) (tasks : List W) (values : List (Result V PoolError)) : Type 0 where
     pub answers : List (Result ℤ PoolError)
-    pub run : IsRun c (λ _. promise) urgency tasks answers r
+    pub run : runs tasks answers
     pub told : Pairwise IsTold answers values
+
+  -- c are the settings; the pool kept its record
+  abbrev pub AreRun : Config → Promise → (W → ℕ) → List W → List (Result V PoolError) → Report → Type 0
+  AreRun c promise urgency tasks values r = AreDone (λ jobs answers. IsRun c (λ _. promise) urgency jobs answers r) tasks values
+
+  -- or it kept none
+  abbrev pub AreTallied : Config → Promise → (W → ℕ) → List W → List (Result V PoolError) → TallyReport → Type 0
+  AreTallied c promise urgency tasks values r = AreDone (λ jobs answers. IsTallyRun c (λ _. promise) urgency jobs answers r) tasks values

@@ -17,7 +17,7 @@ pub mod prelude {
     pub use crate::groups::Group;
     pub use crate::lives::{with_pool, with_tally};
     pub use crate::recorded::with_journal;
-    pub use crate::running::{Told, run_tasks};
+    pub use crate::running::{Told, run_tasks, run_tasks_with_tally};
     pub use crate::ticking::{End, with_ticker};
     pub use std::thread::sleep;
     pub use std::time::Duration;

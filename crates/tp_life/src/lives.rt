@@ -5,7 +5,6 @@ ghost use Rattle.tp_record.specs.Step.{Legal};
 ghost use Rattle.tp_record.specs.Terms.{without_end};
 ghost use Rattle.tp_book.specs.Reports.{TellsCount, TellsRecord};
 ghost use Rattle.tp_shared.specs.Closing.{Closes};
-ghost use Rattle.tp_pool.specs.Lives.{IsShut};
 ghost use Rattle.tp_life.specs.Lived.{AreLived, IsLived, IsNewPass, IsUnlived, IsUntold};
 ghost use Rattle.tp_life.specs.Ran.{Pairwise};
 
@@ -16,7 +15,7 @@ use std::alloc::Global;
 use std::marker::Brand;
 use std::sync::{Arc, Wait};
 use std::thread::{self, JoinHandle};
-use std::time::{Clock, Duration};
+use std::time::Clock;
 use tp_book::opening::Unopened;
 use tp_book::passes::Pass;
 use tp_book::reports::{Report, Reporter, TallyReport};
@@ -28,7 +27,6 @@ use tp_record::recorders::{Full, Tally};
 use tp_shared::edges::Edge;
 use tp_types::configs::Config;
 use tp_types::refusals::PoolError;
-use tp_types::states::RunState;
 use tp_values::tasks::{Held, Task};
 
 /// Opens a pool with these settings and objects, has so many callers live with it, each in a thread of its own, and ends it: it is
@@ -69,7 +67,7 @@ pub fn with_pool<
     opened::<Brand, V, W, O, L, E, Full, R>(rt, alloc, unopened, settings, edge, callers, life)
 }
 
-/// As `with_pool`, with a pool that keeps no record, and forgets its plain tasks: it answers how many steps were made, the counters,
+/// As `with_pool`, with a pool that keeps no record, and forgets its plain tasks. It answers how many steps were made, the counters,
 /// and how many tasks have no fate.
 pub fn with_tally<
     V: Send + Drop + 'static,
@@ -415,49 +413,20 @@ fn parted<G: PoolNaming, W: Task, H: Wait + Copy, E: Edge, K: Keeper, O: Drop>(
     (outs, passes)
 }
 
-// Shuts the pool down, where no caller did so, and stops it where its tasks are stranded. They may be so later, too: a worker fails, and none
-// can be made in its place. It looks after a step, but once in a millisecond at most, since a look takes the lock.
-fn see_off<
-    G: PoolNaming + Send + Sync + 'static,
-    J: Job + 'static,
-    E: Edge + Send + Sync + 'static,
-    K: Keeper + Send + 'static,
-    R: Runtime + Clock,
->(rt: &R, pool: &PoolOf<G, J, E, K>, last: &mut Pass<G>)
-    requires room { 4 ≤ last.old.room }
-    ensures room { 2 ≤ last.new.room }
-    ensures shut { IsShut (K.terms G.config) last.new.front }
-{
-    pool.shut(rt, last);
-    for _ in rt.forever() {
-        let seen = pool.steps(rt);
-        if pool.state(rt) != RunState::Shutdown || pool.counts(rt).queued == 0 {
-            return;
-        }
-        if !pool.is_stranded(rt) {
-            pool.wait_step(rt, seen);
-            thread::sleep(rt, Duration::from_millis(1));
-        } else if last.reserve(4).is_ok() {
-            pool.shut(rt, last);
-        }
-    }
-    unreachable!()
-}
-
-// Shuts the pool down with this pass, and waits until it is terminated. TornRecord (22).
+// Shuts the pool down with this pass, where no caller did so, and waits until it is terminated. TornRecord (22).
 pub(crate) fn shut<
     G: PoolNaming + Send + Sync + 'static,
     J: Job + 'static,
     E: Edge + Send + Sync + 'static,
     K: Reporter + Send + 'static,
-    R: Runtime + Clock,
+    R: Runtime,
 >(rt: &R, pool: &PoolOf<G, J, E, K>, last: &mut Pass<G>) -> Result<(), PoolError>
     requires room { 4 ≤ last.old.room }
     ensures seen { OnOk result (rank last.new.front ≡ 4) }
     ensures legal { OnOk result (Legal (K.terms G.config) last.new.front) }
     ensures untold { IfErr result (IsUntold (K.terms G.config)) }
 {
-    see_off(rt, pool, last);
+    pool.shut(rt, last);
     match pool.await_shut(rt, last) {
         Ok(()) => Ok(()),
         Err(error) => Err(error),

@@ -164,10 +164,10 @@ fn recorded<
         pool.let_go();
         return Err(error);
     }
-    let written = journal.stop_in(rt, alloc, &pool, patience, &mut last);
+    let stopped = journal.stop_in(rt, &pool, patience, &mut last);
     match close(rt, pool, passes, last) {
         Ok(report) => {
-            let ended = ended_whole(alloc, written, report.entries.as_slice());
+            let ended = ended_whole(alloc, stopped, report.entries.as_slice());
             Ok((outs, report, ended))
         }
         Err(error) => Err(error),

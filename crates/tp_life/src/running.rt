@@ -1,13 +1,14 @@
 //! Tasks on a pool of their own, in one call.
 ghost use Rattle.std.specs.Prelude.{◌≡◌, ◌⊎◌, length, IfOk, IfErr};
-ghost use Rattle.tp_pool.specs.Lives.{IsUnrun, sized};
+ghost use Rattle.tp_record.specs.Terms.{without_end};
+ghost use Rattle.tp_pool.specs.Lives.{IsOver, IsUnrun, sized};
 ghost use Rattle.tp_values.specs.declared.tasks.TheConstants.{VOID};
-ghost use Rattle.tp_life.specs.Ran.{AreRun, IsTold, Pairwise};
+ghost use Rattle.tp_life.specs.Ran.{AreRun, AreTallied, IsTold, Pairwise};
 
 use std::alloc::Global;
 use std::sync::Wait;
-use tp_book::reports::Report;
-use tp_pool::{Answer, Runtime, run_all};
+use tp_book::reports::{Report, TallyReport};
+use tp_pool::{Answer, Runtime, run_all, run_all_with_tally};
 use tp_shared::edges::Edge;
 use tp_types::configs::Config;
 use tp_types::refusals::PoolError;
@@ -46,6 +47,40 @@ pub fn run_tasks<
         Err(error) => return Err(error),
     };
     let (answers, report) = match run_all(rt, alloc, settings, edge, jobs) {
+        Ok(run) => run,
+        Err(error) => return Err(error),
+    };
+    match told(rt, alloc, answers, finds) {
+        Ok(values) => Ok((values, report)),
+        Err(error) => Err(error),
+    }
+}
+
+/// As `run_tasks`, on a pool that keeps no record, for any number of tasks: as `tp_pool::run_all_with_tally`, with values of any type.
+///
+/// BadSizes (1), BadCapacity (2), BadLimit (3) or KeepZero (11) where no pool has these settings; NoMemory (4): then the tasks are dropped,
+/// and none has run. Else NoMemory (4) where there is none for the answers, or MissingPass (21) or TornRecord (22), which do not come as
+/// long as the pool's book is sound.
+pub fn run_tasks_with_tally<
+    V: Send + Drop + 'static,
+    W: Task<Output = V> + Send + 'static,
+    E: Edge + Send + Sync + 'static,
+    R: Runtime,
+>(
+    rt: &R,
+    alloc: Global,
+    settings: Config,
+    edge: E,
+    tasks: Vec<W>,
+) -> Result<(Vec<Told<V>>, TallyReport), PoolError>
+    ensures run { IfOk result (λ r. AreTallied W.gives settings VOID W.urgency tasks.items r.0.items r.1) }
+    ensures over { IfErr result (λ e. (e ≡ PoolError.NoMemory) ⊎ IsOver settings (without_end settings) e) }
+{
+    let (jobs, finds) = match held(alloc, tasks) {
+        Ok(held) => held,
+        Err(error) => return Err(error),
+    };
+    let (answers, report) = match run_all_with_tally(rt, alloc, settings, edge, jobs) {
         Ok(run) => run,
         Err(error) => return Err(error),
     };

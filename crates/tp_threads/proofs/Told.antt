@@ -1,6 +1,6 @@
 -- What a run of a text of jobs tells of its writer: a refusal of the run is none of the writer's, and none of a reader's.
 use Rattle.std.proofs.Common.{◌≡◌, ◌≢◌, ◌⊎◌, inl, inr, sym, ap, ◌∙◌, false, Result, Ok, Err}
-use Rattle.std.specs.Prelude.{IfErr, IsOkUnless, OnOk}
+use Rattle.std.specs.Prelude.{Option, Some, None, IfErr, IfSome, IsOkUnless, OnOk}
 use Rattle.tp_types.specs.Config.{checked}
 use Rattle.tp_types.specs.declared.configs.Config.{Config}
 use Rattle.tp_types.specs.declared.refusals.PoolError.{PoolError}
@@ -25,6 +25,11 @@ was_read (Err e) only is = not_unread e only is
 pub on_ok : {A E : Type 0} (r : Result A E) (P Q : Type 0) → (P → Q) → OnOk r P → OnOk r Q
 on_ok (Ok a) P Q follows holds = follows holds
 on_ok (Err e) P Q follows holds = tt
+
+-- what follows from each value follows where there is one
+pub some_so : {A : Type 0} (P Q : A → Type 0) → ((a : A) → P a → Q a) → (o : Option A) → IfSome o P → IfSome o Q
+some_so P Q follows (Some a) holds = follows a holds
+some_so P Q follows None holds = tt
 
 -- a refusal of the writer's is one of two kinds
 pub or_unwritten : {A : Type 0} (r : Result A PoolError) (P : PoolError → Type 0) → IsOkUnless r WriteFailed → IfErr r (λ e. (e ≡ WriteFailed) ⊎ P e)

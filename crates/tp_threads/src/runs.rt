@@ -1,12 +1,11 @@
 //! A pool's whole life: it runs the jobs of a file, with its record or without one.
-ghost use Rattle.std.specs.Prelude.{◌≡◌, [], ◌∷◌, true, IsTrue, IfOk, IfErr, IfSome, Ok};
+ghost use Rattle.std.specs.Prelude.{◌≡◌, [], ◌∷◌, reverse, true, IsTrue, IfOk, IfErr, IfSome, Ok};
 ghost use Rattle.tp_book.specs.PassView.{PassView};
 ghost use Rattle.tp_locked.specs.Left.{IsStranded};
 ghost use Rattle.tp_locked.specs.Moments.{AtSome};
 ghost use Rattle.tp_shared.specs.Closing.{Closes};
-ghost use Rattle.tp_text_record.specs.declared.versions.Version.{Version};
-ghost use Rattle.tp_text_record.specs.RecordText.{record_text};
-ghost use Rattle.tp_journal.specs.Endings.{IsWhole};
+ghost use Rattle.tp_journal.specs.Endings.{IfThrough};
+ghost use Rattle.tp_journal.specs.Journals.{IsJournalOf};
 ghost use Rattle.tp_threads.specs.Runs.{AddsEnd, IsLife, IsRun, IsShort, IsTally, RefusesRun, asked};
 
 use crate::recorded::recorded;
@@ -19,7 +18,7 @@ use std::thread::Threads;
 use std::time::Clock;
 use tp_book::opening::Unopened;
 use tp_book::passes::Pass;
-use tp_journal::endings::{Ended, Wish};
+use tp_journal::endings::{Stopped, Wish};
 use tp_machine::machine::releases::Keeper;
 use tp_pool::closing::{Report, Reporter, TallyReport};
 use tp_pool::defaults::Defaults;
@@ -242,8 +241,9 @@ fn run_alone<R: Threads + Wait + Copy + Send + 'static>(
 /// could be made for jobs that are queued: the pool is stopped, and these jobs have the fate HandedBack. BadSizes (1),
 /// BadCapacity (2), BadLimit (3) and KeepZero (11) where no pool has these settings.
 ///
-/// Where a journal is wished for, it is written while the pool runs, and no step waits for it. Its end is told once the pool is closed.
-/// NoMemory (4) where there is none for it, or no thread: then no job was submitted, and no end is told.
+/// Where a journal is wished for, it is written while the pool runs, and no step waits for it. It is stopped once the pool is terminated,
+/// and its writer is handed out: what is missing is written behind the close. NoMemory (4) where there is none for it, or no thread: then
+/// no job was submitted, and no writer is handed out.
 pub fn run_jobs<
     V: Write + Send + Drop + 'static,
     R: Threads + Wait + Clock + Copy + Send + 'static,
@@ -252,15 +252,15 @@ pub fn run_jobs<
     alloc: Global,
     jobs: &Jobs,
     wish: Option<Wish<V>>,
-    ended: &mut Option<Ended<V>>,
+    journal: &mut Option<Stopped<V>>,
     kept: &mut Option<Report>,
 ) -> Result<Report, PoolError>
     ensures run { IfOk result (IsRun jobs.now.config (asked jobs.now.jobs.items)) }
-    ensures whole { IfOk result (λ r. IfSome wish (λ w. IfSome ended.new (IsWhole V.contents (V.contents w.writer) (record_text Version.Two jobs.now.config r.entries.items)))) }
+    ensures front { IfOk result (λ r. IfSome wish (λ w. IfSome journal.new (λ s. IfThrough s (IsJournalOf V.contents (V.contents w.writer) jobs.now.config (reverse r.entries.items))))) }
     ensures refused { IfErr result (RefusesRun jobs.now.config) }
 {
     match wish {
-        Some(wish) => recorded(rt, alloc, jobs, wish, ended, kept),
+        Some(wish) => recorded(rt, alloc, jobs, wish, journal, kept),
         None => run_alone(rt, alloc, jobs, kept),
     }
 }

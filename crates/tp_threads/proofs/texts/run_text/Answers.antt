@@ -1,4 +1,4 @@
-use Rattle.std.proofs.Common.{ℕ, List, inl, inr, refl, ap, ◌∙◌, subst, Some}
+use Rattle.std.proofs.Common.{ℕ, List, reverse, inl, inr, refl, ap, ◌∙◌, subst, Some}
 use Rattle.std.specs.Prelude.{IfSome}
 use Rattle.std.specs.Io.KnownBytes.{Appends}
 use Rattle.tp_text_record.specs.declared.versions.Version.TheVariants as version
@@ -6,9 +6,11 @@ use Rattle.tp_text_record.specs.RecordText.{record_text as text_of}
 use Rattle.tp_text.proofs.Refusals.{is_outer}
 use Rattle.tp_text.proofs.Watchings.{none_written, not_read, not_written}
 use Rattle.tp_scenario.proofs.JobLaws.{jobs_inner}
-use Rattle.tp_journal.specs.Endings.{IsWhole}
+use Rattle.tp_glance.proofs.Fronts.{IsFrontOf_refl}
+use Rattle.tp_journal.specs.Endings.{IfThrough, IsWhole}
+use Rattle.tp_journal.specs.Journals.{IsJournalOf}
 use Rattle.tp_threads.specs.Runs.{WritesRun}
-use Rattle.tp_threads.proofs.Told.{on_ok, or_unwritten, run_inner, was_read}
+use Rattle.tp_threads.proofs.Told.{on_ok, or_unwritten, run_inner, some_so, was_read}
 use Rattle.tp_threads.proofs.texts.run_text.Goals as goal
 
 pub returns-in-Err-clause-refused : goal.returns-in-Err-clause-refused
@@ -45,10 +47,10 @@ pub returns-clause-written : goal.returns-clause-written
 returns-clause-written g c =
     let config = c.in-Ok.jobs.config in
     let entries = c.in-Ok-run_jobs.report.entries.items in
-    let text = c.as_slice-2.ensures.value ∙ c.in-Ok-record_text.ensures.text ∙ ap (text_of version.Two config) c.as_slice.ensures.value in
+    let text = c.as_slice-record.ensures.value ∙ c.in-Ok-record_text.ensures.text ∙ ap (text_of version.Two config) c.as_slice.ensures.value in
     let old = g.W.Write.contents c.args.writer.now.inner in
     let new = g.W.Write.contents c.write_text.new.writer.inner in
-    on_ok c.write_text.result (Appends old new c.as_slice-2.result.now) (WritesRun (Some c.args.text.now) old new)
+    on_ok c.write_text.result (Appends old new c.as_slice-record.result.now) (WritesRun (Some c.args.text.now) old new)
     (λ appends. (c.in-Ok.jobs, c.in-Ok-run_jobs.report, inr (c.args.text.now, refl, c.in-Ok.ensures), c.in-Ok-run_jobs.ensures.run, subst (Appends old new) text appends))
     c.write_text.ensures.written
 
@@ -56,12 +58,19 @@ pub returns-clause-journal : goal.returns-clause-journal
 returns-clause-journal g c =
     let config = c.in-Ok.jobs.config in
     let entries = c.in-Ok-run_jobs.report.entries.items in
-    let text = c.as_slice-2.ensures.value ∙ c.in-Ok-record_text.ensures.text ∙ ap (text_of version.Two config) c.as_slice.ensures.value in
+    let bytes = c.as_slice-record.result.now in
+    let text = c.as_slice-record.ensures.value ∙ c.in-Ok-record_text.ensures.text ∙ ap (text_of version.Two config) c.as_slice.ensures.value in
+    let contents = g.V.Write.contents in
+    let ended = c.ended_at-2.result in
+    let whole =
+    some_so (λ w. IfSome c.run_jobs.new.journal (λ s. IfThrough s (IsJournalOf contents (contents w.writer) config (reverse entries))))
+    (λ w. IfSome ended (IsWhole contents (contents w.writer) bytes))
+    (λ w is. c.ended_at-2.ensures (contents w.writer) config (reverse entries) entries is (IsFrontOf_refl (reverse entries)) text) c.args.wish c.in-Ok-run_jobs.ensures.front in
     let old = g.W.Write.contents c.args.writer.now.inner in
     let new = g.W.Write.contents c.write_text.new.writer.inner in
-    on_ok c.write_text.result (Appends old new c.as_slice-2.result.now)
-    ((bytes : List ℕ) × Appends old new bytes × IfSome c.args.wish (λ w. IfSome c.run_jobs.new.ended (IsWhole g.V.Write.contents (g.V.Write.contents w.writer) bytes)))
-    (λ appends. (text_of version.Two config entries, subst (Appends old new) text appends, c.in-Ok-run_jobs.ensures.whole))
+    on_ok c.write_text.result (Appends old new bytes)
+    ((bytes : List ℕ) × Appends old new bytes × IfSome c.args.wish (λ w. IfSome ended (IsWhole contents (contents w.writer) bytes)))
+    (λ appends. (bytes, appends, whole))
     c.write_text.ensures.written
 
 pub returns-clause-refused : goal.returns-clause-refused

@@ -1,7 +1,0 @@
-use Rattle.std.proofs.Common.{◌≤◌}
-use Rattle.tp_pool.specs.Lives.{IsShut}
-use Rattle.tp_life.proofs.lives.see_off.Given as goal
-
-abbrev pub invariant-loop : goal.invariant-loop
-invariant-loop g l =
-    (goal.iterator-loop g).can_next l.iterator' × (goal.iterator-loop g).is_finite l.iterator' × (2 ≤ l.last.room) × IsShut (g.K.Recorder.terms g.G.PoolNaming.config) l.last.front

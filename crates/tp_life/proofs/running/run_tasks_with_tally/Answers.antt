@@ -1,0 +1,14 @@
+use Rattle.std.proofs.Common.{subst}
+use Rattle.tp_pool.specs.Lives.{IsTallyRun}
+use Rattle.tp_values.specs.declared.tasks.TheConstants.{VOID}
+use Rattle.tp_life.proofs.running.run_tasks_with_tally.Goals as goal
+
+pub returns-in-Ok-told-clause-run : goal.returns-in-Ok-told-clause-run
+returns-in-Ok-told-clause-run g c =
+    let answers = c.in-Ok-run_all_with_tally.run'.0.items in
+    let report = c.in-Ok-run_all_with_tally.run'.1 in
+    record {
+      answers = answers;
+      run = subst (λ jobs. IsTallyRun c.args.settings (λ _. VOID) g.W.Task.urgency jobs answers report) c.in-Ok.ensures.held c.in-Ok-run_all_with_tally.ensures.run;
+      told = c.in-Ok-told.ensures.told;
+    }
