@@ -1,11 +1,15 @@
-//! Jobs on a pool of their own, for which no worker can be made. The call ends, and tells that each job is lost.
+//! Tasks for which no worker can be made, or none any more. What ends their pool stops it, and tells that each of them is lost.
+ghost use Rattle.std.specs.Prelude.{◌≡◌};
 
 use crate::compare::same;
 use crate::harness::boards::Board;
 use crate::harness::users::{MANNER, Manner, Users};
 use std::alloc::Global;
+use std::marker::Brand;
 use std::process::Abort;
 use std::test::Fail;
+use std::thread;
+use tp_pool::names::PoolNaming;
 use tp_pool::prelude::*;
 
 // The factory refuses each worker; or no thread can be made, since none has room for such a stack.
@@ -80,6 +84,31 @@ fn answer_of(number: u32, lost: u32) -> Answer {
     })
 }
 
+// Three jobs.
+fn three(alloc: Global) -> Result<Vec<Any<Seven>>, PoolError> {
+    let mut jobs = Vec::new(alloc);
+    for _ in 0..3 {
+        jobs.push(Any(Seven))?;
+    }
+    Ok(jobs)
+}
+
+// What is told of three jobs, and what the counters say, is as the life has it.
+fn tells<R: Abort>(rt: &R, line: usize, life: &Life, answers: &[Answer], counts: Counts) {
+    let mut number = 0u32;
+    for answer in answers {
+        same(rt, line, answer, &answer_of(number, life.lost));
+        number = number.saturating_add(1);
+    }
+    same(
+        rt,
+        line,
+        &(number, counts.handedback, counts.run, counts.live),
+        &(3, life.lost, 0, 0),
+    );
+}
+
+// The jobs run on a pool that keeps its record, and on one that keeps none.
 fn lives<R: Abort + Runtime>(rt: R, alloc: Global, line: usize, life: &Life) -> Result<(), Fail> {
     let settings = Config {
         core: life.core,
@@ -87,24 +116,13 @@ fn lives<R: Abort + Runtime>(rt: R, alloc: Global, line: usize, life: &Life) -> 
         queue: life.queue,
         ..Config::fixed(2)
     };
-    let mut jobs = Vec::new(alloc);
-    for _ in 0..3 {
-        jobs.push(Any(Seven))?;
-    }
     let users = Users::new(life.manner, &Board::new(alloc)?)?;
-    let (answers, report) = run_all(&rt, alloc, settings, users, jobs)?;
-    let mut number = 0u32;
-    for answer in &answers {
-        same(&rt, line, answer, &answer_of(number, life.lost));
-        number = number.saturating_add(1);
-    }
-    let counts = report.counts;
-    same(
-        &rt,
-        line,
-        &(counts.handedback, counts.run, counts.live),
-        &(life.lost, 0, 0),
-    );
+    let (answers, report) = run_all(&rt, alloc, settings, users, three(alloc)?)?;
+    tells(&rt, line, life, answers.as_slice(), report.counts);
+    let users = Users::new(life.manner, &Board::new(alloc)?)?;
+    let (answers, report) = run_all_with_tally(&rt, alloc, settings, users, three(alloc)?)?;
+    tells(&rt, line, life, answers.as_slice(), report.counts);
+    same(&rt, line, &report.unended, &0);
     Ok(())
 }
 
@@ -113,5 +131,105 @@ fn jobs_without_workers_are_lost(rt: HostRuntime) -> Result<(), Fail> {
     for (line, life) in LIVES.iter().enumerate() {
         lives(rt, rt.alloc(), line, life)?;
     }
+    Ok(())
+}
+
+// A plain job that takes its time, so that its pool is shut down meanwhile, and then faults: its worker ends.
+#[derive(Drop)]
+struct Faults;
+
+impl Body for Faults {
+    fn run(&mut self, _cancel: &CancelFlag) -> Outcome {
+        for _ in 0..100_000u32 {
+            thread::yield_now();
+        }
+        Err(7)
+    }
+}
+
+type Faulty<G> = PoolOf<G, Any<Faults>, Users>;
+
+// Shuts the pool down with this pass, and closes it at its end.
+fn ended<G: PoolName, R: Runtime>(
+    rt: &R,
+    pool: Faulty<G>,
+    pass: Pass<G>,
+) -> Result<Report, PoolError> {
+    let mut pass = pass;
+    if let Err(error) = pass.reserve(4) {
+        pool.let_go();
+        return Err(error);
+    }
+    pool.shut(rt, &mut pass);
+    if let Err(error) = pool.await_shut(rt, &mut pass) {
+        pool.let_go();
+        return Err(error);
+    }
+    pool.close_one(rt, pass).map_err(|fault| fault.let_go())
+}
+
+// Three such jobs on a pool with one worker, in whose place none is made.
+fn three_faults<G: PoolNaming + Send + Sync + 'static, R: Runtime>(
+    rt: &R,
+    alloc: Global,
+    unopened: Unopened,
+    settings: Config,
+    users: Users,
+) -> Result<Report, PoolError>
+    requires named { unopened ≡ record { ledger = G.name; parts = G.parts; table = G.table } }
+    requires settings { settings ≡ G.config }
+{
+    let (pool, mut pass) = Faulty::<G>::over(alloc, unopened, settings, users)?;
+    for _ in 0..3 {
+        let _ = pool.execute_as(rt, Kind::Plain, Any(Faults), &mut pass);
+    }
+    ended(rt, pool, pass)
+}
+
+#[test]
+fn tasks_that_a_failed_worker_leaves_are_handed_back(rt: HostRuntime) -> Result<(), Fail> {
+    let once = Manner {
+        consents: 1,
+        ..MANNER
+    };
+    let users = Users::new(once, &Board::new(rt.alloc())?)?;
+    let unopened = Unopened::new(rt.alloc())?;
+    let settings = Config::fixed(1);
+    let report = three_faults::<Brand, HostRuntime>(&rt, rt.alloc(), unopened, settings, users)?;
+    same(
+        &rt,
+        0,
+        &(report.counts.run, report.counts.handedback),
+        &(1, 2),
+    );
+    Ok(())
+}
+
+// More jobs than the settings' record has room for.
+const MANY: u32 = 2_000;
+
+#[test]
+fn without_a_record_any_number_of_jobs_runs(rt: HostRuntime) -> Result<(), Fail> {
+    let mut jobs = Vec::new(rt.alloc());
+    for _ in 0..MANY {
+        jobs.push(Any(Seven))?;
+    }
+    let settings = Config {
+        record_limit: 64,
+        ..Config::fixed(2)
+    };
+    let (answers, report) = run_all_with_tally(&rt, rt.alloc(), settings, Defaults, jobs)?;
+    let mut sevens = 0u32;
+    for answer in &answers {
+        if *answer == Ok(7) {
+            sevens = sevens.saturating_add(1);
+        }
+    }
+    same(
+        &rt,
+        0,
+        &(sevens, report.counts.run, report.unended),
+        &(MANY, MANY, 0),
+    );
     Ok(())
 }
