@@ -1,324 +1,294 @@
-//! What became of each job, by what the pool answered, by the job's own count, and by the record.
+//! What became of each job of a closed pool: by what its callers saw, by its own count and its value, and by the record.
 
-use crate::callers::{Answered, Told};
-use crate::causes::{Cause, cause_of};
-use crate::chores::{Count, outcome_of};
-use crate::mishaps::Mishap;
-use crate::plans::{Plan, work_of};
-use crate::totals::Account;
-use std::alloc::{AllocError, Global};
-use std::sync::Arc;
-use std::sync::atomic::Ordering;
+use crate::calls::{Event, Seen};
+use crate::chores::Sign;
+use crate::lives::{Out, Shift};
+use crate::mishaps::{Mishap, ensure};
+use crate::plans::Plan;
+use std::sync::{Arc, Wait};
 use tp_audit::plain::audit_plain;
-use tp_audit::summary::Summary;
-use tp_book::passes::Pass;
-use tp_pool::answers::Admitted;
-use tp_pool::closing::{Report, Reporter, TallyReport};
-use tp_pool::names::PoolNaming;
-use tp_record::entries::{Did, Ruled, Started};
-use tp_record::recorders::{Full, Tally};
-use tp_types::ids::TaskId;
-use tp_types::refusals::PoolError;
-use tp_types::states::{Counts, RunState};
-use tp_types::tasks::Fate;
+use tp_audit::summary::Flaw;
+use tp_life::prelude::*;
+use tp_pool::task_of;
+use tp_record::entries::{Did, Ruled, Seconded, Started};
 
-/// A job, as its submitter and the record tell of it.
-#[derive(Clone, Copy)]
-struct Row {
+// The number of the pass with which a life is ended. Those of its callers come next, and then those of the pool's own.
+const LAST: u32 = 0;
+
+/// Why who ended a life stopped its pool: its core size is 0, or the worker that it asked for with a pass of its own was not made, or its
+/// record has no room for another worker, or no record says it.
+#[derive(Clone, Copy, PartialEq, Eq)]
+pub enum Cause {
+    CoreZero,
+    InVain,
+    Full,
+    Untold,
+}
+
+/// What a pool came to, or several, in the order in which it is told.
+pub type Totals = [u64; 14];
+
+/// A job, as its callers, itself and the record tell of it.
+#[derive(Clone, Copy, Default)]
+pub struct Row {
+    number: u32,
     // Its task, where it got one.
     task: Option<TaskId>,
-    // How often it came back.
-    back: u32,
-    // How often the record begins it.
+    // With which fate it came back, where it did: with none where its submission was refused before the first step.
+    back: Option<Option<Fate>>,
+    // Its value, where one is found.
+    value: Option<u32>,
+    // How often it ran, by its own count.
+    ran: u64,
+    // How often the record begins it, and its fate there.
     begun: u64,
+    fate: Option<Fate>,
 }
 
-/// All that is known of a pool's jobs once it is closed.
-#[derive(Drop)]
-pub struct Books {
-    /// What the submissions came to.
-    pub answered: Vec<Answered>,
-    /// The numbers of the jobs that came back.
-    pub back: Vec<u32>,
-    /// How often each job ran, by its number.
-    pub ran: Vec<Count>,
-}
-
-impl Books {
-    /// Takes in what a caller tells, and gives its pass.
-    pub fn take_in<G: PoolNaming>(&mut self, told: Told<G>) -> Result<Pass<G>, AllocError> {
-        let Told {
-            pass,
-            answered,
-            back,
-        } = told;
-        self.answered.extend_from_slice(&answered)?;
-        self.back.extend_from_slice(&back)?;
-        Ok(pass)
+impl Row {
+    // Where this is not so of it, it is what differs.
+    fn ensure(&self, so: bool, differs: &'static str) -> Result<(), Mishap> {
+        so.then_some(()).ok_or(Mishap::Job(self.number, differs))
     }
-}
 
-// Each job's row, by its number.
-fn rows_of(alloc: Global, books: &Books, jobs: u32) -> Result<Vec<Row>, Mishap> {
-    let mut rows = Vec::new(alloc);
-    let row = Row {
-        task: None,
-        back: 0,
-        begun: 0,
-    };
-    rows.resize(jobs as usize, row)?;
-    for number in &books.back {
-        match rows.get_mut(*number as usize) {
-            Some(row) => row.back = row.back.saturating_add(1),
-            None => return Err(Mishap::Job(*number, "came back, and is no job")),
+    // It comes back, with this fate or with none.
+    fn comes_back(&mut self, fate: Option<Fate>) -> Result<(), Mishap> {
+        self.ensure(self.back.is_none(), "came back twice")?;
+        self.back = Some(fate);
+        Ok(())
+    }
+
+    // Notes what a caller saw of it, once the pool is closed.
+    fn note<R: Wait>(&mut self, rt: &R, seen: Seen) -> Result<(), Mishap> {
+        match seen {
+            Seen::Entered(admitted, value) => {
+                self.task = Some(task_of(admitted));
+                self.value = value.take(rt);
+            }
+            Seen::Refused(PoolError::Rejected(t), came_back) => {
+                self.task = Some(t);
+                if came_back {
+                    self.comes_back(Some(Fate::Rejected))?;
+                }
+            }
+            Seen::Refused(PoolError::BookFull, true) => self.comes_back(None)?,
+            Seen::Refused(error, _) => return Err(Mishap::Refused(error)),
+            Seen::Back(fate) => self.comes_back(Some(fate))?,
+        }
+        Ok(())
+    }
+
+    // It ran once at most and gave its value then, or came back.
+    fn is_sound(&self, plan: &Plan) -> Result<(), Mishap> {
+        let may_run = self.task.is_some() && self.back.is_none();
+        let runs = self.ran <= u64::from(may_run);
+        self.ensure(runs, "ran twice, or ran and came back")?;
+        let gives = self.ran == 1 && plan.outcome(self.number).is_ok();
+        let value = gives.then_some(self.number);
+        self.ensure(self.value == value, "gave another value")
+    }
+
+    // The record begins it, or ends it with the outcome of its body.
+    fn follow(&mut self, plan: &Plan, did: Did) -> Result<(), Mishap> {
+        match did {
+            Did::Begin(_, Started::Run(t)) | Did::Verdict(t, _, Ruled::Caller) => {
+                let begun = u64::from(self.task == Some(t));
+                self.begun = self.begun.saturating_add(begun);
+                Ok(())
+            }
+            Did::End(_, t, outcome) | Did::CallerEnd(t, outcome) => {
+                let same = self.task != Some(t) || outcome == plan.outcome(self.number);
+                self.ensure(same, "ended with another outcome")
+            }
+            _ => Ok(()),
         }
     }
-    for answered in &books.answered {
-        if let Some(row) = rows.get_mut(answered.number as usize) {
-            row.task = match answered.answer {
-                Ok(Admitted::Accepted(t) | Admitted::RanHere(t, _) | Admitted::Discarded(t)) =>
-                    Some(t),
-                Err(PoolError::Rejected(t)) => Some(t),
-                Err(PoolError::BookFull) => None,
-                Err(error) => return Err(Mishap::Refused(error)),
-            };
+
+    // It was begun, and came back, as its fate in the record says. Who ended the life may have dropped it.
+    fn agrees(&self, dropped: bool) -> Result<(), Mishap> {
+        let (begun, comes_back) = match self.fate {
+            Some(Fate::Run | Fate::RunByCaller) => (self.begun == 1, false),
+            Some(Fate::Cancelled) => (self.begun <= 1, false),
+            Some(Fate::Discarded) => (self.begun == 0, false),
+            Some(Fate::HandedBack) => (self.begun == 0, !dropped),
+            Some(Fate::Rejected | Fate::Removed) => (self.begun == 0, true),
+            None => (self.begun == 0 && self.task.is_none(), true),
+        };
+        self.ensure(begun && self.ran == self.begun, "ran against its fate")?;
+        let back = comes_back.then_some(self.fate);
+        self.ensure(self.back == back, "came back against its fate")
+    }
+}
+
+// Each task is one job.
+fn are_jobs(rows: &[Row], submitted: u32) -> Result<(), Mishap> {
+    let tasks = rows.iter().filter(|row| row.task.is_some()).count();
+    ensure(tasks == submitted as usize, "not as many jobs have a task")?;
+    for t in 0..submitted {
+        let is_job = rows.iter().any(|row| row.task == Some(TaskId(t)));
+        ensure(is_job, "a task is no job")?;
+    }
+    Ok(())
+}
+
+// Why who ended this pool's life stopped it, by its record; None where he did not. Owed then: six entries a task, seven for pool and worker.
+fn cause_of(plan: &Plan, report: &Report) -> Result<Option<Cause>, Mishap> {
+    let (mut core, mut refused) = (plan.settings.core, false);
+    for (steps, entry) in (0u64..).zip(&report.entries) {
+        match entry.did {
+            Did::Core(size, _) => core = size,
+            Did::Fail(_, _) => refused = plan.callers < entry.by,
+            Did::Open(_, _) => refused = false,
+            Did::Stop(queued) if entry.by == LAST => {
+                let owed = u64::from(queued).saturating_mul(6).saturating_add(7);
+                let full = u64::from(plan.settings.record_limit) < steps.saturating_add(owed);
+                return match (core, refused) {
+                    (0, _) => Ok(Some(Cause::CoreZero)),
+                    (_, true) => Ok(Some(Cause::InVain)),
+                    _ if full => Ok(Some(Cause::Full)),
+                    _ => Err(Mishap::Differs("tasks were left to nobody")),
+                };
+            }
+            _ => {}
         }
     }
+    Ok(None)
+}
+
+/// What is told of a closed pool.
+pub trait Judged: Drop {
+    /// Its counters, its steps, and how many tasks came back at their second look, where a record says so.
+    fn sums(&self) -> (Counts, u64, usize);
+
+    /// It accounts for each job. Why who ended the life stopped the pool, where he did.
+    fn judge(&self, shift: &Shift, rows: &mut [Row]) -> Result<Option<Cause>, Mishap>;
+}
+
+impl Judged for Report {
+    fn sums(&self) -> (Counts, u64, usize) {
+        let entries = self.entries.iter();
+        let back = entries.filter(|entry| matches!(entry.did, Did::Second(_, Seconded::Back)));
+        (self.counts, self.entries.len() as u64, back.count())
+    }
+
+    fn judge(&self, shift: &Shift, rows: &mut [Row]) -> Result<Option<Cause>, Mishap> {
+        let plan = &shift.plan;
+        plan.settings.check()?;
+        let summary = match audit_plain(shift.alloc, &plan.settings, &self.entries) {
+            Ok(summary) => summary,
+            Err(Flaw::At(entry)) => return Err(Mishap::Illegal(entry)),
+            Err(Flaw::NoMemory) => return Err(Mishap::Refused(PoolError::NoMemory)),
+        };
+        let same = summary.counts == self.counts && summary.state == RunState::Terminated;
+        ensure(same, "the report's counters are not the record's")?;
+        let cause = cause_of(plan, self)?;
+        for row in rows {
+            for entry in &self.entries {
+                row.follow(plan, entry.did)?;
+            }
+            if let Some(t) = row.task {
+                row.fate = summary.fates.get(t.0 as usize).copied().flatten();
+            }
+            row.agrees(cause.is_some())?;
+        }
+        Ok(cause)
+    }
+}
+
+// How many jobs came back with this fate.
+fn back_as(rows: &[Row], fate: Fate) -> usize {
+    let back = Some(Some(fate));
+    rows.iter().filter(|row| row.back == back).count()
+}
+
+impl Judged for TallyReport {
+    fn sums(&self) -> (Counts, u64, usize) {
+        (self.counts, self.steps, 0)
+    }
+
+    // Nothing is refused for want of room. A job that was cancelled may have run.
+    fn judge(&self, shift: &Shift, rows: &mut [Row]) -> Result<Option<Cause>, Mishap> {
+        let counts = &self.counts;
+        let all = self.unended == 0 && counts.submitted == shift.plan.jobs;
+        ensure(all, "not each job is a task with a fate")?;
+        let ran = rows.iter().filter(|row| row.ran == 1).count() as u64;
+        let least = u64::from(counts.run) + u64::from(counts.caller);
+        let runs = least <= ran && ran <= least + u64::from(counts.cancelled);
+        ensure(runs, "the counters of runs are not the jobs' own")?;
+        let handed = back_as(rows, Fate::HandedBack);
+        let dropped = handed == 0 && counts.handedback != 0;
+        let returns = back_as(rows, Fate::Rejected) == counts.rejected as usize
+            && back_as(rows, Fate::Removed) == counts.removed as usize
+            && (dropped || handed == counts.handedback as usize);
+        ensure(returns, "the counters of returns are not the jobs' own")?;
+        Ok(dropped.then_some(Cause::Untold))
+    }
+}
+
+// The jobs of a closed pool with these counters, with what its callers saw of them. Each cancel that had effect cancelled a task.
+fn rows_of<R: Wait>(
+    rt: &R,
+    shift: &Shift,
+    outs: Vec<Out>,
+    counts: &Counts,
+) -> Result<Vec<Row>, Mishap> {
+    let (mut rows, mut cancels) = (Vec::new(shift.alloc), 0u32);
+    for number in 0..shift.plan.jobs {
+        rows.push(Row {
+            number,
+            ran: shift.signs.count(Sign::Job(number)),
+            ..Row::default()
+        })?;
+    }
+    for out in outs {
+        for event in out? {
+            match event {
+                Event::Cancelled => cancels = cancels.saturating_add(1),
+                Event::Job(number, seen) => match rows.get_mut(number as usize) {
+                    Some(row) => row.note(rt, seen)?,
+                    None => return Err(Mishap::Job(number, "is no job of the pool")),
+                },
+            }
+        }
+    }
+    for row in &rows {
+        row.is_sound(&shift.plan)?;
+    }
+    ensure(cancels == counts.cancelled, "a cancel cancelled no task")?;
+    are_jobs(&rows, counts.submitted)?;
     Ok(rows)
 }
 
-// The number of the job of each task.
-fn owners_of(alloc: Global, rows: &[Row], submitted: u32) -> Result<Vec<u32>, Mishap> {
-    let mut owners = Vec::new(alloc);
-    owners.resize(submitted as usize, u32::MAX)?;
-    for (number, row) in (0u32..).zip(rows) {
-        let Some(t) = row.task else {
-            continue;
-        };
-        match owners.get_mut(t.0 as usize) {
-            Some(owner) if *owner == u32::MAX => *owner = number,
-            Some(_) => return Err(Mishap::Job(number, "has another job's task")),
-            None => return Err(Mishap::Job(number, "has a task that was never submitted")),
-        }
-    }
-    if owners.iter().any(|owner| *owner == u32::MAX) {
-        return Err(Mishap::Differs("a task has no job"));
-    }
-    Ok(owners)
-}
-
-// The number of the job of this task; no job's where there is no such task.
-fn owner_of(owners: &[u32], t: TaskId) -> u32 {
-    owners.get(t.0 as usize).copied().unwrap_or(u32::MAX)
-}
-
-// The record begins the job of this number once more.
-fn begins(rows: &mut [Row], number: u32) {
-    if let Some(row) = rows.get_mut(number as usize) {
-        row.begun = row.begun.saturating_add(1);
-    }
-}
-
-// What this entry does to the jobs' rows: it begins one, or ends one with the outcome of its body.
-fn follow_one(plan: &Plan, did: Did, owners: &[u32], rows: &mut [Row]) -> Result<(), Mishap> {
-    match did {
-        Did::Begin(_, Started::Run(t)) | Did::Verdict(t, _, Ruled::Caller) => {
-            begins(rows, owner_of(owners, t));
-            Ok(())
-        }
-        Did::End(_, t, outcome) | Did::CallerEnd(t, outcome) => {
-            let number = owner_of(owners, t);
-            if outcome == outcome_of(number, work_of(plan.seed, number)) {
-                Ok(())
-            } else {
-                Err(Mishap::Job(number, "ended with another outcome"))
-            }
-        }
-        _ => Ok(()),
-    }
-}
-
-// The record begins each job so often, and ends it with the outcome of its body.
-fn follow(plan: &Plan, report: &Report, owners: &[u32], rows: &mut [Row]) -> Result<(), Mishap> {
-    for entry in &report.entries {
-        follow_one(plan, entry.did, owners, rows)?;
-    }
-    Ok(())
-}
-
-// How often a job comes back that has this fate.
-fn comes_back(fate: Fate) -> u32 {
-    match fate {
-        Fate::Rejected | Fate::HandedBack | Fate::Removed => 1,
-        Fate::Run | Fate::RunByCaller | Fate::Discarded | Fate::Cancelled => 0,
-    }
-}
-
-// Each job ran as often as the record begins it, and came back as often as its fate says.
-fn agree(rows: &[Row], ran: &[Count], summary: &Summary) -> Result<(), Mishap> {
-    for ((number, row), count) in (0u32..).zip(rows).zip(ran) {
-        if Arc::strong_count(count) != 1 {
-            return Err(Mishap::Job(number, "is held by somebody yet"));
-        }
-        if count.load(Ordering::SeqCst) != row.begun {
-            return Err(Mishap::Job(number, "ran more or less often than it was begun"));
-        }
-        let Some(t) = row.task else {
-            if (row.back, row.begun) != (1, 0) {
-                return Err(Mishap::Job(number, "was refused and did not come back once"));
-            }
-            continue;
-        };
-        let Some(Some(fate)) = summary.fates.get(t.0 as usize) else {
-            return Err(Mishap::Job(number, "has no fate"));
-        };
-        let runs = matches!(*fate, Fate::Run | Fate::RunByCaller);
-        if runs && row.begun != 1 {
-            return Err(Mishap::Job(number, "has run, and was not begun once"));
-        }
-        if row.back != comes_back(*fate) {
-            return Err(Mishap::Job(number, "came back more or less often than its fate says"));
-        }
-        if row.back != 0 && row.begun != 0 {
-            return Err(Mishap::Job(number, "came back and ran"));
-        }
-    }
-    Ok(())
-}
-
-// Judges the record of a closed pool, and accounts for each of its jobs.
-fn judge(alloc: Global, plan: &Plan, report: &Report, books: &Books) -> Result<Counts, Mishap> {
-    plan.settings.check()?;
-    let summary = audit_plain(alloc, &plan.settings, &report.entries)?;
-    if summary.counts != report.counts || summary.state != RunState::Terminated {
-        return Err(Mishap::Differs("the report's counters are not the record's"));
-    }
-    let mut rows = rows_of(alloc, books, plan.all_jobs())?;
-    let owners = owners_of(alloc, &rows, summary.counts.submitted)?;
-    follow(plan, report, &owners, &mut rows)?;
-    agree(&rows, &books.ran, &summary)?;
-    Ok(summary.counts)
-}
-
-// What became of the jobs of a pool, by their own counts and by what came back.
-#[derive(Clone, Copy, Default, PartialEq, Eq)]
-struct Ends {
-    ran: u64,
-    back: u64,
-}
-
-// Each job ran or came back at most once, and not both; how many did.
-fn ends_of(rows: &[Row], ran: &[Count]) -> Result<Ends, Mishap> {
-    let mut ends = Ends::default();
-    for ((number, row), count) in (0u32..).zip(rows).zip(ran) {
-        if Arc::strong_count(count) != 1 {
-            return Err(Mishap::Job(number, "is held by somebody yet"));
-        }
-        match (count.load(Ordering::SeqCst), row.back) {
-            (0, 0) => {}
-            (1, 0) => ends.ran = ends.ran.saturating_add(1),
-            (0, 1) => ends.back = ends.back.saturating_add(1),
-            _ => return Err(Mishap::Job(number, "ran and came back more than once")),
-        }
-    }
-    Ok(ends)
-}
-
-// Accounts for each job of a closed pool that kept no record, by the jobs' own counts and by the pool's counters.
-fn judge_tally(
-    alloc: Global,
-    plan: &Plan,
-    report: &TallyReport,
-    books: &Books,
-) -> Result<Counts, Mishap> {
-    let counts = report.counts;
-    let rows = rows_of(alloc, books, plan.all_jobs())?;
-    owners_of(alloc, &rows, counts.submitted)?;
-    let ends = ends_of(&rows, &books.ran)?;
-    if (counts.submitted, report.unended) != (plan.all_jobs(), 0) {
-        return Err(Mishap::Differs("not each job is a task with a fate"));
-    }
-    told_by(&counts, ends)?;
-    Ok(counts)
-}
-
-// How many runs, and how many returns, the counters say.
-fn begun(counts: &Counts) -> u64 {
-    u64::from(counts.run).saturating_add(u64::from(counts.caller))
-}
-
-fn returned(counts: &Counts) -> u64 {
-    u64::from(counts.rejected)
-        .saturating_add(u64::from(counts.removed))
-        .saturating_add(u64::from(counts.handedback))
-}
-
-// The counters say what the jobs say of themselves. A job that was cancelled may have run.
-fn told_by(counts: &Counts, ends: Ends) -> Result<(), Mishap> {
-    let least = begun(counts);
-    let most = least.saturating_add(u64::from(counts.cancelled));
-    if ends.ran < least || ends.ran > most {
-        return Err(Mishap::Differs("the counters of runs are not the jobs' own"));
-    }
-    if ends.back != returned(counts) {
-        return Err(Mishap::Differs("the counters of returns are not the jobs' own"));
-    }
-    Ok(())
-}
-
-/// What keeps a pool's record, where what is told of the closed pool accounts for each of its jobs.
-pub trait Judged: Reporter {
-    /// What the pool of this plan came to: whether it was stopped, since tasks were left to nobody, and the numbers of its
-    /// callers' passes are told beside the report.
-    fn account(
-        alloc: Global,
-        plan: &Plan,
-        report: &Self::Report,
-        books: &Books,
-        stranded: bool,
-        callers: &[u32],
-    ) -> Result<Account, Mishap>;
-}
-
-impl Judged for Full {
-    fn account(
-        alloc: Global,
-        plan: &Plan,
-        report: &Report,
-        books: &Books,
-        stranded: bool,
-        callers: &[u32],
-    ) -> Result<Account, Mishap> {
-        Ok(Account {
-            counts: judge(alloc, plan, report, books)?,
-            stranded: explained(stranded, cause_of(&plan.settings, report, callers))?,
-            steps: report.entries.len() as u64,
-        })
-    }
-}
-
-impl Judged for Tally {
-    fn account(
-        alloc: Global,
-        plan: &Plan,
-        report: &TallyReport,
-        books: &Books,
-        stranded: bool,
-        _callers: &[u32],
-    ) -> Result<Account, Mishap> {
-        Ok(Account {
-            counts: judge_tally(alloc, plan, report, books)?,
-            stranded: explained(stranded, Some(Cause::Untold))?,
-            steps: report.steps,
-        })
-    }
-}
-
-// Why the pool had to be stopped, where it had to be.
-fn explained(stranded: bool, cause: Option<Cause>) -> Result<Option<Cause>, Mishap> {
-    match (stranded, cause) {
-        (false, _) => Ok(None),
-        (true, Some(cause)) => Ok(Some(cause)),
-        (true, None) => Err(Mishap::Differs("tasks were left to nobody")),
-    }
+/// What a closed pool came to, by what its callers saw and what is told of it. Each job is accounted for.
+pub fn account_for<T: Judged, R: Wait>(
+    rt: &R,
+    shift: &Shift,
+    (outs, report): (Vec<Out>, T),
+) -> Result<Totals, Mishap> {
+    let Shift { plan, signs, .. } = shift;
+    let (counts, steps, back) = report.sums();
+    let mut rows = rows_of(rt, shift, outs, &counts)?;
+    let cause = report.judge(shift, &mut rows)?;
+    let run = plan.run.is_none_or(|run| run == counts.run);
+    ensure(run, "another number of jobs ran")?;
+    let ended = signs.count(Sign::Ended) == 1;
+    ensure(ended, "the terminated hook was not called once")?;
+    ensure(Arc::strong_count(signs) == 1, "somebody holds a job yet")?;
+    let returned = counts.rejected.saturating_add(counts.removed);
+    Ok([
+        u64::from(plan.jobs),
+        u64::from(counts.run),
+        u64::from(counts.caller),
+        u64::from(returned.saturating_add(counts.handedback)),
+        u64::from(counts.discarded),
+        u64::from(counts.cancelled),
+        steps,
+        back as u64,
+        signs.count(Sign::Asked),
+        signs.count(Sign::Refused),
+        u64::from(cause == Some(Cause::CoreZero)),
+        u64::from(cause == Some(Cause::InVain)),
+        u64::from(cause == Some(Cause::Full)),
+        u64::from(cause == Some(Cause::Untold)),
+    ])
 }

@@ -1,129 +1,138 @@
-//! Jobs that count how often they are run.
+//! Jobs that answer their numbers, and what the threads of a pool tell one another.
 
 use std::alloc::{AllocError, Global};
 use std::hint::spin_loop;
 use std::sync::Arc;
 use std::sync::atomic::{AtomicU64, Ordering};
 use std::thread;
-use tp_protocols::flags::CancelFlag;
-use tp_protocols::jobs::Job;
-use tp_types::tasks::{Outcome, Promise, WIDEST, as_widest};
+use tp_life::prelude::*;
 
-/// A count that threads share.
-pub type Count = Arc<AtomicU64>;
-
-/// A count of nothing yet.
-pub fn count(alloc: Global) -> Result<Count, AllocError> {
-    Ok(Arc::new(alloc, AtomicU64::new(0))?)
+/// What comes about: a caller tells the other one to go on; the factory is asked for a worker, refuses it, or may answer, where it waits for
+/// that; the terminated hook is called; some job runs; the job of this number runs.
+#[derive(Clone, Copy)]
+pub enum Sign {
+    Told,
+    Asked,
+    Refused,
+    Free,
+    Ended,
+    Runs,
+    Job(u32),
 }
 
-/// What a job's body does.
+/// How often each of them came about.
+#[derive(Drop)]
+pub struct Signs {
+    counts: Vec<AtomicU64>,
+}
+
+// Its place among the counts.
+fn place(sign: Sign) -> usize {
+    match sign {
+        Sign::Told => 0,
+        Sign::Asked => 1,
+        Sign::Refused => 2,
+        Sign::Free => 3,
+        Sign::Ended => 4,
+        Sign::Runs => 5,
+        Sign::Job(number) => 6 + number as usize,
+    }
+}
+
+impl Signs {
+    /// Nothing came about, in a pool of so many jobs.
+    pub fn new(alloc: Global, jobs: u32) -> Result<Arc<Signs>, AllocError> {
+        let mut counts = Vec::new(alloc);
+        counts.resize_with(place(Sign::Job(jobs)), || AtomicU64::new(0))?;
+        Ok(Arc::new(alloc, Signs { counts })?)
+    }
+
+    // It comes about so often more: how often it does then.
+    fn add(&self, sign: Sign, more: u64) -> u64 {
+        match self.counts.get(place(sign)) {
+            Some(count) => count.fetch_add(more, Ordering::SeqCst).saturating_add(more),
+            None => 0,
+        }
+    }
+
+    /// How often it came about.
+    pub fn count(&self, sign: Sign) -> u64 {
+        self.add(sign, 0)
+    }
+
+    /// It comes about: how often it did.
+    pub fn raise(&self, sign: Sign) -> u64 {
+        self.add(sign, 1)
+    }
+
+    /// Yields until it came about so often, or for long; whether it did.
+    pub fn reaches(&self, sign: Sign, to: u64) -> bool {
+        for _ in 0..10_000_000 {
+            if self.count(sign) >= to {
+                return true;
+            }
+            thread::yield_now();
+        }
+        false
+    }
+}
+
+/// What a job's body does: nothing; it yields so many times, or until its cancel flag is set; it spins so many turns; it ends in a fault,
+/// whose code is the job's number; it waits until so many jobs of its pool run, and faults where they do not.
 #[derive(Clone, Copy)]
 pub enum Work {
-    /// Nothing.
     Nothing,
-    /// It yields so many times, or until its cancel flag is set.
     Yields(u32),
-    /// It spins so many turns.
     Spins(u32),
-    /// It ends in a fault, whose code is the job's number.
     Faults,
-    /// It waits until so many have counted themselves, and faults where they do not come.
     Meets(u64),
 }
 
-/// A job that answers its number.
+/// A job. It tells by the signs that it runs.
 #[derive(Drop)]
 pub struct Chore {
-    /// The number.
     pub number: u32,
-    /// Its priority.
     pub priority: u32,
-    work: Work,
-    ran: Count,
+    pub work: Work,
+    pub signs: Arc<Signs>,
 }
 
-impl Chore {
-    /// The job of this number and work, whose runs this counts. Its priority is 0.
-    pub fn new(number: u32, work: Work, ran: Count) -> Chore {
-        Chore {
-            number,
-            priority: 0,
-            work,
-            ran,
-        }
-    }
-
-    /// The same with this priority.
-    pub fn with_priority(self, priority: u32) -> Chore {
-        Chore { priority, ..self }
-    }
-}
-
-/// What a job of this number and work answers, where all goes well.
-pub fn outcome_of(number: u32, work: Work) -> Outcome {
-    match work {
-        Work::Faults => Err(number),
-        _ => Ok(i64::from(number)),
-    }
-}
-
-/// Yields until the count is so high, or for long; whether it came to be.
-pub fn reaches(count: &Count, to: u64) -> bool {
-    for _ in 0..10_000_000 {
-        if count.load(Ordering::SeqCst) >= to {
-            return true;
-        }
-        thread::yield_now();
-    }
-    false
-}
-
-impl Chore {
-    fn outcome(&self, cancel: &CancelFlag) -> Outcome {
-        self.ran.fetch_add(1, Ordering::SeqCst);
-        match self.work {
-            Work::Nothing => {}
-            Work::Yields(turns) => {
-                for _ in 0..turns {
-                    if cancel.is_set() {
-                        break;
-                    }
-                    thread::yield_now();
-                }
-            }
-            Work::Spins(turns) => {
-                for _ in 0..turns {
-                    spin_loop();
-                }
-            }
-            Work::Faults => return Err(self.number),
-            Work::Meets(all) => {
-                if !reaches(&self.ran, all) {
-                    return Err(self.number);
-                }
-            }
-        }
-        Ok(i64::from(self.number))
-    }
-}
-
-impl Job for Chore {
-    ghost use Rattle.tp_types.specs.declared.tasks.TheConstants.{WIDEST};
-
-    ghost promised = { λ _. WIDEST };
+impl Task for Chore {
+    type Output = u32;
 
     ghost urgency = { λ c. c.priority };
-
-    fn promise(&self) -> Promise {
-        WIDEST
-    }
 
     fn priority(&self) -> u32 {
         self.priority
     }
 
-    fn call(&mut self, cancel: &CancelFlag) -> Outcome {
-        as_widest(self.outcome(cancel))
+    fn run(&mut self, cancel: &CancelFlag) -> Result<u32, u32> {
+        self.signs.raise(Sign::Job(self.number));
+        self.signs.raise(Sign::Runs);
+        let well = match self.work {
+            Work::Nothing => true,
+            Work::Yields(turns) => yields(turns, cancel),
+            Work::Spins(turns) => spins(turns),
+            Work::Faults => false,
+            Work::Meets(all) => self.signs.reaches(Sign::Runs, all),
+        };
+        well.then_some(self.number).ok_or(self.number)
     }
+}
+
+fn yields(turns: u32, cancel: &CancelFlag) -> bool {
+    for _ in 0..turns {
+        if !cancel.is_set() {
+            thread::yield_now();
+        }
+    }
+    true
+}
+
+/// Spins so many turns, which goes well.
+pub fn spins(turns: u32) -> bool {
+    for _ in 0..turns {
+        spin_loop();
+    }
+    true
 }

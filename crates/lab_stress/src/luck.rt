@@ -30,9 +30,4 @@ impl Luck {
     pub fn once_in(&mut self, times: u32) -> bool {
         self.below(times) == 0
     }
-
-    /// A seed for another source.
-    pub fn seed(&mut self) -> u64 {
-        u64::from(self.words.next_word())
-    }
 }

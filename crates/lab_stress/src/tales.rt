@@ -1,181 +1,197 @@
-//! Pools that are shut down and left to nobody, each by a tale: they end by themselves, and their queued jobs are
-//! run where a worker may be made for them.
-ghost use Rattle.std.specs.Prelude.{◌≡◌};
+//! Plans of all sorts.
 
-use crate::chores::reaches;
-use crate::endings::{OFTEN, ended};
-use crate::fickle::{Left, Making, Signs};
-use crate::mishaps::Mishap;
-use crate::second::{Part, hire, try_submit};
-use crate::waits::{WAITERS, Waiter, judge, wait};
-use std::alloc::Global;
-use std::marker::Brand;
-use std::sync::Wait;
-use std::sync::atomic::Ordering;
-use std::thread::Threads;
-use tp_book::opening::Unopened;
-use tp_book::passes::Pass;
-use tp_pool::names::PoolNaming;
-use tp_types::configs::{Config, Policy, QueueKind};
-use tp_types::ids::TaskId;
+use crate::calls::{A_WHILE, Call, Line};
+use crate::chores::{Sign, Work};
+use crate::luck::Luck;
+use crate::plans::{Lines, Making, Plan};
+use tp_life::prelude::*;
 
-// What a caller does once the pool is left to nobody.
-#[derive(Clone, Copy, PartialEq, Eq)]
-enum Way {
-    Nothing,
-    Removes,
-    Purges,
-    SetsCore,
-}
-
-// A pool's core size, what becomes of its first worker, and of its second; how many jobs are queued beside the
-// first; what a caller does then, and how many jobs run in the end.
+/// Of which sort a plan is.
 #[derive(Clone, Copy)]
-struct Tale {
-    core: u32,
-    first: Making,
-    second: Making,
-    queued: u32,
-    way: Way,
-    run: u32,
+pub enum Sort {
+    /// By chance, with a record and without.
+    Chance,
+    Tally,
+    /// By chance, with workers who come and go, and factories that refuse, by turns with a record and without.
+    Lives,
+    /// All jobs run at once: 1, 2, 4 or 8.
+    Meeting,
+    /// The pool is shut down and left to nobody. It ends by itself, and its queued jobs are run where a worker may be made for them.
+    Left,
+    /// A submission races with the shutdown at core size 0. Its task may come back at its second look. The pool ends by itself.
+    Race,
+    /// A slot is given up at a shutdown, and reserved anew at once.
+    Anew,
 }
 
-fn told(core: u32, first: Making, second: Making, queued: u32, way: Way, run: u32) -> Tale {
-    Tale {
-        core,
-        first,
-        second,
-        queued,
+const SHUTS_DOWN: Line = Line::Makes(Call::ShutDown);
+
+const AWAITS: Line = Line::Makes(Call::Await(A_WHILE));
+
+// Each job waits for all others.
+static MEETINGS: [[Line; 3]; 4] = [
+    [Line::SubmitsMany(0, 1, Work::Meets(1)), SHUTS_DOWN, AWAITS],
+    [Line::SubmitsMany(0, 2, Work::Meets(2)), SHUTS_DOWN, AWAITS],
+    [Line::SubmitsMany(0, 4, Work::Meets(4)), SHUTS_DOWN, AWAITS],
+    [Line::SubmitsMany(0, 8, Work::Meets(8)), SHUTS_DOWN, AWAITS],
+];
+
+// While the worker of the second caller's job is being made, the first one submits the others and shuts the pool down.
+static LEAVES: [Line; 5] = [
+    Line::Until(Sign::Asked, 1),
+    Line::SubmitsMany(1, 9, Work::Nothing),
+    SHUTS_DOWN,
+    Line::Tells(Sign::Free),
+    Line::Until(Sign::Told, 1),
+];
+
+static IS_LEFT: [Line; 2] = [
+    Line::SubmitsMany(0, 1, Work::Nothing),
+    Line::Tells(Sign::Told),
+];
+
+// Some turns after the second caller begins, the first one shuts the pool down.
+static RACES: [Line; 4] = [
+    Line::Until(Sign::Told, 1),
+    Line::Spins,
+    SHUTS_DOWN,
+    Line::Until(Sign::Told, 2),
+];
+
+static IS_RACED: [Line; 3] = [
+    Line::Tells(Sign::Told),
+    Line::SubmitsMany(0, 1, Work::Nothing),
+    Line::Tells(Sign::Told),
+];
+
+// The first caller's job holds a worker until its second job runs. The second caller's slot is given up at the shutdown, and reserved anew at
+// once, before the thread that was made for it has looked.
+static GIVES_UP: [Line; 8] = [
+    Line::SubmitsMany(0, 1, Work::Meets(2)),
+    Line::Tells(Sign::Told),
+    Line::Until(Sign::Asked, 2),
+    Line::SubmitsMany(1, 1, Work::Nothing),
+    SHUTS_DOWN,
+    Line::Tells(Sign::Free),
+    Line::Until(Sign::Told, 2),
+    AWAITS,
+];
+
+static STARTS_ANEW: [Line; 4] = [
+    Line::Until(Sign::Told, 1),
+    Line::SubmitsMany(2, 1, Work::Nothing),
+    Line::Makes(Call::Prestart(true)),
+    Line::Tells(Sign::Told),
+];
+
+// Each way to hear of the end. In the last one nobody waits: the terminated hook tells of it.
+static ENDS: [[Line; 1]; 3] = [[AWAITS], [Line::Polls], [Line::Until(Sign::Ended, 1)]];
+
+// What the first caller does once the pool is left to nobody.
+const REMOVES: Line = Line::Makes(Call::Remove(0));
+
+const CANCELS: Line = Line::Makes(Call::Cancel(0, false));
+
+const PURGES: Line = Line::Makes(Call::Purge);
+
+const SETS_CORE: Line = Line::Makes(Call::Core(1));
+
+// A pool's core size, what becomes of its first worker, and of its second, how many jobs it has, what the first caller does once the pool
+// is left to nobody, and how many jobs run in the end.
+type Tale = (u32, Making, Making, u32, Lines, u32);
+
+// The first worker comes when the pool is shut down. At core size 1 the jobs that are queued then are run by another worker, also where that
+// one is made at the second try; at core size 0 they wait for a caller.
+static TALES: [Tale; 13] = [
+    (0, Making::Refused, Making::Made, 3, &[SETS_CORE], 3),
+    (0, Making::Refused, Making::Made, 1, &[REMOVES], 0),
+    (0, Making::NoThread, Making::Made, 1, &[CANCELS, PURGES], 0),
+    (0, Making::Made, Making::Made, 2, &[], 2),
+    (1, Making::Made, Making::Made, 2, &[], 1),
+    (1, Making::Refused, Making::Made, 2, &[], 1),
+    (1, Making::NoThread, Making::Made, 2, &[], 1),
+    (1, Making::Made, Making::Refused, 3, &[], 2),
+    (1, Making::Refused, Making::NoThread, 3, &[], 2),
+    (1, Making::NoThread, Making::Refused, 4, &[], 3),
+    (1, Making::Made, Making::Made, 1, &[], 0),
+    (1, Making::Refused, Making::Made, 1, &[], 0),
+    (1, Making::NoThread, Making::Made, 1, &[], 0),
+];
+
+impl Plan {
+    /// The plan of this sort, and of this seed.
+    pub fn of(sort: Sort, seed: u64) -> Plan {
+        match sort {
+            Sort::Chance => Plan::by_chance(seed),
+            Sort::Tally => Plan {
+                keeps: false,
+                ..Plan::by_chance(seed)
+            },
+            Sort::Lives => lives(seed),
+            Sort::Meeting => meeting(seed),
+            Sort::Left => left(seed),
+            Sort::Race => Plan {
+                end: end(seed),
+                ..Plan::plain(seed, 1, &RACES, &IS_RACED)
+            },
+            Sort::Anew => anew(seed),
+        }
+    }
+}
+
+fn end(seed: u64) -> Lines {
+    &ENDS[(seed % 3) as usize]
+}
+
+fn lives(seed: u64) -> Plan {
+    let mut luck = Luck::new(seed, 5);
+    let plan = Plan::by_chance(seed);
+    Plan {
+        settings: Config {
+            keep: 1,
+            core_timeout: true,
+            ..plan.settings
+        },
+        keeps: seed % 2 == 0,
+        refusals: 1 + luck.below(3),
+        chance: Some(16 + luck.below(48)),
+        ..plan
+    }
+}
+
+fn meeting(seed: u64) -> Plan {
+    let jobs = 1 << (seed % 4);
+    let lines = &MEETINGS[(seed % 4) as usize];
+    Plan {
+        settings: Config::fixed(jobs),
+        run: Some(jobs),
+        ..Plan::plain(seed, jobs, lines, &[])
+    }
+}
+
+fn left(seed: u64) -> Plan {
+    let at = (seed % 13) as usize;
+    let (core, first, second, jobs, way, run) = TALES[at];
+    let plan = Plan::plain(seed, jobs, &LEAVES, &IS_LEFT);
+    Plan {
+        settings: Config::fixed(1).core(core),
+        makings: (first, second),
+        halts: 1,
         way,
-        run,
+        end: end(seed),
+        // A life's callers can't set the core size, as the first tale has it.
+        owned: at == 0 || plan.owned,
+        run: Some(run),
+        ..plan
     }
 }
 
-// The first worker comes when the pool is shut down. At core size 1 the jobs that are queued then are run by another
-// worker, also where that one is made at the second try; at core size 0 they wait for a caller.
-fn tales() -> [Tale; 13] {
-    [
-        told(1, Making::Made, Making::Made, 1, Way::Nothing, 1),
-        told(1, Making::Refused, Making::Made, 1, Way::Nothing, 1),
-        told(1, Making::NoThread, Making::Made, 1, Way::Nothing, 1),
-        told(1, Making::Made, Making::Refused, 2, Way::Nothing, 2),
-        told(1, Making::Refused, Making::NoThread, 2, Way::Nothing, 2),
-        told(1, Making::NoThread, Making::Refused, 3, Way::Nothing, 3),
-        told(1, Making::Made, Making::Made, 0, Way::Nothing, 0),
-        told(1, Making::Refused, Making::Made, 0, Way::Nothing, 0),
-        told(1, Making::NoThread, Making::Made, 0, Way::Nothing, 0),
-        told(0, Making::Refused, Making::Made, 0, Way::Removes, 0),
-        told(0, Making::NoThread, Making::Made, 0, Way::Purges, 0),
-        told(0, Making::Refused, Making::Made, 2, Way::SetsCore, 3),
-        told(0, Making::Made, Making::Made, 1, Way::Nothing, 2),
-    ]
-}
-
-/// Lets so many pools be left to nobody, each tale with each way to wait by turns.
-pub fn all_end<R: Threads + Wait + Copy + Send + Sync + 'static>(
-    rt: R,
-    alloc: Global,
-    pools: u32,
-) -> Result<(), Mishap> {
-    let tales = tales();
-    for pool in 0..pools as usize {
-        if let (Some(tale), Some(waiter)) = (tales.get(pool % 13), WAITERS.get(pool % 3)) {
-            ends(rt, alloc, *tale, *waiter)?;
-        }
+fn anew(seed: u64) -> Plan {
+    Plan {
+        settings: Config::fixed(2).policy(Policy::Discard),
+        halts: 2,
+        owned: true,
+        run: Some(2),
+        ..Plan::plain(seed, 3, &GIVES_UP, &STARTS_ANEW)
     }
-    Ok(())
-}
-
-// Lets a pool live by this tale.
-fn ends<R: Threads + Wait + Copy + Send + Sync + 'static>(
-    rt: R,
-    alloc: Global,
-    tale: Tale,
-    waiter: Waiter,
-) -> Result<(), Mishap> {
-    let settings = Config {
-        core: tale.core,
-        maximum: 1,
-        queue: QueueKind::Unbounded,
-        keep: 1,
-        core_timeout: false,
-        policy: Policy::Abort,
-        record_limit: 256,
-    };
-    let unopened = Unopened::new(alloc)?;
-    open::<Brand, R>(rt, alloc, unopened, settings, tale, waiter)
-}
-
-// Opens a pool under its name.
-fn open<G: PoolNaming + Send + Sync + 'static, R: Threads + Wait + Copy + Send + Sync + 'static>(
-    rt: R,
-    alloc: Global,
-    unopened: Unopened,
-    settings: Config,
-    tale: Tale,
-    waiter: Waiter,
-) -> Result<(), Mishap>
-    requires named { unopened ≡ record { ledger = G.name; parts = G.parts; table = G.table } }
-    requires settings { settings ≡ G.config }
-{
-    let signs = Signs::new(alloc)?;
-    let (pool, first) = Left::<G>::over(
-        alloc,
-        unopened,
-        settings,
-        signs.users(tale.first, tale.second, 1)?,
-    )?;
-    let mut pass = first;
-    let second = live(rt, &pool, &mut pass, (tale, waiter), &signs);
-    let report = ended(&rt, alloc, pool, pass, second, OFTEN)?;
-    judge(alloc, &settings, &report, &signs)?;
-    if report.counts.run != tale.run {
-        return Err(Mishap::Differs("not the jobs of the tale ran"));
-    }
-    Ok(())
-}
-
-// The first job's worker is being made while the others are queued and the pool is shut down. The second caller's pass,
-// once the pool has ended.
-fn live<G: PoolNaming + Send + Sync + 'static, R: Threads + Wait + Copy + Send + Sync + 'static>(
-    rt: R,
-    pool: &Left<G>,
-    pass: &mut Pass<G>,
-    (tale, waiter): (Tale, Waiter),
-    signs: &Signs,
-) -> Result<Pass<G>, Mishap> {
-    let second = pool.split_pass(&rt, pass)?;
-    let other = hire(rt, pool, Part::Submits(0), signs, second)?;
-    reaches(&signs.asked, 1);
-    for number in 0..tale.queued {
-        let number = number.saturating_add(1);
-        try_submit(rt, pool, number, &signs.ran, pass)?;
-    }
-    pool.shutdown(&rt, pass)?;
-    signs.goes_on.fetch_add(1, Ordering::SeqCst);
-    let second = other.join(&rt)?;
-    go_on(rt, pool, pass, tale.way)?;
-    wait(&rt, pool, pass, waiter, signs)?;
-    Ok(second)
-}
-
-// What a caller does once the pool is left to nobody.
-fn go_on<G: PoolNaming + Send + Sync + 'static, R: Threads + Wait + Copy + Send + 'static>(
-    rt: R,
-    pool: &Left<G>,
-    pass: &mut Pass<G>,
-    way: Way,
-) -> Result<(), Mishap> {
-    match way {
-        Way::Nothing => {}
-        Way::Removes => {
-            pool.remove(&rt, TaskId(0), pass)?;
-        }
-        Way::Purges => {
-            pool.cancel(&rt, TaskId(0), false, pass)?;
-            pool.purge(&rt, pass)?;
-        }
-        Way::SetsCore => pool.set_core(&rt, 1, pass)?,
-    }
-    Ok(())
 }

@@ -1,4 +1,4 @@
-use Rattle.lab_stress.proofs.lives.life.Given as goal
+use Rattle.lab_stress.proofs.owned.with_owned.Given as goal
 
 abbrev pub ghosts-open-G-Ledger : goal.ghosts-open-G-Ledger
 ghosts-open-G-Ledger g a = record { name = a.unopened.ledger; parts = a.unopened.parts }
