@@ -2,7 +2,7 @@
 """Tries the further wrong bodies: those of tools/further/CRATE/, which the gate does not read.
 
     tools/further.py                  all of them
-    tools/further.py tp_text tp_line  those of these crates
+    tools/further.py tp_text tp_ring  those of these crates
     tools/further.py tp_text/line_not_kept
     tools/further.py --kept ..        those of crates/CRATE/must-fail/ instead
 

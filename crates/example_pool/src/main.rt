@@ -1,7 +1,7 @@
 //! `example_pool`: a first pool. Three jobs run on two workers; then what each answered is printed.
 #![tactic(auto)]
 
-use tp_advice::reasons::Reason;
+use tp_pool_advice::reasons::Reason;
 use tp_pool::prelude::*;
 
 /// A job that answers twice its number.

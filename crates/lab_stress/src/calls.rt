@@ -4,7 +4,7 @@ use crate::chores::{Chore, Sign, Work};
 use crate::mishaps::Mishap;
 use tp_life::prelude::*;
 use tp_types::tasks::Kind;
-use tp_values::tasks::{Find, Held};
+use tp_life_values::tasks::{Find, Held};
 
 /// A call.
 #[derive(Clone, Copy)]

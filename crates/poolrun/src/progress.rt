@@ -7,7 +7,7 @@ ghost use Rattle.std.specs.Io.KnownBytes.{ReadConsumes};
 use std::fmt;
 use std::io::{self, Read, Write};
 use std::time::{Clock, Duration};
-use tp_commands::progress::ProgressLine;
+use poolrun_commands::progress::ProgressLine;
 
 /// The clock is asked each time that so many bytes came.
 const BETWEEN: u64 = 1 << 20;

@@ -3,9 +3,9 @@
 use crate::compare::same;
 use crate::judged::{LONE, plain_counts};
 use std::alloc::Global;
-use tp_audit::summary::Flaw;
+use tp_audit_plain::summary::Flaw;
 use tp_record::entries::{Ask, Did, Entry, Looked, Opened, Started, Took};
-use tp_runs::runs::{Run, run_asks};
+use tp_machine_runs::runs::{Run, run_asks};
 use tp_types::configs::Config;
 use tp_types::ids::{SlotId, TaskId};
 use tp_types::refusals::PoolError;

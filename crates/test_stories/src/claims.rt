@@ -5,10 +5,10 @@ use crate::records::{SHUTDOWN, STOP};
 use std::alloc::Global;
 use std::process::Abort;
 use std::test::Fail;
-use tp_claims::checks::Checking;
-use tp_claims::parsing::read_claim;
-use tp_questions::questions::{Notes, answer_question};
-use tp_telling::forms::Form;
+use tp_story_claims::checks::Checking;
+use tp_story_claims::parsing::read_claim;
+use tp_story_questions::questions::{Notes, answer_question};
+use tp_story_words::forms::Form;
 use tp_text::watched::{WatchedReader, WatchedWriter};
 use tp_types::refusals::PoolError;
 

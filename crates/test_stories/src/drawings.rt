@@ -5,9 +5,9 @@ use crate::pictures::{LIFE, REFUSAL, SHRINK};
 use std::alloc::Global;
 use std::process::Abort;
 use std::test::Fail;
-use tp_drawing::drawings::{Drawing, Window};
-use tp_questions::questions::{Notes, answer_question};
-use tp_telling::forms::Form;
+use tp_story_drawing::drawings::{Drawing, Window};
+use tp_story_questions::questions::{Notes, answer_question};
+use tp_story_words::forms::Form;
 use tp_text::watched::{WatchedReader, WatchedWriter};
 use tp_types::refusals::PoolError;
 

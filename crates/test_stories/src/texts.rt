@@ -9,10 +9,10 @@ use std::alloc::Global;
 use std::process::Abort;
 use std::test::Fail;
 use tp_story::subjects::Subject;
-use tp_telling::forms::Form;
-use tp_telling::fronts::write_front;
-use tp_telling::numbers::write_stats;
-use tp_telling::stories::write_story;
+use tp_story_words::forms::Form;
+use tp_story_words::fronts::write_front;
+use tp_story_words::numbers::write_stats;
+use tp_story_words::stories::write_story;
 use tp_types::ids::{SlotId, TaskId};
 use tp_types::refusals::PoolError;
 

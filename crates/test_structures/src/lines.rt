@@ -7,7 +7,7 @@ use crate::compare::{Tested, asks, play};
 use std::alloc::{AllocError, Global};
 use std::process::Abort;
 use std::test::Fail;
-use tp_line::lines::Line;
+use tp_ring::lines::Line;
 
 /// A call of a line.
 #[derive(Clone, Copy)]

@@ -1,2 +1,15 @@
-pub mod Same
-pub mod Judged
+pub mod Changing
+pub mod Completing
+pub mod Entries
+pub mod Judging
+pub mod Kept
+pub mod Owing
+pub mod Placing
+pub mod Ranking
+pub mod Treed
+pub mod Sizes
+pub mod Standing
+pub mod Sweeping
+pub mod Swept
+pub mod Tabled
+pub mod Walking

@@ -1,1 +1,11 @@
-pub mod Audit
+pub mod Audited
+pub mod Changed
+pub mod Done
+pub mod Named
+pub mod Orders
+pub mod Owed
+pub mod Queued
+pub mod Ranked
+pub mod Readings
+pub mod Seats
+pub mod Tables

@@ -13,7 +13,7 @@ use Rattle.tp_record.specs.Effects.{submits}
 use Rattle.tp_tasks.specs.declared.tasks.Tasks.{Tasks}
 use Rattle.tp_tasks.specs.Tasks.{payload_of}
 use Rattle.tp_record.specs.Lists.{is_among}
-use Rattle.tp_parts.specs.Payloads.{Keeps, HandsOut, PutsIn}
+use Rattle.tp_machine_state.specs.Payloads.{Keeps, HandsOut, PutsIn}
 use Rattle.tp_machine.specs.declared.answers.Begun.{Begun}
 use Rattle.tp_machine.specs.declared.answers.Begun.TheVariants as begun
 use Rattle.tp_machine.specs.declared.steps.Stepped.{Stepped}

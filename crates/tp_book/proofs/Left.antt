@@ -23,7 +23,7 @@ use Rattle.tp_laws.proofs.Model.Readings.{tasks_counted, row_read}
 use Rattle.tp_laws.proofs.Model.Told.{told_legal}
 use Rattle.tp_laws.proofs.Left.LeftOut.{left_out_of, left_length, left_row, fitting_legal}
 use Rattle.tp_laws.proofs.Left.Marks.{left_else}
-use Rattle.tp_parts.specs.Steps.{IsFitting}
+use Rattle.tp_machine_state.specs.Steps.{IsFitting}
 use Rattle.tp_machine.specs.Readings.{HasOpen, value_of_row, value_in}
 
 -- what does not look at rows, fates and what is left out reads alike

@@ -17,7 +17,7 @@ use Rattle.tp_record.specs.State.{State, state, counts, fate_of, task_at}
 use Rattle.tp_record.specs.Step.{is_known, slot_count}
 use Rattle.tp_text_record.specs.declared.versions.Version.TheVariants.{Two}
 use Rattle.tp_text_record.specs.RecordText.{record_text}
-use Rattle.tp_parts.specs.Releases.{IsKept}
+use Rattle.tp_machine_state.specs.Releases.{IsKept}
 use Rattle.tp_machine.specs.Seen.{Seen, At, config_of}
 use Rattle.tp_machine.specs.Readings.{EachState}
 use Rattle.tp_c.specs.declared.answers.PoolView.{PoolView}

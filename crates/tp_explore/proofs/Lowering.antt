@@ -24,10 +24,10 @@ use Rattle.tp_record.specs.State as states
 use Rattle.tp_record.specs.Step.{Answer, Gives, fitting, of_row, leave_answer, leaves_room, within_room, step}
 use Rattle.tp_laws.proofs.Model.Functions.{own_asked}
 use Rattle.tp_laws.proofs.Model.NextState.{next_is_state}
-use Rattle.tp_plain.specs.Snapshot.{IsSmall, least_free}
-use Rattle.tp_plain.proofs.Numbers.{gives_at_least, answer_at_gives}
-use Rattle.tp_plain.proofs.Sizes.{rows_retries, length-task_rows, length-queue}
-use Rattle.tp_plain.proofs.Tables.{length-change_each}
+use Rattle.tp_rules.specs.Snapshot.{IsSmall, least_free}
+use Rattle.tp_rules.proofs.Numbers.{gives_at_least, answer_at_gives}
+use Rattle.tp_rules.proofs.Sizes.{rows_retries, length-task_rows, length-queue}
+use Rattle.tp_rules.proofs.Tables.{length-change_each}
 use Rattle.tp_explore.specs.declared.callers.Caller.{Caller}
 use Rattle.tp_explore.specs.declared.callers.Doing.{Doing}
 use Rattle.tp_explore.specs.declared.callers.Doing.TheVariants.{Nothing, Submitting, Starting, Staffing}

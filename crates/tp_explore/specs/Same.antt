@@ -26,7 +26,7 @@ use Rattle.tp_record.specs.declared.rows.TaskRow.{TaskRow}
 use Rattle.tp_record.specs.contracts.rows.TaskRowPartialEq.TheImpl as row_eq
 use Rattle.tp_record.specs.declared.rows.SlotRow.{SlotRow}
 use Rattle.tp_record.specs.contracts.rows.SlotRowPartialEq.TheImpl as seat_eq
-use Rattle.tp_plain.specs.declared.snapshot.Snapshot.{Snapshot}
+use Rattle.tp_rules.specs.declared.snapshot.Snapshot.{Snapshot}
 use Rattle.tp_explore.specs.declared.callers.Doing.{Doing}
 use Rattle.tp_explore.specs.declared.callers.Doing.TheVariants as doing
 use Rattle.tp_explore.specs.contracts.callers.DoingPartialEq.TheImpl as doing_eq

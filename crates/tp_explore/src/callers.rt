@@ -1,12 +1,12 @@
 //! How far a caller is.
 ghost use Rattle.std.specs.Prelude.{◌≡◌};
 ghost use Rattle.tp_record.specs.State as states;
-ghost use Rattle.tp_plain.specs.Snapshot.{shown};
+ghost use Rattle.tp_rules.specs.Snapshot.{shown};
 ghost use Rattle.tp_explore.specs.Moves as moves;
 ghost use Rattle.tp_explore.specs.Situation as situation;
 
-use tp_plain::next::{slot_of, task_at};
-use tp_plain::snapshot::Snapshot;
+use tp_rules::next::{slot_of, task_at};
+use tp_rules::snapshot::Snapshot;
 use tp_record::entries::{Did, Opened, Seconded};
 use tp_types::ids::{SlotId, TaskId};
 use tp_types::tasks::Place;

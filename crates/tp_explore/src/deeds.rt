@@ -9,7 +9,7 @@ use crate::callers::{Caller, Doing};
 use crate::plans::{Call, Factory, Plan};
 use crate::states::State;
 use std::alloc::{AllocError, Global};
-use tp_plain::next::task_at;
+use tp_rules::next::task_at;
 use tp_record::entries::Ask;
 use tp_record::rows::SlotRow;
 use tp_types::configs::{Policy, Verdict};

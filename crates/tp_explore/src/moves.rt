@@ -2,7 +2,7 @@
 ghost use Rattle.std.specs.Prelude.{◌≡◌, IfOk, IfSome, IsOkUnless, map, set};
 ghost use Rattle.std.specs.List.{All};
 ghost use Rattle.tp_record.specs.State as states;
-ghost use Rattle.tp_plain.specs.Snapshot.{shown, IsSmall};
+ghost use Rattle.tp_rules.specs.Snapshot.{shown, IsSmall};
 ghost use Rattle.tp_explore.specs.Moves as spec;
 ghost use Rattle.tp_explore.specs.Situation.{bare, calls_of as situation_calls, seen as seen_state};
 
@@ -11,11 +11,11 @@ use crate::deeds::{Deed, Mover, calls_of, deeds, settled};
 use crate::plans::{Call, Plan};
 use crate::states::State;
 use std::alloc::Global;
-use tp_plain::answer::free_slot;
-use tp_plain::lists::copy_of;
-use tp_plain::next::next;
-use tp_plain::snapshot::Snapshot;
-use tp_plain::step::step;
+use tp_rules::answer::free_slot;
+use tp_rules::lists::copy_of;
+use tp_rules::next::next;
+use tp_rules::snapshot::Snapshot;
+use tp_rules::step::step;
 use tp_record::entries::{Ask, Did};
 use tp_types::ids::{SlotId, TaskId};
 use tp_types::refusals::PoolError;

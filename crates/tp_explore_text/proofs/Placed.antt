@@ -4,7 +4,7 @@ use Rattle.std.specs.List.{Contains}
 use Rattle.std.proofs.lemmas.List.{length-map}
 use Rattle.std.proofs.lemmas.List.Elements.{All-contains}
 use Rattle.std.proofs.lemmas.Option.{slice_get_within}
-use Rattle.tp_walk.specs.Moves.{IsAt}
+use Rattle.tp_explore_walk.specs.Moves.{IsAt}
 use Rattle.tp_explore.specs.Situation.{Situation, seen}
 use Rattle.tp_explore_text.specs.declared.ends.End.{End}
 use Rattle.tp_explore_text.specs.declared.explored.Explored.{Explored}

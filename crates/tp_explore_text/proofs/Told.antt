@@ -11,10 +11,10 @@ use Rattle.std.proofs.lemmas.Cmp.{lists_equiv, nat_eq_equiv}
 use Rattle.std.proofs.lemmas.Option.{slice_get_within, get_or_from_slice_get, same_Some}
 use Rattle.std.proofs.lemmas.Slice.Eq.{bytes_eq-Decides}
 use Rattle.std.proofs.lemmas.Bool.{cases_lt}
-use Rattle.tp_walk.specs.declared.counts.Count.{Count}
-use Rattle.tp_walk.specs.Moves.{IsAt, IsWalk}
-use Rattle.tp_walk.specs.Paths.{CountsPaths, Tells, weighed}
-use Rattle.tp_walk.proofs.Places.{contained, place_of, zip_at, zip_from}
+use Rattle.tp_explore_walk.specs.declared.counts.Count.{Count}
+use Rattle.tp_explore_walk.specs.Moves.{IsAt, IsWalk}
+use Rattle.tp_explore_walk.specs.Paths.{CountsPaths, Tells, weighed}
+use Rattle.tp_explore_walk.proofs.Places.{contained, place_of, zip_at, zip_from}
 use Rattle.tp_explore.specs.declared.plans.Plan.{Plan}
 use Rattle.tp_explore.specs.Moves as spec
 use Rattle.tp_explore.specs.Situation.{Situation}

@@ -13,8 +13,8 @@ use Rattle.tp_record.specs.State as states
 use Rattle.tp_text.specs.EndLines.{fate_word, state_at}
 use Rattle.tp_text.specs.Reads.{spaced}
 use Rattle.tp_scenario.specs.Lines.{outcome_text}
-use Rattle.tp_walk.specs.Moves.{IsAt, Reaches}
-use Rattle.tp_walk.specs.Paths.{Tells, ended, weighed}
+use Rattle.tp_explore_walk.specs.Moves.{IsAt, Reaches}
+use Rattle.tp_explore_walk.specs.Paths.{Tells, ended, weighed}
 use Rattle.tp_explore.specs.declared.plans.Plan.{Plan}
 use Rattle.tp_explore.specs.Moves as spec
 use Rattle.tp_explore.specs.Situation.{Situation, number}

@@ -1,7 +1,7 @@
 -- What was explored.
 use Rattle.std.specs.Prelude.{◌≡◌, ◌<◌, ℕ, List, Option, Some, None, true, false, length, map}
 use Rattle.std.specs.List.{All}
-use Rattle.tp_walk.specs.Moves.{IsAt, IsWalk}
+use Rattle.tp_explore_walk.specs.Moves.{IsAt, IsWalk}
 use Rattle.tp_explore.specs.Moves as spec
 use Rattle.tp_explore.specs.Moves.{Holds}
 use Rattle.tp_explore.specs.Situation.{Situation, seen}

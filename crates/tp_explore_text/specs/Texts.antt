@@ -3,8 +3,8 @@ use Rattle.std.specs.Prelude.{◌≡◌, ℕ, List, ◌++◌, codes}
 use Rattle.std.specs.Fmt.{decimal}
 use Rattle.std.specs.List.{flat_map}
 use Rattle.tp_text.specs.Reads.{spaced}
-use Rattle.tp_walk.specs.declared.counts.Count.{Count}
-use Rattle.tp_walk.specs.declared.counts.Count.TheVariants.{Exactly, Over}
+use Rattle.tp_explore_walk.specs.declared.counts.Count.{Count}
+use Rattle.tp_explore_walk.specs.declared.counts.Count.TheVariants.{Exactly, Over}
 use Rattle.tp_explore_text.specs.declared.ends.End.{End}
 use Rattle.tp_explore_text.specs.Ends.{text_of}
 

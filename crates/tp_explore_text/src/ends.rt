@@ -3,8 +3,8 @@ ghost use Rattle.std.specs.Prelude.{◌≡◌, ◌≢◌, ◌<◌, ◌++◌, ◌
 ghost use Rattle.std.specs.List.{All, AllZip, flat_map};
 ghost use Rattle.tp_types.specs.RunState.{state_name};
 ghost use Rattle.tp_text.specs.EndLines.{state_at};
-ghost use Rattle.tp_walk.specs.Moves.{IsAt};
-ghost use Rattle.tp_walk.specs.Paths.{Tells};
+ghost use Rattle.tp_explore_walk.specs.Moves.{IsAt};
+ghost use Rattle.tp_explore_walk.specs.Paths.{Tells};
 ghost use Rattle.tp_explore.specs.Situation.{Situation, seen};
 ghost use Rattle.tp_explore_text.specs.Ends as spec;
 ghost use Rattle.tp_explore_text.specs.Ends.{AreTold, fate_text, task_text, text_of};
@@ -12,11 +12,11 @@ ghost use Rattle.tp_explore_text.specs.Ends.{AreTold, fate_text, task_text, text
 use crate::outcomes::write_outcome;
 use std::alloc::{AllocError, Global};
 use tp_explore::states::State;
-use tp_plain::next::task_at;
+use tp_rules::next::task_at;
 use tp_types::states::RunState;
 use tp_types::tasks::{Fate, Outcome};
-use tp_walk::counts::Count;
-use tp_walk::graphs::Graph;
+use tp_explore_walk::counts::Count;
+use tp_explore_walk::graphs::Graph;
 
 /// The name of a submission.
 #[derive(Debug, Drop)]

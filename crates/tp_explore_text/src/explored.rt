@@ -1,7 +1,7 @@
 //! What is explored, with the ends that are told of it.
 ghost use Rattle.std.specs.Prelude.{◌≡◌, ◌<◌, true, None, Ok, IfOk, IfSome, length, map, string_bytes};
 ghost use Rattle.std.specs.List.{All};
-ghost use Rattle.tp_walk.specs.Moves.{IsWalk, ReachesMore};
+ghost use Rattle.tp_explore_walk.specs.Moves.{IsWalk, ReachesMore};
 ghost use Rattle.tp_explore.specs.Moves.{Holds, is_fit, moves, starts};
 ghost use Rattle.tp_explore.specs.Situation.{seen};
 ghost use Rattle.tp_explore_text.specs.Explored.{FindsEnd, IsExplored};
@@ -9,12 +9,12 @@ ghost use Rattle.tp_explore_text.specs.Explored.{FindsEnd, IsExplored};
 use crate::ends::{End, ends_of, has_parts};
 use crate::files::Named;
 use std::alloc::{AllocError, Global};
-use tp_ends::explored::explore;
+use tp_explore_ends::explored::explore;
 use tp_explore::states::State;
 use tp_types::refusals::PoolError;
-use tp_walk::counts::count_ends;
-use tp_walk::graphs::{Graph, Refusal};
-use tp_walk::systems::Watch;
+use tp_explore_walk::counts::count_ends;
+use tp_explore_walk::graphs::{Graph, Refusal};
+use tp_explore_walk::systems::Watch;
 
 /// What was explored.
 #[derive(Drop)]

@@ -5,7 +5,7 @@ ghost use Rattle.tp_explore.specs.Moves.{is_fit};
 use crate::calls::{SaidCall, calls_of};
 use crate::ends::Label;
 use std::alloc::{AllocError, Global};
-use tp_ends::explored::Exploration;
+use tp_explore_ends::explored::Exploration;
 use tp_explore::plans::{Call, Factory, Plan, Submission};
 use tp_text::lines::{clean_text, is_skipped, next_line};
 use tp_text::pools::{PoolLine, pool_of};

@@ -1,7 +1,7 @@
 //! The numbers that a pool gives its slots.
 
 use std::alloc::{AllocError, Global};
-use tp_plain::effects::{freed_by, reserved_by};
+use tp_rules::effects::{freed_by, reserved_by};
 use tp_record::entries::Did;
 use tp_types::ids::SlotId;
 

@@ -8,9 +8,9 @@ use crate::ends::End;
 use crate::explored::Explored;
 use crate::scenarios::scenario;
 use std::alloc::{AllocError, Global};
-use tp_ends::witnesses::witness;
+use tp_explore_ends::witnesses::witness;
 use tp_types::refusals::PoolError;
-use tp_walk::counts::Count;
+use tp_explore_walk::counts::Count;
 
 fn write_count(text: &mut String, count: Count) -> Result<(), AllocError>
     ensures { OnOk result (string_bytes text.new ≡ string_bytes text.old ++ count_text count) }

@@ -3,7 +3,7 @@ ghost use Rattle.std.specs.Prelude.{◌≡◌, ◌⊎◌, ℕ, List, Option, rev
 ghost use Rattle.tp_types.specs.declared.configs.Config.{Config as Settings};
 ghost use Rattle.tp_record.specs.declared.entries.Entry.{Entry as Told};
 ghost use Rattle.tp_glance.specs.Word.{IsFrontOf};
-ghost use Rattle.tp_locked.specs.Passes.{LooksOnly};
+ghost use Rattle.tp_pool_holds.specs.Passes.{LooksOnly};
 ghost use Rattle.tp_text_record.specs.declared.versions.Version.{Version};
 ghost use Rattle.tp_text_record.specs.RecordText.{record_text};
 ghost use Rattle.tp_journal.specs.Endings.{IfThrough, IsCut, IsWhole};
@@ -19,11 +19,11 @@ use std::sync::Wait;
 use std::thread::Threads;
 use std::time::{Clock, Duration};
 use tp_book::passes::Pass;
-use tp_locked::names::PoolNaming;
+use tp_pool_holds::names::PoolNaming;
 use tp_pool::PoolOf;
 use tp_protocols::jobs::Job;
 use tp_record::entries::Entry;
-use tp_shared::edges::Edge;
+use tp_pool_threads::edges::Edge;
 use tp_types::refusals::PoolError;
 
 /// For how many milliseconds the end of a pool waits for a writer that takes nothing, where nobody says otherwise.

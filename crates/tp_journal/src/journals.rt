@@ -1,6 +1,6 @@
 //! Journals of running pools, as a pool's owner has them.
 ghost use Rattle.std.specs.Prelude.{◌≡◌, ◌⊎◌, IfOk, IfErr, IfSome, IsOkUnless};
-ghost use Rattle.tp_locked.specs.Passes.{LooksOnly};
+ghost use Rattle.tp_pool_holds.specs.Passes.{LooksOnly};
 ghost use Rattle.tp_text_record.specs.declared.versions.Version.{Version};
 ghost use Rattle.tp_text_record.specs.ReadRecord.{head};
 ghost use Rattle.tp_journal.specs.Journals.{IsJournalOf};
@@ -17,10 +17,10 @@ use std::thread::{self, Promise, PromisedHandle, Threads};
 use std::time::{Clock, Duration};
 use tp_book::passes::Pass;
 use tp_book::sights::Sight;
-use tp_locked::names::PoolNaming;
+use tp_pool_holds::names::PoolNaming;
 use tp_pool::PoolOf;
 use tp_protocols::jobs::Job;
-use tp_shared::edges::Edge;
+use tp_pool_threads::edges::Edge;
 use tp_types::configs::Config;
 use tp_types::refusals::PoolError;
 

@@ -5,7 +5,7 @@ use Rattle.tp_types.specs.declared.configs.Config.{Config}
 use Rattle.tp_types.specs.declared.refusals.PoolError.{PoolError}
 use Rattle.tp_book.specs.BookView.{BookView}
 use Rattle.tp_book.specs.PassView.{PassView}
-use Rattle.tp_locked.specs.Moments.{BookOf}
+use Rattle.tp_pool_holds.specs.Moments.{BookOf}
 use Rattle.tp_life.specs.Futures.{IsAnswer}
 use Rattle.tp_life.specs.Ran.{IsTold}
 

@@ -5,8 +5,8 @@ use Rattle.tp_record.specs.Fields.{rank}
 use Rattle.tp_record.specs.Step.{Legal}
 use Rattle.tp_book.specs.PassView.{PassView}
 use Rattle.tp_glance.proofs.Fronts.{rank_grows}
-use Rattle.tp_locked.specs.Passes.{LooksOnly}
-use Rattle.tp_locked.proofs.Moments.{rank_top}
+use Rattle.tp_pool_holds.specs.Passes.{LooksOnly}
+use Rattle.tp_pool_holds.proofs.Moments.{rank_top}
 
 pub still_ended : (c : Config) (old new : PassView) → rank old.front ≡ 4 → Legal c old.front → (new ≡ old) ⊎ LooksOnly c old new → (rank new.front ≡ 4) × Legal c new.front
 still_ended c old new seen legal looked =

@@ -5,8 +5,8 @@ use Rattle.tp_types.specs.declared.configs.Config.{Config}
 use Rattle.tp_record.specs.declared.entries.Ask.TheVariants as ask
 use Rattle.tp_record.specs.declared.entries.Did.TheVariants as did
 use Rattle.tp_book.specs.PassView.{PassView}
-use Rattle.tp_locked.specs.Passes.{AddsStep, LooksOnly, entry_of}
-use Rattle.tp_locked.proofs.Receipts.{adds_looks, adds_then, looks_adds}
+use Rattle.tp_pool_holds.specs.Passes.{AddsStep, LooksOnly, entry_of}
+use Rattle.tp_pool_holds.proofs.Receipts.{adds_looks, adds_then, looks_adds}
 use Rattle.tp_life.specs.Ticking.{IsTick, OnlyTicks}
 
 -- c are the settings that judge a pool's steps

@@ -7,8 +7,8 @@ use Rattle.tp_record.specs.Fields.{rank}
 use Rattle.tp_record.specs.Step.{Legal}
 use Rattle.tp_book.specs.BookView.{AreAll, AreOwn}
 use Rattle.tp_book.specs.PassView.{PassView}
-use Rattle.tp_locked.specs.Closing.{KeepsOpen}
-use Rattle.tp_locked.specs.Moments.{AtSome}
+use Rattle.tp_pool_holds.specs.Closing.{KeepsOpen}
+use Rattle.tp_pool_holds.specs.Moments.{AtSome}
 use Rattle.tp_journal.proofs.Reports.{last_is}
 use Rattle.tp_life.specs.Lived.{IsUntold}
 

@@ -8,10 +8,10 @@ use Rattle.tp_record.specs.State.{State}
 use Rattle.tp_record.specs.declared.entries.Ask.TheVariants as ask
 use Rattle.tp_record.specs.declared.entries.Did.TheVariants as did
 use Rattle.tp_book.specs.PassView.{PassView}
-use Rattle.tp_locked.specs.Moments.{AtFront, BookOf}
-use Rattle.tp_locked.specs.Passes.{AddsNone, AddsStep, LooksOnly}
-use Rattle.tp_locked.specs.Readings.{got, IsFound}
-use Rattle.tp_locked.specs.declared.tasks.Task.{Task}
+use Rattle.tp_pool_holds.specs.Moments.{AtFront, BookOf}
+use Rattle.tp_pool_holds.specs.Passes.{AddsNone, AddsStep, LooksOnly}
+use Rattle.tp_pool_holds.specs.Readings.{got, IsFound}
+use Rattle.tp_pool_holds.specs.declared.tasks.Task.{Task}
 use Rattle.tp_life.specs.Futures.{IsAnswer}
 
 -- the group had these tickets, each of a task, and has those

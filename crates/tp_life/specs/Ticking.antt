@@ -6,7 +6,7 @@ use Rattle.tp_record.specs.declared.entries.Entry.{Entry}
 use Rattle.tp_record.specs.declared.entries.Ask.TheVariants as ask
 use Rattle.tp_record.specs.declared.entries.Did.TheVariants as did
 use Rattle.tp_book.specs.PassView.{PassView}
-use Rattle.tp_locked.specs.Passes.{Adds, AddsNone, Refuses, entry_of}
+use Rattle.tp_pool_holds.specs.Passes.{Adds, AddsNone, Refuses, entry_of}
 use Rattle.tp_life.specs.declared.ticking.End.{End}
 use Rattle.tp_life.specs.declared.ticking.End.TheVariants as end
 

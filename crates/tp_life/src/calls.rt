@@ -2,7 +2,7 @@
 
 use std::sync::Wait;
 use std::time::{Clock, Duration};
-use tp_locked::answers::{Admitted, Drained, Refused, Removal};
+use tp_pool_holds::answers::{Admitted, Drained, Refused, Removal};
 use tp_pool::readings::Reading;
 use tp_pool::task_of;
 use tp_record::entries::{Ask, Did};
@@ -10,7 +10,7 @@ use tp_types::ids::TaskId;
 use tp_types::refusals::PoolError;
 use tp_types::states::RunState;
 use tp_types::tasks::Kind;
-use tp_values::tasks::{Find, Held, Task};
+use tp_life_values::tasks::{Find, Held, Task};
 
 /// What a caller may set.
 #[derive(Clone, Copy)]
@@ -46,9 +46,9 @@ pub trait Controls {
     ghost use Rattle.tp_record.specs.State.{counts as counts_of};
     ghost use Rattle.tp_glance.specs.Word.{IsFrontOf};
     ghost use Rattle.tp_book.specs.PassView.{PassView};
-    ghost use Rattle.tp_locked.specs.Moments.{AtFront};
-    ghost use Rattle.tp_locked.specs.Passes.{Adds, AddsNone, AddsStep, LooksOnly, Refuses, tidied, ended};
-    ghost use Rattle.tp_shared.specs.Endings.{AddsAndEnds, IsBarred};
+    ghost use Rattle.tp_pool_holds.specs.Moments.{AtFront};
+    ghost use Rattle.tp_pool_holds.specs.Passes.{Adds, AddsNone, AddsStep, LooksOnly, Refuses, tidied, ended};
+    ghost use Rattle.tp_pool_threads.specs.Endings.{AddsAndEnds, IsBarred};
     ghost use Rattle.tp_life.specs.Settings.{asked, done};
 
     /// The settings by which its steps are judged.
@@ -162,18 +162,18 @@ pub trait Calls: Controls {
     ghost use Rattle.tp_record.specs.Fields.{rank};
     ghost use Rattle.tp_record.specs.declared.entries.Entry.{Entry};
     ghost use Rattle.tp_glance.specs.Word.{IsFrontOf};
-    ghost use Rattle.tp_locked.specs.Answers.{is_removed};
-    ghost use Rattle.tp_locked.specs.Moments.{AtFront, BookOf};
-    ghost use Rattle.tp_locked.specs.Passes.{AddsNone, AddsStep, LooksOnly, Refuses};
-    ghost use Rattle.tp_locked.specs.Readings.{got, IsFound, IsUndoneAt};
-    ghost use Rattle.tp_locked.specs.Steps.{Removes, Stops};
-    ghost use Rattle.tp_locked.specs.declared.tasks.Task.{Task as TaskOf};
+    ghost use Rattle.tp_pool_holds.specs.Answers.{is_removed};
+    ghost use Rattle.tp_pool_holds.specs.Moments.{AtFront, BookOf};
+    ghost use Rattle.tp_pool_holds.specs.Passes.{AddsNone, AddsStep, LooksOnly, Refuses};
+    ghost use Rattle.tp_pool_holds.specs.Readings.{got, IsFound, IsUndoneAt};
+    ghost use Rattle.tp_pool_holds.specs.Steps.{Removes, Stops};
+    ghost use Rattle.tp_pool_holds.specs.declared.tasks.Task.{Task as TaskOf};
     ghost use Rattle.tp_pool.specs.Admissions.{Admits, AtPriority, IsAdmitted, IsTurnedAway};
     ghost use Rattle.tp_pool.specs.Submissions.{AddsJob};
     ghost use Rattle.tp_pool.specs.Timed.{IsFoundInTime, IsUndoneInTime};
-    ghost use Rattle.tp_shared.specs.Endings.{AddsAndEnds};
+    ghost use Rattle.tp_pool_threads.specs.Endings.{AddsAndEnds};
     ghost use Rattle.tp_life.specs.Futures.{IsAnswer};
-    ghost use Rattle.tp_values.specs.declared.tasks.TheConstants.{VOID};
+    ghost use Rattle.tp_life_values.specs.declared.tasks.TheConstants.{VOID};
 
     /// What it runs.
     type Task: Task;

@@ -2,8 +2,8 @@
 ghost use Rattle.std.specs.Prelude.{◌≡◌, ◌⊎◌, [], ◌∷◌, ◌++◌, Some, length, IfErr, IfSome, IfNone, OnOk, OnErr};
 ghost use Rattle.tp_pool.specs.Admissions.{AtPriority, IsTurnedAway};
 ghost use Rattle.tp_pool.specs.Submissions.{AddsJob};
-ghost use Rattle.tp_values.specs.declared.tasks.TheConstants.{VOID};
-ghost use Rattle.tp_locked.specs.Readings.{IsUndoneAt};
+ghost use Rattle.tp_life_values.specs.declared.tasks.TheConstants.{VOID};
+ghost use Rattle.tp_pool_holds.specs.Readings.{IsUndoneAt};
 ghost use Rattle.tp_pool.specs.Timed.{IsUndoneInTime};
 ghost use Rattle.tp_life.specs.Groups.{HadNone, IsNext, IsOut, IsResult, IsToldOf};
 ghost use Rattle.std.specs.Iterator.{at_most};
@@ -12,11 +12,11 @@ use crate::calls::{Calls, Ticket};
 use crate::running::Told;
 use std::alloc::Global;
 use std::time::Duration;
-use tp_locked::answers::Refused;
+use tp_pool_holds::answers::Refused;
 use tp_types::ids::TaskId;
 use tp_types::refusals::PoolError;
 use tp_types::tasks::Kind;
-use tp_values::tasks::Task;
+use tp_life_values::tasks::Task;
 
 /// Tasks of a group with their tickets, as an `ExecutorCompletionService`. Two of one number share their done tasks: so each group of a
 /// pool has a number of its own.

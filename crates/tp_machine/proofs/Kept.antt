@@ -19,10 +19,10 @@ use Rattle.tp_record.specs.Left.{left}
 use Rattle.tp_record.specs.State.{State, slot_at, task_at, state}
 use Rattle.tp_record.specs.Step.{Answer, slot_count, timed_out, held_answer, next_of_queue, take_next, take_answer, of_row, since}
 use Rattle.tp_slots.specs.Table.{first_slot}
-use Rattle.tp_parts.specs.declared.parts.Parts.{Parts}
-use Rattle.tp_parts.specs.Shows.{Shows}
-use Rattle.tp_parts.specs.Steps.{IsFitting}
-use Rattle.tp_parts.specs.Terms.{terms}
+use Rattle.tp_machine_state.specs.declared.parts.Parts.{Parts}
+use Rattle.tp_machine_state.specs.Shows.{Shows}
+use Rattle.tp_machine_state.specs.Steps.{IsFitting}
+use Rattle.tp_machine_state.specs.Terms.{terms}
 use Rattle.tp_machine.specs.Seen.{Seen, config_of}
 use Rattle.tp_machine.specs.Readings.{EachState}
 

@@ -10,11 +10,11 @@ use Rattle.tp_record.specs.Left.{mark}
 use Rattle.tp_record.specs.State.{State, state}
 use Rattle.tp_record.specs.Step.{Refuses as StepRefuses}
 use Rattle.tp_queue.specs.Queues.{waiting_of}
-use Rattle.tp_parts.specs.declared.parts.Parts.{Parts}
-use Rattle.tp_parts.specs.Shows.{Shows}
-use Rattle.tp_parts.specs.Steps.{Stands, Refuses}
-use Rattle.tp_parts.specs.Tied.{IsTied}
-use Rattle.tp_parts.specs.Terms.{terms}
+use Rattle.tp_machine_state.specs.declared.parts.Parts.{Parts}
+use Rattle.tp_machine_state.specs.Shows.{Shows}
+use Rattle.tp_machine_state.specs.Steps.{Stands, Refuses}
+use Rattle.tp_machine_state.specs.Tied.{IsTied}
+use Rattle.tp_machine_state.specs.Terms.{terms}
 use Rattle.tp_machine.specs.Steps.{NeedsMemory}
 use Rattle.tp_machine.proofs.Refusals.{never_wanted_marked}
 

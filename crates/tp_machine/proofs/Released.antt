@@ -16,8 +16,8 @@ use Rattle.tp_record.specs.State.{state, slot_at}
 use Rattle.tp_record.specs.Step.{Answer, Legal, Gives, Refuses, IsRefused, IsFreeTo}
 use Rattle.tp_laws.proofs.Left.LeftOut.{step_legal, unknown_left}
 use Rattle.tp_laws.proofs.Left.Marks.{step_marked, left_slots}
-use Rattle.tp_parts.specs.Shows.{Shows}
-use Rattle.tp_parts.proofs.Leaving.{shows_left, shows_marked}
+use Rattle.tp_machine_state.specs.Shows.{Shows}
+use Rattle.tp_machine_state.proofs.Leaving.{shows_left, shows_marked}
 use Rattle.tp_machine.specs.Seen.{Seen, At, config_of}
 
 -- what a machine shows where the tasks that were released are only marked, as the proofs of steps speak of it

@@ -17,13 +17,13 @@ use Rattle.tp_laws.proofs.Left.LeftOut.{may_more, left_length}
 use Rattle.tp_laws.proofs.Left.Marks.{known_marked, may_marked, may_unmarked, row_marked}
 use Rattle.tp_tasks.specs.Tasks.{row_of, AreReleased}
 use Rattle.tp_laws.specs.View.{View, view}
-use Rattle.tp_parts.specs.declared.parts.Parts.{Parts}
-use Rattle.tp_parts.specs.Releases.{OwesNothing, IsKept}
-use Rattle.tp_parts.specs.Shows.{Views, Shows}
-use Rattle.tp_parts.specs.Tied.{IsTied}
-use Rattle.tp_parts.specs.Terms.{terms}
-use Rattle.tp_parts.proofs.Forgetting.{may_here}
-use Rattle.tp_parts.proofs.Reading.{row_shown}
+use Rattle.tp_machine_state.specs.declared.parts.Parts.{Parts}
+use Rattle.tp_machine_state.specs.Releases.{OwesNothing, IsKept}
+use Rattle.tp_machine_state.specs.Shows.{Views, Shows}
+use Rattle.tp_machine_state.specs.Tied.{IsTied}
+use Rattle.tp_machine_state.specs.Terms.{terms}
+use Rattle.tp_machine_state.proofs.Forgetting.{may_here}
+use Rattle.tp_machine_state.proofs.Reading.{row_shown}
 use Rattle.tp_machine.specs.Readings.{EachState}
 use Rattle.tp_machine.specs.Seen.{Seen, At, IsSound, config_of}
 use Rattle.tp_machine.proofs.Released.{marked, stands_at}

@@ -24,14 +24,14 @@ use Rattle.tp_queue.specs.Queues.{waiting_of}
 use Rattle.tp_tasks.specs.Tasks.{payload_of}
 use Rattle.tp_tasks.specs.declared.tasks.Tasks.{Tasks}
 use Rattle.tp_laws.proofs.Effects.Invariants.{is_gone}
-use Rattle.tp_parts.specs.declared.parts.Parts.{Parts}
-use Rattle.tp_parts.specs.Drained.{handed_back}
-use Rattle.tp_parts.specs.Shows.{Shows, numbers}
-use Rattle.tp_parts.specs.Steps.{Stands, Fits}
-use Rattle.tp_parts.specs.Tied.{IsTied, is_before, waits}
-use Rattle.tp_parts.specs.Terms.{terms}
-use Rattle.tp_parts.proofs.Standing.{cancelled_here, given_fitting, task_here}
-use Rattle.tp_submitters.specs.Verdicts.{Yields}
+use Rattle.tp_machine_state.specs.declared.parts.Parts.{Parts}
+use Rattle.tp_machine_state.specs.Drained.{handed_back}
+use Rattle.tp_machine_state.specs.Shows.{Shows, numbers}
+use Rattle.tp_machine_state.specs.Steps.{Stands, Fits}
+use Rattle.tp_machine_state.specs.Tied.{IsTied, is_before, waits}
+use Rattle.tp_machine_state.specs.Terms.{terms}
+use Rattle.tp_machine_state.proofs.Standing.{cancelled_here, given_fitting, task_here}
+use Rattle.tp_machine_submitters.specs.Verdicts.{Yields}
 use Rattle.tp_machine.specs.declared.answers.Judged.{Judged}
 use Rattle.tp_machine.specs.Answers.{own_payload, dropped_payload, IsPaidAt, ReturnsAt, IsReturnedAt}
 use Rattle.tp_machine.specs.Seen.{Seen, At}

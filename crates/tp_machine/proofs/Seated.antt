@@ -12,8 +12,8 @@ use Rattle.tp_laws.proofs.Model.Readings.{slot_read}
 use Rattle.tp_laws.proofs.Model.Told.{told_legal}
 use Rattle.tp_laws.proofs.WordsSlots.{seat_agrees}
 use Rattle.tp_laws.proofs.Left.Marks.{left_slots}
-use Rattle.tp_parts.specs.declared.parts.Parts.{Parts}
-use Rattle.tp_parts.specs.Terms.{terms}
+use Rattle.tp_machine_state.specs.declared.parts.Parts.{Parts}
+use Rattle.tp_machine_state.specs.Terms.{terms}
 use Rattle.tp_machine.specs.Seen.{Seen, task_of_row}
 use Rattle.tp_machine.specs.Readings.{EachHistory}
 

@@ -15,10 +15,10 @@ use Rattle.tp_laws.proofs.Left.LeftOut.{left_out_of}
 use Rattle.tp_tasks.specs.declared.table.Task.{Task}
 use Rattle.tp_tasks.specs.Table.{row_of_task, promise_of_task}
 use Rattle.tp_tasks.specs.Tasks.{task_of, row_of, promise_of}
-use Rattle.tp_parts.specs.declared.parts.Parts.{Parts}
-use Rattle.tp_parts.specs.Shows.{Shows}
-use Rattle.tp_parts.specs.Tied.{is_waiting, waits, KeepsPromise}
-use Rattle.tp_parts.specs.Terms.{terms}
+use Rattle.tp_machine_state.specs.declared.parts.Parts.{Parts}
+use Rattle.tp_machine_state.specs.Shows.{Shows}
+use Rattle.tp_machine_state.specs.Tied.{is_waiting, waits, KeepsPromise}
+use Rattle.tp_machine_state.specs.Terms.{terms}
 use Rattle.tp_machine.specs.Seen.{Seen, IsSound, payload, promise}
 use Rattle.tp_machine.specs.Readings.{EachState, IsPromised}
 

@@ -8,7 +8,7 @@ use Rattle.tp_record.specs.Fields.{rank}
 use Rattle.tp_record.specs.Step.{Legal}
 use Rattle.tp_book.specs.BookView.{AreAll, AreOwn}
 use Rattle.tp_book.specs.PassView.{PassView}
-use Rattle.tp_locked.specs.Closing.{KeepsOpen}
+use Rattle.tp_pool_holds.specs.Closing.{KeepsOpen}
 use Rattle.tp_pool.specs.Lives.{IsCut, IsOver}
 
 -- a close with two passes of which the last has seen the pool terminated

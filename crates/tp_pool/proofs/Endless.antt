@@ -15,13 +15,13 @@ use Rattle.tp_record.specs.Step.{Legal}
 use Rattle.tp_glance.specs.Word.{IsFrontOf}
 use Rattle.tp_glance.proofs.Fronts.{IsFrontOf_refl, IsFrontOf_trans, rank_grows}
 use Rattle.tp_book.specs.PassView.{PassView}
-use Rattle.tp_locked.specs.Moments.{AtFront}
-use Rattle.tp_locked.specs.Readings.{has_come}
-use Rattle.tp_locked.specs.Passes.{Adds, AddsNone, AddsStep, IsRefusal, entry_of, tidied, ended}
-use Rattle.tp_locked.proofs.Receipts.{leads_front, reserved}
+use Rattle.tp_pool_holds.specs.Moments.{AtFront}
+use Rattle.tp_pool_holds.specs.Readings.{has_come}
+use Rattle.tp_pool_holds.specs.Passes.{Adds, AddsNone, AddsStep, IsRefusal, entry_of, tidied, ended}
+use Rattle.tp_pool_holds.proofs.Receipts.{leads_front, reserved}
 use Rattle.tp_pool.specs.Lives.{IsShut}
-use Rattle.tp_shared.specs.Endings.{IsBarred}
-use Rattle.tp_shared.proofs.Ends.{reached}
+use Rattle.tp_pool_threads.specs.Endings.{IsBarred}
+use Rattle.tp_pool_threads.proofs.Ends.{reached}
 
 -- the wait is torn: the step `tidy` was made, and `ended` not
 abbrev pub IsTorn : Config → PassView → PassView → PoolError → Type 0

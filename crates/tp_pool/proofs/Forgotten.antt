@@ -7,13 +7,13 @@ use Rattle.tp_types.specs.declared.refusals.PoolError.TheVariants.{UnknownTask, 
 use Rattle.tp_record.specs.Left.{MayRelease}
 use Rattle.tp_record.specs.State.{State}
 use Rattle.tp_record.specs.Step.{is_known}
-use Rattle.tp_parts.specs.Releases.{IsKept}
+use Rattle.tp_machine_state.specs.Releases.{IsKept}
 use Rattle.tp_book.specs.BookView.{BookView, Forgets, left_of, released_of}
 use Rattle.tp_book.specs.PassView.{PassView}
-use Rattle.tp_locked.specs.Moments.{BookAt, BookOf, IsBook}
-use Rattle.tp_locked.specs.Readings.{IsRelease}
-use Rattle.tp_locked.proofs.Moments.{known_book, known_of}
-use Rattle.tp_locked.proofs.Receipts.{Later}
+use Rattle.tp_pool_holds.specs.Moments.{BookAt, BookOf, IsBook}
+use Rattle.tp_pool_holds.specs.Readings.{IsRelease}
+use Rattle.tp_pool_holds.proofs.Moments.{known_book, known_of}
+use Rattle.tp_pool_holds.proofs.Receipts.{Later}
 use Rattle.tp_glance.proofs.Fronts.{IsFrontOf_trans}
 
 module _ {P : Type 0} (c : Config) (old : BookView P) (is : IsBook P c old) (t : ℕ) where

@@ -11,13 +11,13 @@ use Rattle.tp_tasks.specs.declared.tasks.Tasks.{Tasks}
 use Rattle.tp_book.specs.BookView.{BookView}
 use Rattle.tp_book.specs.PassView.{PassView}
 use Rattle.tp_types.specs.declared.ids.TaskId.{TaskId}
-use Rattle.tp_locked.specs.Answers.{is_removed}
-use Rattle.tp_locked.specs.Moments.{BookOf}
-use Rattle.tp_locked.specs.Passes.{AddsStep}
-use Rattle.tp_locked.specs.Readings.{got}
-use Rattle.tp_locked.specs.Steps.{Makes, removal_of}
-use Rattle.tp_locked.specs.declared.tasks.Task.{Task}
-use Rattle.tp_locked.proofs.Adding.{Paid, adds_step}
+use Rattle.tp_pool_holds.specs.Answers.{is_removed}
+use Rattle.tp_pool_holds.specs.Moments.{BookOf}
+use Rattle.tp_pool_holds.specs.Passes.{AddsStep}
+use Rattle.tp_pool_holds.specs.Readings.{got}
+use Rattle.tp_pool_holds.specs.Steps.{Makes, removal_of}
+use Rattle.tp_pool_holds.specs.declared.tasks.Task.{Task}
+use Rattle.tp_pool_holds.proofs.Adding.{Paid, adds_step}
 
 pub got_is : (found : Result (Option ℤ) PoolError) (r : Result ℤ PoolError) → result_transpose found ≡ Some r → found ≡ got r
 got_is (Ok None) r is = absurd (cc)

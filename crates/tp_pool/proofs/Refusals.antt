@@ -11,7 +11,7 @@ use Rattle.tp_record.specs.declared.entries.Did.{Did}
 use Rattle.tp_protocols.specs.Fronts.{follow_of}
 use Rattle.tp_protocols.specs.declared.paths.Next.TheVariants as next
 use Rattle.tp_book.specs.PassView.{PassView}
-use Rattle.tp_locked.specs.Passes.{IsRefusal, opening}
+use Rattle.tp_pool_holds.specs.Passes.{IsRefusal, opening}
 use Rattle.tp_pool.specs.Admissions.{Awaits, IsUndone}
 
 -- Step's own refusal is one, whether or not the record is kept

@@ -14,10 +14,10 @@ use Rattle.tp_record.specs.declared.entries.Opened.TheVariants as opened
 use Rattle.tp_record.specs.declared.entries.Entry.{Entry}
 use Rattle.tp_record.specs.Step.{Legal}
 use Rattle.tp_book.specs.PassView.{PassView}
-use Rattle.tp_locked.specs.Passes.{Adds, AddsStep, AddsNone, LooksOnly, entry_of, opening}
-use Rattle.tp_shared.specs.Endings.{IsBarred}
+use Rattle.tp_pool_holds.specs.Passes.{Adds, AddsStep, AddsNone, LooksOnly, entry_of, opening}
+use Rattle.tp_pool_threads.specs.Endings.{IsBarred}
 use Rattle.tp_pool.specs.Prestarts.{prestarted, is_live, IsPrestart, AddsPrestart, live_start, IsStarts, AddsStarts}
-use Rattle.tp_locked.proofs.Receipts.{adds_both, adds_behind, step_behind, looks_adds, looks_none, stands_looking}
+use Rattle.tp_pool_holds.proofs.Receipts.{adds_both, adds_behind, step_behind, looks_adds, looks_none, stands_looking}
 
 live_opening : (by : ℕ) (w : SlotId) (staffed : Bool) (d : Did) → is_live w staffed d ≡ true → entry_of by (opening w staffed) d ≡ entry_of by (ask.Open w) (did.Open w opened.Live)
 live_opening by w true (did.Open v opened.Live) is = ap (λ (n : ℕ). entry_of by (ask.Open w) (did.Open (record { 0 = n }) opened.Live)) (eqb-true v.0 w.0 is)

@@ -16,17 +16,17 @@ use Rattle.tp_protocols.specs.Fronts.{follow_of, goes}
 use Rattle.tp_glance.specs.Word.{IsFrontOf}
 use Rattle.tp_glance.proofs.Fronts.{IsFrontOf_trans}
 use Rattle.tp_book.specs.PassView.{PassView}
-use Rattle.tp_locked.specs.Passes.{Adds, AddsNone, Refuses}
-use Rattle.tp_locked.specs.declared.answers.Admitted.{Admitted}
-use Rattle.tp_locked.specs.declared.answers.Admitted.TheVariants as admitted
-use Rattle.tp_locked.specs.declared.answers.Refused.{Refused}
+use Rattle.tp_pool_holds.specs.Passes.{Adds, AddsNone, Refuses}
+use Rattle.tp_pool_holds.specs.declared.answers.Admitted.{Admitted}
+use Rattle.tp_pool_holds.specs.declared.answers.Admitted.TheVariants as admitted
+use Rattle.tp_pool_holds.specs.declared.answers.Refused.{Refused}
 use Rattle.tp_machine.specs.Answers.{ComesBack}
 use Rattle.tp_pool.specs.Admissions.{AddsPath, AddsFront, AtPriority, IsUndone, GotJob, IsAdmitted, IsJobOut, IsTurnedAway, task_of, end_of}
-use Rattle.tp_shared.specs.Submitting.{TakesOut}
+use Rattle.tp_pool_threads.specs.Submitting.{TakesOut}
 use Rattle.tp_pool.specs.Submissions.{AddsJob, AddsSubmission}
-use Rattle.tp_locked.proofs.Plain.{submitted_plain}
-use Rattle.tp_locked.proofs.Receipts.{adds_behind, none_behind}
-use Rattle.tp_shared.proofs.Returned.{takes_from}
+use Rattle.tp_pool_holds.proofs.Plain.{submitted_plain}
+use Rattle.tp_pool_holds.proofs.Receipts.{adds_behind, none_behind}
+use Rattle.tp_pool_threads.proofs.Returned.{takes_from}
 
 -- one that was admitted
 admits : (c : Config) (k : Kind) (p : ℕ) (a : Admitted) (old new : PassView) → AddsPath c k p (task_of a) (end_of a) old new → AddsSubmission c k p (task_of a) old new

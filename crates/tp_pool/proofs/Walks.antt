@@ -16,7 +16,7 @@ use Rattle.tp_record.specs.declared.entries.Entry.{Entry}
 use Rattle.tp_record.specs.declared.entries.Looked.{Looked}
 use Rattle.tp_record.specs.declared.entries.Looked.TheVariants as looked
 use Rattle.tp_record.specs.Paths.{Admission, Rejected, Follow, Ends, Astray, IsPath, after_look, follows}
-use Rattle.tp_parts.specs.Payloads.{PutsIn}
+use Rattle.tp_machine_state.specs.Payloads.{PutsIn}
 use Rattle.tp_protocols.specs.Fronts.{is_submit_of, admission_of, follow_of, goes, IsFront}
 use Rattle.tp_protocols.specs.declared.paths.Next.{Next}
 use Rattle.tp_protocols.specs.declared.paths.Next.TheVariants as next
@@ -25,18 +25,18 @@ use Rattle.tp_protocols.specs.declared.paths.Ending.TheVariants as ending
 use Rattle.tp_glance.specs.Word.{IsFrontOf}
 use Rattle.tp_glance.proofs.Fronts.{IsFrontOf_refl}
 use Rattle.tp_book.specs.PassView.{PassView}
-use Rattle.tp_locked.specs.Passes.{Adds, AddsStep, IsRefusal, LooksOnly, entry_of, opening}
-use Rattle.tp_locked.specs.Steps.{Makes}
+use Rattle.tp_pool_holds.specs.Passes.{Adds, AddsStep, IsRefusal, LooksOnly, entry_of, opening}
+use Rattle.tp_pool_holds.specs.Steps.{Makes}
 use Rattle.tp_types.specs.declared.refusals.PoolError.TheVariants as error
-use Rattle.tp_locked.specs.declared.answers.Admitted.{Admitted}
-use Rattle.tp_locked.specs.declared.answers.Refused.{Refused}
-use Rattle.tp_locked.specs.declared.tasks.Task.{Task}
+use Rattle.tp_pool_holds.specs.declared.answers.Admitted.{Admitted}
+use Rattle.tp_pool_holds.specs.declared.answers.Refused.{Refused}
+use Rattle.tp_pool_holds.specs.declared.tasks.Task.{Task}
 use Rattle.tp_machine.specs.Answers.{ComesBack}
 use Rattle.tp_pool.specs.Admissions.{task_of, end_of, AddsFront, AsksFor, Awaits, GotJob, IsUndone, IsAdmitted, IsTurnedAway}
-use Rattle.tp_shared.specs.Submitting.{TakesOut}
-use Rattle.tp_locked.proofs.Receipts.{adds_looks, adds_then, leads_front}
+use Rattle.tp_pool_threads.specs.Submitting.{TakesOut}
+use Rattle.tp_pool_holds.proofs.Receipts.{adds_looks, adds_then, leads_front}
 use Rattle.tp_pool.proofs.Refusals.{refuses_ever}
-use Rattle.tp_shared.proofs.Returned.{comes_back_as, takes_from}
+use Rattle.tp_pool_threads.proofs.Returned.{comes_back_as, takes_from}
 use Rattle.tp_pool.proofs.Submissions.{got_on}
 use Rattle.std.proofs.lemmas.Bool.{eq-eqb}
 

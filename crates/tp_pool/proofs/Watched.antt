@@ -5,8 +5,8 @@ use Rattle.tp_types.specs.declared.configs.Config.{Config}
 use Rattle.tp_record.specs.declared.entries.Entry.{Entry}
 use Rattle.tp_record.specs.State.{State}
 use Rattle.tp_book.specs.BookView.{BookView, state_of}
-use Rattle.tp_locked.specs.Moments.{AtFront, BookAtSome, IsBook}
-use Rattle.tp_locked.proofs.Moments.{book_at_some, known_at}
+use Rattle.tp_pool_holds.specs.Moments.{AtFront, BookAtSome, IsBook}
+use Rattle.tp_pool_holds.proofs.Moments.{book_at_some, known_at}
 
 module _ {P V E : Type 0} (b : BookView P) (c : Config) (is : IsBook P c b) where
   -- what is read of the book under the lock is so of some book

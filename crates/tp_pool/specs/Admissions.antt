@@ -14,20 +14,20 @@ use Rattle.tp_record.specs.declared.entries.Entry.{Entry}
 use Rattle.tp_record.specs.declared.entries.Looked.{Looked}
 use Rattle.tp_record.specs.Paths.{Admission, Accepted, RanHere, Discarded, Rejected, Follow, Then, Astray, IsPath}
 use Rattle.tp_record.specs.Step.{allows}
-use Rattle.tp_parts.specs.Payloads.{PutsIn}
+use Rattle.tp_machine_state.specs.Payloads.{PutsIn}
 use Rattle.tp_protocols.specs.Fronts.{IsFront, follow_of, goes}
 use Rattle.tp_protocols.specs.declared.paths.Next.{Next}
 use Rattle.tp_protocols.specs.declared.paths.Next.TheVariants as next
 use Rattle.tp_machine.specs.Answers.{ComesBack}
 use Rattle.tp_glance.specs.Word.{IsFrontOf}
 use Rattle.tp_book.specs.PassView.{PassView}
-use Rattle.tp_locked.specs.Passes.{Adds, AddsNone, IsRefusal, Refuses, opening}
-use Rattle.tp_locked.specs.Steps.{Makes}
-use Rattle.tp_locked.specs.declared.answers.Admitted.{Admitted}
-use Rattle.tp_locked.specs.declared.answers.Admitted.TheVariants as admitted
-use Rattle.tp_locked.specs.declared.answers.Refused.{Refused}
-use Rattle.tp_locked.specs.declared.tasks.Task.{Task}
-use Rattle.tp_shared.specs.Submitting.{IsHalted, TakesOut}
+use Rattle.tp_pool_holds.specs.Passes.{Adds, AddsNone, IsRefusal, Refuses, opening}
+use Rattle.tp_pool_holds.specs.Steps.{Makes}
+use Rattle.tp_pool_holds.specs.declared.answers.Admitted.{Admitted}
+use Rattle.tp_pool_holds.specs.declared.answers.Admitted.TheVariants as admitted
+use Rattle.tp_pool_holds.specs.declared.answers.Refused.{Refused}
+use Rattle.tp_pool_holds.specs.declared.tasks.Task.{Task}
+use Rattle.tp_pool_threads.specs.Submitting.{IsHalted, TakesOut}
 
 -- whose submission was admitted, and how it ended
 abbrev pub task_of : Admitted → TaskId

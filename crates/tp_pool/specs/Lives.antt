@@ -15,12 +15,12 @@ use Rattle.tp_book.specs.PassView.{PassView}
 use Rattle.tp_book.specs.Reports.{TellsCount, TellsRecord}
 use Rattle.tp_book.specs.declared.reports.Report.{Report}
 use Rattle.tp_book.specs.declared.reports.TallyReport.{TallyReport}
-use Rattle.tp_locked.specs.Moments.{AtSome, BookOf}
-use Rattle.tp_locked.specs.Passes.{LooksOnly}
-use Rattle.tp_locked.specs.Readings.{got, IsFound}
-use Rattle.tp_locked.specs.declared.tasks.Task.{Task}
-use Rattle.tp_shared.specs.Closing.{Closes}
-use Rattle.tp_shared.specs.Endings.{IsBarred}
+use Rattle.tp_pool_holds.specs.Moments.{AtSome, BookOf}
+use Rattle.tp_pool_holds.specs.Passes.{LooksOnly}
+use Rattle.tp_pool_holds.specs.Readings.{got, IsFound}
+use Rattle.tp_pool_holds.specs.declared.tasks.Task.{Task}
+use Rattle.tp_pool_threads.specs.Closing.{Closes}
+use Rattle.tp_pool_threads.specs.Endings.{IsBarred}
 use Rattle.tp_pool.specs.Submissions.{Submits}
 use Rattle.tp_pool.specs.Turns.{ThroughBoth}
 

@@ -2,7 +2,7 @@
 use Rattle.std.specs.Prelude.{◌≡◌}
 use Rattle.tp_types.specs.RunState.{state_rank}
 use Rattle.tp_record.specs.State.{State, counts}
-use Rattle.tp_locked.specs.Watched.{AreBusy}
+use Rattle.tp_pool_holds.specs.Watched.{AreBusy}
 use Rattle.tp_pool.specs.declared.snapshots.Snapshot.{Snapshot}
 
 -- all that is read is of this state

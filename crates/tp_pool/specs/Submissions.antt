@@ -9,7 +9,7 @@ use Rattle.tp_types.specs.declared.tasks.Promise.{Promise}
 use Rattle.tp_record.specs.Effects.{Outcome}
 use Rattle.tp_record.specs.Paths.{Accepted, RanHere, Discarded}
 use Rattle.tp_book.specs.PassView.{PassView}
-use Rattle.tp_locked.specs.declared.answers.Refused.{Refused}
+use Rattle.tp_pool_holds.specs.declared.answers.Refused.{Refused}
 use Rattle.tp_pool.specs.Admissions.{AddsPath, AtPriority, GotJob, IsTurnedAway}
 
 -- the whole path of this task of this kind and priority, which is admitted at its end: accepted, run by its submitter, or discarded

@@ -8,7 +8,7 @@ use Rattle.tp_record.specs.declared.entries.Ask.TheVariants as ask
 use Rattle.tp_machine.specs.Readings.{HasOpen}
 use Rattle.tp_machine.specs.Steps.{IsRefusedAt}
 use Rattle.tp_book.specs.BookView.{BookView}
-use Rattle.tp_locked.specs.Readings.{IsResult, IsUndoneAt}
+use Rattle.tp_pool_holds.specs.Readings.{IsResult, IsUndoneAt}
 
 -- what the future of task t answers; or, while that is none, that the time is over
 abbrev pub IsFoundInTime : {P : Type 0} → BookView P → ℕ → Bool → Result (Option ℤ) PoolError → Type 0

@@ -7,10 +7,10 @@ use crate::pool::PoolOf;
 use std::sync::Wait;
 use tp_book::passes::Pass;
 use tp_glance::glance::Glance;
-use tp_locked::locked::Core;
-use tp_locked::names::PoolNaming;
+use tp_pool_holds::locked::Core;
+use tp_pool_holds::names::PoolNaming;
 use tp_record::recorders::Tally;
-use tp_shared::edges::Edge;
+use tp_pool_threads::edges::Edge;
 use tp_types::ids::TaskId;
 use tp_types::refusals::PoolError;
 

@@ -10,7 +10,7 @@ use tp_protocols::gates::{Gate, Point};
 use tp_protocols::handlers::RejectionHandler;
 use tp_protocols::hooks::Hooks;
 use tp_protocols::jobs::Job;
-use tp_shared::edges::Edge;
+use tp_pool_threads::edges::Edge;
 use tp_types::configs::Verdict;
 use tp_types::ids::{SlotId, TaskId};
 use tp_types::states::RunState;

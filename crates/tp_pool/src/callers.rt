@@ -2,7 +2,7 @@
 
 use std::sync::Wait;
 use std::thread::{self, Threads};
-use tp_locked::names::PoolNaming;
+use tp_pool_holds::names::PoolNaming;
 
 /// A pool's name: who is generic in it can call any pool.
 pub trait PoolName: PoolNaming + Send + Sync + 'static {}

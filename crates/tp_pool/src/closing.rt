@@ -1,22 +1,22 @@
 //! The close of a pool: its record, with every pass accounted for.
 ghost use Rattle.std.specs.Arc.{arc_value};
 ghost use Rattle.std.specs.Prelude.{◌≡◌, IfOk, IfErr};
-ghost use Rattle.tp_locked.specs.Closing.{KeepsOpen};
-ghost use Rattle.tp_shared.specs.Closing.{Closes};
-ghost use Rattle.tp_locked.specs.declared.tasks.Task.{Task as TaskOf};
+ghost use Rattle.tp_pool_holds.specs.Closing.{KeepsOpen};
+ghost use Rattle.tp_pool_threads.specs.Closing.{Closes};
+ghost use Rattle.tp_pool_holds.specs.declared.tasks.Task.{Task as TaskOf};
 
 use crate::pool::{Hold, PoolOf};
 use std::sync::{Arc, Wait};
 use std::thread;
 use tp_book::passes::Pass;
 pub use tp_book::reports::{Report, Reporter, TallyReport};
-use tp_locked::names::PoolNaming;
+use tp_pool_holds::names::PoolNaming;
 use tp_machine::machine::releases::Keeper;
 use tp_protocols::jobs::Job;
 use tp_record::recorders::Full;
-use tp_shared::closing::Reopened;
-use tp_shared::edges::Edge;
-use tp_shared::shared::Shared;
+use tp_pool_threads::closing::Reopened;
+use tp_pool_threads::edges::Edge;
+use tp_pool_threads::shared::Shared;
 use tp_types::refusals::PoolError;
 
 /// The answer of a close that was refused: the pool comes back, with the passes that were handed in, or with the one pass of

@@ -2,21 +2,21 @@
 //! refused call makes no step, and its pass gets no receipt. Accepted or refused, the call brings its pass up to
 //! the pool's record, and is answered as the pool stands there.
 ghost use Rattle.std.specs.Prelude.{◌<◌, ◌≡◌, true, IfOk, IfErr, OnOk, OnErr};
-ghost use Rattle.tp_locked.specs.Answers.{is_removed};
-ghost use Rattle.tp_locked.specs.Passes.{AddsStep, AddsNone, Refuses};
-ghost use Rattle.tp_locked.specs.Steps.{Removes, removal_of};
+ghost use Rattle.tp_pool_holds.specs.Answers.{is_removed};
+ghost use Rattle.tp_pool_holds.specs.Passes.{AddsStep, AddsNone, Refuses};
+ghost use Rattle.tp_pool_holds.specs.Steps.{Removes, removal_of};
 
 use crate::pool::PoolOf;
 use std::sync::Wait;
 use tp_book::passes::Pass;
-use tp_locked::answers::Removal;
-use tp_locked::names::PoolNaming;
-use tp_locked::tasks::Task;
+use tp_pool_holds::answers::Removal;
+use tp_pool_holds::names::PoolNaming;
+use tp_pool_holds::tasks::Task;
 use tp_machine::machine::releases::Keeper;
 use tp_machine::typed::controllers::{Cancel, Purge, Remove};
 use tp_machine::typed::settings::{CoreTimeout, Keep, Maximum, Tick};
 use tp_record::entries::{Ask, Did};
-use tp_shared::edges::Edge;
+use tp_pool_threads::edges::Edge;
 use tp_types::ids::TaskId;
 use tp_types::refusals::PoolError;
 

@@ -4,24 +4,24 @@ ghost use Rattle.std.specs.Prelude.{◌≡◌, ◌⊎◌, ◌<◌, ◌≤◌, tr
 ghost use Rattle.tp_record.specs.declared.entries.Entry.{Entry};
 ghost use Rattle.tp_record.specs.Fields.{rank};
 ghost use Rattle.tp_glance.specs.Word.{IsFrontOf};
-ghost use Rattle.tp_locked.specs.Moments.{AtFront};
-ghost use Rattle.tp_locked.specs.Passes.{Adds, AddsNone, Refuses, tidied, ended};
-ghost use Rattle.tp_locked.specs.Readings.{has_come};
-ghost use Rattle.tp_locked.specs.Steps.{Stops};
-ghost use Rattle.tp_shared.specs.Endings.{AddsAndEnds, IsBarred};
+ghost use Rattle.tp_pool_holds.specs.Moments.{AtFront};
+ghost use Rattle.tp_pool_holds.specs.Passes.{Adds, AddsNone, Refuses, tidied, ended};
+ghost use Rattle.tp_pool_holds.specs.Readings.{has_come};
+ghost use Rattle.tp_pool_holds.specs.Steps.{Stops};
+ghost use Rattle.tp_pool_threads.specs.Endings.{AddsAndEnds, IsBarred};
 
 use crate::orders::{Order, rescue_tasks_by};
 use crate::pool::PoolOf;
 use std::sync::Wait;
 use std::thread::Threads;
 use tp_book::passes::Pass;
-use tp_locked::answers::Drained;
-use tp_locked::names::PoolNaming;
+use tp_pool_holds::answers::Drained;
+use tp_pool_holds::names::PoolNaming;
 use tp_machine::machine::releases::Keeper;
 use tp_machine::typed::controllers::Shutdown;
 use tp_protocols::jobs::Job;
 use tp_record::entries::{Ask, Did};
-use tp_shared::edges::Edge;
+use tp_pool_threads::edges::Edge;
 use tp_types::refusals::PoolError;
 
 impl<

@@ -2,21 +2,21 @@
 //! hold in which its look failed, so no step falls between the look and the sleep.
 ghost use Rattle.std.specs.Prelude.{◌≡◌, ◌⊎◌, ◌<◌, true, length, IfOk, IfErr, OnErr};
 ghost use Rattle.tp_glance.specs.Word.{IsFrontOf};
-ghost use Rattle.tp_locked.specs.Passes.{AddsStep, AddsNone, LooksOnly, Refuses};
-ghost use Rattle.tp_locked.specs.Moments.{AtFront, BookAtSome, BookOf};
-ghost use Rattle.tp_locked.specs.Readings.{got, IsFound, IsUndoneAt};
-ghost use Rattle.tp_locked.specs.declared.tasks.Task.{Task};
+ghost use Rattle.tp_pool_holds.specs.Passes.{AddsStep, AddsNone, LooksOnly, Refuses};
+ghost use Rattle.tp_pool_holds.specs.Moments.{AtFront, BookAtSome, BookOf};
+ghost use Rattle.tp_pool_holds.specs.Readings.{got, IsFound, IsUndoneAt};
+ghost use Rattle.tp_pool_holds.specs.declared.tasks.Task.{Task};
 ghost use Rattle.tp_pool.specs.Admissions.{task_of as task_of_admitted};
 
 use crate::pool::PoolOf;
 use std::sync::Wait;
 use tp_book::passes::Pass;
-use tp_locked::answers::Admitted;
-use tp_locked::names::PoolNaming;
+use tp_pool_holds::answers::Admitted;
+use tp_pool_holds::names::PoolNaming;
 use tp_machine::machine::releases::Keeper;
 use tp_machine::typed::controllers::TakeDone;
 use tp_record::entries::{Ask, Did};
-use tp_shared::edges::Edge;
+use tp_pool_threads::edges::Edge;
 use tp_types::ids::TaskId;
 use tp_types::refusals::PoolError;
 

@@ -1,19 +1,19 @@
 //! Handles of a pool, which may be dropped; and its close with one pass.
 ghost use Rattle.std.specs.Prelude.{◌≡◌, ◌⊎◌, [], ◌∷◌, length, IfOk, IfErr};
-ghost use Rattle.tp_locked.specs.Closing.{KeepsOpen};
-ghost use Rattle.tp_locked.specs.declared.tasks.Task.{Task};
-ghost use Rattle.tp_shared.specs.Closing.{Closes};
+ghost use Rattle.tp_pool_holds.specs.Closing.{KeepsOpen};
+ghost use Rattle.tp_pool_holds.specs.declared.tasks.Task.{Task};
+ghost use Rattle.tp_pool_threads.specs.Closing.{Closes};
 
 use crate::closing::{CloseFault, Reporter};
 use crate::pool::{Hold, PoolOf};
 use std::ops::Deref;
 use std::sync::{Arc, Wait};
 use tp_book::passes::Pass;
-use tp_locked::names::PoolNaming;
+use tp_pool_holds::names::PoolNaming;
 use tp_machine::machine::releases::Keeper;
 use tp_protocols::jobs::Job;
 use tp_record::recorders::Full;
-use tp_shared::edges::Edge;
+use tp_pool_threads::edges::Edge;
 use tp_types::refusals::PoolError;
 
 /// The answer of a close with one pass that was refused: the pool comes back, with the pass.

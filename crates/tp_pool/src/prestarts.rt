@@ -2,19 +2,19 @@
 //! once its thread was made or refused it is opened or given back.
 ghost use Rattle.std.specs.Prelude.{ℕ, true, ◌≡◌, ◌+◌, ◌*◌, ◌<◌, ◌≤◌, [], ◌∷◌, IfOk, IfErr, OnOk, OnErr};
 ghost use Rattle.tp_record.specs.Step.{Legal};
-ghost use Rattle.tp_locked.specs.Passes.{AddsNone, IsRefusal, LooksOnly, Refuses, entry_of};
+ghost use Rattle.tp_pool_holds.specs.Passes.{AddsNone, IsRefusal, LooksOnly, Refuses, entry_of};
 ghost use Rattle.tp_pool.specs.Prestarts.{is_live as is_live_opening, AddsPrestart, AddsStarts, IsRefusedMore, IsServed};
 
 use crate::pool::PoolOf;
 use std::sync::Wait;
 use std::thread::Threads;
 use tp_book::passes::Pass;
-use tp_locked::names::PoolNaming;
+use tp_pool_holds::names::PoolNaming;
 use tp_machine::machine::releases::Keeper;
 use tp_machine::typed::settings::{Core, Prestart};
 use tp_protocols::jobs::Job;
 use tp_record::entries::{Ask, Did, Opened};
-use tp_shared::edges::Edge;
+use tp_pool_threads::edges::Edge;
 use tp_types::ids::SlotId;
 use tp_types::limits::MAX_WORKERS;
 use tp_types::refusals::PoolError;

@@ -1,21 +1,21 @@
 //! Tasks that a pool forgets that keeps no record.
 ghost use Rattle.std.specs.Prelude.{◌≡◌, ◌⊎◌, ◌+◌, length, IfErr, OnErr, OnOk};
-ghost use Rattle.tp_parts.specs.Releases.{IsKept};
+ghost use Rattle.tp_machine_state.specs.Releases.{IsKept};
 ghost use Rattle.tp_glance.specs.Word.{IsFrontOf};
 ghost use Rattle.tp_book.specs.BookView.{Forgets, left_of, released_of, state_of};
-ghost use Rattle.tp_locked.specs.Moments.{BookAt, BookAtSome, BookOf};
-ghost use Rattle.tp_locked.specs.Readings.{IsRelease};
-ghost use Rattle.tp_locked.specs.declared.tasks.Task.{Task};
+ghost use Rattle.tp_pool_holds.specs.Moments.{BookAt, BookAtSome, BookOf};
+ghost use Rattle.tp_pool_holds.specs.Readings.{IsRelease};
+ghost use Rattle.tp_pool_holds.specs.declared.tasks.Task.{Task};
 
 use crate::pool::PoolOf;
 use std::sync::Wait;
 use tp_book::passes::Pass;
 use tp_glance::glance::Glance;
-use tp_locked::locked::Core;
-use tp_locked::names::PoolNaming;
+use tp_pool_holds::locked::Core;
+use tp_pool_holds::names::PoolNaming;
 use tp_protocols::jobs::Job;
 use tp_record::recorders::{Recorder, Tally};
-use tp_shared::edges::Edge;
+use tp_pool_threads::edges::Edge;
 use tp_types::ids::TaskId;
 use tp_types::refusals::PoolError;
 

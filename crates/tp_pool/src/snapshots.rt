@@ -4,8 +4,8 @@ ghost use Rattle.std.specs.Prelude.{◌≡◌, drop, reverse, IfOk, IfErr};
 ghost use Rattle.tp_record.specs.Step.{Legal};
 ghost use Rattle.tp_glance.specs.Word.{IsFrontOf};
 ghost use Rattle.tp_book.specs.BookView.{state_of};
-ghost use Rattle.tp_locked.specs.Moments.{AtFront, AtSome, BookAtSome};
-ghost use Rattle.tp_locked.specs.declared.tasks.Task.{Task};
+ghost use Rattle.tp_pool_holds.specs.Moments.{AtFront, AtSome, BookAtSome};
+ghost use Rattle.tp_pool_holds.specs.declared.tasks.Task.{Task};
 ghost use Rattle.tp_pool.specs.Snapshots.{IsSnapshot};
 
 use crate::pool::PoolOf;
@@ -14,13 +14,13 @@ use std::fmt;
 use std::sync::Wait;
 use tp_book::sights::Sight;
 use tp_glance::glance::Glance;
-pub use tp_locked::locked::Busy;
-use tp_locked::locked::Core;
-use tp_locked::names::PoolNaming;
+pub use tp_pool_holds::locked::Busy;
+use tp_pool_holds::locked::Core;
+use tp_pool_holds::names::PoolNaming;
 use tp_machine::machine::releases::Keeper;
 use tp_protocols::jobs::Job;
 use tp_record::entries::Entry;
-use tp_shared::edges::Edge;
+use tp_pool_threads::edges::Edge;
 use tp_types::refusals::PoolError;
 use tp_types::states::{Counts, RunState};
 

@@ -3,22 +3,22 @@
 ghost use Rattle.std.specs.Prelude.{◌≡◌, ◌⊎◌, ◌<◌, ◌≤◌, [], ◌∷◌, IfOk, IfErr, OnOk, OnErr};
 ghost use Rattle.tp_record.specs.Fields.{rank};
 ghost use Rattle.tp_glance.specs.Word.{IsFrontOf};
-ghost use Rattle.tp_locked.specs.Moments.{AtFront, BookOf};
-ghost use Rattle.tp_locked.specs.Passes.{Adds, AddsNone, AddsStep, LooksOnly, tidied, ended};
-ghost use Rattle.tp_locked.specs.Readings.{got};
-ghost use Rattle.tp_locked.specs.declared.tasks.Task.{Task};
-ghost use Rattle.tp_shared.specs.Endings.{IsBarred};
+ghost use Rattle.tp_pool_holds.specs.Moments.{AtFront, BookOf};
+ghost use Rattle.tp_pool_holds.specs.Passes.{Adds, AddsNone, AddsStep, LooksOnly, tidied, ended};
+ghost use Rattle.tp_pool_holds.specs.Readings.{got};
+ghost use Rattle.tp_pool_holds.specs.declared.tasks.Task.{Task};
+ghost use Rattle.tp_pool_threads.specs.Endings.{IsBarred};
 ghost use Rattle.tp_pool.specs.Timed.{IsFoundInTime, IsUndoneInTime};
 
 use crate::pool::PoolOf;
 use std::sync::Wait;
 use std::time::{Clock, Duration, Instant};
 use tp_book::passes::Pass;
-use tp_locked::locked::Look;
-use tp_locked::names::PoolNaming;
+use tp_pool_holds::locked::Look;
+use tp_pool_holds::names::PoolNaming;
 use tp_machine::machine::releases::Keeper;
 use tp_record::entries::{Ask, Did};
-use tp_shared::edges::Edge;
+use tp_pool_threads::edges::Edge;
 use tp_types::ids::TaskId;
 use tp_types::refusals::PoolError;
 

@@ -4,8 +4,8 @@ use Rattle.tp_types.specs.declared.configs.QueueKind.{QueueKind}
 use Rattle.tp_types.specs.declared.configs.QueueKind.TheVariants.{Handoff, Unbounded, Bounded, Priority}
 use Rattle.tp_types.specs.declared.ids.TaskId.{TaskId}
 use Rattle.tp_types.specs.Queues.{is_ranked}
-use Rattle.tp_line.specs.Line.{Line}
-use Rattle.tp_line.specs.Ranks.{key}
+use Rattle.tp_ring.specs.Line.{Line}
+use Rattle.tp_ring.specs.Ranks.{key}
 
 -- the kind; the tasks that wait, in order, each with its key; how many may wait; how many offers were accepted so far. With the
 -- kind the capacity is known: none for a handoff, the configured one for a bounded queue, what was reserved for the others

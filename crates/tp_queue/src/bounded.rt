@@ -7,7 +7,7 @@ ghost use Rattle.tp_queue.specs.Waiting.{first_waiting};
 use crate::work::WorkQueue;
 use std::alloc::{AllocError, Global};
 use std::marker::Model;
-use tp_line::lines::Line;
+use tp_ring::lines::Line;
 use tp_types::ids::TaskId;
 
 /// A work queue of a fixed capacity, in tasks, as an `ArrayBlockingQueue`. All its memory is taken

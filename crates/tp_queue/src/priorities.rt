@@ -7,7 +7,7 @@ ghost use Rattle.tp_queue.specs.Waiting.{first_waiting};
 use crate::work::WorkQueue;
 use std::alloc::{AllocError, Global};
 use std::marker::Model;
-use tp_line::rankings::Ranking;
+use tp_ring::rankings::Ranking;
 use tp_types::ids::TaskId;
 
 /// A work queue without a limit from which the task of the least priority number leaves first, and of

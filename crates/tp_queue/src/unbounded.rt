@@ -7,7 +7,7 @@ ghost use Rattle.tp_queue.specs.Waiting.{first_waiting};
 use crate::work::WorkQueue;
 use std::alloc::{AllocError, Global};
 use std::marker::Model;
-use tp_line::lines::Line;
+use tp_ring::lines::Line;
 use tp_types::ids::TaskId;
 
 /// A work queue without a limit, as a `LinkedBlockingQueue`. It has room for what was reserved: who

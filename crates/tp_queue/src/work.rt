@@ -11,8 +11,8 @@ use tp_types::ids::TaskId;
 /// memory.
 pub trait WorkQueue {
     ghost use Rattle.std.specs.Prelude.{◌≡◌, ◌==◌, ◌+◌, ◌-◌, ◌^◌, ◌<◌, ◌≤◌, ◌++◌, ◌∷◌, [], length, drop, slice_get, option_map, IsTrue, vec_len, vec_capacity, IfOk, IfErr, OnOk, OnErr, IsOk, ◌↔◌};
-    ghost use Rattle.tp_line.specs.Line.{without_place, ids, Ordered};
-    ghost use Rattle.tp_line.specs.Ranks.{enter, AreNumbered};
+    ghost use Rattle.tp_ring.specs.Line.{without_place, ids, Ordered};
+    ghost use Rattle.tp_ring.specs.Ranks.{enter, AreNumbered};
     ghost use Rattle.tp_types.specs.Queues.{is_open};
     ghost use Rattle.tp_queue.specs.Waiting.{Waiting, HasPlaces, place_key, key_bound};
 

@@ -18,7 +18,7 @@ use Rattle.tp_record.specs.Effects.{Outcome, submits}
 use Rattle.tp_record.specs.State.{State, state}
 use Rattle.tp_record.specs.Step.{Gives, IsRefused, is_known, fitting}
 use Rattle.tp_laws.proofs.Model.Weak.{within, submits_next}
-use Rattle.tp_parts.specs.Payloads.{PutsIn}
+use Rattle.tp_machine_state.specs.Payloads.{PutsIn}
 use Rattle.tp_machine.specs.Seen.{Seen, At, config_of, promise}
 use Rattle.tp_machine.specs.Steps.{IsStep, IsRefusedBy, Stays}
 use Rattle.tp_machine.specs.Readings.{EachState}

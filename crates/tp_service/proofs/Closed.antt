@@ -9,10 +9,10 @@ use Rattle.tp_machine.specs.Readings.{value_in}
 use Rattle.tp_book.specs.BookView.{recalled, state_of}
 use Rattle.tp_book.specs.PassView.{PassView}
 use Rattle.tp_book.proofs.Reading.{value_certain}
-use Rattle.tp_locked.specs.Passes.{AddsNone}
-use Rattle.tp_locked.proofs.Receipts.{looks_none, none_added, none_behind}
-use Rattle.tp_locked.specs.Readings.{got, has_come, unless_late, IsFound, IsResult}
-use Rattle.tp_locked.specs.Moments.{BookOf}
+use Rattle.tp_pool_holds.specs.Passes.{AddsNone}
+use Rattle.tp_pool_holds.proofs.Receipts.{looks_none, none_added, none_behind}
+use Rattle.tp_pool_holds.specs.Readings.{got, has_come, unless_late, IsFound, IsResult}
+use Rattle.tp_pool_holds.specs.Moments.{BookOf}
 use Rattle.tp_pool.specs.Timed.{IsFoundInTime}
 use Rattle.tp_service.specs.Futures.{IsClosed, IsLate, IsOverdue, HasValue, CloseAll}
 

@@ -8,9 +8,9 @@ use Rattle.tp_types.specs.declared.ids.TaskId.{TaskId}
 use Rattle.tp_types.specs.declared.refusals.PoolError.{PoolError}
 use Rattle.tp_glance.specs.Word.{IsFrontOf}
 use Rattle.tp_book.specs.PassView.{PassView}
-use Rattle.tp_locked.specs.Passes.{LooksOnly}
-use Rattle.tp_locked.specs.Readings.{got, IsResult}
-use Rattle.tp_locked.specs.Moments.{BookOf}
+use Rattle.tp_pool_holds.specs.Passes.{LooksOnly}
+use Rattle.tp_pool_holds.specs.Readings.{got, IsResult}
+use Rattle.tp_pool_holds.specs.Moments.{BookOf}
 use Rattle.tp_pool.proofs.Got.{got_is}
 use Rattle.tp_service.specs.Futures.{HasValue, Fails, later_fault}
 use Rattle.tp_service.proofs.Closed.{value_found}

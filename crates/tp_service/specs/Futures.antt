@@ -8,9 +8,9 @@ use Rattle.tp_machine.specs.Readings.{value_in}
 use Rattle.tp_glance.specs.Word.{IsFrontOf}
 use Rattle.tp_book.specs.BookView.{recalled}
 use Rattle.tp_book.specs.PassView.{PassView}
-use Rattle.tp_locked.specs.Passes.{LooksOnly}
-use Rattle.tp_locked.specs.Readings.{IsFound, IsResult}
-use Rattle.tp_locked.specs.Moments.{BookOf}
+use Rattle.tp_pool_holds.specs.Passes.{LooksOnly}
+use Rattle.tp_pool_holds.specs.Readings.{IsFound, IsResult}
+use Rattle.tp_pool_holds.specs.Moments.{BookOf}
 use Rattle.tp_pool.specs.Timed.{IsFoundInTime}
 use Rattle.tp_pool.specs.Turns.{Through}
 

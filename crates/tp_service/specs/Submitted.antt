@@ -9,8 +9,8 @@ use Rattle.tp_types.specs.declared.tasks.Promise.{Promise}
 use Rattle.tp_record.specs.declared.entries.Ask.TheVariants as ask
 use Rattle.tp_record.specs.declared.entries.Did.TheVariants as did
 use Rattle.tp_book.specs.PassView.{PassView}
-use Rattle.tp_locked.specs.Passes.{AddsNone, AddsStep, Refuses}
-use Rattle.tp_locked.specs.declared.tasks.Task.{Task}
+use Rattle.tp_pool_holds.specs.Passes.{AddsNone, AddsStep, Refuses}
+use Rattle.tp_pool_holds.specs.declared.tasks.Task.{Task}
 use Rattle.tp_pool.specs.Submissions.{AddsJob, Submits}
 use Rattle.tp_pool.specs.Turns.{Through, ThroughBoth}
 use Rattle.tp_service.specs.Futures.{IsClosed, HasValue, CloseAll, HaveFailed}

@@ -1,9 +1,9 @@
 //! Jobs of a group, taken in the order in which they are done.
 ghost use Rattle.std.specs.Prelude.{true, ◌≡◌, ◌≢◌, ◌⊎◌, ◌<◌, IfOk, IfErr, IfSome, IfNone, OnErr};
 ghost use Rattle.tp_types.specs.declared.tasks.Kind.TheVariants.{Group};
-ghost use Rattle.tp_locked.specs.Passes.{AddsNone, AddsStep, IsRefusal, Refuses};
-ghost use Rattle.tp_locked.specs.Moments.{AtFront};
-ghost use Rattle.tp_locked.specs.Readings.{IsUndoneAt};
+ghost use Rattle.tp_pool_holds.specs.Passes.{AddsNone, AddsStep, IsRefusal, Refuses};
+ghost use Rattle.tp_pool_holds.specs.Moments.{AtFront};
+ghost use Rattle.tp_pool_holds.specs.Readings.{IsUndoneAt};
 ghost use Rattle.tp_pool.specs.Admissions.{AtPriority, IsTurnedAway};
 ghost use Rattle.tp_pool.specs.Submissions.{AddsJob};
 

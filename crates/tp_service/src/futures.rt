@@ -1,13 +1,13 @@
 //! Jobs with a future, and the answers of their futures.
 ghost use Rattle.std.specs.Prelude.{◌≡◌, ◌⊎◌, Some, None, IfOk, IfErr, OnOk};
 ghost use Rattle.tp_types.specs.declared.tasks.Kind.TheVariants.{Future};
-ghost use Rattle.tp_parts.specs.Releases.{IsKept};
+ghost use Rattle.tp_machine_state.specs.Releases.{IsKept};
 ghost use Rattle.tp_glance.specs.Word.{IsFrontOf};
 ghost use Rattle.tp_book.specs.BookView.{left_of};
-ghost use Rattle.tp_locked.specs.Readings.{got, IsFound, IsRelease, IsResult};
-ghost use Rattle.tp_locked.specs.Moments.{BookAt, BookAtSome, BookOf};
-ghost use Rattle.tp_locked.specs.Passes.{LooksOnly};
-ghost use Rattle.tp_locked.specs.declared.tasks.Task.{Task};
+ghost use Rattle.tp_pool_holds.specs.Readings.{got, IsFound, IsRelease, IsResult};
+ghost use Rattle.tp_pool_holds.specs.Moments.{BookAt, BookAtSome, BookOf};
+ghost use Rattle.tp_pool_holds.specs.Passes.{LooksOnly};
+ghost use Rattle.tp_pool_holds.specs.declared.tasks.Task.{Task};
 ghost use Rattle.tp_pool.specs.Timed.{IsFoundInTime};
 ghost use Rattle.tp_pool.specs.Admissions.{AtPriority, IsTurnedAway};
 ghost use Rattle.tp_pool.specs.Submissions.{AddsJob};

@@ -1,9 +1,9 @@
 //! Many jobs at once. A cancel that these calls ask for and that is refused is left undone: the answer of the
 //! call says nothing of it.
 ghost use Rattle.std.specs.Prelude.{◌≡◌, vec_len, Any, IsTrue, IfOk, IfErr, IfSome};
-ghost use Rattle.tp_locked.specs.declared.tasks.Task.{Task};
+ghost use Rattle.tp_pool_holds.specs.declared.tasks.Task.{Task};
 ghost use Rattle.tp_book.specs.PassView.{PassView};
-ghost use Rattle.tp_locked.specs.Passes.{AddsNone, LooksOnly};
+ghost use Rattle.tp_pool_holds.specs.Passes.{AddsNone, LooksOnly};
 ghost use Rattle.tp_service.specs.Futures.{later_fault as later_fault_of, Closes, CloseAll, HasValue, HaveFailed, IsLate, IsOverdue};
 ghost use Rattle.tp_service.specs.Submitted.{AddsCancel, AddsCancels, AddsSubmissions, AreTurnedBack, HasNoValue, IsAll, IsAllUntil, IsAnyValue, IsOneLate};
 

@@ -5,8 +5,8 @@ use Rattle.tp_types.specs.declared.tasks.Fate.{Fate}
 use Rattle.tp_record.specs.declared.entries.Entry.{Entry}
 use Rattle.tp_record.specs.Fields.{is_live}
 use Rattle.tp_record.specs.State.{State, state, task_at, fate_of}
-use Rattle.tp_auditor.specs.Audited.{Judge, Judged, settings}
-use Rattle.tp_auditor.specs.declared.tables.Tables.{Tables}
+use Rattle.tp_audit.specs.Audited.{Judge, Judged, settings}
+use Rattle.tp_audit.specs.declared.tables.Tables.{Tables}
 use Rattle.tp_story.specs.declared.scenes.Scene.{Scene}
 use Rattle.tp_story.specs.declared.events.Event.{Event}
 use Rattle.tp_story.specs.declared.subjects.Subject.{Subject}

@@ -1,13 +1,13 @@
 //! One entry of a story.
 
 ghost use Rattle.std.specs.Prelude.{◌≡◌};
-ghost use Rattle.tp_auditor.specs.Tables.{shown};
+ghost use Rattle.tp_audit.specs.Tables.{shown};
 ghost use Rattle.tp_story.specs.Stories as stories;
 
 use crate::naming::tells_of;
 use crate::scenes::{Scene, scene_of};
 use crate::subjects::Subject;
-use tp_auditor::tables::Tables;
+use tp_audit::tables::Tables;
 use tp_record::entries::Entry;
 
 /// An entry that tells of a subject.

@@ -4,11 +4,11 @@ ghost use Rattle.std.specs.Prelude.{◌≡◌};
 ghost use Rattle.tp_record.specs.Fields.{sweeps, is_idle_row};
 ghost use Rattle.tp_record.specs.State.{row_at, slot_at};
 ghost use Rattle.tp_record.specs.Words as words;
-ghost use Rattle.tp_auditor.specs.Tables.{shown};
+ghost use Rattle.tp_audit.specs.Tables.{shown};
 ghost use Rattle.tp_story.specs.Naming as naming;
 
 use crate::subjects::Subject;
-use tp_auditor::tables::Tables;
+use tp_audit::tables::Tables;
 use tp_record::entries::{
     Did, Failed, Grown, Looked, Offered, Opened, Ruled, Seconded, Started, Took,
 };

@@ -1,10 +1,10 @@
 //! What a pool is like at a moment.
 
 ghost use Rattle.std.specs.Prelude.{◌≡◌};
-ghost use Rattle.tp_auditor.specs.Tables.{shown};
+ghost use Rattle.tp_audit.specs.Tables.{shown};
 ghost use Rattle.tp_story.specs.Stories as stories;
 
-use tp_auditor::tables::Tables;
+use tp_audit::tables::Tables;
 
 /// What a pool is like at a moment, in numbers.
 #[derive(Clone, Copy, Debug, PartialEq, Eq)]

@@ -5,16 +5,16 @@ ghost use Rattle.tp_types.specs.Config.{IsConfig};
 ghost use Rattle.tp_record.specs.declared.entries.Entry.{Entry as Told};
 ghost use Rattle.tp_record.specs.State as states;
 ghost use Rattle.tp_record.specs.Step as steps;
-ghost use Rattle.tp_auditor.specs.Tables.{shown};
+ghost use Rattle.tp_audit.specs.Tables.{shown};
 ghost use Rattle.tp_story.specs.Stories as stories;
 
 use crate::events::{Event, event_after};
 use crate::subjects::Subject;
 use std::alloc::Global;
 use std::marker::Model;
-use tp_audit::summary::Flaw;
-use tp_auditor::auditor::Auditor;
-use tp_auditor::tables::Tables;
+use tp_audit_plain::summary::Flaw;
+use tp_audit::auditor::Auditor;
+use tp_audit::tables::Tables;
 use tp_record::entries::Entry;
 use tp_types::configs::Config;
 use tp_types::ids::TaskId;
@@ -32,7 +32,7 @@ pub struct Story {
 
 impl Model for Story {
     ghost use Rattle.std.specs.Coded.{codes};
-    ghost use Rattle.tp_auditor.specs.contracts.tables.Tables as kept;
+    ghost use Rattle.tp_audit.specs.contracts.tables.Tables as kept;
     ghost use Rattle.tp_story.specs.Stories.{Telling};
 
     ghost Value = { Telling };
@@ -43,7 +43,7 @@ impl Model for Story {
 }
 
 impl Story {
-    ghost use Rattle.tp_auditor.specs.Audited.{settings, Judged};
+    ghost use Rattle.tp_audit.specs.Audited.{settings, Judged};
     ghost use Rattle.tp_story.specs.Stories.{Tells, story, fate_in, fated_at, is_known};
 
     /// A story of a subject in the record of a pool that is made with `config`, before the first entry. Want of memory is

@@ -5,7 +5,7 @@ use Rattle.tp_types.specs.declared.configs.Config.{Config}
 use Rattle.tp_record.specs.declared.entries.Entry.{Entry}
 use Rattle.tp_record.specs.State.{state}
 use Rattle.tp_record.specs.Step.{Legal, Gives}
-use Rattle.tp_audit.specs.Audit.{IsFirstFlaw}
+use Rattle.tp_audit_plain.specs.Audit.{IsFirstFlaw}
 
 -- it is the first flaw of a longer record too
 pub later_flaw : (c : Config) (es : List Entry) (n : ℕ) (e : Entry) → IsFirstFlaw c es n → IsFirstFlaw c (es ++ e ∷ []) n

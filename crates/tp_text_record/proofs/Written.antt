@@ -10,8 +10,8 @@ use Rattle.tp_types.specs.declared.states.RunState.TheVariants.{Running, Shutdow
 use Rattle.tp_types.specs.RunState.{state_rank}
 use Rattle.tp_record.specs.declared.entries.Entry.{Entry}
 use Rattle.tp_record.specs.Fields.{rank}
-use Rattle.tp_audit.specs.declared.summary.Summary.{Summary}
-use Rattle.tp_audit.specs.Audit.{IsSummary}
+use Rattle.tp_audit_plain.specs.declared.summary.Summary.{Summary}
+use Rattle.tp_audit_plain.specs.Audit.{IsSummary}
 use Rattle.tp_text.specs.EndLines.{counts_line, state_at, state_line}
 use Rattle.tp_text.proofs.Outputs.{known_or}
 use Rattle.tp_text.proofs.Refusals.{is_outer, outer_err}
@@ -23,7 +23,7 @@ use Rattle.tp_text_record.specs.declared.versions.Version.{Version}
 use Rattle.tp_text_record.specs.ReadRecord.{IsRefusedText}
 use Rattle.tp_text_record.specs.Reading.{IsTaken, OfReader}
 use Rattle.tp_text_record.proofs.LinesRead.{refused_inner, whole_text}
-use Rattle.tp_auditor.specs.Audited.{settings}
+use Rattle.tp_audit.specs.Audited.{settings}
 use Rattle.tp_text_record.specs.declared.judging.Judging.{Judging}
 use Rattle.tp_text_record.specs.declared.judgments.Judgment.{Judgment}
 use Rattle.tp_text_record.specs.AuditText.{IsAudit, IsJudged, JudgesFrom, JudgesText, legal_line, legal_lines}

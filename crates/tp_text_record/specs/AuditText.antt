@@ -10,7 +10,7 @@ use Rattle.tp_record.specs.declared.entries.Entry.{Entry}
 use Rattle.tp_record.specs.Fields.{rank}
 use Rattle.tp_record.specs.State.{state, counts}
 use Rattle.tp_record.specs.Step.{Legal}
-use Rattle.tp_audit.specs.Audit.{IsFirstFlaw}
+use Rattle.tp_audit_plain.specs.Audit.{IsFirstFlaw}
 use Rattle.tp_text.specs.EntryLine.{line}
 use Rattle.tp_text.specs.EndLines.{counts_line, state_at, state_line}
 use Rattle.tp_text_record.specs.declared.versions.Version.{Version}

@@ -1,14 +1,14 @@
 //! A record judged as its text is read.
 ghost use Rattle.std.specs.Prelude.{◌≡◌};
-ghost use Rattle.tp_auditor.specs.Audited.{settings};
+ghost use Rattle.tp_audit.specs.Audited.{settings};
 ghost use Rattle.tp_text_record.specs.Judging.{IsToldBy};
 
 use crate::reading::Taker;
 use crate::versions::Version;
 use std::alloc::Global;
-use tp_audit::summary::Flaw;
-use tp_auditor::auditor::Auditor;
-use tp_causes::flaws::flaw_text;
+use tp_audit_plain::summary::Flaw;
+use tp_audit::auditor::Auditor;
+use tp_audit_causes::flaws::flaw_text;
 use tp_record::entries::Entry;
 use tp_types::configs::Config;
 use tp_types::refusals::PoolError;
@@ -28,7 +28,7 @@ pub struct Judging {
 }
 
 impl Taker for Judging {
-    ghost use Rattle.tp_auditor.specs.Audited.{settings};
+    ghost use Rattle.tp_audit.specs.Audited.{settings};
     ghost use Rattle.tp_text_record.specs.Judging.{IsToldBy};
 
     type Question = ();

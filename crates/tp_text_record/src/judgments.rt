@@ -1,7 +1,7 @@
 //! The judgment of a record, and its lines.
 ghost use Rattle.std.specs.Prelude.{◌≡◌, ◌≤◌, ◌++◌, List, length, reverse, string_bytes, IfOk, IsOkUnless};
 ghost use Rattle.tp_record.specs.declared.entries.Entry.{Entry as Told};
-ghost use Rattle.tp_auditor.specs.Audited.{settings, Judged};
+ghost use Rattle.tp_audit.specs.Audited.{settings, Judged};
 ghost use Rattle.tp_text.specs.EndLines.{counts_line, state_line};
 ghost use Rattle.tp_text.specs.Watching.{TellsReader, source};
 ghost use Rattle.tp_text_record.specs.AuditText.{IsJudged, JudgesFrom, JudgesText, flaw_line, legal_line};
@@ -11,8 +11,8 @@ use crate::judging::Judging;
 use crate::reading::{Ending, RefusedLine, read_stream, read_whole};
 use std::alloc::{AllocError, Global};
 use std::io::Read;
-use tp_audit::summary::Summary;
-use tp_auditor::auditor::Auditor;
+use tp_audit_plain::summary::Summary;
+use tp_audit::auditor::Auditor;
 use tp_text::ends::{write_counts, write_state};
 use tp_text::watched::WatchedReader;
 use tp_types::refusals::PoolError;

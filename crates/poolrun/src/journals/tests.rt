@@ -10,7 +10,7 @@ use std::time::{Clock, Duration};
 use tp_journal::endings::{Ended, Wish};
 use tp_journal::writers::Cut;
 use tp_text::watched::WatchedWriter;
-use tp_threads::texts::run_text;
+use poolrun_threads::texts::run_text;
 use tp_types::refusals::PoolError;
 
 const JOBS: &str = "pool 1 1 unbounded keep 0 abort

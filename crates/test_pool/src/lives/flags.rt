@@ -3,7 +3,7 @@
 use crate::compare::same;
 use std::alloc::Global;
 use std::test::Fail;
-use tp_locked::flags::Flags;
+use tp_pool_holds::flags::Flags;
 use tp_protocols::flags::{CancelFlag, SlotFlag};
 use tp_types::ids::TaskId;
 

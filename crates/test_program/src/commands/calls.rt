@@ -3,19 +3,19 @@
 use std::alloc::Global;
 use std::io::Read;
 use std::test::Fail;
-use tp_choices::choices::{Choice, chosen};
-use tp_commands::audits::run_audit;
-use tp_commands::checks::run_check;
-use tp_commands::differences::run_diff;
-use tp_commands::drawings::run_draw;
-use tp_commands::explores::{Callers, run_explore};
-use tp_commands::objects::run_objects;
-use tp_commands::questions::run_asked;
-use tp_commands::steps::run_steps;
-use tp_commands::telling::name_of;
-use tp_drawing::drawings::Window;
+use poolrun_choices::choices::{Choice, chosen};
+use poolrun_commands::audits::run_audit;
+use poolrun_commands::checks::run_check;
+use poolrun_commands::differences::run_diff;
+use poolrun_commands::drawings::run_draw;
+use poolrun_commands::explores::{Callers, run_explore};
+use poolrun_commands::objects::run_objects;
+use poolrun_commands::questions::run_asked;
+use poolrun_commands::steps::run_steps;
+use poolrun_commands::telling::name_of;
+use tp_story_drawing::drawings::Window;
 use tp_messages::messages::UNADORNED;
-use tp_telling::forms::Form;
+use tp_story_words::forms::Form;
 use tp_text::watched::{WatchedReader, WatchedWriter};
 
 /// What a call gave.

@@ -10,8 +10,8 @@ use std::test::Fail;
 use tp_explore::states::{State, first};
 use tp_explore_text::ends::end_text;
 use tp_explore_text::explored::Explored;
-use tp_walk::counts::Count;
-use tp_walk::systems::System;
+use tp_explore_walk::counts::Count;
+use tp_explore_walk::systems::System;
 
 /// The most interleavings that are gone through one by one.
 const MOST: u128 = 20_000;

@@ -4,7 +4,7 @@ ghost use Rattle.tp_explore_text.specs.Explored.{IsExplored};
 
 use std::alloc::Global;
 use std::test::Fail;
-use tp_ends::witnesses::witness;
+use tp_explore_ends::witnesses::witness;
 use tp_explore::deeds::Mover;
 use tp_explore::moves::Move;
 use tp_explore_text::explored::Explored;

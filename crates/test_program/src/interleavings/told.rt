@@ -12,7 +12,7 @@ use std::test::Fail;
 use tp_explore_text::explored::{Explored, explore_named};
 use tp_explore_text::files::read_plan;
 use tp_explore_text::texts::ends_text;
-use tp_walk::systems::Unwatched;
+use tp_explore_walk::systems::Unwatched;
 
 /// This is so, at this line of a table: the one assertion of these tests.
 pub fn is_so(rt: &impl Abort, line: usize, is_so: bool) {

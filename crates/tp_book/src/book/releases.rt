@@ -1,6 +1,6 @@
 //! Tasks that are forgotten, by a book that keeps no record.
 ghost use Rattle.std.specs.Prelude.{◌≡◌, ◌+◌, length, OnOk, IfErr, OnErr};
-ghost use Rattle.tp_parts.specs.Releases.{IsKept};
+ghost use Rattle.tp_machine_state.specs.Releases.{IsKept};
 ghost use Rattle.tp_book.specs.BookView.{Forgets, left_of, released_of, state_of};
 
 use super::Book;

@@ -3,7 +3,7 @@
 ghost use Rattle.std.specs.Prelude.{ℕ, ◌≡◌, List, IfOk, IfErr, OnOk, OnErr, Some};
 ghost use Rattle.tp_record.specs.declared.entries.Entry.{Entry};
 ghost use Rattle.tp_record.specs.Effects.{submits};
-ghost use Rattle.tp_parts.specs.Payloads.{Keeps, PutsIn};
+ghost use Rattle.tp_machine_state.specs.Payloads.{Keeps, PutsIn};
 ghost use Rattle.tp_machine.specs.Answers.{IsJudged, IsReturnedAt};
 ghost use Rattle.tp_machine.specs.Seen.{At, FitsAtCaller};
 ghost use Rattle.tp_machine.specs.Steps.{IsStep, Stays, IsRefusedBy};
@@ -12,7 +12,7 @@ use super::{Machine, note, note_owed};
 use crate::answers::Judged;
 use tp_record::entries::{Ask, Did, Grown, Looked, Offered, Seconded};
 use tp_record::recorders::Recorder;
-use tp_submitters::{callerend, grow, look, offer, second, submit, verdict};
+use tp_machine_submitters::{callerend, grow, look, offer, second, submit, verdict};
 use tp_types::configs::Verdict;
 use tp_types::ids::TaskId;
 use tp_types::refusals::PoolError;

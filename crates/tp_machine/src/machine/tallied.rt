@@ -7,7 +7,7 @@ ghost use Rattle.tp_record.specs.Left.{left, MayRelease};
 ghost use Rattle.tp_record.specs.State.{state};
 ghost use Rattle.tp_record.specs.Terms.{without_end};
 ghost use Rattle.tp_tasks.specs.Tasks.{task_of, KeepsOthers};
-ghost use Rattle.tp_parts.specs.Releases.{IsKept};
+ghost use Rattle.tp_machine_state.specs.Releases.{IsKept};
 ghost use Rattle.tp_machine.specs.Readings.{EachState};
 ghost use Rattle.tp_machine.specs.Seen.{At, config_of, payload, promise};
 

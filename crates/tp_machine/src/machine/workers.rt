@@ -1,8 +1,8 @@
 //! Workers' steps.
 
 ghost use Rattle.std.specs.Prelude.{◌≡◌, IfOk, IfErr, OnErr, IfSome, Some, None};
-ghost use Rattle.tp_parts.specs.Payloads.{Keeps};
-ghost use Rattle.tp_workers.specs.Begun.{Begins};
+ghost use Rattle.tp_machine_state.specs.Payloads.{Keeps};
+ghost use Rattle.tp_machine_workers.specs.Begun.{Begins};
 ghost use Rattle.tp_machine.specs.Answers.{started_of, payload_begun};
 ghost use Rattle.tp_machine.specs.Seen.{FitsThere};
 ghost use Rattle.tp_machine.specs.Steps.{IsStep, IsRefusedBy};
@@ -14,7 +14,7 @@ use tp_record::recorders::Recorder;
 use tp_types::ids::{SlotId, TaskId};
 use tp_types::refusals::PoolError;
 use tp_types::tasks::Outcome;
-use tp_workers::{begin, end, fail, leave, open, take};
+use tp_machine_workers::{begin, end, fail, leave, open, take};
 
 impl<P, R: Recorder> Machine<P, R> {
     /// The factory made a worker for the reserved slot, as `addWorker` once its thread runs: it is live, or given up where the

@@ -4,7 +4,7 @@ ghost use Rattle.std.specs.Prelude.{length, map, All, IfSome, ◌≡◌, ◌<◌
 ghost use Rattle.tp_record.specs.declared.entries.Ask.TheVariants as ask;
 ghost use Rattle.tp_record.specs.declared.entries.Did.TheVariants as did;
 ghost use Rattle.tp_record.specs.Fields.{queue};
-ghost use Rattle.tp_parts.specs.Payloads.{Keeps, HandsOut};
+ghost use Rattle.tp_machine_state.specs.Payloads.{Keeps, HandsOut};
 ghost use Rattle.tp_machine.specs.Answers.{IsPaidAt, IsRemoval, HandsBack};
 
 use super::Step;

@@ -2,7 +2,7 @@
 
 ghost use Rattle.tp_record.specs.declared.entries.Ask.TheVariants as ask;
 ghost use Rattle.tp_record.specs.declared.entries.Did.TheVariants as did;
-ghost use Rattle.tp_parts.specs.Payloads.{Keeps};
+ghost use Rattle.tp_machine_state.specs.Payloads.{Keeps};
 
 use super::Step;
 use crate::machine::Machine;

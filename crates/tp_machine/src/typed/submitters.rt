@@ -2,7 +2,7 @@
 
 ghost use Rattle.tp_record.specs.declared.entries.Ask.TheVariants as ask;
 ghost use Rattle.tp_record.specs.declared.entries.Did.TheVariants as did;
-ghost use Rattle.tp_parts.specs.Payloads.{Keeps, PutsIn};
+ghost use Rattle.tp_machine_state.specs.Payloads.{Keeps, PutsIn};
 ghost use Rattle.tp_machine.specs.Answers.{IsJudged, IsReturnedAt};
 
 use super::Step;

@@ -2,8 +2,8 @@
 
 ghost use Rattle.tp_record.specs.declared.entries.Ask.TheVariants as ask;
 ghost use Rattle.tp_record.specs.declared.entries.Did.TheVariants as did;
-ghost use Rattle.tp_parts.specs.Payloads.{Keeps};
-ghost use Rattle.tp_workers.specs.Begun.{Begins};
+ghost use Rattle.tp_machine_state.specs.Payloads.{Keeps};
+ghost use Rattle.tp_machine_workers.specs.Begun.{Begins};
 ghost use Rattle.tp_machine.specs.Answers.{started_of, payload_begun};
 
 use super::Step;

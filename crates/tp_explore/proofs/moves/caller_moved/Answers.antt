@@ -1,6 +1,6 @@
 use Rattle.std.proofs.Common.{◌≡◌, set, ap, ◌∙◌}
 use Rattle.tp_record.specs.State as states
-use Rattle.tp_plain.specs.Snapshot.{shown}
+use Rattle.tp_rules.specs.Snapshot.{shown}
 use Rattle.tp_explore.specs.Moves as spec
 use Rattle.tp_explore.specs.Situation.{seen}
 use Rattle.tp_explore.proofs.Bare.{after_bare}

@@ -1,8 +1,8 @@
 use Rattle.std.proofs.Common.{◌≡◌, ◌≢◌, refl, sym, ap, subst, ◌∙◌}
 use Rattle.std.specs.List.{All}
 use Rattle.std.proofs.lemmas.Option.{get_or_from_slice_get}
-use Rattle.tp_walk.specs.Moves.{IsAt}
-use Rattle.tp_walk.specs.Paths.{Tells}
+use Rattle.tp_explore_walk.specs.Moves.{IsAt}
+use Rattle.tp_explore_walk.specs.Paths.{Tells}
 use Rattle.tp_explore_text.specs.Ends.{text_of}
 use Rattle.tp_explore_text.proofs.Told.{told-again, told-anew}
 use Rattle.tp_explore_text.proofs.ends.add.Goals as goal

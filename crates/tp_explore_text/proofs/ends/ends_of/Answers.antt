@@ -3,9 +3,9 @@ use Rattle.std.specs.Prelude.{option_map, string_bytes}
 use Rattle.std.proofs.lemmas.Grind.{common_steps}
 use Rattle.std.proofs.lemmas.List.{take_more}
 use Rattle.std.proofs.lemmas.Option.{same_Some, slice_get-map, slice_get_read}
-use Rattle.tp_walk.specs.declared.counts.Count.TheVariants.{Over}
-use Rattle.tp_walk.specs.Moves.{IsAt}
-use Rattle.tp_walk.specs.Paths.{Tells}
+use Rattle.tp_explore_walk.specs.declared.counts.Count.TheVariants.{Over}
+use Rattle.tp_explore_walk.specs.Moves.{IsAt}
+use Rattle.tp_explore_walk.specs.Paths.{Tells}
 use Rattle.tp_explore.specs.Situation.{seen}
 use Rattle.tp_explore_text.specs.Ends.{end_text}
 use Rattle.tp_explore_text.proofs.Told.{any_default, told-begin, told-ordered, told-turn}

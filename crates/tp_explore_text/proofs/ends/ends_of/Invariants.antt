@@ -1,7 +1,7 @@
 use Rattle.std.proofs.Common.{ℕ, List, map, take}
 use Rattle.std.specs.List.{AllZip}
-use Rattle.tp_walk.specs.Moves.{IsAt}
-use Rattle.tp_walk.specs.Paths.{Tells}
+use Rattle.tp_explore_walk.specs.Moves.{IsAt}
+use Rattle.tp_explore_walk.specs.Paths.{Tells}
 use Rattle.tp_explore.specs.Situation.{Situation, seen}
 use Rattle.tp_explore_text.specs.Ends.{AreTold}
 use Rattle.tp_explore_text.proofs.ends.ends_of.Given as goal

@@ -4,7 +4,7 @@ use Rattle.std.specs.List.{All, Contains}
 use Rattle.std.proofs.lemmas.Grind.{common_steps}
 use Rattle.std.proofs.lemmas.List.Elements.{All-contains, All-more, Contains-get_or}
 use Rattle.std.proofs.lemmas.Option.{same_Some, slice_get-map, slice_get_read}
-use Rattle.tp_walk.specs.Moves.{IsAt}
+use Rattle.tp_explore_walk.specs.Moves.{IsAt}
 use Rattle.tp_explore.specs.Situation.{Situation, seen}
 use Rattle.tp_explore_text.specs.Ends.{has_parts}
 use Rattle.tp_explore_text.proofs.explored.end_with.Goals as goal

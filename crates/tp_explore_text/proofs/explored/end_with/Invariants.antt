@@ -1,7 +1,7 @@
 use Rattle.std.proofs.Common.{◌≡◌, false, take, map}
 use Rattle.std.specs.Prelude.{string_bytes}
 use Rattle.std.specs.List.{All}
-use Rattle.tp_walk.specs.Moves.{IsAt}
+use Rattle.tp_explore_walk.specs.Moves.{IsAt}
 use Rattle.tp_explore.specs.Situation.{Situation, seen}
 use Rattle.tp_explore_text.specs.Ends.{has_parts}
 use Rattle.tp_explore_text.proofs.explored.end_with.Given as goal

@@ -1,7 +1,7 @@
 use Rattle.std.proofs.Common.{map, refl, sym, ◌∙◌}
 use Rattle.std.proofs.lemmas.Slice.Zip.{AllZip-long}
-use Rattle.tp_walk.specs.Moves.{IsAt}
-use Rattle.tp_walk.specs.Paths.{Tells}
+use Rattle.tp_explore_walk.specs.Moves.{IsAt}
+use Rattle.tp_explore_walk.specs.Paths.{Tells}
 use Rattle.tp_explore.specs.Moves as spec
 use Rattle.tp_explore.specs.Situation.{seen}
 use Rattle.tp_explore.proofs.Starting.{starts_holds}

@@ -1,5 +1,5 @@
 use Rattle.std.proofs.Common.{take}
-use Rattle.tp_locked.specs.declared.tasks.Task.{Task}
+use Rattle.tp_pool_holds.specs.declared.tasks.Task.{Task}
 use Rattle.tp_service.specs.Futures.{CloseAll}
 use Rattle.tp_service.proofs.invoking.all_close_by.Given as goal
 

@@ -1,8 +1,8 @@
 use Rattle.std.proofs.Common.{rules}
 use Rattle.std.specs.Prelude.{IsTrue, take}
 use Rattle.std.proofs.lemmas.List.Elements.{Contains-get_or}
-use Rattle.tp_locked.specs.declared.tasks.Task.{Task}
-use Rattle.tp_locked.proofs.Receipts.{looks_none, none_behind}
+use Rattle.tp_pool_holds.specs.declared.tasks.Task.{Task}
+use Rattle.tp_pool_holds.proofs.Receipts.{looks_none, none_behind}
 use Rattle.tp_service.specs.Futures.{Closes}
 use Rattle.tp_service.proofs.Closed.{close_none}
 use Rattle.tp_pool.proofs.Turned.{through_next}

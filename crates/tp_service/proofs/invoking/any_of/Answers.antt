@@ -2,7 +2,7 @@ use Rattle.std.proofs.Common.{◌≡◌, false, ap, sym, ◌∙◌}
 use Rattle.std.proofs.lemmas.Bool.{true≢false}
 use Rattle.std.specs.Prelude.{Some, None, Err}
 use Rattle.std.specs.Result.{result_transpose}
-use Rattle.tp_locked.proofs.Receipts.{looks_none, none_behind}
+use Rattle.tp_pool_holds.proofs.Receipts.{looks_none, none_behind}
 use Rattle.tp_service.specs.Futures.{later_fault}
 use Rattle.tp_service.proofs.Given.{any_at, fails_next}
 use Rattle.tp_service.proofs.invoking.any_of.Goals.{in-None, in-Some-Err}

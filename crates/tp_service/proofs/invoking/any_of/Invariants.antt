@@ -1,7 +1,7 @@
 use Rattle.std.proofs.Common.{◌≡◌, false, take}
 use Rattle.std.specs.Prelude.{None}
-use Rattle.tp_locked.specs.Passes.{AddsNone}
-use Rattle.tp_locked.specs.declared.tasks.Task.{Task}
+use Rattle.tp_pool_holds.specs.Passes.{AddsNone}
+use Rattle.tp_pool_holds.specs.declared.tasks.Task.{Task}
 use Rattle.tp_service.specs.Futures.{Fails}
 use Rattle.tp_pool.specs.Turns.{Through}
 use Rattle.tp_service.proofs.invoking.any_of.Given as goal

@@ -1,4 +1,4 @@
-use Rattle.tp_locked.specs.declared.tasks.Task.{Task}
+use Rattle.tp_pool_holds.specs.declared.tasks.Task.{Task}
 use Rattle.tp_service.specs.Futures.{Closes}
 use Rattle.tp_pool.proofs.Turned.{through_next}
 use Rattle.tp_service.proofs.invoking.await_all.Goals as goal

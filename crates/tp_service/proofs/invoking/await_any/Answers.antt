@@ -1,8 +1,8 @@
 use Rattle.std.proofs.lemmas.Result.{IfErr-weaker}
 use Rattle.tp_book.specs.PassView.{PassView}
-use Rattle.tp_locked.specs.Passes.{AddsNone}
-use Rattle.tp_locked.specs.declared.tasks.Task.{Task}
-use Rattle.tp_locked.proofs.Receipts.{none_behind}
+use Rattle.tp_pool_holds.specs.Passes.{AddsNone}
+use Rattle.tp_pool_holds.specs.declared.tasks.Task.{Task}
+use Rattle.tp_pool_holds.proofs.Receipts.{none_behind}
 use Rattle.tp_service.specs.Futures.{HaveFailed}
 use Rattle.tp_service.proofs.invoking.await_any.Goals as goal
 

@@ -1,4 +1,4 @@
-use Rattle.tp_locked.specs.Passes.{AddsNone}
+use Rattle.tp_pool_holds.specs.Passes.{AddsNone}
 use Rattle.tp_service.proofs.invoking.await_any.Given as goal
 
 abbrev pub invariant-loop : goal.invariant-loop

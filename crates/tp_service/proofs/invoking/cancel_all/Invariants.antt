@@ -1,5 +1,5 @@
 use Rattle.std.proofs.Common.{take}
-use Rattle.tp_locked.specs.declared.tasks.Task.{Task}
+use Rattle.tp_pool_holds.specs.declared.tasks.Task.{Task}
 use Rattle.tp_service.specs.Submitted.{AddsCancels}
 use Rattle.tp_service.proofs.invoking.cancel_all.Given as goal
 

@@ -1,6 +1,6 @@
 use Rattle.std.proofs.Common.{◌≡◌, rules}
 use Rattle.std.specs.Prelude.{Ok, None}
-use Rattle.tp_locked.proofs.Receipts.{looks_behind}
+use Rattle.tp_pool_holds.proofs.Receipts.{looks_behind}
 use Rattle.tp_service.proofs.Closed.{closed_read}
 use Rattle.tp_service.proofs.Gathered.{cancels, needs_no_cancel}
 use Rattle.tp_service.proofs.invoking.cancel_open.Goals as goal

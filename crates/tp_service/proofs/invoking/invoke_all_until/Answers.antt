@@ -1,5 +1,5 @@
 use Rattle.std.proofs.Common.{inr, subst, rules}
-use Rattle.tp_locked.specs.declared.tasks.Task.{Task}
+use Rattle.tp_pool_holds.specs.declared.tasks.Task.{Task}
 use Rattle.tp_service.specs.Futures.{IsLate}
 use Rattle.tp_service.specs.Submitted.{AddsCancels, IsOneLate}
 use Rattle.tp_service.proofs.invoking.invoke_all_until.Goals as goal

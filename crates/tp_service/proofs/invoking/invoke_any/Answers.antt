@@ -4,9 +4,9 @@ use Rattle.std.proofs.lemmas.Result.{IfErr-weaker, IfOk-weaker}
 use Rattle.std.specs.Prelude.{Any, IfErr}
 use Rattle.tp_types.specs.declared.refusals.PoolError.{PoolError}
 use Rattle.tp_book.specs.PassView.{PassView}
-use Rattle.tp_locked.specs.Passes.{AddsNone}
-use Rattle.tp_locked.specs.declared.tasks.Task.{Task}
-use Rattle.tp_locked.proofs.Receipts.{later_none, none_behind}
+use Rattle.tp_pool_holds.specs.Passes.{AddsNone}
+use Rattle.tp_pool_holds.specs.declared.tasks.Task.{Task}
+use Rattle.tp_pool_holds.proofs.Receipts.{later_none, none_behind}
 use Rattle.tp_service.specs.Futures.{HasValue, HaveFailed}
 use Rattle.tp_service.specs.Submitted.{AddsCancels}
 use Rattle.tp_service.proofs.Gathered.{no_value, turned_back}

@@ -1,7 +1,7 @@
 use Rattle.std.proofs.Common.{◌≡◌, [], ◌∷◌, ◌++◌, length, append_assoc, inr, refl, sym, subst, ap, ◌∙◌, arith, rules}
 use Rattle.std.proofs.lemmas.List.{length_push}
 use Rattle.tp_types.specs.declared.tasks.Kind.TheVariants as kind
-use Rattle.tp_locked.specs.declared.tasks.Task.{Task}
+use Rattle.tp_pool_holds.specs.declared.tasks.Task.{Task}
 use Rattle.tp_pool.specs.Submissions.{AddsJob}
 use Rattle.tp_pool.proofs.Turned.{all_passed, both_more}
 use Rattle.tp_service.specs.Submitted.{AddsCancels, AddsSubmissions}

@@ -1,7 +1,7 @@
 use Rattle.std.proofs.Common.{◌≡◌, List, length, sym, subst}
 use Rattle.std.specs.Prelude.{IfOk}
 use Rattle.tp_record.specs.declared.entries.Entry.{Entry}
-use Rattle.tp_auditor.specs.Audited.{settings}
+use Rattle.tp_audit.specs.Audited.{settings}
 use Rattle.tp_text_record.specs.AuditText.{IsJudged}
 use Rattle.tp_text_record.specs.Judging.{IsToldBy}
 use Rattle.tp_text_record.proofs.judgments.judge.Goals as goal

@@ -2,7 +2,7 @@ use Rattle.std.proofs.Common.{◌≡◌, List, [], Some, get_or, map, sym, subst
 use Rattle.std.specs.List.{All, Contains}
 use Rattle.std.proofs.lemmas.List.{get_or-map, length-map}
 use Rattle.std.proofs.lemmas.List.Elements.{All-append, All-cons, All-contains, All-nil, All-pop, Contains-get_or}
-use Rattle.tp_walk.proofs.Places.{contained, mapped_at}
+use Rattle.tp_explore_walk.proofs.Places.{contained, mapped_at}
 use Rattle.tp_explore.specs.declared.plans.Plan.{Plan}
 use Rattle.tp_explore.specs.declared.states.State.{State}
 use Rattle.tp_explore.specs.Moves as spec

@@ -5,7 +5,7 @@ use Rattle.tp_record.specs.declared.entries.Did.TheVariants as did
 use Rattle.tp_record.specs.declared.entries.Took.TheVariants as took
 use Rattle.tp_record.specs.State.{state}
 use Rattle.tp_slots.specs.Table.{first_slot}
-use Rattle.tp_parts.specs.Steps.{IsFitting}
+use Rattle.tp_machine_state.specs.Steps.{IsFitting}
 use Rattle.tp_machine.specs.Seen.{config_of}
 use Rattle.tp_book.proofs.Left.{else_left, take_left, take_whole}
 use Rattle.tp_book.proofs.Reading.{some_holds, none_holds}

@@ -1,7 +1,7 @@
 use Rattle.std.proofs.Common.{◌≡◌, ◌⊎◌, ◌<◌, refl, subst}
 use Rattle.tp_types.specs.declared.refusals.PoolError.TheVariants.{NoMemory}
-use Rattle.tp_locked.specs.Moments.{AtFront}
-use Rattle.tp_locked.specs.Readings.{IsUndoneAt}
+use Rattle.tp_pool_holds.specs.Moments.{AtFront}
+use Rattle.tp_pool_holds.specs.Readings.{IsUndoneAt}
 use Rattle.tp_life.proofs.groups.Group.next.Goals as goal
 
 pub returns-in-Err-NothingOpen-clause-told : goal.returns-in-Err-NothingOpen-clause-told

@@ -1,6 +1,6 @@
 use Rattle.std.proofs.Common.{◌≡◌, ◌⊎◌, ◌<◌, refl, subst}
 use Rattle.tp_types.specs.declared.refusals.PoolError.TheVariants.{NoMemory}
-use Rattle.tp_locked.specs.Moments.{AtFront}
+use Rattle.tp_pool_holds.specs.Moments.{AtFront}
 use Rattle.tp_pool.specs.Timed.{IsUndoneInTime}
 use Rattle.tp_life.proofs.groups.Group.next_for.Goals as goal
 

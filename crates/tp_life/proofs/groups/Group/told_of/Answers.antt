@@ -1,8 +1,8 @@
 use Rattle.std.proofs.Common.{inl, inr, refl, subst}
 use Rattle.std.specs.Prelude.{None}
-use Rattle.tp_locked.specs.Moments.{BookOf}
-use Rattle.tp_locked.specs.Readings.{got, IsFound}
-use Rattle.tp_locked.specs.declared.tasks.Task.{Task}
+use Rattle.tp_pool_holds.specs.Moments.{BookOf}
+use Rattle.tp_pool_holds.specs.Readings.{got, IsFound}
+use Rattle.tp_pool_holds.specs.declared.tasks.Task.{Task}
 use Rattle.tp_life.specs.Futures.{IsAnswer}
 use Rattle.tp_life.proofs.groups.Group.told_of.Goals as goal
 

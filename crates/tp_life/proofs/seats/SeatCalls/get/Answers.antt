@@ -1,5 +1,5 @@
 use Rattle.std.specs.Prelude.{None}
-use Rattle.tp_locked.specs.Readings.{got, IsFound}
+use Rattle.tp_pool_holds.specs.Readings.{got, IsFound}
 use Rattle.tp_life.proofs.Answered.{answered_at}
 use Rattle.tp_life.proofs.seats.SeatCalls.get.Goals as goal
 

@@ -1,4 +1,4 @@
-use Rattle.tp_locked.specs.Readings.{got}
+use Rattle.tp_pool_holds.specs.Readings.{got}
 use Rattle.tp_pool.specs.Timed.{IsFoundInTime}
 use Rattle.tp_life.proofs.Answered.{answered_at}
 use Rattle.tp_life.proofs.seats.SeatCalls.get_for.Goals as goal

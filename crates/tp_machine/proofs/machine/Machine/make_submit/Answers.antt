@@ -3,11 +3,11 @@ use Rattle.tp_record.specs.declared.entries.Did.{Did}
 use Rattle.tp_record.specs.declared.entries.Ask.TheVariants as ask
 use Rattle.tp_record.specs.declared.entries.Did.TheVariants as did
 use Rattle.tp_tasks.specs.Tasks.{submissions}
-use Rattle.tp_parts.specs.Steps.{Accepts, Leads}
+use Rattle.tp_machine_state.specs.Steps.{Accepts, Leads}
 use Rattle.tp_machine.specs.Steps.{IsStep}
 use Rattle.tp_machine.proofs.Stepping.{step_made, step_sound, same_sound, same_stays, step_after, refused_memory, refused_step, puts_after}
-use Rattle.tp_parts.specs.Payloads.{PutsIn}
-use Rattle.tp_parts.specs.Terms.{terms}
+use Rattle.tp_machine_state.specs.Payloads.{PutsIn}
+use Rattle.tp_machine_state.specs.Terms.{terms}
 use Rattle.tp_machine.proofs.machine.Machine.make_submit.Goals as goal
 
 pub invariant_of-self : goal.invariant_of-self

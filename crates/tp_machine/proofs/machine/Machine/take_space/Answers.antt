@@ -1,6 +1,6 @@
 use Rattle.std.proofs.Common.{sym, ap, subst}
-use Rattle.tp_parts.specs.Terms.{terms}
-use Rattle.tp_parts.specs.Tied.{IsTied}
+use Rattle.tp_machine_state.specs.Terms.{terms}
+use Rattle.tp_machine_state.specs.Tied.{IsTied}
 use Rattle.tp_machine.proofs.Stepping.{same_sound, same_stays}
 use Rattle.tp_machine.proofs.machine.Machine.take_space.Goals as goal
 

@@ -1,5 +1,5 @@
 use Rattle.tp_glance.proofs.Fronts.{IsFrontOf_refl, IsFrontOf_trans}
-use Rattle.tp_locked.proofs.Receipts.{later_refl}
+use Rattle.tp_pool_holds.proofs.Receipts.{later_refl}
 use Rattle.tp_pool.proofs.Forgotten.{looks_on}
 use Rattle.tp_pool.proofs.abandoned.PoolOf+G+J+E+Tally.forget_abandoned.Goals as goal
 

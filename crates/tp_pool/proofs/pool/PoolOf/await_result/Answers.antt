@@ -1,9 +1,9 @@
 use Rattle.std.proofs.Common.{◌≡◌, subst}
 use Rattle.std.specs.Prelude.{Some}
 use Rattle.std.specs.Result.{result_transpose}
-use Rattle.tp_locked.specs.Moments.{BookAtSome}
-use Rattle.tp_locked.specs.Readings.{IsFound}
-use Rattle.tp_locked.specs.declared.tasks.Task.{Task}
+use Rattle.tp_pool_holds.specs.Moments.{BookAtSome}
+use Rattle.tp_pool_holds.specs.Readings.{IsFound}
+use Rattle.tp_pool_holds.specs.declared.tasks.Task.{Task}
 use Rattle.tp_pool.proofs.Got.{got_is}
 use Rattle.tp_pool.proofs.pool.PoolOf.await_result.Goals as goal
 

@@ -2,10 +2,10 @@ use Rattle.std.proofs.Common.{◌≡◌, subst}
 use Rattle.std.specs.Prelude.{Some}
 use Rattle.std.specs.Result.{result_transpose}
 use Rattle.tp_glance.proofs.Fronts.{IsFrontOf_trans}
-use Rattle.tp_locked.specs.Moments.{BookOf}
-use Rattle.tp_locked.specs.Readings.{IsFound}
-use Rattle.tp_locked.specs.declared.tasks.Task.{Task}
-use Rattle.tp_locked.proofs.Receipts.{later_looks, looks_behind}
+use Rattle.tp_pool_holds.specs.Moments.{BookOf}
+use Rattle.tp_pool_holds.specs.Readings.{IsFound}
+use Rattle.tp_pool_holds.specs.declared.tasks.Task.{Task}
+use Rattle.tp_pool_holds.proofs.Receipts.{later_looks, looks_behind}
 use Rattle.tp_pool.proofs.Got.{got_is}
 use Rattle.tp_pool.proofs.pool.PoolOf.await_result_with.Goals as goal
 

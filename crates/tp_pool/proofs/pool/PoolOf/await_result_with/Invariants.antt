@@ -1,5 +1,5 @@
 use Rattle.tp_glance.specs.Word.{IsFrontOf}
-use Rattle.tp_locked.proofs.Receipts.{Later}
+use Rattle.tp_pool_holds.proofs.Receipts.{Later}
 use Rattle.tp_pool.proofs.pool.PoolOf.await_result_with.Given as goal
 
 abbrev pub invariant-loop : goal.invariant-loop

@@ -4,9 +4,9 @@ use Rattle.tp_record.specs.declared.entries.Ask.TheVariants as ask
 use Rattle.tp_record.specs.declared.entries.Did.TheVariants as did
 use Rattle.tp_machine.specs.Readings.{HasOpen}
 use Rattle.tp_machine.specs.Steps.{IsRefusedAt}
-use Rattle.tp_locked.specs.Moments.{AtFront}
-use Rattle.tp_locked.specs.Passes.{AddsStep, LooksOnly}
-use Rattle.tp_locked.proofs.Receipts.{later_looks, later_none, looks_behind, step_behind}
+use Rattle.tp_pool_holds.specs.Moments.{AtFront}
+use Rattle.tp_pool_holds.specs.Passes.{AddsStep, LooksOnly}
+use Rattle.tp_pool_holds.proofs.Receipts.{later_looks, later_none, looks_behind, step_behind}
 use Rattle.tp_pool.proofs.pool.PoolOf.done_in_time.Goals as goal
 
 pub returns-in-Ok-Some-clause-step : goal.returns-in-Ok-Some-clause-step

@@ -1,4 +1,4 @@
-use Rattle.tp_locked.proofs.Receipts.{Later}
+use Rattle.tp_pool_holds.proofs.Receipts.{Later}
 use Rattle.tp_pool.proofs.pool.PoolOf.end_in_time.Given as goal
 
 abbrev pub invariant-loop : goal.invariant-loop

@@ -2,8 +2,8 @@ use Rattle.std.proofs.Common.{[], ◌∷◌, inl, inr, refl, rules}
 use Rattle.std.specs.Prelude.{Some}
 use Rattle.tp_record.specs.declared.entries.Ask.TheVariants as ask
 use Rattle.tp_record.specs.declared.entries.Did.TheVariants as did
-use Rattle.tp_locked.specs.Passes.{AddsStep, entry_of, opening}
-use Rattle.tp_locked.proofs.Receipts.{adds_looks, adds_then}
+use Rattle.tp_pool_holds.specs.Passes.{AddsStep, entry_of, opening}
+use Rattle.tp_pool_holds.proofs.Receipts.{adds_looks, adds_then}
 use Rattle.tp_pool.specs.Prestarts.{prestarted}
 use Rattle.tp_pool.proofs.pool.PoolOf.prestart.Goals as goal
 

@@ -1,6 +1,6 @@
 use Rattle.std.proofs.Common.{◌≡◌, ◌+◌, ap, arith, subst, inl, sym, true≢false}
 use Rattle.std.proofs.Math.Nat.{lt_of_not-le}
-use Rattle.tp_locked.proofs.Receipts.{looks_none, none_behind, reserved}
+use Rattle.tp_pool_holds.proofs.Receipts.{looks_none, none_behind, reserved}
 use Rattle.tp_pool.specs.Prestarts.{AddsPrestart, IsRefusedMore}
 use Rattle.tp_pool.proofs.Starts.{Started, none_started, one_more, prestart_asks, starts_all, starts_fail, starts_stop}
 use Rattle.tp_pool.proofs.pool.PoolOf.prestart_all.Goals as goal

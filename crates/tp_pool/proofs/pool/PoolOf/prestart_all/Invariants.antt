@@ -1,5 +1,5 @@
 use Rattle.std.proofs.Common.{◌≡◌, ◌+◌, ◌*◌, ◌≤◌}
-use Rattle.tp_locked.specs.Passes.{AddsNone}
+use Rattle.tp_pool_holds.specs.Passes.{AddsNone}
 use Rattle.tp_pool.proofs.Starts.{Started}
 use Rattle.tp_pool.proofs.pool.PoolOf.prestart_all.Given as goal
 

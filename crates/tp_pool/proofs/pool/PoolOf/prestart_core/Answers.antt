@@ -1,7 +1,7 @@
 use Rattle.std.proofs.Common.{inl, sym, true≢false}
 use Rattle.std.proofs.Math.Nat.{lt_of_not-le}
 use Rattle.std.specs.Prelude.{Result, Ok, Err, IfOk}
-use Rattle.tp_locked.proofs.Receipts.{reserved}
+use Rattle.tp_pool_holds.proofs.Receipts.{reserved}
 use Rattle.tp_pool.proofs.Starts.{prestarts_behind}
 use Rattle.tp_pool.proofs.pool.PoolOf.prestart_core.Goals as goal
 

@@ -1,7 +1,7 @@
 use Rattle.std.proofs.Common.{◌≡◌, ◌<◌, inl, inr, refl, ap, sym, subst, ◌∙◌, arith}
 use Rattle.std.specs.Prelude.{length}
 use Rattle.tp_record.specs.Step.{Legal}
-use Rattle.tp_locked.proofs.Receipts.{none_added}
+use Rattle.tp_pool_holds.proofs.Receipts.{none_added}
 use Rattle.tp_pool.specs.Prestarts.{AddsPrestart, IsServed}
 use Rattle.tp_pool.proofs.Starts.{Started, looked, none_started, one_more, starts_all, starts_fail, starts_stop}
 use Rattle.tp_pool.proofs.pool.PoolOf.prestart_some.Goals as goal

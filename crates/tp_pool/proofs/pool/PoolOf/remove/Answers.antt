@@ -3,9 +3,9 @@ use Rattle.std.specs.Prelude.{is_some, IfSome}
 use Rattle.tp_record.specs.declared.entries.Ask.TheVariants as ask
 use Rattle.tp_record.specs.declared.entries.Did.TheVariants as did
 use Rattle.tp_machine.specs.Answers.{IsPaidAt, IsRemoval}
-use Rattle.tp_locked.specs.Answers.{is_removed}
-use Rattle.tp_locked.specs.Passes.{AddsStep}
-use Rattle.tp_locked.proofs.Stops.{known_made}
+use Rattle.tp_pool_holds.specs.Answers.{is_removed}
+use Rattle.tp_pool_holds.specs.Passes.{AddsStep}
+use Rattle.tp_pool_holds.proofs.Stops.{known_made}
 use Rattle.tp_pool.proofs.Got.{removed_is}
 use Rattle.tp_pool.proofs.pool.PoolOf.remove.Goals as goal
 

@@ -1,6 +1,6 @@
 use Rattle.std.proofs.Common.{◌≤◌, ◌<◌, ◌+◌, ◌*◌, arith, inl, sym, true≢false}
 use Rattle.std.proofs.Math.Nat.{lt_of_not-le}
-use Rattle.tp_locked.proofs.Receipts.{reserved}
+use Rattle.tp_pool_holds.proofs.Receipts.{reserved}
 use Rattle.tp_pool.specs.Prestarts.{IsServed}
 use Rattle.tp_pool.proofs.Starts.{core_and_starts}
 use Rattle.tp_pool.proofs.pool.PoolOf.set_core.Goals as goal

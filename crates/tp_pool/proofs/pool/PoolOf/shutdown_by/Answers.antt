@@ -4,9 +4,9 @@ use Rattle.std.specs.Prelude.{IfOk}
 use Rattle.tp_record.specs.Fields.{rank}
 use Rattle.tp_record.specs.declared.entries.Ask.TheVariants as ask
 use Rattle.tp_record.specs.declared.entries.Did.TheVariants as did
-use Rattle.tp_locked.specs.Passes.{AddsStep}
-use Rattle.tp_locked.proofs.Receipts.{reserved}
-use Rattle.tp_shared.proofs.Ends.{reached, step_and_end}
+use Rattle.tp_pool_holds.specs.Passes.{AddsStep}
+use Rattle.tp_pool_holds.proofs.Receipts.{reserved}
+use Rattle.tp_pool_threads.proofs.Ends.{reached, step_and_end}
 use Rattle.tp_pool.proofs.pool.PoolOf.shutdown_by.Goals as goal
 
 pub returns-in-Ok-clause-steps : goal.returns-in-Ok-clause-steps

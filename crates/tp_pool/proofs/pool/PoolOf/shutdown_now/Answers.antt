@@ -2,9 +2,9 @@ use Rattle.std.proofs.Common.{length, inl, inr, sym, subst, true≢false}
 use Rattle.std.proofs.Math.Nat.{lt_of_not-le}
 use Rattle.tp_record.specs.declared.entries.Ask.TheVariants as ask
 use Rattle.tp_record.specs.declared.entries.Did.TheVariants as did
-use Rattle.tp_locked.specs.Steps.{Stops}
-use Rattle.tp_locked.proofs.Receipts.{leads_front, reserved}
-use Rattle.tp_shared.proofs.Ends.{reached, step_and_end}
+use Rattle.tp_pool_holds.specs.Steps.{Stops}
+use Rattle.tp_pool_holds.proofs.Receipts.{leads_front, reserved}
+use Rattle.tp_pool_threads.proofs.Ends.{reached, step_and_end}
 use Rattle.tp_pool.proofs.pool.PoolOf.shutdown_now.Goals as goal
 
 pub returns-in-Ok-clause-handed : goal.returns-in-Ok-clause-handed

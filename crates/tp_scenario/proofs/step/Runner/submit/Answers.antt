@@ -1,7 +1,7 @@
 use Rattle.std.proofs.Common.{◌∷◌, [], ◌++◌, ◌∙◌, Some, map, refl, sym, ap, subst}
 use Rattle.tp_record.specs.declared.entries.Ask.TheVariants as ask
 use Rattle.tp_record.specs.declared.entries.Did.TheVariants as did
-use Rattle.tp_parts.specs.Payloads.{PutsIn}
+use Rattle.tp_machine_state.specs.Payloads.{PutsIn}
 use Rattle.tp_machine.specs.Seen.{At}
 use Rattle.tp_scenario.specs.Answered.{ArePromised, IsAt, Running, notes}
 use Rattle.tp_scenario.proofs.StepLaws.{accepted, denied, not_torn, promised_more}

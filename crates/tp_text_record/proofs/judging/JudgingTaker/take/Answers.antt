@@ -2,9 +2,9 @@ use Rattle.std.proofs.Common.{◌≡◌, ℕ, List, [], ◌∷◌, ◌++◌, rev
 use Rattle.std.specs.Prelude.{is_some}
 use Rattle.std.proofs.lemmas.Bool.{false≢true, true≢false}
 use Rattle.tp_record.specs.declared.entries.Entry.{Entry}
-use Rattle.tp_audit.specs.declared.summary.Flaw.{Flaw}
-use Rattle.tp_audit.specs.Audit.{IsFirstFlaw}
-use Rattle.tp_auditor.specs.Audited.{Judge, settings}
+use Rattle.tp_audit_plain.specs.declared.summary.Flaw.{Flaw}
+use Rattle.tp_audit_plain.specs.Audit.{IsFirstFlaw}
+use Rattle.tp_audit.specs.Audited.{Judge, settings}
 use Rattle.tp_text_record.specs.Judging.{IsToldBy}
 use Rattle.tp_text_record.proofs.Flawed.{flaw_here, later_flaw}
 use Rattle.tp_text_record.proofs.judging.JudgingTaker.take.Goals as goal

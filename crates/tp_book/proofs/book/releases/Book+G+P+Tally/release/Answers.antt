@@ -1,5 +1,5 @@
 use Rattle.std.proofs.Common.{sym, subst}
-use Rattle.tp_parts.specs.Releases.{IsKept}
+use Rattle.tp_machine_state.specs.Releases.{IsKept}
 use Rattle.tp_book.specs.BookView.{Forgets}
 use Rattle.tp_book.proofs.Reading.{seen}
 use Rattle.tp_book.proofs.Settling.{each_left, forgotten}

@@ -1,7 +1,7 @@
 use Rattle.std.proofs.Common.{refl, sym, ap, ◌∙◌}
 use Rattle.std.proofs.lemmas.Bool.{true≢false}
 use Rattle.tp_types.specs.declared.refusals.PoolError.TheVariants.{NotThere}
-use Rattle.tp_parts.proofs.Forgetting.{kept_here, ended_here, unqueued_here}
+use Rattle.tp_machine_state.proofs.Forgetting.{kept_here, ended_here, unqueued_here}
 use Rattle.tp_machine.proofs.Released.{marked}
 use Rattle.tp_machine.proofs.Releasing.{row_at, kept_at, not_kept, released, released_sound}
 use Rattle.tp_machine.proofs.machine.releases.Machine+P+Tally.settle.Goals as goal

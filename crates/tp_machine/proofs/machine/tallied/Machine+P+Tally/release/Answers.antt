@@ -1,6 +1,6 @@
 use Rattle.std.proofs.Common.{refl, sym, ◌∙◌}
 use Rattle.std.proofs.lemmas.Bool.{true≢false}
-use Rattle.tp_parts.proofs.Forgetting.{kept_here, ended_here, unqueued_here}
+use Rattle.tp_machine_state.proofs.Forgetting.{kept_here, ended_here, unqueued_here}
 use Rattle.tp_machine.proofs.Released.{marked}
 use Rattle.tp_machine.proofs.Releasing.{kept_at, released, released_sound}
 use Rattle.tp_machine.proofs.machine.tallied.Machine+P+Tally.release.Goals as goal

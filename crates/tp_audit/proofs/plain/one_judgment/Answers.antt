@@ -1,5 +1,0 @@
-use Rattle.tp_audit.proofs.Judged as judged
-use Rattle.tp_audit.proofs.plain.one_judgment.Goals as goal
-
-pub returns : goal.returns
-returns c = judged.one_judgment

@@ -1,0 +1,88 @@
+//! What the tables of steps read of an auditor's tables.
+
+use crate::rows::row_at;
+use crate::tables::Tables;
+use crate::walks::count_cancelled;
+use std::alloc::Global;
+use tp_rules::readings::Readings;
+use tp_rules::step::retry_of;
+use tp_record::entries::Did;
+use tp_record::rows::{SlotRow, TaskRow};
+use tp_types::configs::{Config, Verdict};
+use tp_types::ids::{SlotId, TaskId};
+use tp_types::refusals::PoolError;
+
+impl Readings for Tables {
+    ghost use Rattle.tp_audit.specs.Tables.{shown as state_shown, Stands};
+
+    ghost shown = { λ t. state_shown t };
+
+    ghost stands = { λ t c. Stands c t };
+
+    ghost lacks = { ⊥ };
+
+    fn law_few_wait(&self, _config: &Config) {
+        let _ = &self.queue;
+    }
+
+    fn rank(&self) -> u8 {
+        self.rank
+    }
+
+    fn core(&self) -> u32 {
+        self.core
+    }
+
+    fn maximum(&self) -> u32 {
+        self.maximum
+    }
+
+    fn keep(&self) -> u64 {
+        self.keep
+    }
+
+    fn core_timeout(&self) -> bool {
+        self.core_timeout
+    }
+
+    fn moment(&self) -> u64 {
+        self.moment
+    }
+
+    fn submitted(&self) -> usize {
+        self.tasks.len()
+    }
+
+    fn task(&self, t: TaskId) -> TaskRow {
+        row_at(&self.tasks, t)
+    }
+
+    fn slot(&self, w: SlotId) -> Option<SlotRow> {
+        self.slots.get(w)
+    }
+
+    fn slot_count(&self) -> usize {
+        self.slots.count()
+    }
+
+    fn queued(&self) -> usize {
+        self.queue.len()
+    }
+
+    fn head(&self) -> Option<u32> {
+        self.queue.first()
+    }
+
+    fn longest_idle(&self) -> Option<usize> {
+        self.idling.first()
+    }
+
+    fn cancelled_count(&self, _config: &Config) -> u32 {
+        count_cancelled(&self.tasks, &self.queue)
+    }
+
+    fn may_retry(&self, _alloc: Global, config: &Config, t: TaskId) -> Result<bool, PoolError> {
+        let retry = retry_of(self.queue.first());
+        Ok(self.has_room(config, Did::Verdict(t, Verdict::DiscardOldest, retry)))
+    }
+}

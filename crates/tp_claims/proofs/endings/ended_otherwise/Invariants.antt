@@ -1,5 +1,0 @@
-use Rattle.tp_claims.specs.Endings.{AreOtherwise}
-use Rattle.tp_claims.proofs.endings.ended_otherwise.Given as goal
-
-abbrev pub invariant-loop-task : goal.invariant-loop-task
-invariant-loop-task l = AreOtherwise l.first l.second l.task l.found.items

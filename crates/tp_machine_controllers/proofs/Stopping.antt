@@ -1,0 +1,30 @@
+-- By how much what is owed falls at a stop, read in the structures.
+use Rattle.std.proofs.Common.{◌≡◌, ℕ, ◌+◌, ◌*◌, ◌-◌, length, arith, ap, ◌∙◌}
+use Rattle.std.specs.Prelude.{◌==◌, count_by, if◌then◌else◌}
+use Rattle.std.proofs.lemmas.List.{length-map}
+use Rattle.tp_types.specs.RunState.{state_rank}
+use Rattle.tp_record.specs.declared.entries.Did.TheVariants as did
+use Rattle.tp_record.specs.Left.{mark}
+use Rattle.tp_record.specs.State.{State, state}
+use Rattle.tp_queue.specs.Queues.{waiting_of}
+use Rattle.tp_slots.specs.Table.{is_at_take}
+use Rattle.tp_laws.proofs.Effects.Controllers.Stop.{stop as stop_effect}
+use Rattle.tp_machine_state.specs.declared.parts.Parts.{Parts}
+use Rattle.tp_machine_state.specs.Shows.{Shows}
+use Rattle.tp_machine_state.specs.Terms.{terms}
+use Rattle.tp_machine_state.proofs.Answering.{Moves}
+use Rattle.tp_machine_state.proofs.Falls.{owed_read, effect_by}
+
+module _ {P : Type 0} (p : Parts P) where
+  abbrev pub fall_of : ℕ → ℕ
+  fall_of n = 6 * n + ((if state_rank p.state == 0 then count_by is_at_take p.slots.slots else 0) + (2 - state_rank p.state))
+
+  pub stop_read : (n fall : ℕ) → fall ≡ fall_of n → (s : State) → Shows p s → 6 * n + (if s.rank == 0 then count_by is_at_take s.slots else 0) + (2 - s.rank) ≡ fall
+  stop_read n fall is s sh = let e = owed_read p s 2 sh in omega (arith, e, is)
+
+  pub moves : (n fall : ℕ) → fall ≡ fall_of n → Moves p fall 0 (did.Stop n)
+  moves n fall is = λ h rs legal sh given. (_, effect_by (state (terms p) h) (did.Stop n) _ _ fall 0 (stop_read n fall is (mark rs (state (terms p) h)) sh) (stop_effect (terms p) h n legal given))
+
+  -- as many tasks are queued
+  pub queued_read : (s : State) → Shows p s → length s.queue ≡ length (waiting_of p.queue).items
+  queued_read s sh = ap length sh.seen.queued ∙ length-map (waiting_of p.queue).items (λ x. x.0.0)

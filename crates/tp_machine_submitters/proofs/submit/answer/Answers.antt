@@ -1,0 +1,50 @@
+use Rattle.std.proofs.Common.{◌≡◌, Ok, sym, ap, subst, ◌∙◌, inl, inr}
+use Rattle.std.specs.Prelude.{unwrap_or}
+use Rattle.tp_record.specs.Left.{mark}
+use Rattle.tp_record.specs.declared.entries.Ask.TheVariants as ask
+use Rattle.tp_record.specs.declared.entries.Did.TheVariants as did
+use Rattle.tp_record.specs.Effects.{reserved_looked}
+use Rattle.tp_record.specs.State.{state}
+use Rattle.tp_record.specs.Step.{look}
+use Rattle.tp_tasks.specs.Tasks.{submissions}
+use Rattle.tp_laws.specs.View.{View, Effect}
+use Rattle.tp_machine_state.specs.Room.{TellsRoom}
+use Rattle.tp_machine_state.specs.Terms.{terms}
+use Rattle.tp_machine_state.proofs.Answering.{accepts_room, refuses_room}
+use Rattle.tp_machine_state.proofs.Reading.{number_free}
+use Rattle.tp_machine_submitters.specs.Owed.{rise_of}
+use Rattle.tp_machine_submitters.proofs.Submitting.{look_again, look_free, same_rise, submit_moves, submit_fits, few_left}
+use Rattle.tp_machine_submitters.proofs.submit.answer.Goals as goal
+
+pub returns-then-has_room-clause-accepts : goal.returns-then-has_room-clause-accepts
+returns-then-has_room-clause-accepts g c =
+    let p = c.args.parts.now in
+    let l = c.look-looked.result in
+    let k = c.args.kind in
+    let r = c.args.priority in
+    accepts_room p (ask.Submit k r) (did.Submit (record { 0 = submissions p.tasks }) k r l) 0 (rise_of l) c.has_room.result (subst (λ n. TellsRoom p 0 n c.has_room.result) c.rise.ensures.rise c.has_room.ensures) c.if-has_room.true
+    (λ h rs legal may sh.
+    let s = mark rs (state (terms p) h) in
+    let is = c.look-looked.ensures.looked s sh in
+    let again = ap (λ x. look s (unwrap_or (reserved_looked x) 0)) is ∙ look_again s p.slots.next ∙ sym is in (
+      submit_fits p (few_left c.submitted.result (submissions p.tasks) c.submitted.ensures p.tasks.small c.if-submitted.false) k r h rs sh (unwrap_or (reserved_looked l) 0) ∙ ap (λ x. Ok (did.Submit (record { 0 = submissions p.tasks }) k r x)) again,
+      number_free p s sh (did.Submit (record { 0 = submissions p.tasks }) k r l) (reserved_looked l) c.look-looked.ensures.free,
+    ))
+    (λ h rs legal sh given. submit_moves (terms p) h (record { 0 = submissions p.tasks }) k r l legal given)
+
+pub returns-else-has_room-clause-refuses : goal.returns-else-has_room-clause-refuses
+returns-else-has_room-clause-refuses g c =
+    let p = c.args.parts.now in
+    let l = c.look-looked.result in
+    let k = c.args.kind in
+    let r = c.args.priority in
+    refuses_room p (ask.Submit k r) 0 (rise_of l) c.has_room.result (subst (λ n. TellsRoom p 0 n c.has_room.result) c.rise.ensures.rise c.has_room.ensures) c.if-has_room.false
+    (λ h rs legal may sh w free.
+    let s = mark rs (state (terms p) h) in
+    let d = did.Submit (record { 0 = submissions p.tasks }) k r (look s w) in
+    let rise : rise_of (look s w) ≡ rise_of l = same_rise s p.slots.next w ∙ ap rise_of (sym (c.look-looked.ensures.looked s sh)) in (
+      d,
+      submit_fits p (few_left c.submitted.result (submissions p.tasks) c.submitted.ensures p.tasks.small c.if-submitted.false) k r h rs sh w,
+      look_free s w (elim free [ inl f ↦ f | inr leave ↦ absurd (let n : ⊥ = cc in n) ]),
+      λ i xs lawful shown given. subst (λ n. (v : View) × Effect (state (terms p) i) d v 0 n) rise (submit_moves (terms p) i (record { 0 = submissions p.tasks }) k r (look s w) lawful given),
+    ))

@@ -1,0 +1,215 @@
+//! What becomes of a task that the pool refused, as its `RejectedExecutionHandler` says.
+
+ghost use Rattle.std.specs.Prelude.{ℕ, ◌≡◌, ◌≤◌, true, List, is_some, IfOk, IfErr, Some, None};
+ghost use Rattle.tp_record.specs.declared.entries.Entry.{Entry};
+ghost use Rattle.tp_record.specs.Left.{mark};
+ghost use Rattle.tp_record.specs.State.{State, state};
+ghost use Rattle.tp_record.specs.Step.{Legal, allows, rule, retried, retry_of};
+ghost use Rattle.tp_tasks.specs.Tasks.{row_of};
+ghost use Rattle.tp_machine_state.specs.Payloads.{Keeps, HandsOut};
+ghost use Rattle.tp_machine_state.specs.Shows.{Shows};
+ghost use Rattle.tp_machine_state.specs.Steps.{Stands, Accepts, Refuses, Leads};
+ghost use Rattle.tp_machine_state.specs.Terms.{terms};
+ghost use Rattle.tp_machine_submitters.specs.Owed.{retry_rise};
+ghost use Rattle.tp_machine_submitters.specs.Verdicts.{Yields};
+
+use tp_machine_state::parts::Parts;
+use tp_queue::work::WorkQueue;
+use tp_record::entries::{Ask, Did, Ruled};
+use tp_record::rows::TaskRow;
+use tp_types::configs::{Policy, Verdict};
+use tp_types::ids::TaskId;
+use tp_types::limits::MAX_RETRIES;
+use tp_types::refusals::PoolError;
+use tp_types::states::RunState;
+use tp_types::tasks::{Fate, Place};
+
+/// What the verdict makes of the refused task. There is room for it, also where it is a retry. UnknownTask (6) where there
+/// is no such task, NotThere (8) where it awaits no verdict or the policy does not allow this one.
+pub fn answer<P>(parts: &Parts<P>, t: TaskId, verdict: Verdict) -> Result<Ruled, PoolError>
+    requires stands { Stands parts.now }
+    ensures accepts { IfOk result (λ r. Accepts parts.now (Ask.Verdict t verdict) (Did.Verdict t verdict r)) }
+    ensures refuses { IfErr result (λ e. Refuses parts.now (Ask.Verdict t verdict) e) }
+{
+    let Some(row) = parts.tasks.row(t) else {
+        return Err(PoolError::UnknownTask);
+    };
+    let Place::Refused = row.place else {
+        return Err(PoolError::NotThere);
+    };
+    if allows(parts.config.policy, verdict) {
+        Ok(rule(parts, t, row, verdict))
+    } else {
+        Err(PoolError::NotThere)
+    }
+}
+
+/// Makes an accepted answer, and gives the payload of the task that waits no more, if it still had one: the refused task's
+/// own, or the dropped head's where the refused task is to look again.
+pub fn apply<P>(parts: &mut Parts<P>, t: TaskId, verdict: Verdict, ruled: Ruled) -> Option<P>
+    requires stands { Stands parts.old }
+    requires accepts { Accepts parts.old (Ask.Verdict t verdict) (Did.Verdict t verdict ruled) }
+    ensures leads { Leads parts.old (Did.Verdict t verdict ruled) parts.new }
+    ensures payloads { Yields parts.old.tasks parts.new.tasks t ruled result }
+    ensures run { ruled ≡ Ruled.Caller → is_some result ≡ true }
+{
+    match ruled {
+        Ruled::Rejected => reject(parts, t, verdict),
+        Ruled::Discarded => discard(parts, t, verdict),
+        Ruled::Caller => Some(run(parts, t, verdict)),
+        Ruled::Skip => {
+            skip(parts, t, verdict);
+            None
+        }
+        Ruled::Retry => {
+            retry(parts, t, verdict);
+            None
+        }
+        Ruled::RetryDrop(head) => retry_drop(parts, t, verdict, head),
+    }
+}
+
+/// Whether a policy lets this verdict be said: the pool's own, or any where a handler answers.
+fn allows(policy: Policy, verdict: Verdict) -> bool
+    ensures { result ≡ allows policy verdict }
+{
+    match policy {
+        Policy::Own => true,
+        Policy::Abort => verdict == Verdict::Abort,
+        Policy::CallerRuns => verdict == Verdict::CallerRuns,
+        Policy::Discard => verdict == Verdict::Discard,
+        Policy::DiscardOldest => verdict == Verdict::DiscardOldest,
+    }
+}
+
+/// What an allowed verdict makes of a refused task with this row. Once the pool is shut down, only rejected and discarded
+/// are left.
+fn rule<P>(parts: &Parts<P>, t: TaskId, row: TaskRow, verdict: Verdict) -> Ruled
+    requires stands { Stands parts.now }
+    requires known { row_of parts.now.tasks t.0 ≡ Some row }
+    requires refused { row.place ≡ Place.Refused }
+    ensures { (h : List Entry) (rs : List ℕ) → Legal (terms parts.now) h → Shows parts.now (mark rs (state (terms parts.now) h)) →
+        result ≡ rule (terms parts.now) (mark rs (state (terms parts.now) h)) t row verdict }
+{
+    match verdict {
+        Verdict::Abort => Ruled::Rejected,
+        Verdict::Discard => Ruled::Discarded,
+        Verdict::DiscardOldest => retried(parts, t, row),
+        Verdict::CallerRuns if parts.state != RunState::Running => Ruled::Discarded,
+        Verdict::CallerRuns if row.cancelled => Ruled::Skip,
+        Verdict::CallerRuns => Ruled::Caller,
+    }
+}
+
+/// A retry, where the pool runs and the task has retries left. It owes anew all that may follow a look, so its room is
+/// tested here. Where there is none the task is discarded: a refusal would leave its submitter with nothing to do.
+fn retried<P>(parts: &Parts<P>, t: TaskId, row: TaskRow) -> Ruled
+    requires stands { Stands parts.now }
+    requires known { row_of parts.now.tasks t.0 ≡ Some row }
+    requires refused { row.place ≡ Place.Refused }
+    ensures { (h : List Entry) (rs : List ℕ) → Legal (terms parts.now) h → Shows parts.now (mark rs (state (terms parts.now) h)) →
+        result ≡ retried (terms parts.now) (mark rs (state (terms parts.now) h)) t row }
+{
+    let RunState::Running = parts.state else {
+        return Ruled::Discarded;
+    };
+    if row.retries >= MAX_RETRIES {
+        return Ruled::Discarded;
+    }
+    let ruled = retry_of(parts);
+    if parts.has_room(0, rise(ruled)) {
+        ruled
+    } else {
+        Ruled::Discarded
+    }
+}
+
+/// The retry that there is: it drops the queue's head, where there is one.
+fn retry_of<P>(parts: &Parts<P>) -> Ruled
+    ensures { (s : State) → Shows parts.now s → result ≡ retry_of s.queue }
+{
+    match parts.queue.head() {
+        None => Ruled::Retry,
+        Some(head) => Ruled::RetryDrop(head),
+    }
+}
+
+/// How many more entries are owed after this retry. A dropped head owed 6 entries, which are taken off.
+fn rise(retry: Ruled) -> u64
+    ensures rise { result ≡ retry_rise retry }
+    ensures bound { result ≤ 11 }
+{
+    match retry {
+        Ruled::RetryDrop(_) => 5,
+        _ => 11,
+    }
+}
+
+/// The task is gone, rejected.
+fn reject<P>(parts: &mut Parts<P>, t: TaskId, verdict: Verdict) -> Option<P>
+    requires stands { Stands parts.old }
+    requires accepts { Accepts parts.old (Ask.Verdict t verdict) (Did.Verdict t verdict Ruled.Rejected) }
+    ensures leads { Leads parts.old (Did.Verdict t verdict Ruled.Rejected) parts.new }
+    ensures payloads { HandsOut parts.old.tasks parts.new.tasks t.0 result }
+{
+    parts.count_entry(2);
+    parts.finish_task(t, Fate::Rejected)
+}
+
+/// The task is gone, discarded.
+fn discard<P>(parts: &mut Parts<P>, t: TaskId, verdict: Verdict) -> Option<P>
+    requires stands { Stands parts.old }
+    requires accepts { Accepts parts.old (Ask.Verdict t verdict) (Did.Verdict t verdict Ruled.Discarded) }
+    ensures leads { Leads parts.old (Did.Verdict t verdict Ruled.Discarded) parts.new }
+    ensures payloads { HandsOut parts.old.tasks parts.new.tasks t.0 result }
+{
+    parts.count_entry(2);
+    parts.finish_task(t, Fate::Discarded)
+}
+
+/// The submitter runs the task, and has its payload.
+fn run<P>(parts: &mut Parts<P>, t: TaskId, verdict: Verdict) -> P
+    requires stands { Stands parts.old }
+    requires accepts { Accepts parts.old (Ask.Verdict t verdict) (Did.Verdict t verdict Ruled.Caller) }
+    ensures leads { Leads parts.old (Did.Verdict t verdict Ruled.Caller) parts.new }
+    ensures payloads { HandsOut parts.old.tasks parts.new.tasks t.0 (Some result) }
+{
+    parts.count_entry(1);
+    parts.begin_task(t, Place::Caller)
+}
+
+/// The task was cancelled: it is gone, and its payload went out with the cancel.
+fn skip<P>(parts: &mut Parts<P>, t: TaskId, verdict: Verdict)
+    requires stands { Stands parts.old }
+    requires accepts { Accepts parts.old (Ask.Verdict t verdict) (Did.Verdict t verdict Ruled.Skip) }
+    ensures leads { Leads parts.old (Did.Verdict t verdict Ruled.Skip) parts.new }
+    ensures payloads { HandsOut parts.old.tasks parts.new.tasks t.0 None }
+{
+    parts.count_entry(2);
+    parts.place_task(t, Place::Gone);
+}
+
+/// The task is to look again.
+fn retry<P>(parts: &mut Parts<P>, t: TaskId, verdict: Verdict)
+    requires stands { Stands parts.old }
+    requires accepts { Accepts parts.old (Ask.Verdict t verdict) (Did.Verdict t verdict Ruled.Retry) }
+    ensures leads { Leads parts.old (Did.Verdict t verdict Ruled.Retry) parts.new }
+    ensures payloads { Keeps parts.old.tasks parts.new.tasks }
+{
+    parts.count_rising_entry(11);
+    parts.retry_task(t);
+}
+
+/// The task is to look again in place of the queue's head, which is gone, discarded.
+fn retry_drop<P>(parts: &mut Parts<P>, t: TaskId, verdict: Verdict, head: TaskId) -> Option<P>
+    requires stands { Stands parts.old }
+    requires accepts { Accepts parts.old (Ask.Verdict t verdict) (Did.Verdict t verdict (Ruled.RetryDrop head)) }
+    ensures leads { Leads parts.old (Did.Verdict t verdict (Ruled.RetryDrop head)) parts.new }
+    ensures payloads { HandsOut parts.old.tasks parts.new.tasks head.0 result }
+{
+    parts.count_rising_entry(5);
+    parts.dequeue();
+    let payload = parts.finish_task(head, Fate::Discarded);
+    parts.retry_task(t);
+    payload
+}

@@ -1,0 +1,119 @@
+//! A worker has run its task, as where the task's `run` returns in `runWorker`, and `afterExecute` ran.
+
+ghost use Rattle.std.specs.Prelude.{ℕ, ◌≡◌, true, false, IfOk, IfErr, IfSome, IsSome};
+ghost use Rattle.tp_types.specs.Promise.{FitsPromise};
+ghost use Rattle.tp_record.specs.Effects.{Outcome, is_plain_fault};
+ghost use Rattle.tp_record.specs.State.{State, task_at};
+ghost use Rattle.tp_tasks.specs.Tasks.{promise_of, row_of};
+ghost use Rattle.tp_machine_state.specs.Payloads.{Keeps};
+ghost use Rattle.tp_machine_state.specs.Shows.{Shows};
+ghost use Rattle.tp_machine_state.specs.Steps.{Stands, Fits, Refuses, Leads};
+
+use crate::owed::owed_at_take;
+use tp_machine_state::parts::Parts;
+use tp_record::entries::{Ask, Did};
+use tp_record::rows::{SlotRow, Stage};
+use tp_types::ids::{SlotId, TaskId};
+use tp_types::refusals::PoolError;
+use tp_types::tasks::{Fate, Kind, Outcome, Place};
+
+/// Which task the worker ends, whatever its outcome. UnknownSlot (7) where there is no such slot, NotThere (8) where its worker
+/// runs no task.
+#[inline(always)]
+pub fn answer<P>(parts: &Parts<P>, w: SlotId) -> Result<TaskId, PoolError>
+    ensures fits { (o : Outcome) → IfOk result (λ t. Fits parts.now (Ask.End w o) (Did.End w t o)) }
+    ensures refuses { (o : Outcome) → IfErr result (λ e. Refuses parts.now (Ask.End w o) e) }
+{
+    let Some(slot) = parts.slots.get(w) else {
+        return Err(PoolError::UnknownSlot);
+    };
+    let Stage::Working = slot.stage else {
+        return Err(PoolError::NotThere);
+    };
+    let Some(t) = slot.task else {
+        return Err(PoolError::NotThere);
+    };
+    let Some(row) = parts.tasks.row(t) else {
+        return Err(PoolError::NotThere);
+    };
+    match row.place {
+        Place::Running(_) => Ok(t),
+        _ => Err(PoolError::NotThere),
+    }
+}
+
+/// Makes an accepted answer: the worker's task ended with this outcome, which is as it promised.
+#[inline(always)]
+pub fn apply<P>(parts: &mut Parts<P>, w: SlotId, t: TaskId, outcome: Outcome)
+    requires stands { Stands parts.old }
+    requires fits { Fits parts.old (Ask.End w outcome) (Did.End w t outcome) }
+    requires promised { IfSome (promise_of parts.old.tasks t.0) (λ p. FitsPromise p outcome) }
+    ensures leads { Leads parts.old (Did.End w t outcome) parts.new }
+    ensures payloads { Keeps parts.old.tasks parts.new.tasks }
+{
+    if is_plain_fault(parts, t, outcome) {
+        dies(parts, w, t, outcome);
+    } else {
+        works(parts, w, t, outcome);
+    }
+}
+
+/// Whether the task is plain, so that nobody keeps its fault, and this is one. It ends the worker, as an exception that
+/// leaves `run` does.
+#[inline(always)]
+fn is_plain_fault<P>(parts: &Parts<P>, t: TaskId, outcome: Outcome) -> bool
+    requires known { IsSome (row_of parts.now.tasks t.0) }
+    ensures { (s : State) (w : SlotId) → Shows parts.now s →
+        result ≡ is_plain_fault (Did.End w t outcome) (λ u. (task_at s u).kind) }
+{
+    let Some(row) = parts.tasks.row(t) else {
+        unreachable!()
+    };
+    row.kind == Kind::Plain && outcome.is_err()
+}
+
+/// The worker ends its task, and is about to take.
+#[inline(always)]
+fn works<P>(parts: &mut Parts<P>, w: SlotId, t: TaskId, outcome: Outcome)
+    requires stands { Stands parts.old }
+    requires fits { Fits parts.old (Ask.End w outcome) (Did.End w t outcome) }
+    requires promised { IfSome (promise_of parts.old.tasks t.0) (λ p. FitsPromise p outcome) }
+    requires lives { (s : State) → Shows parts.old s →
+        is_plain_fault (Did.End w t outcome) (λ u. (task_at s u).kind) ≡ false }
+    ensures leads { Leads parts.old (Did.End w t outcome) parts.new }
+    ensures payloads { Keeps parts.old.tasks parts.new.tasks }
+{
+    parts.count_entry(5 - owed_at_take(parts.state));
+    parts.complete_task(t, Fate::Run, outcome);
+    parts.set_slot(
+        w,
+        SlotRow {
+            stage: Stage::Working,
+            task: None,
+        },
+    );
+    parts.count_completion();
+}
+
+/// The worker ends a plain task with a fault, and is about to leave.
+#[inline(never)]
+fn dies<P>(parts: &mut Parts<P>, w: SlotId, t: TaskId, outcome: Outcome)
+    requires stands { Stands parts.old }
+    requires fits { Fits parts.old (Ask.End w outcome) (Did.End w t outcome) }
+    requires promised { IfSome (promise_of parts.old.tasks t.0) (λ p. FitsPromise p outcome) }
+    requires dies { (s : State) → Shows parts.old s →
+        is_plain_fault (Did.End w t outcome) (λ u. (task_at s u).kind) ≡ true }
+    ensures leads { Leads parts.old (Did.End w t outcome) parts.new }
+    ensures payloads { Keeps parts.old.tasks parts.new.tasks }
+{
+    parts.count_entry(1);
+    parts.complete_task(t, Fate::Run, outcome);
+    parts.set_slot(
+        w,
+        SlotRow {
+            stage: Stage::Dying,
+            task: None,
+        },
+    );
+    parts.count_completion();
+}

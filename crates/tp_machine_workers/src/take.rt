@@ -1,0 +1,235 @@
+//! A worker asks for its next task, as `getTask`.
+
+ghost use Rattle.std.specs.Prelude.{ℕ, ◌≡◌, ◌==◌, ◌&&◌, ◌||◌, not, true, false, nat_le, nat_lt, length, IfOk, IfErr};
+ghost use Rattle.std.specs.Result.{result_map_both};
+ghost use Rattle.tp_record.specs.Fields.{is_idle_row};
+ghost use Rattle.tp_record.specs.State.{State, task_at, slot_at};
+ghost use Rattle.tp_record.specs.Step.{held_answer, take_next, slot_count};
+ghost use Rattle.tp_machine_state.specs.Payloads.{Keeps};
+ghost use Rattle.tp_machine_state.specs.Shows.{Shows};
+ghost use Rattle.tp_machine_state.specs.Steps.{Stands, Fits, Refuses, Leads};
+ghost use Rattle.tp_machine_workers.specs.Taken.{AreGone};
+
+use crate::owed::owed_at_take;
+use tp_machine_state::parts::Parts;
+use tp_queue::work::WorkQueue;
+use tp_record::entries::{Ask, Did, Took};
+use tp_record::rows::{SlotRow, Stage};
+use tp_types::ids::{SlotId, TaskId};
+use tp_types::refusals::PoolError;
+use tp_types::states::RunState;
+use tp_types::tasks::Place;
+
+/// What the worker takes: the task that its slot holds, before all else, and else what the queue has for it. UnknownSlot (7)
+/// where there is no such slot, NotThere (8) where its worker is not made, dying or busy with a task that it took, and where an
+/// idle worker stays idle.
+#[inline(always)]
+pub fn answer<P>(parts: &Parts<P>, w: SlotId) -> Result<Took, PoolError>
+    ensures fits { IfOk result (λ k. Fits parts.now (Ask.Take w) (Did.Take w k)) }
+    ensures refuses { IfErr result (λ e. Refuses parts.now (Ask.Take w) e) }
+{
+    let Some(slot) = parts.slots.get(w) else {
+        return Err(PoolError::UnknownSlot);
+    };
+    match (slot.stage, slot.task) {
+        (Stage::Working, Some(t)) => first_task(parts, t),
+        (Stage::Working | Stage::Idle(_), None) => next_task(parts, slot.stage),
+        _ => Err(PoolError::NotThere),
+    }
+}
+
+/// What a worker takes whose slot holds this task.
+#[inline(always)]
+fn first_task<P>(parts: &Parts<P>, t: TaskId) -> Result<Took, PoolError>
+    ensures { (s : State) (w : SlotId) → Shows parts.now s → AreGone s →
+        held_answer w t (task_at s t.0).place ≡ result_map_both (λ k. Did.Take w k) (λ e. e) result }
+{
+    let Some(row) = parts.tasks.row(t) else {
+        return Err(PoolError::NotThere);
+    };
+    match row.place {
+        Place::Held(_) => Ok(Took::Held(t)),
+        _ => Err(PoolError::NotThere),
+    }
+}
+
+/// What a worker takes whose slot holds no task.
+#[inline(always)]
+fn next_task<P>(parts: &Parts<P>, stage: Stage) -> Result<Took, PoolError>
+    ensures { (s : State) (w : SlotId) → Shows parts.now s →
+        take_next s w stage ≡ result_map_both (λ k. Did.Take w k) (λ e. e) result }
+{
+    if retires(parts) {
+        return Ok(Took::Leave);
+    }
+    // The queue comes before the timeout: a worker that timed out may be the last one, and would leave a queued task to nobody.
+    if let Some(t) = parts.queue.head() {
+        return Ok(Took::Head(t));
+    }
+    if parts.slots.timed_out(
+        stage,
+        parts.core,
+        parts.keep,
+        parts.core_timeout,
+        parts.moment,
+    ) {
+        Ok(Took::Leave)
+    } else if stage.is_idle() {
+        Err(PoolError::NotThere)
+    } else {
+        Ok(Took::Idle)
+    }
+}
+
+/// Whether a worker without a task leaves whatever time it has waited: where its pool is stopped, or shut down with nothing
+/// queued, and where there are more slots than the maximum.
+#[inline(always)]
+fn retires<P>(parts: &Parts<P>) -> bool
+    ensures { (s : State) → Shows parts.now s → result ≡
+        ((nat_le 2 s.rank || (s.rank == 1 && length s.queue == 0))
+        || (nat_lt s.maximum (slot_count s) && (nat_lt 1 (slot_count s) || length s.queue == 0))) }
+{
+    let is_empty = parts.queue.len() == 0;
+    let is_over = match parts.state {
+        RunState::Running => false,
+        RunState::Shutdown => is_empty,
+        _ => true,
+    };
+    let count = parts.slots.len();
+    // The bracket always holds, since the maximum is at least 1: it is what `getTask` asks, in its order.
+    is_over || (count > parts.maximum as usize && (count > 1 || is_empty))
+}
+
+/// Whether no idle worker leaves now, whichever it is: while the pool runs, has no more slots than its core and its maximum, and
+/// core workers do not time out. It tells sooner than an answer.
+#[inline(always)]
+pub fn keeps_all<P>(parts: &Parts<P>) -> bool
+    ensures { (s : State) → Shows parts.now s → result ≡
+        ((s.rank == 0 && nat_le (slot_count s) s.maximum) && (nat_le (slot_count s) s.core && not s.core_timeout)) }
+{
+    let count = parts.slots.len();
+    let is_within = count <= parts.core as usize && !parts.core_timeout;
+    parts.state == RunState::Running && count <= parts.maximum as usize && is_within
+}
+
+/// Makes an accepted answer. No payload is handed out before the task begins.
+#[inline(always)]
+pub fn apply<P>(parts: &mut Parts<P>, w: SlotId, took: Took)
+    requires stands { Stands parts.old }
+    requires fits { Fits parts.old (Ask.Take w) (Did.Take w took) }
+    ensures leads { Leads parts.old (Did.Take w took) parts.new }
+    ensures payloads { Keeps parts.old.tasks parts.new.tasks }
+{
+    match took {
+        Took::Held(t) => held(parts, w, t),
+        Took::Head(t) if is_idle(parts, w) => head_idle(parts, w, t),
+        Took::Head(t) => head(parts, w, t),
+        Took::Leave if is_idle(parts, w) => leave_idle(parts, w),
+        Took::Leave => leave(parts, w),
+        Took::Idle => rest(parts, w),
+    }
+}
+
+/// Whether the slot's worker is idle.
+#[inline(always)]
+fn is_idle<P>(parts: &Parts<P>, w: SlotId) -> bool
+    ensures { result ≡ is_idle_row (slot_at parts.now.slots.slots w.0) }
+{
+    match parts.slots.get(w) {
+        Some(slot) => slot.is_idle(),
+        None => false,
+    }
+}
+
+/// The worker takes the task that its slot holds.
+#[inline(always)]
+fn held<P>(parts: &mut Parts<P>, w: SlotId, t: TaskId)
+    requires stands { Stands parts.old }
+    requires fits { Fits parts.old (Ask.Take w) (Did.Take w (Took.Held t)) }
+    ensures leads { Leads parts.old (Did.Take w (Took.Held t)) parts.new }
+    ensures payloads { Keeps parts.old.tasks parts.new.tasks }
+{
+    parts.count_entry(1);
+    parts.place_task(t, Place::Taken(w));
+    parts.set_slot(
+        w,
+        SlotRow {
+            stage: Stage::Working,
+            task: Some(t),
+        },
+    );
+}
+
+/// A worker that was not idle takes the queue's head.
+#[inline(always)]
+fn head<P>(parts: &mut Parts<P>, w: SlotId, t: TaskId)
+    requires stands { Stands parts.old }
+    requires fits { Fits parts.old (Ask.Take w) (Did.Take w (Took.Head t)) }
+    requires busy { is_idle_row (slot_at parts.old.slots.slots w.0) ≡ false }
+    ensures leads { Leads parts.old (Did.Take w (Took.Head t)) parts.new }
+    ensures payloads { Keeps parts.old.tasks parts.new.tasks }
+{
+    parts.count_entry(owed_at_take(parts.state));
+    parts.dequeue();
+    parts.place_task(t, Place::Taken(w));
+    parts.set_slot(
+        w,
+        SlotRow {
+            stage: Stage::Working,
+            task: Some(t),
+        },
+    );
+}
+
+/// An idle worker takes the queue's head.
+#[inline(always)]
+fn head_idle<P>(parts: &mut Parts<P>, w: SlotId, t: TaskId)
+    requires stands { Stands parts.old }
+    requires fits { Fits parts.old (Ask.Take w) (Did.Take w (Took.Head t)) }
+    requires idle { is_idle_row (slot_at parts.old.slots.slots w.0) ≡ true }
+    ensures leads { Leads parts.old (Did.Take w (Took.Head t)) parts.new }
+    ensures payloads { Keeps parts.old.tasks parts.new.tasks }
+{
+    parts.count_entry(1);
+    parts.dequeue();
+    parts.place_task(t, Place::Taken(w));
+    parts.wake(w, Some(t));
+}
+
+/// A worker that was not idle leaves.
+#[inline(never)]
+fn leave<P>(parts: &mut Parts<P>, w: SlotId)
+    requires stands { Stands parts.old }
+    requires fits { Fits parts.old (Ask.Take w) (Did.Take w Took.Leave) }
+    requires busy { is_idle_row (slot_at parts.old.slots.slots w.0) ≡ false }
+    ensures leads { Leads parts.old (Did.Take w Took.Leave) parts.new }
+    ensures payloads { Keeps parts.old.tasks parts.new.tasks }
+{
+    parts.count_entry(owed_at_take(parts.state));
+    parts.free(w);
+}
+
+/// An idle worker leaves.
+#[inline(never)]
+fn leave_idle<P>(parts: &mut Parts<P>, w: SlotId)
+    requires stands { Stands parts.old }
+    requires fits { Fits parts.old (Ask.Take w) (Did.Take w Took.Leave) }
+    requires idle { is_idle_row (slot_at parts.old.slots.slots w.0) ≡ true }
+    ensures leads { Leads parts.old (Did.Take w Took.Leave) parts.new }
+    ensures payloads { Keeps parts.old.tasks parts.new.tasks }
+{
+    parts.count_entry(1);
+    parts.free(w);
+}
+
+/// The worker finds nothing and is idle from now on.
+#[inline(always)]
+fn rest<P>(parts: &mut Parts<P>, w: SlotId)
+    requires stands { Stands parts.old }
+    requires fits { Fits parts.old (Ask.Take w) (Did.Take w Took.Idle) }
+    ensures leads { Leads parts.old (Did.Take w Took.Idle) parts.new }
+    ensures payloads { Keeps parts.old.tasks parts.new.tasks }
+{
+    parts.count_entry(1);
+    parts.idle(w);
+}

@@ -1,6 +1,0 @@
-use Rattle.std.proofs.Common.{◌∙◌}
-use Rattle.tp_parts.proofs.Purging.{cancelled_count}
-use Rattle.tp_parts.proofs.parts.Parts.count_cancelled.Goals as goal
-
-pub returns : goal.returns
-returns g c = λ v views holds. c.purgeable.ensures ∙ cancelled_count c.args.self.now v views holds

@@ -1,7 +1,0 @@
-use Rattle.std.proofs.Common.{◌≡◌, ◌+◌, drop}
-use Rattle.tp_plain.specs.Snapshot.{least_free}
-use Rattle.tp_plain.proofs.answer.free_slot.Given as goal
-
-abbrev pub invariant-loop-slot : goal.invariant-loop-slot
-invariant-loop-slot l =
-    (l.free ≡ l.slot-index) × (l.free + least_free (drop l.slot-index l.state.slots.items) ≡ least_free l.state.slots.items)

@@ -1,6 +1,0 @@
-use Rattle.std.proofs.Common.{◌≤◌, ◌≡◌, reverse, take}
-use Rattle.tp_record.specs.Fields as fields
-use Rattle.tp_plain.proofs.tasks.retries.Given as goal
-
-abbrev pub invariant-loop-entry : goal.invariant-loop-entry
-invariant-loop-entry l = (l.retries ≡ fields.retries (reverse (take l.entry-index l.entries)) l.t.0) × (l.retries ≤ l.entry-index)

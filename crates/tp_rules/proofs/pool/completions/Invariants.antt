@@ -1,0 +1,6 @@
+use Rattle.std.proofs.Common.{◌≤◌, ◌≡◌, reverse, take}
+use Rattle.tp_record.specs.Fields as fields
+use Rattle.tp_rules.proofs.pool.completions.Given as goal
+
+abbrev pub invariant-loop-entry : goal.invariant-loop-entry
+invariant-loop-entry l = (l.completions ≡ fields.completions (reverse (take l.entry-index l.entries))) × (l.completions ≤ l.entry-index)
