@@ -19,7 +19,7 @@ import sys
 
 LINK = re.compile(r"\[[^\]]*\]\(([^)\s]+)\)")
 QUOTED = re.compile(r"`([^`\s]+)`")
-CRATE = re.compile(r"tp_[a-z_]+$")
+CRATE = re.compile(r"(tp|poolrun)_[a-z_]+$")
 NAME = re.compile(r"`(\w+(?:::(?:\w+|\{[\w, ]+\}))*)`")
 SOURCES = ["crates/*/src/**/*.rt", "crates/*/specs/**/*.antt", "crates/*/proofs/**/*.antt", "bindings/**/*", "tools/*.py"]
 MADE = {"out", "NAME", "F"}

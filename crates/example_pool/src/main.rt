@@ -1,8 +1,8 @@
 //! `example_pool`: a first pool. Three jobs run on two workers; then what each answered is printed.
 #![tactic(auto)]
 
-use tp_pool_advice::reasons::Reason;
 use tp_pool::prelude::*;
+use tp_pool_advice::reasons::Reason;
 
 /// A job that answers twice its number.
 #[derive(Drop)]

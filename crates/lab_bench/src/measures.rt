@@ -87,7 +87,7 @@ impl Measure {
 fn full_queue(alloc: Global, entries: u32) -> Result<Queue, AllocError>
     ensures { IfOk result (λ q. (waiting_of q).offers ≤ entries) }
 {
-    let mut queue = Queue::new(alloc, QueueKind::Bounded(entries))?;
+    let mut queue = Queue::new(alloc, QueueKind::Bounded(entries), 0)?;
     for number in 0..entries {
         let _ = queue.offer(TaskId(number), 0);
     }

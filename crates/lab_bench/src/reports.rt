@@ -6,7 +6,7 @@ use std::rt::Clock;
 use std::time::Duration;
 
 /// The sizes at which all is measured, in entries.
-const SIZES: [u32; 3] = [100, 10_000, 65_536];
+const SIZES: [u32; 3] = [100, 10_000, 65_535];
 
 /// How often each measure is made at each size; the least time is printed.
 const ROUNDS: u32 = 9;

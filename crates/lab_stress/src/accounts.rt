@@ -10,7 +10,8 @@ use tp_audit_plain::plain::audit_plain;
 use tp_audit_plain::summary::Flaw;
 use tp_life::prelude::*;
 use tp_pool::task_of;
-use tp_record::entries::{Did, Ruled, Seconded, Started};
+use tp_record::entries::{Did, Entry, Ruled, Seconded, Started};
+use tp_record::packed::unpacked;
 
 // The number of the pass with which a life is ended. Those of its callers come next, and then those of the pool's own.
 const LAST: u32 = 0;
@@ -132,9 +133,9 @@ fn are_jobs(rows: &[Row], submitted: u32) -> Result<(), Mishap> {
 }
 
 // Why who ended this pool's life stopped it, by its record; None where he did not. Owed then: six entries a task, seven for pool and worker.
-fn cause_of(plan: &Plan, report: &Report) -> Result<Option<Cause>, Mishap> {
+fn cause_of(plan: &Plan, entries: &[Entry]) -> Result<Option<Cause>, Mishap> {
     let (mut core, mut refused) = (plan.settings.core, false);
-    for (steps, entry) in (0u64..).zip(&report.entries) {
+    for (steps, entry) in (0u64..).zip(entries) {
         match entry.did {
             Did::Core(size, _) => core = size,
             Did::Fail(_, _) => refused = plan.callers < entry.by,
@@ -167,23 +168,27 @@ pub trait Judged: Drop {
 impl Judged for Report {
     fn sums(&self) -> (Counts, u64, usize) {
         let entries = self.entries.iter();
-        let back = entries.filter(|entry| matches!(entry.did, Did::Second(_, Seconded::Back)));
+        let back = entries.filter(|packed| matches!(
+            packed.unpack().did,
+            Did::Second(_, Seconded::Back)
+        ));
         (self.counts, self.entries.len() as u64, back.count())
     }
 
     fn judge(&self, shift: &Shift, rows: &mut [Row]) -> Result<Option<Cause>, Mishap> {
         let plan = &shift.plan;
         plan.settings.check()?;
-        let summary = match audit_plain(shift.alloc, &plan.settings, &self.entries) {
+        let entries = unpacked(shift.alloc, &self.entries)?;
+        let summary = match audit_plain(shift.alloc, &plan.settings, &entries) {
             Ok(summary) => summary,
             Err(Flaw::At(entry)) => return Err(Mishap::Illegal(entry)),
             Err(Flaw::NoMemory) => return Err(Mishap::Refused(PoolError::NoMemory)),
         };
         let same = summary.counts == self.counts && summary.state == RunState::Terminated;
         ensure(same, "the report's counters are not the record's")?;
-        let cause = cause_of(plan, self)?;
+        let cause = cause_of(plan, &entries)?;
         for row in rows {
-            for entry in &self.entries {
+            for entry in &entries {
                 row.follow(plan, entry.did)?;
             }
             if let Some(t) = row.task {

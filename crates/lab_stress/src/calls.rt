@@ -3,8 +3,8 @@
 use crate::chores::{Chore, Sign, Work};
 use crate::mishaps::Mishap;
 use tp_life::prelude::*;
-use tp_types::tasks::Kind;
 use tp_life_values::tasks::{Find, Held};
+use tp_types::tasks::Kind;
 
 /// A call.
 #[derive(Clone, Copy)]

@@ -11,10 +11,10 @@ use std::marker::Brand;
 use std::thread::{self, Threads};
 use std::time::Clock;
 use tp_life::prelude::*;
+use tp_life_values::tasks::Held;
 use tp_machine::machine::releases::Keeper;
 use tp_pool::names::PoolNaming;
 use tp_pool::prelude::{Handle, Kind, Pass, PoolName, PoolOf, Reporter, Runtime, Unopened};
-use tp_life_values::tasks::Held;
 
 type Pool<G, K> = PoolOf<G, Held<Chore>, Users, K>;
 

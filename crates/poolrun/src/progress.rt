@@ -4,10 +4,10 @@
 ghost use Rattle.std.specs.Io.{ReadsAtMost};
 ghost use Rattle.std.specs.Io.KnownBytes.{ReadConsumes};
 
+use poolrun_commands::progress::ProgressLine;
 use std::fmt;
 use std::io::{self, Read, Write};
 use std::time::{Clock, Duration};
-use poolrun_commands::progress::ProgressLine;
 
 /// The clock is asked each time that so many bytes came.
 const BETWEEN: u64 = 1 << 20;

@@ -7,8 +7,8 @@ ghost use Rattle.poolrun_commands.specs.Status.{Ends};
 use crate::questions::run_question;
 use std::alloc::Global;
 use std::io::{Read, Write};
-use tp_story_drawing::drawings::{Drawing, Window};
 use tp_messages::messages::Style;
+use tp_story_drawing::drawings::{Drawing, Window};
 use tp_story_words::forms::Form;
 use tp_text::watched::{WatchedReader, WatchedWriter};
 

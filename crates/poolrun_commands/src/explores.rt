@@ -12,24 +12,24 @@ use crate::progress::ProgressLine;
 use crate::statuses::finish;
 use crate::telling::tell_refusal;
 use crate::texts::text_or_status;
+use poolrun_choices::choices::{Exploring, Wish};
 use std::alloc::Global;
 use std::fmt;
 use std::io::{Read, Write};
-use poolrun_choices::choices::{Exploring, Wish};
 use tp_explore_text::explored::{Explored, end_with, explore_named};
 use tp_explore_text::files::{Named, read_plan};
 use tp_explore_text::parts::is_part;
 use tp_explore_text::pictures::{MOST_DRAWN, dot_text};
 use tp_explore_text::texts::{ends_text, json_text, witness_text};
+use tp_explore_walk::systems::Watch;
 use tp_messages::messages::Style;
 use tp_messages::mistakes::Kind;
-use tp_scenario_replay::records::Recording;
 use tp_scenario::play::play;
+use tp_scenario_replay::records::Recording;
 use tp_text::watched::{WatchedReader, WatchedWriter};
 use tp_text::writing::write_text;
 use tp_types::limits::MAX_TEXT_BYTES;
 use tp_types::refusals::PoolError;
-use tp_explore_walk::systems::Watch;
 
 /// How many states are walked between two looks at the progress: some half of a second.
 const BETWEEN: usize = 32_768;

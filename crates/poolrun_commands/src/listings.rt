@@ -2,8 +2,8 @@
 
 use crate::objects::write_object;
 use std::alloc::Global;
-use tp_audit_plain::summary::Flaw;
 use tp_audit::auditor::Auditor;
+use tp_audit_plain::summary::Flaw;
 use tp_record::entries::Entry;
 use tp_text_record::reading::Taker;
 use tp_text_record::versions::Version;

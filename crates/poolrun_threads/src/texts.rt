@@ -1,5 +1,5 @@
 //! From the text of a file of jobs to the text of its pool's record.
-ghost use Rattle.std.specs.Prelude.{◌≡◌, ◌≢◌, ◌⊎◌, ◌<◌, ℕ, List, Option, length, reverse, Err, IfErr, IfOk, IfSome, OnOk, Some};
+ghost use Rattle.std.specs.Prelude.{◌≡◌, ◌≢◌, ◌⊎◌, ◌<◌, ℕ, List, Option, length, reverse, Err, IfErr, IfOk, IfSome, IsOkUnless, OnOk, Some};
 ghost use Rattle.std.specs.Io.KnownBytes.{Appends};
 ghost use Rattle.tp_types.specs.declared.configs.Config.{Config as Settings};
 ghost use Rattle.tp_record.specs.declared.entries.Entry.{Entry as Told};
@@ -20,6 +20,7 @@ use std::time::Clock;
 use tp_journal::endings::{Ended, Stopped, Wish, ended_by, ended_cut};
 use tp_pool::closing::Report;
 use tp_record::entries::{Did, Entry};
+use tp_record::packed::unpacked;
 use tp_scenario::jobs::jobs_of;
 use tp_text::watched::WatchedWriter;
 use tp_text::writing::write_text;
@@ -49,9 +50,9 @@ fn is_submission(entry: &Entry) -> bool {
 // What is left of a run by the report of its pool, if it was closed and there is memory for the text.
 fn left_of(alloc: Global, config: &Config, report: Option<Report>) -> Option<Unfinished> {
     let report = report?;
-    let entries = report.entries.as_slice();
+    let entries = unpacked(alloc, &report.entries).ok()?;
     let submitted = entries.iter().filter(|entry| is_submission(entry)).count();
-    let text = record_text(alloc, config, entries).ok()?;
+    let text = record_text(alloc, config, &entries).ok()?;
     Some(Unfinished {
         submitted,
         stranded: report.counts.handedback,
@@ -91,6 +92,17 @@ fn refused_run<V: Write + Drop>(
     };
     let ended = ended_at(journal, text);
     (left, ended)
+}
+
+// The text of the record of a closed pool with these settings.
+fn report_text(alloc: Global, config: &Config, report: &Report) -> Result<Vec<u8>, PoolError>
+    ensures text { IfOk result (λ text. text.items ≡ text_of Version.Two config.now report.now.entries.items) }
+    ensures only_memory { IsOkUnless result PoolError.NoMemory }
+{
+    let Ok(entries) = unpacked(alloc, report.entries.as_slice()) else {
+        return Err(PoolError::NoMemory);
+    };
+    record_text(alloc, config, entries.as_slice())
 }
 
 /// Runs the jobs of a text by threads, as `run_jobs`, and writes the text of the pool's record, and nothing in place of one. The text is
@@ -134,7 +146,7 @@ pub fn run_text<
             return Err(error);
         }
     };
-    let record = match record_text(alloc, &jobs.config, report.entries.as_slice()) {
+    let record = match report_text(alloc, &jobs.config, &report) {
         Ok(record) => record,
         Err(error) => {
             *ended = ended_at(journal, Err(error));

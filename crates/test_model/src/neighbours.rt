@@ -5,9 +5,9 @@ use crate::compare::same;
 use crate::judged::{LONE, judged};
 use crate::rows::entries_of;
 use std::alloc::{AllocError, Global};
-use tp_audit_plain::summary::{Flaw, Summary};
 use tp_audit::auditor::Auditor;
 use tp_audit::audits::audit;
+use tp_audit_plain::summary::{Flaw, Summary};
 use tp_record::entries::{
     Ask, Did, Entry, Failed, Grown, Looked, Offered, Opened, Seconded, Started, Took,
 };

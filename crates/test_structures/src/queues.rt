@@ -158,7 +158,7 @@ fn gives_up<Q: WorkQueue>(
 /// A queue of this kind.
 fn queue(alloc: Global, kind: QueueKind) -> Result<Tasks<Queue>, AllocError> {
     Ok(Tasks {
-        queue: Queue::new(alloc, kind)?,
+        queue: Queue::new(alloc, kind, 0)?,
         offers: 0,
     })
 }
@@ -225,7 +225,7 @@ fn unbounded_queue_has_what_was_reserved(rt: HostRuntime) -> Result<(), Fail> {
 #[test]
 fn exact_unbounded_queue_gives_up_its_dead(rt: HostRuntime) -> Result<(), Fail> {
     let mut exact = Tasks {
-        queue: Unbounded::new(rt.alloc())?,
+        queue: Unbounded::new(rt.alloc(), 0)?,
         offers: 0,
     };
     asks(&rt, 0, &mut exact, Call::Reserve(64), Done);
@@ -334,7 +334,7 @@ fn grows_or_refuses(rt: &impl Abort, alloc: Global, kind: QueueKind) {
 /// again.
 #[test]
 fn want_of_memory_changes_nothing(rt: HostRuntime) {
-    if let Ok(queue) = Queue::new(rt.alloc(), QueueKind::Bounded(3)) {
+    if let Ok(queue) = Queue::new(rt.alloc(), QueueKind::Bounded(3), 0) {
         same(&rt, 0, &queue.is_full(), &false);
     }
     grows_or_refuses(&rt, rt.alloc(), QueueKind::Unbounded);

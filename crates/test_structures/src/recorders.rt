@@ -1,12 +1,18 @@
 //! A recorder that keeps its entries, and one that counts them.
 
+ghost use Rattle.std.specs.Prelude.{◌≡◌};
+
 use crate::compare::same;
+use std::alloc::Global;
 use std::process::Abort;
 use std::test::Fail;
 use tp_record::entries::{Ask, Did, Entry};
+use tp_record::packed::{Packed, unpacked};
 use tp_record::recorders::{Full, Recorder, Tally};
 
-fn tick(moment: u64) -> Entry {
+fn tick(moment: u64) -> Entry
+    ensures { result ≡ record { by = 1; ask = Ask.Tick moment; did = Did.Tick moment } }
+{
     Entry {
         by: 1,
         ask: Ask::Tick(moment),
@@ -24,9 +30,11 @@ fn note(record: &mut Full, moment: u64) -> bool {
 }
 
 /// These are the 64 ticks: so many, and the first and the last of them.
-fn has_ticks(rt: &impl Abort, entries: &[Entry]) {
+fn has_ticks(rt: &impl Abort, alloc: Global, packed: &[Packed]) -> Result<(), Fail> {
+    let entries = unpacked(alloc, packed)?;
     let ends = (entries.len(), entries.first(), entries.last());
     same(rt, 64, &ends, &(64, Some(&tick(0)), Some(&tick(63))));
+    Ok(())
 }
 
 #[test]
@@ -37,9 +45,8 @@ fn notes_in_order(rt: HostRuntime) -> Result<(), Fail> {
         same(&rt, moment as usize, &note(&mut record, moment), &true);
     }
     same(&rt, 64, &(record.len(), record.room()), &(64, 0));
-    has_ticks(&rt, record.entries());
-    has_ticks(&rt, &record.into_entries());
-    Ok(())
+    has_ticks(&rt, rt.alloc(), record.entries())?;
+    has_ticks(&rt, rt.alloc(), &record.into_entries())
 }
 
 #[test]

@@ -15,12 +15,12 @@ use crate::slots::{reserve_slot, take_out, turn_slot, turned_slot, woken_slot};
 use crate::tables::Tables;
 use crate::tasks::{change_queue, change_tasks};
 use std::alloc::AllocError;
+use tp_record::entries::Did;
+use tp_record::rows::TaskRow;
 use tp_rules::effects::{
     closed_by, completed_by, core_said, core_timeout_said, idled_by, is_completion, is_submit,
     keep_said, maximum_said, now_said, queued_by, reaches, reserved_by,
 };
-use tp_record::entries::Did;
-use tp_record::rows::TaskRow;
 use tp_types::ids::TaskId;
 use tp_types::tasks::Kind;
 

@@ -6,10 +6,10 @@ ghost use Rattle.tp_record.specs.Effects as effects;
 ghost use Rattle.tp_record.specs.State as states;
 ghost use Rattle.tp_audit.specs.Readings.{read};
 
-use tp_rules::effects::{closed_by, hold_said, is_plain_fault, seat_said, turned_to, woken};
-use tp_rules::next::NO_ROW;
 use tp_record::entries::Did;
 use tp_record::rows::{SlotRow, Stage, TaskRow};
+use tp_rules::effects::{closed_by, hold_said, is_plain_fault, seat_said, turned_to, woken};
+use tp_rules::next::NO_ROW;
 use tp_types::ids::{SlotId, TaskId};
 
 // What is read of a slot before it is made.

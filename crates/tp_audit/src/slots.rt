@@ -13,9 +13,9 @@ use crate::orders::Order;
 use crate::rows::{made_row, slot_after};
 use crate::seats::Seats;
 use std::alloc::AllocError;
-use tp_rules::effects::reserved_by;
 use tp_record::entries::Did;
 use tp_record::rows::TaskRow;
+use tp_rules::effects::reserved_by;
 use tp_types::ids::SlotId;
 
 /// The slot that an entry turns or frees, and does not reserve.

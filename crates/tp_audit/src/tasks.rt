@@ -11,10 +11,10 @@ ghost use Rattle.tp_audit.specs.Queued.{tasks_of, Keeps};
 use crate::named::{dropped_task, named_task};
 use crate::queue::Queue;
 use crate::rows::row_at;
-use tp_rules::effects::{is_submit, moved_to, swept};
-use tp_rules::next::{NO_ROW, row_after};
 use tp_record::entries::Did;
 use tp_record::rows::TaskRow;
+use tp_rules::effects::{is_submit, moved_to, swept};
+use tp_rules::next::{NO_ROW, row_after};
 use tp_types::ids::TaskId;
 use tp_types::tasks::Place;
 

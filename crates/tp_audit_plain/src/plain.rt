@@ -14,6 +14,8 @@ ghost use Rattle.tp_audit_plain.specs.Audit.{IsSummary, IsFlawOf, OneJudgment};
 
 use crate::summary::{Flaw, Summary};
 use std::alloc::Global;
+use tp_record::entries::{Did, Entry};
+use tp_record::rows::TaskRow;
 use tp_rules::build::snapshot;
 use tp_rules::counts::counts_of;
 use tp_rules::effects::{freed_by, reserved_by};
@@ -21,8 +23,6 @@ use tp_rules::lists::{push, with_room};
 use tp_rules::next::slot_of;
 use tp_rules::snapshot::Snapshot;
 use tp_rules::step::step;
-use tp_record::entries::{Did, Entry};
-use tp_record::rows::TaskRow;
 use tp_types::configs::Config;
 use tp_types::ids::SlotId;
 use tp_types::refusals::PoolError;

@@ -1,5 +1,6 @@
 -- What a machine's step does, as a step of the book, whichever step it is.
 use Rattle.std.proofs.Common.{◌≡◌, ◌⊎◌, ℕ, ◌<◌, ◌+◌, Bool, true, false, List, ◌∷◌, length, Option, Some, None, sym, ap, subst, refl, ◌∙◌, inl, inr}
+use Rattle.std.specs.Prelude.{IsSome}
 use Rattle.tp_types.specs.declared.configs.Config.{Config}
 use Rattle.tp_types.specs.declared.refusals.PoolError.{PoolError}
 use Rattle.tp_types.specs.declared.refusals.PoolError.TheVariants.{UnknownTask}
@@ -7,11 +8,17 @@ use Rattle.tp_record.specs.declared.entries.Entry.{Entry}
 use Rattle.tp_record.specs.declared.entries.Ask.{Ask}
 use Rattle.tp_record.specs.declared.entries.Ask.TheVariants as ask
 use Rattle.tp_record.specs.declared.entries.Did.{Did}
-use Rattle.tp_record.specs.Fields.{rank}
+use Rattle.tp_record.specs.Fields.{rank, slot_row}
+use Rattle.tp_record.specs.Packed.{HasSmallSlots}
+use Rattle.tp_record.specs.Asked.{asked as ask_of}
 use Rattle.tp_record.specs.Left.{left, asked, is_one_of}
 use Rattle.tp_record.specs.Lists.{is_among}
-use Rattle.tp_record.specs.State.{State, state}
-use Rattle.tp_laws.proofs.Left.Marks.{left_else}
+use Rattle.tp_record.specs.State.{State, slot_at, state}
+use Rattle.tp_laws.proofs.Left.Marks.{left_else, left_slots}
+use Rattle.tp_laws.proofs.Model.Readings.{slot_read}
+use Rattle.tp_laws.proofs.Model.Told.{told_legal}
+use Rattle.tp_laws.proofs.Asked.{gives_asked}
+use Rattle.tp_laws.proofs.Small.{IsSmall, small_between}
 use Rattle.tp_tasks.specs.declared.tasks.Tasks.{Tasks}
 use Rattle.tp_machine.specs.Seen.{Seen, At, config_of}
 use Rattle.tp_machine.specs.Steps.{IsStep, Stays, IsRefusedAt, NeedsMemory}
@@ -60,6 +67,26 @@ module _ {P R : Type 0} (told : R → List Entry → List ℕ → Type 0) (terms
   pub stayed : (mid new : Seen P R) (h : History) → IsHeld told terms mid h → Stays told mid new → IsHeld told terms new h
   stayed mid new h held stays =
       record { stands = stays.stands h.entries h.released held.stands; settings = held.settings; judged = stays.config ∙ held.judged }
+
+  -- what a step did tells what was asked
+  pub asked_step : (mid new : Seen P R) (h : History) (by : ℕ) (a asks : Ask) (d does : Did) → IsHeld told terms mid h → IsStep told mid new by a d → asks ≡ a → does ≡ d → asks ≡ ask_of does
+  asked_step mid new h by a asks d does held step is made =
+      is ∙ gives_asked (config_of mid) (left h.released (state (config_of mid) h.entries)) a d (step.gives h.entries h.released held.stands) ∙ sym (ap ask_of made)
+
+  -- the slots that a step's entry names have small numbers, where the slots before it and after it have
+  pub small_step : (mid new : Seen P R) (h : History) (by : ℕ) (a : Ask) (d said : Did) → IsHeld told terms mid h → IsStep told mid new by a d → said ≡ d → EachState told mid (λ s. (w : ℕ) → IsSome (slot_at s.slots w) → IsSmall w) →
+      EachState told new (λ s. (w : ℕ) → IsSome (slot_at s.slots w) → IsSmall w) → HasSmallSlots said
+  small_step mid new h by a d said held step made before after =
+      let e : Entry = record { by = by; ask = a; did = d } in
+      let at = step.writes h.entries h.released held.stands in
+      subst HasSmallSlots (sym made)
+      (small_between (config_of new) h.entries e
+      (λ w some. before h.entries h.released held.stands w (subst IsSome (sym (slots_left (config_of mid) h.released h.entries w)) some))
+      (λ w some. after (e ∷ h.entries) h.released at w (subst IsSome (sym (slots_left (config_of new) h.released (e ∷ h.entries) w)) some))
+      (told_legal (config_of new) (e ∷ h.entries) at.legal).0)
+    where
+      slots_left : (c : Config) (rs : List ℕ) (h : List Entry) (w : ℕ) → slot_at (left rs (state c h)).slots w ≡ slot_row h w
+      slots_left c rs h w = ap (λ xs. slot_at xs w) (left_slots rs (state c h)) ∙ slot_read h w
 
   -- a machine that stands at the history has its rank
   pub rank_at : (m : Seen P R) (h : History) (n : ℕ) → IsHeld told terms m h → EachState told m (λ s. n ≡ s.rank) → n ≡ rank h.entries

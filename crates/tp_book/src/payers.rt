@@ -1,6 +1,8 @@
 //! What a step adds to the pass that it is made with, a caller's or a worker's.
 ghost use Rattle.std.specs.Prelude.{◌≡◌, ◌+◌, ◌∷◌};
 ghost use Rattle.tp_types.specs.RunState.{state_rank};
+ghost use Rattle.tp_record.specs.Asked.{asked};
+ghost use Rattle.tp_record.specs.Packed.{HasSmallSlots};
 ghost use Rattle.tp_record.specs.Fields.{rank};
 ghost use Rattle.tp_glance.specs.Word.{IsFrontOf, with_entry};
 
@@ -8,6 +10,7 @@ use crate::accounts::Accounts;
 use crate::passes::{Pass, WorkerPass};
 use tp_glance::glance::{BookSeat, Glance, Naming};
 use tp_record::entries::Entry;
+use tp_record::packed::Packed;
 use tp_types::states::RunState;
 
 /// A pass that steps are made with. By this trait one body of a step serves callers and workers, and its proof stands
@@ -50,6 +53,8 @@ pub trait Payer<G: Naming> {
         entry: Entry,
     )
         requires ready { ready self.old entry.ask }
+        requires asked { entry.ask ≡ asked entry.did }
+        requires slots { HasSmallSlots entry.did }
         requires before { state_rank before ≡ rank seat.old.entries }
         requires after { state_rank after ≡ rank (entry ∷ seat.old.entries) }
         ensures total { accounts.new ≡ record accounts.old { total = accounts.old.total + 1 } }
@@ -154,7 +159,7 @@ impl<G: Naming> Payer<G> for Pass<G> {
         accounts.credit(&mut self.account);
         self.account.note(glance, seat, &entry, before, after);
         if self.keeps {
-            self.receipts.push_reserved(entry);
+            self.receipts.push_reserved(Packed::pack(entry));
         }
     }
 

@@ -10,15 +10,15 @@ ghost use Rattle.tp_book.specs.Reports.{IsOwn, TellsCount, TellsRecord, fates_of
 use crate::laws::same_steps;
 use tp_machine::machine::Machine;
 use tp_machine::machine::releases::Keeper;
-use tp_record::entries::Entry;
+use tp_record::packed::Packed;
 use tp_record::recorders::{Full, Recorder, Tally};
 use tp_types::states::Counts;
 
 /// The record and the counters of a closed pool.
 #[derive(Drop)]
 pub struct Report {
-    /// The record, the oldest entry first.
-    pub entries: Vec<Entry>,
+    /// The record, packed, the oldest entry first: `Packed::unpack` gives each entry.
+    pub entries: Vec<Packed>,
     /// The twelve counters at its end.
     pub counts: Counts,
 }
@@ -47,7 +47,7 @@ pub trait Reporter: Keeper {
     ghost told: { Config → List Entry → Self.Report → Type 0 };
 
     /// Whether these receipts are the entries of the pass of this number. Where no record is kept there are none to compare.
-    fn agrees<P>(machine: &Machine<P, Self>, by: u32, receipts: &[Entry]) -> bool
+    fn agrees<P>(machine: &Machine<P, Self>, by: u32, receipts: &[Packed]) -> bool
         ensures { (h : List EntryOf) (rs : List ℕ) → At Self.tells machine.now h rs → (IsTrue result ↔ IsOwn Self.RECEIPTS h by receipts.now) };
 
     /// What is told of the machine that is here, which made so many steps and has these counters. It takes no memory.
@@ -75,7 +75,7 @@ impl Reporter for Full {
 
     ghost told = { TellsRecord };
 
-    fn agrees<P>(machine: &Machine<P, Full>, by: u32, receipts: &[Entry]) -> bool {
+    fn agrees<P>(machine: &Machine<P, Full>, by: u32, receipts: &[Packed]) -> bool {
         same_steps(machine.entries(), by, receipts)
     }
 
@@ -104,7 +104,7 @@ impl Reporter for Tally {
 
     ghost told = { TellsCount };
 
-    fn agrees<P>(_machine: &Machine<P, Tally>, _by: u32, _receipts: &[Entry]) -> bool {
+    fn agrees<P>(_machine: &Machine<P, Tally>, _by: u32, _receipts: &[Packed]) -> bool {
         true
     }
 

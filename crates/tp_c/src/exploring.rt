@@ -11,9 +11,9 @@ use std::alloc::Global;
 use tp_explore_text::explored::explore_named;
 use tp_explore_text::files::read_plan;
 use tp_explore_text::texts::ends_text;
+use tp_explore_walk::systems::Unwatched;
 use tp_types::limits::MAX_TEXT_BYTES;
 use tp_types::refusals::PoolError;
-use tp_explore_walk::systems::Unwatched;
 
 /// The lines of all ends to which the interleavings of a text's callers lead; none where more than `most` states are reached. ReadFailed
 /// (25) for a text that is too long, else as `read_plan` and `explore_named`.

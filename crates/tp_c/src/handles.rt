@@ -23,6 +23,7 @@ use tp_machine::steps::Stepped;
 use tp_machine::typed::Step;
 use tp_machine::typed::asked::Asked;
 use tp_record::entries::Ask;
+use tp_record::packed::unpacked;
 use tp_record::recorders::{Full, Recorder, Tally};
 use tp_text::lines::clean_text;
 use tp_text::pools::{PoolLine, pool_of};
@@ -330,7 +331,10 @@ impl Handle {
         let Kept::Full(machine) = &self.kept else {
             return Status::WrongKind.number();
         };
-        match record_text(alloc, &self.config, machine.entries()) {
+        let Ok(entries) = unpacked(alloc, machine.entries()) else {
+            return Status::Refused(PoolError::NoMemory).number();
+        };
+        match record_text(alloc, &self.config, &entries) {
             Ok(text) => lay(text.as_slice(), Status::Done, room, needed),
             Err(error) => Status::Refused(error).number(),
         }

@@ -5,9 +5,9 @@ ghost use Rattle.tp_rules.specs.Snapshot.{shown};
 ghost use Rattle.tp_explore.specs.Moves as moves;
 ghost use Rattle.tp_explore.specs.Situation as situation;
 
+use tp_record::entries::{Did, Opened, Seconded};
 use tp_rules::next::{slot_of, task_at};
 use tp_rules::snapshot::Snapshot;
-use tp_record::entries::{Did, Opened, Seconded};
 use tp_types::ids::{SlotId, TaskId};
 use tp_types::tasks::Place;
 

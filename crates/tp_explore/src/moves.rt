@@ -11,12 +11,12 @@ use crate::deeds::{Deed, Mover, calls_of, deeds, settled};
 use crate::plans::{Call, Plan};
 use crate::states::State;
 use std::alloc::Global;
+use tp_record::entries::{Ask, Did};
 use tp_rules::answer::free_slot;
 use tp_rules::lists::copy_of;
 use tp_rules::next::next;
 use tp_rules::snapshot::Snapshot;
 use tp_rules::step::step;
-use tp_record::entries::{Ask, Did};
 use tp_types::ids::{SlotId, TaskId};
 use tp_types::refusals::PoolError;
 

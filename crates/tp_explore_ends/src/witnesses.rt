@@ -12,9 +12,9 @@ use std::alloc::Global;
 use tp_explore::moves::{Move, moves};
 use tp_explore::plans::Plan;
 use tp_explore::states::State;
-use tp_types::refusals::PoolError;
 use tp_explore_walk::graphs::Graph;
 use tp_explore_walk::trails::trail;
+use tp_types::refusals::PoolError;
 
 // The move of this number from a state.
 fn move_of(alloc: Global, plan: &Plan, state: &State, choice: usize) -> Result<Move, PoolError>

@@ -12,11 +12,11 @@ ghost use Rattle.tp_explore_text.specs.Ends.{AreTold, fate_text, task_text, text
 use crate::outcomes::write_outcome;
 use std::alloc::{AllocError, Global};
 use tp_explore::states::State;
+use tp_explore_walk::counts::Count;
+use tp_explore_walk::graphs::Graph;
 use tp_rules::next::task_at;
 use tp_types::states::RunState;
 use tp_types::tasks::{Fate, Outcome};
-use tp_explore_walk::counts::Count;
-use tp_explore_walk::graphs::Graph;
 
 /// The name of a submission.
 #[derive(Debug, Drop)]

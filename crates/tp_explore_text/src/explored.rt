@@ -9,12 +9,12 @@ ghost use Rattle.tp_explore_text.specs.Explored.{FindsEnd, IsExplored};
 use crate::ends::{End, ends_of, has_parts};
 use crate::files::Named;
 use std::alloc::{AllocError, Global};
-use tp_explore_ends::explored::explore;
 use tp_explore::states::State;
-use tp_types::refusals::PoolError;
+use tp_explore_ends::explored::explore;
 use tp_explore_walk::counts::count_ends;
 use tp_explore_walk::graphs::{Graph, Refusal};
 use tp_explore_walk::systems::Watch;
+use tp_types::refusals::PoolError;
 
 /// What was explored.
 #[derive(Drop)]

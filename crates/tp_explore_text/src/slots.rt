@@ -1,8 +1,8 @@
 //! The numbers that a pool gives its slots.
 
 use std::alloc::{AllocError, Global};
-use tp_rules::effects::{freed_by, reserved_by};
 use tp_record::entries::Did;
+use tp_rules::effects::{freed_by, reserved_by};
 use tp_types::ids::SlotId;
 
 /// The slots of the model beside those of the pool. The model gives a new slot the least number that is free, and the pool gives it the one

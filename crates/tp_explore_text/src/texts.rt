@@ -9,8 +9,8 @@ use crate::explored::Explored;
 use crate::scenarios::scenario;
 use std::alloc::{AllocError, Global};
 use tp_explore_ends::witnesses::witness;
-use tp_types::refusals::PoolError;
 use tp_explore_walk::counts::Count;
+use tp_types::refusals::PoolError;
 
 fn write_count(text: &mut String, count: Count) -> Result<(), AllocError>
     ensures { OnOk result (string_bytes text.new ≡ string_bytes text.old ++ count_text count) }

@@ -19,11 +19,11 @@ use std::sync::Wait;
 use std::thread::Threads;
 use std::time::{Clock, Duration};
 use tp_book::passes::Pass;
-use tp_pool_holds::names::PoolNaming;
 use tp_pool::PoolOf;
-use tp_protocols::jobs::Job;
-use tp_record::entries::Entry;
+use tp_pool_holds::names::PoolNaming;
 use tp_pool_threads::edges::Edge;
+use tp_protocols::jobs::Job;
+use tp_record::packed::Packed;
 use tp_types::refusals::PoolError;
 
 /// For how many milliseconds the end of a pool waits for a writer that takes nothing, where nobody says otherwise.
@@ -111,7 +111,7 @@ impl<
 pub fn ended_whole<W: Write + Drop>(
     alloc: Global,
     stopped: Stopped<W>,
-    entries: &[Entry],
+    entries: &[Packed],
 ) -> Ended<W>
     ensures { (before : Option (List ℕ)) (c : Settings) (known : List Told) → IfThrough stopped (IsJournalOf W.contents before c known) → IsFrontOf known (reverse entries.now)
         → IsWhole W.contents before (record_text Version.Two c entries.now) result }

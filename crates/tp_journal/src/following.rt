@@ -10,8 +10,8 @@ use std::sync::Wait;
 use std::time::{Clock, Duration};
 use tp_book::sights::Sight;
 use tp_pool_holds::names::PoolNaming;
-use tp_protocols::jobs::Job;
 use tp_pool_threads::edges::Edge;
+use tp_protocols::jobs::Job;
 use tp_types::refusals::PoolError;
 
 // Waits for so long, and writes what the window shows then. It answers whether the thread goes on: not where the window is shut, or the

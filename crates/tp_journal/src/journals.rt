@@ -17,10 +17,10 @@ use std::thread::{self, Promise, PromisedHandle, Threads};
 use std::time::{Clock, Duration};
 use tp_book::passes::Pass;
 use tp_book::sights::Sight;
-use tp_pool_holds::names::PoolNaming;
 use tp_pool::PoolOf;
-use tp_protocols::jobs::Job;
+use tp_pool_holds::names::PoolNaming;
 use tp_pool_threads::edges::Edge;
+use tp_protocols::jobs::Job;
 use tp_types::configs::Config;
 use tp_types::refusals::PoolError;
 

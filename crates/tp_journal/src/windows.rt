@@ -6,11 +6,11 @@ use std::alloc::Global;
 use std::sync::{Condvar, Mutex, Wait};
 use std::time::{Clock, Duration};
 use tp_book::sights::Sight;
-use tp_pool_holds::names::PoolNaming;
 use tp_pool::Handle;
+use tp_pool_holds::names::PoolNaming;
+use tp_pool_threads::edges::Edge;
 use tp_protocols::jobs::Job;
 use tp_record::entries::Entry;
-use tp_pool_threads::edges::Edge;
 use tp_types::refusals::PoolError;
 
 // What lies under the window's lock.

@@ -14,6 +14,7 @@ ghost use Rattle.tp_journal.specs.Journals.{HasWritten, IsJournalOf};
 use std::alloc::Global;
 use std::io::{self, Write};
 use tp_record::entries::Entry;
+use tp_record::packed::{Packed, unpacked};
 use tp_text::entries::write_entry;
 use tp_text_record::writing::record_text;
 use tp_types::configs::Config;
@@ -201,14 +202,17 @@ impl<W: Write> RecordWriter<W> {
     }
 
     // Writes those of a record's entries that are missing, and the last line, as `finish`.
-    fn write_rest(&mut self, alloc: Global, entries: &[Entry]) -> Result<(), PoolError>
+    fn write_rest(&mut self, alloc: Global, entries: &[Packed]) -> Result<(), PoolError>
         ensures whole { OnOk result ((before : Option (List ℕ)) (c : Settings) (known : List Told) → IsJournalOf W.contents before c known self.old → IsFrontOf known (reverse entries.now) → Appends before (W.contents self.new.writer) (text_of Version.Two c entries.now)) }
         ensures refused { IfErr result (λ e. (e ≡ PoolError.NoMemory) ⊎ (e ≡ PoolError.BookFull) ⊎ ((e ≡ PoolError.TornRecord) × (length entries.now < self.old.entries)) ⊎ ((e ≡ PoolError.WriteFailed) × IsSome self.new.failure)) }
     {
         let Some(rest) = entries.get(self.entries..) else {
             return Err(PoolError::TornRecord);
         };
-        match self.add(alloc, rest) {
+        let Ok(rest) = unpacked(alloc, rest) else {
+            return Err(PoolError::NoMemory);
+        };
+        match self.add(alloc, rest.as_slice()) {
             Ok(()) => self.end(alloc),
             Err(refusal) => Err(refusal),
         }
@@ -219,7 +223,7 @@ impl<W: Write> RecordWriter<W> {
     ///
     /// NoMemory (4), behind which it may be called again, or WriteFailed (26). TornRecord (22) where the record has fewer entries than were
     /// written. BookFull (5) does not come.
-    pub fn finish(self, alloc: Global, entries: &[Entry]) -> Result<W, Cut<W>>
+    pub fn finish(self, alloc: Global, entries: &[Packed]) -> Result<W, Cut<W>>
         ensures whole { IfOk result (λ w. (before : Option (List ℕ)) (c : Settings) (known : List Told) → IsJournalOf W.contents before c known self → IsFrontOf known (reverse entries.now) → Appends before (W.contents w) (text_of Version.Two c entries.now)) }
         ensures refused { IfErr result (λ cut. (cut.error ≡ PoolError.NoMemory) ⊎ (cut.error ≡ PoolError.BookFull) ⊎ ((cut.error ≡ PoolError.TornRecord) × (length entries.now < self.entries)) ⊎ ((cut.error ≡ PoolError.WriteFailed) × IsSome cut.writer.failure)) }
     {

@@ -31,6 +31,8 @@ pub mod InLine
 pub mod Sums
 pub mod Counting
 pub mod Sizes
+pub mod Asked
+pub mod Small
 pub mod Serves
 pub mod Rescues
 pub mod AllLaws

@@ -5,3 +5,4 @@ pub mod IdleLine
 pub mod Room
 pub mod Laws
 pub mod Lawful
+pub mod Reserved

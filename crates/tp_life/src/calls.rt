@@ -2,15 +2,15 @@
 
 use std::sync::Wait;
 use std::time::{Clock, Duration};
-use tp_pool_holds::answers::{Admitted, Drained, Refused, Removal};
+use tp_life_values::tasks::{Find, Held, Task};
 use tp_pool::readings::Reading;
 use tp_pool::task_of;
+use tp_pool_holds::answers::{Admitted, Drained, Refused, Removal};
 use tp_record::entries::{Ask, Did};
 use tp_types::ids::TaskId;
 use tp_types::refusals::PoolError;
 use tp_types::states::RunState;
 use tp_types::tasks::Kind;
-use tp_life_values::tasks::{Find, Held, Task};
 
 /// What a caller may set.
 #[derive(Clone, Copy)]

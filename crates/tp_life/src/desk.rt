@@ -2,12 +2,12 @@
 
 use std::sync::{Condvar, Mutex, Wait};
 use std::thread::Threads;
-use tp_pool_holds::names::PoolNaming;
 use tp_machine::machine::releases::Keeper;
 use tp_pool::PoolOf;
 use tp_pool::orders::Order;
-use tp_protocols::jobs::Job;
+use tp_pool_holds::names::PoolNaming;
 use tp_pool_threads::edges::Edge;
+use tp_protocols::jobs::Job;
 
 // Where the desk stands: one order at a time.
 #[derive(Clone, Copy, Drop)]

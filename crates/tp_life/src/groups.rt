@@ -12,11 +12,11 @@ use crate::calls::{Calls, Ticket};
 use crate::running::Told;
 use std::alloc::Global;
 use std::time::Duration;
+use tp_life_values::tasks::Task;
 use tp_pool_holds::answers::Refused;
 use tp_types::ids::TaskId;
 use tp_types::refusals::PoolError;
 use tp_types::tasks::Kind;
-use tp_life_values::tasks::Task;
 
 /// Tasks of a group with their tickets, as an `ExecutorCompletionService`. Two of one number share their done tasks: so each group of a
 /// pool has a number of its own.

@@ -21,20 +21,20 @@ pub mod prelude {
     pub use crate::ticking::{End, with_ticker};
     pub use std::thread::sleep;
     pub use std::time::Duration;
+    pub use tp_book::reports::{Report, TallyReport};
+    pub use tp_journal::endings::{Ended, Wish, wish_at};
+    pub use tp_life_values::oneshot::{Receiver, Sender, oneshot};
+    pub use tp_life_values::tasks::{Call, Closure, Task, job};
     pub use tp_pool_advice::makers::{by_processors, cached, single};
     pub use tp_pool_advice::reasons::Reason;
     pub use tp_pool_advice::sizes::for_jobs;
-    pub use tp_book::reports::{Report, TallyReport};
-    pub use tp_journal::endings::{Ended, Wish, wish_at};
     pub use tp_pool_holds::answers::{Admitted, Drained, Refused, Removal};
-    pub use tp_protocols::flags::CancelFlag;
     pub use tp_pool_threads::defaults::Defaults;
     pub use tp_pool_threads::edges::Edge;
+    pub use tp_protocols::flags::CancelFlag;
     pub use tp_types::configs::{Config, Policy, QueueKind, Verdict};
     pub use tp_types::ids::{SlotId, TaskId};
     pub use tp_types::refusals::PoolError;
     pub use tp_types::states::{Counts, RunState};
     pub use tp_types::tasks::Fate;
-    pub use tp_life_values::oneshot::{Receiver, Sender, oneshot};
-    pub use tp_life_values::tasks::{Call, Closure, Task, job};
 }

@@ -19,15 +19,15 @@ use std::time::Clock;
 use tp_book::opening::Unopened;
 use tp_book::passes::Pass;
 use tp_book::reports::{Report, Reporter, TallyReport};
-use tp_pool_holds::names::PoolNaming;
+use tp_life_values::tasks::{Held, Task};
 use tp_machine::machine::releases::Keeper;
 use tp_pool::{PoolOf, Runtime};
+use tp_pool_holds::names::PoolNaming;
+use tp_pool_threads::edges::Edge;
 use tp_protocols::jobs::Job;
 use tp_record::recorders::{Full, Tally};
-use tp_pool_threads::edges::Edge;
 use tp_types::configs::Config;
 use tp_types::refusals::PoolError;
-use tp_life_values::tasks::{Held, Task};
 
 /// Opens a pool with these settings and objects, has so many callers live with it, each in a thread of its own, and ends it: it is
 /// shut down where no caller did so, it is waited for, and it is closed. So each job that it accepted has run, or was handed back

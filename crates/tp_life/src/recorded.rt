@@ -17,13 +17,13 @@ use tp_book::passes::Pass;
 use tp_book::reports::Report;
 use tp_journal::endings::{Ended, Wish, ended_whole};
 use tp_journal::journals::Journal;
-use tp_pool_holds::names::PoolNaming;
+use tp_life_values::tasks::{Held, Task};
 use tp_pool::{PoolOf, Runtime};
-use tp_record::recorders::Full;
+use tp_pool_holds::names::PoolNaming;
 use tp_pool_threads::edges::Edge;
+use tp_record::recorders::Full;
 use tp_types::configs::Config;
 use tp_types::refusals::PoolError;
-use tp_life_values::tasks::{Held, Task};
 
 /// As `with_pool`, with a journal, where one is wished for: a thread of its own writes the record's text while the pool runs. A process
 /// that is killed leaves a record that is cut off. The pool waits for the writer at no step, and at its end for as long as the wish says.

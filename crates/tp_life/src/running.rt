@@ -8,11 +8,11 @@ ghost use Rattle.tp_life.specs.Ran.{AreRun, AreTallied, IsTold, Pairwise};
 use std::alloc::Global;
 use std::sync::Wait;
 use tp_book::reports::{Report, TallyReport};
+use tp_life_values::tasks::{Find, Held, Task};
 use tp_pool::{Answer, Runtime, run_all, run_all_with_tally};
 use tp_pool_threads::edges::Edge;
 use tp_types::configs::Config;
 use tp_types::refusals::PoolError;
-use tp_life_values::tasks::{Find, Held, Task};
 
 /// What became of a task: its value, or why it has none.
 pub type Told<V> = Result<V, PoolError>;

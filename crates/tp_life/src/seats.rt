@@ -8,19 +8,19 @@ use std::alloc::Global;
 use std::sync::{Arc, Wait};
 use std::time::{Clock, Duration};
 use tp_book::passes::Pass;
-use tp_pool_holds::answers::{Admitted, Drained, Refused, Removal};
-use tp_pool_holds::names::PoolNaming;
+use tp_life_values::tasks::{Find, Held, Task, VOID};
 use tp_machine::machine::releases::Keeper;
 use tp_machine::typed::submitters::Submit;
 use tp_pool::Handle;
 use tp_pool::readings::Reading;
-use tp_protocols::flags::CancelFlag;
+use tp_pool_holds::answers::{Admitted, Drained, Refused, Removal};
+use tp_pool_holds::names::PoolNaming;
 use tp_pool_threads::edges::Edge;
+use tp_protocols::flags::CancelFlag;
 use tp_types::ids::TaskId;
 use tp_types::refusals::PoolError;
 use tp_types::states::RunState;
 use tp_types::tasks::{Kind, Outcome};
-use tp_life_values::tasks::{Find, Held, Task, VOID};
 
 /// A caller's pass of a pool, with the pool, the desk where its callers ask for workers, the runtime by which it waits, and
 /// the allocator of the places of its tasks' values.

@@ -10,12 +10,12 @@ use std::alloc::Global;
 use std::sync::{Condvar, Mutex, Wait};
 use std::time::{Clock, Duration, Instant};
 use tp_book::reports::Report;
+use tp_life_values::tasks::Task;
 use tp_pool::Runtime;
 use tp_pool::readings::Reading;
 use tp_pool_threads::edges::Edge;
 use tp_types::configs::Config;
 use tp_types::refusals::PoolError;
-use tp_life_values::tasks::Task;
 
 /// What came of a caller of `with_ticker`.
 #[derive(Drop)]

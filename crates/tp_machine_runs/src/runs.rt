@@ -12,6 +12,7 @@ ghost use Rattle.tp_machine_runs.specs.Runs.{AllPromise, IfOutcome};
 use std::alloc::Global;
 use tp_machine::machine::Machine;
 use tp_record::entries::{Ask, Did, Entry};
+use tp_record::packed::unpacked;
 use tp_record::recorders::Recorder;
 use tp_types::configs::Config;
 use tp_types::refusals::PoolError;
@@ -85,8 +86,8 @@ pub fn run_asks(alloc: Global, config: Config, asks: &[(u32, Ask)]) -> Result<Ru
     for &(by, ask) in asks {
         answers.push_reserved(answer(&mut machine, by, ask));
     }
-    Ok(Run {
-        entries: machine.into_entries(),
-        answers,
-    })
+    let Ok(entries) = unpacked(alloc, machine.entries()) else {
+        return Err(PoolError::NoMemory);
+    };
+    Ok(Run { entries, answers })
 }

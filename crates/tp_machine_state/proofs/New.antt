@@ -47,10 +47,10 @@ module _ {P : Type 0} where
         due = 4;
       }
 
-  pub new_parts : (c : Config) (limit : ℕ) (tasks : Tasks P) (queue : Queue) (slots : Table) → IsConfig c → (c.record_limit ≤ limit) × (limit < 2 ^ 64) → waiting_of queue ≡ first_waiting c.queue →
+  pub new_parts : (c : Config) (limit : ℕ) (room : ℕ) (tasks : Tasks P) (queue : Queue) (slots : Table) → IsConfig c → (c.record_limit ≤ limit) × (limit < 2 ^ 64) → waiting_of queue ≡ first_waiting room c.queue →
       slots.slots ≡ [] → slots.idling ≡ [] → slots.places ≡ c.maximum → slots.idlings ≡ 0 →
       HasNone tasks → IsNew (record c { record_limit = limit }) (first_parts c limit tasks queue slots)
-  new_parts c limit tasks queue slots config within first none unordered places idled nothing =
+  new_parts c limit room tasks queue slots config within first none unordered places idled nothing =
       record {
         shows = record {
           entries = refl;

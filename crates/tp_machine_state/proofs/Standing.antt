@@ -1,6 +1,6 @@
 -- What is known where structures stand.
 use Rattle.std.proofs.Common.{◌≡◌, ℕ, suc, ◌+◌, ◌-◌, ◌^◌, ◌<◌, ◌≤◌, Bool, true, false, List, Option, Some, None, Ok, Err, cond, arith, refl, sym, ap, ap₂, subst, ◌∙◌}
-use Rattle.std.specs.Prelude.{unwrap_or, ◌↔◌, ◌&&◌, not}
+use Rattle.std.specs.Prelude.{unwrap_or, IsSome, ◌↔◌, ◌&&◌, not}
 use Rattle.std.proofs.lemmas.Bool.{le-leb, lt-ltb, true≢false}
 use Rattle.tp_types.specs.declared.configs.Config.{Config}
 use Rattle.tp_types.specs.declared.ids.TaskId.{TaskId}
@@ -19,10 +19,13 @@ use Rattle.tp_laws.proofs.Left.Marks.{fits_whole}
 use Rattle.tp_record.specs.State.{State, state, next, slot_at, task_at, due}
 use Rattle.tp_record.specs.declared.rows.TaskRow.{TaskRow}
 use Rattle.tp_record.specs.Step.{Gives, Legal, fitting, within_room, leaves_room}
+use Rattle.tp_record.specs.Packed.{HasSmallSlots}
 use Rattle.tp_laws.proofs.Model.Weak.{within, has_room}
 use Rattle.tp_laws.proofs.Model.Given.{Given, IsAt, HasRow}
 use Rattle.tp_laws.proofs.Model.Readings.{tasks_counted, row_read, slot_read}
 use Rattle.tp_laws.proofs.Model.Told.{given_answer, sound_legal}
+use Rattle.tp_laws.proofs.Small.{AreSmall, IsSmall, reserved_few, small_given}
+use Rattle.tp_laws.specs.Reserved.{TakesNext}
 use Rattle.tp_laws.specs.Room.{lowers}
 use Rattle.tp_laws.proofs.OwedLaws.{owed_falls, room_is_enough}
 use Rattle.tp_machine_state.specs.declared.parts.Parts.{Parts}
@@ -126,6 +129,13 @@ module _ {P : Type 0} (p : Parts P) (stands : Stands p) where
   -- a slot with this row
   pub seat_here : (w : ℕ) (stage : Stage) (task : Option TaskId) → HasRow stands.history w stage task → slot_at p.slots.slots w ≡ Some (record { stage = stage; task = task })
   seat_here w stage task is = sym (stands.shows.seen.seats w) ∙ slot_read stands.history w ∙ is
+
+  -- where the slots and the next one have small numbers, so have those that an answer names which fits
+  pub small_here : (a : Ask) (d : Did) → ((w : ℕ) → IsSome (slot_at p.slots.slots w) → IsSmall w) → IsSmall p.slots.next → Fits p a d → TakesNext p.slots.next d → HasSmallSlots d
+  small_here a d small next fits is =
+      let rows : AreSmall stands.history = λ w some. small w (subst IsSome (sym (slot_read stands.history w) ∙ stands.shows.seen.seats w) some) in
+      let given = given_here a d fits in
+      small_given (terms p) stands.history rows d given (reserved_few (terms p) stands.history rows p.slots.next next d given is)
 
   -- what an entry lowers what is owed by is owed
   pub owed_here : (d : Did) (v : View) (fall rise : ℕ) → Effect (state (terms p) stands.history) d v fall rise → fall ≤ p.due + rise

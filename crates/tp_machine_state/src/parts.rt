@@ -50,12 +50,13 @@ pub struct Parts<P> {
 impl<P> Parts<P> {
     /// A pool that runs, at tick 0, and keeps its tasks in these, of which there are none yet. The places of a bounded queue
     /// and those of the slots below the maximum are taken here; an error is want of memory, refusal 4. It is full at so many
-    /// entries, no fewer than the settings say.
+    /// entries, no fewer than the settings say. Where its queue is unbounded, it has room for so many tasks from now on.
     pub fn new(
         alloc: Global,
         config: Config,
         limit: u64,
         tasks: Tasks<P>,
+        room: u32,
     ) -> Result<Parts<P>, AllocError>
     where
         P: Drop,
@@ -64,7 +65,7 @@ impl<P> Parts<P> {
         requires none { HasNone tasks }
         ensures { IfOk result (IsNew (record config { record_limit = limit })) }
     {
-        let queue = Queue::new(alloc, config.queue)?;
+        let queue = Queue::new(alloc, config.queue, room)?;
         let slots = Slots::new(alloc, config.maximum as usize)?;
         Ok(Parts {
             config,

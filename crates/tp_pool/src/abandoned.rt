@@ -9,8 +9,8 @@ use tp_book::passes::Pass;
 use tp_glance::glance::Glance;
 use tp_pool_holds::locked::Core;
 use tp_pool_holds::names::PoolNaming;
-use tp_record::recorders::Tally;
 use tp_pool_threads::edges::Edge;
+use tp_record::recorders::Tally;
 use tp_types::ids::TaskId;
 use tp_types::refusals::PoolError;
 

@@ -4,13 +4,13 @@
 //! such an object: `Pool::new` would then be proved of the objects alone that it makes.
 
 use std::sync::{Mutex, Wait};
+use tp_pool_threads::edges::Edge;
 use tp_protocols::factories::ThreadFactory;
 use tp_protocols::flags::CancelFlag;
 use tp_protocols::gates::{Gate, Point};
 use tp_protocols::handlers::RejectionHandler;
 use tp_protocols::hooks::Hooks;
 use tp_protocols::jobs::Job;
-use tp_pool_threads::edges::Edge;
 use tp_types::configs::Verdict;
 use tp_types::ids::{SlotId, TaskId};
 use tp_types::states::RunState;

@@ -10,13 +10,13 @@ use std::sync::{Arc, Wait};
 use std::thread;
 use tp_book::passes::Pass;
 pub use tp_book::reports::{Report, Reporter, TallyReport};
-use tp_pool_holds::names::PoolNaming;
 use tp_machine::machine::releases::Keeper;
-use tp_protocols::jobs::Job;
-use tp_record::recorders::Full;
+use tp_pool_holds::names::PoolNaming;
 use tp_pool_threads::closing::Reopened;
 use tp_pool_threads::edges::Edge;
 use tp_pool_threads::shared::Shared;
+use tp_protocols::jobs::Job;
+use tp_record::recorders::Full;
 use tp_types::refusals::PoolError;
 
 /// The answer of a close that was refused: the pool comes back, with the passes that were handed in, or with the one pass of

@@ -9,14 +9,14 @@ ghost use Rattle.tp_pool_holds.specs.Steps.{Removes, removal_of};
 use crate::pool::PoolOf;
 use std::sync::Wait;
 use tp_book::passes::Pass;
-use tp_pool_holds::answers::Removal;
-use tp_pool_holds::names::PoolNaming;
-use tp_pool_holds::tasks::Task;
 use tp_machine::machine::releases::Keeper;
 use tp_machine::typed::controllers::{Cancel, Purge, Remove};
 use tp_machine::typed::settings::{CoreTimeout, Keep, Maximum, Tick};
-use tp_record::entries::{Ask, Did};
+use tp_pool_holds::answers::Removal;
+use tp_pool_holds::names::PoolNaming;
+use tp_pool_holds::tasks::Task;
 use tp_pool_threads::edges::Edge;
+use tp_record::entries::{Ask, Did};
 use tp_types::ids::TaskId;
 use tp_types::refusals::PoolError;
 

@@ -15,13 +15,13 @@ use crate::pool::PoolOf;
 use std::sync::Wait;
 use std::thread::Threads;
 use tp_book::passes::Pass;
-use tp_pool_holds::answers::Drained;
-use tp_pool_holds::names::PoolNaming;
 use tp_machine::machine::releases::Keeper;
 use tp_machine::typed::controllers::Shutdown;
+use tp_pool_holds::answers::Drained;
+use tp_pool_holds::names::PoolNaming;
+use tp_pool_threads::edges::Edge;
 use tp_protocols::jobs::Job;
 use tp_record::entries::{Ask, Did};
-use tp_pool_threads::edges::Edge;
 use tp_types::refusals::PoolError;
 
 impl<

@@ -9,12 +9,12 @@ use crate::closing::CloseFault;
 use crate::pool::PoolOf;
 use std::thread;
 use tp_book::passes::Pass;
-use tp_pool_holds::names::PoolNaming;
 use tp_machine::machine::releases::Keeper;
 use tp_machine::typed::controllers::Shutdown;
+use tp_pool_holds::names::PoolNaming;
+use tp_pool_threads::edges::Edge;
 use tp_protocols::jobs::Job;
 use tp_protocols::rescues::Remains;
-use tp_pool_threads::edges::Edge;
 use tp_types::refusals::PoolError;
 use tp_types::states::RunState;
 

@@ -11,12 +11,12 @@ ghost use Rattle.tp_pool.specs.Admissions.{task_of as task_of_admitted};
 use crate::pool::PoolOf;
 use std::sync::Wait;
 use tp_book::passes::Pass;
-use tp_pool_holds::answers::Admitted;
-use tp_pool_holds::names::PoolNaming;
 use tp_machine::machine::releases::Keeper;
 use tp_machine::typed::controllers::TakeDone;
-use tp_record::entries::{Ask, Did};
+use tp_pool_holds::answers::Admitted;
+use tp_pool_holds::names::PoolNaming;
 use tp_pool_threads::edges::Edge;
+use tp_record::entries::{Ask, Did};
 use tp_types::ids::TaskId;
 use tp_types::refusals::PoolError;
 

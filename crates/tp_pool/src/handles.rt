@@ -9,11 +9,11 @@ use crate::pool::{Hold, PoolOf};
 use std::ops::Deref;
 use std::sync::{Arc, Wait};
 use tp_book::passes::Pass;
-use tp_pool_holds::names::PoolNaming;
 use tp_machine::machine::releases::Keeper;
+use tp_pool_holds::names::PoolNaming;
+use tp_pool_threads::edges::Edge;
 use tp_protocols::jobs::Job;
 use tp_record::recorders::Full;
-use tp_pool_threads::edges::Edge;
 use tp_types::refusals::PoolError;
 
 /// The answer of a close with one pass that was refused: the pool comes back, with the pass.

@@ -13,9 +13,9 @@ use tp_book::passes::Pass;
 use tp_glance::glance::Glance;
 use tp_pool_holds::locked::Core;
 use tp_pool_holds::names::PoolNaming;
+use tp_pool_threads::edges::Edge;
 use tp_protocols::jobs::Job;
 use tp_record::recorders::{Recorder, Tally};
-use tp_pool_threads::edges::Edge;
 use tp_types::ids::TaskId;
 use tp_types::refusals::PoolError;
 

@@ -3,7 +3,8 @@ ghost use Rattle.std.specs.Prelude.{◌≡◌, All, Any, count_by, IfSome, IfNon
 ghost use Rattle.tp_pool.specs.Outcomes.{Gives, GivesNone, is_fault};
 
 use crate::closing::Report;
-use tp_record::entries::{Did, Entry};
+use tp_record::entries::Did;
+use tp_record::packed::Packed;
 use tp_types::ids::TaskId;
 use tp_types::tasks::Outcome;
 
@@ -12,8 +13,8 @@ pub fn outcome_of(report: &Report, t: TaskId) -> Option<Outcome>
     ensures some { IfSome result (λ o. Any (Gives t.0 o) report.now.entries.items) }
     ensures none { IfNone result (All (GivesNone t.0) report.now.entries.items) }
 {
-    for entry in &report.entries {
-        if let Some(outcome) = given(entry, t) {
+    for packed in &report.entries {
+        if let Some(outcome) = given(packed, t) {
             return Some(outcome);
         }
     }
@@ -21,11 +22,11 @@ pub fn outcome_of(report: &Report, t: TaskId) -> Option<Outcome>
 }
 
 // The outcome that an entry gives this task, if it gives one.
-fn given(entry: &Entry, t: TaskId) -> Option<Outcome>
-    ensures some { IfSome result (λ o. Gives t.0 o entry.now) }
-    ensures none { IfNone result (GivesNone t.0 entry.now) }
+fn given(packed: &Packed, t: TaskId) -> Option<Outcome>
+    ensures some { IfSome result (λ o. Gives t.0 o packed.now) }
+    ensures none { IfNone result (GivesNone t.0 packed.now) }
 {
-    match entry.did {
+    match packed.unpack().did {
         Did::End(_, task, outcome) if task == t => Some(outcome),
         Did::CallerEnd(task, outcome) if task == t => Some(outcome),
         _ => None,
@@ -37,8 +38,8 @@ pub fn faulted(report: &Report) -> usize
     ensures { result ≡ count_by is_fault report.now.entries.items }
 {
     let mut faults = 0;
-    for entry in &report.entries {
-        if says_fault(entry) {
+    for packed in &report.entries {
+        if says_fault(packed) {
             faults += 1;
         }
     }
@@ -46,11 +47,11 @@ pub fn faulted(report: &Report) -> usize
 }
 
 // Whether a body ended with a fault by this entry.
-fn says_fault(entry: &Entry) -> bool
-    ensures { result ≡ is_fault entry.now }
+fn says_fault(packed: &Packed) -> bool
+    ensures { result ≡ is_fault packed.now }
 {
     matches!(
-        entry.did,
+        packed.unpack().did,
         Did::End(_, _, Err(_)) | Did::CallerEnd(_, Err(_))
     )
 }

@@ -4,12 +4,12 @@ use crate::orders::Order;
 use crate::pool::{Hold, PoolOf};
 use std::sync::Wait;
 use std::thread::Threads;
-use tp_pool_holds::names::PoolNaming;
 use tp_machine::machine::releases::Keeper;
-use tp_protocols::jobs::Job;
-use tp_protocols::rescues::Remains;
+use tp_pool_holds::names::PoolNaming;
 use tp_pool_threads::edges::Edge;
 use tp_pool_threads::rescues::rescue_with_own;
+use tp_protocols::jobs::Job;
+use tp_protocols::rescues::Remains;
 
 impl<
     G: PoolNaming + Send + Sync + 'static,

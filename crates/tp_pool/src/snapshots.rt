@@ -14,13 +14,13 @@ use std::fmt;
 use std::sync::Wait;
 use tp_book::sights::Sight;
 use tp_glance::glance::Glance;
+use tp_machine::machine::releases::Keeper;
 pub use tp_pool_holds::locked::Busy;
 use tp_pool_holds::locked::Core;
 use tp_pool_holds::names::PoolNaming;
-use tp_machine::machine::releases::Keeper;
+use tp_pool_threads::edges::Edge;
 use tp_protocols::jobs::Job;
 use tp_record::entries::Entry;
-use tp_pool_threads::edges::Edge;
 use tp_types::refusals::PoolError;
 use tp_types::states::{Counts, RunState};
 

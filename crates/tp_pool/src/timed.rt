@@ -14,11 +14,11 @@ use crate::pool::PoolOf;
 use std::sync::Wait;
 use std::time::{Clock, Duration, Instant};
 use tp_book::passes::Pass;
+use tp_machine::machine::releases::Keeper;
 use tp_pool_holds::locked::Look;
 use tp_pool_holds::names::PoolNaming;
-use tp_machine::machine::releases::Keeper;
-use tp_record::entries::{Ask, Did};
 use tp_pool_threads::edges::Edge;
+use tp_record::entries::{Ask, Did};
 use tp_types::ids::TaskId;
 use tp_types::refusals::PoolError;
 

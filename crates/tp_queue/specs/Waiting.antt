@@ -27,16 +27,16 @@ key_bound k offers = if is_ranked k then 2 ^ 96 else offers
 abbrev pub waiting_in : QueueKind → Line TaskId → Waiting
 waiting_in k l = record { kind = k; items = l.items; capacity = l.capacity; offers = l.offers }
 
--- how many places a queue of this kind has at first
-abbrev pub first_places : QueueKind → ℕ
-first_places Handoff = 0
-first_places Unbounded = 0
-first_places (Bounded n) = n
-first_places Priority = 0
+-- how many places a queue of this kind has at first, where an unbounded one is made with room for so many
+abbrev pub first_places : ℕ → QueueKind → ℕ
+first_places room Handoff = 0
+first_places room Unbounded = room
+first_places room (Bounded n) = n
+first_places room Priority = 0
 
--- an empty queue of this kind, without an accepted offer so far
-abbrev pub first_waiting : QueueKind → Waiting
-first_waiting k = record { kind = k; items = []; capacity = first_places k; offers = 0 }
+-- an empty queue of this kind, made with such room, without an accepted offer so far
+abbrev pub first_waiting : ℕ → QueueKind → Waiting
+first_waiting room k = record { kind = k; items = []; capacity = first_places room k; offers = 0 }
 
 -- a queue of this kind may have so many places: an unbounded one has what was reserved
 abbrev pub HasPlaces : QueueKind → ℕ → Type 0

@@ -29,7 +29,7 @@ impl Model for Bounded {
 impl Bounded {
     /// An empty queue of this capacity, whose places are written once here. `AllocError` is refusal 4.
     pub fn new(alloc: Global, capacity: u32) -> Result<Bounded, AllocError>
-        ensures { IfOk result (λ q. q ≡ first_waiting (Places capacity)) }
+        ensures { IfOk result (λ q. q ≡ first_waiting 0 (Places capacity)) }
     {
         Ok(Bounded {
             line: Line::written(alloc, capacity as usize, TaskId(0))?,

@@ -13,7 +13,7 @@ use tp_types::ids::TaskId;
 pub struct HandoffQueue;
 
 impl WorkQueue for HandoffQueue {
-    ghost waiting = { λ _. first_waiting NoPlaces };
+    ghost waiting = { λ _. first_waiting 0 NoPlaces };
 
     #[inline(always)]
     fn law_is_lawful(&self) {}

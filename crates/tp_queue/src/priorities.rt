@@ -30,7 +30,7 @@ impl Model for Priority {
 impl Priority {
     /// An empty queue without places.
     pub fn new(alloc: Global) -> Priority
-        ensures { result ≡ first_waiting ByPriority }
+        ensures { result ≡ first_waiting 0 ByPriority }
     {
         Priority {
             ranking: Ranking::new(alloc),

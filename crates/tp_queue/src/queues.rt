@@ -27,14 +27,14 @@ impl Queue {
     ghost use Rattle.tp_queue.specs.Queues.{waiting_of};
     ghost use Rattle.tp_queue.specs.Waiting.{first_waiting};
 
-    /// An empty queue of this kind. A bounded one has its places from now on; `AllocError` is
-    /// refusal 4.
-    pub fn new(alloc: Global, kind: QueueKind) -> Result<Queue, AllocError>
-        ensures { IfOk result (λ q. waiting_of q ≡ first_waiting kind) }
+    /// An empty queue of this kind. A bounded one has its places from now on, and an unbounded one so many as `room` says:
+    /// they are written here, so that no page of them is touched first where a task comes. `AllocError` is refusal 4.
+    pub fn new(alloc: Global, kind: QueueKind, room: u32) -> Result<Queue, AllocError>
+        ensures { IfOk result (λ q. waiting_of q ≡ first_waiting room kind) }
     {
         match kind {
             QueueKind::Handoff => Ok(Queue::Handoff(HandoffQueue)),
-            QueueKind::Unbounded => Ok(Queue::Unbounded(Unbounded::new(alloc)?)),
+            QueueKind::Unbounded => Ok(Queue::Unbounded(Unbounded::new(alloc, room)?)),
             QueueKind::Bounded(capacity) => Ok(Queue::Bounded(Bounded::new(alloc, capacity)?)),
             QueueKind::Priority => Ok(Queue::Priority(Priority::new(alloc))),
         }

@@ -27,12 +27,12 @@ impl Model for Unbounded {
 }
 
 impl Unbounded {
-    /// An empty queue without places. `AllocError` is refusal 4.
-    pub fn new(alloc: Global) -> Result<Unbounded, AllocError>
-        ensures { IfOk result (λ q. q ≡ first_waiting AnyNumber) }
+    /// An empty queue with this many places, which are written once here. `AllocError` is refusal 4.
+    pub fn new(alloc: Global, room: u32) -> Result<Unbounded, AllocError>
+        ensures { IfOk result (λ q. q ≡ first_waiting room AnyNumber) }
     {
         Ok(Unbounded {
-            line: Line::with_capacity(alloc, 0)?,
+            line: Line::written(alloc, room as usize, TaskId(0))?,
         })
     }
 }

@@ -1,6 +1,8 @@
 //! The entries of a record: one for each step that the pool accepted, with what was asked and what
 //! was done.
 
+ghost use Rattle.std.specs.Prelude.{◌≡◌};
+
 use tp_types::configs::Verdict;
 use tp_types::ids::{SlotId, TaskId};
 use tp_types::tasks::{Kind, Outcome};
@@ -235,4 +237,44 @@ pub struct Entry {
     pub ask: Ask,
     /// What was done.
     pub did: Did,
+}
+
+impl Did {
+    ghost use Rattle.tp_record.specs.Asked.{asked};
+
+    /// What was asked: each answer tells the one ask that it answers.
+    #[inline(always)]
+    pub fn ask(self) -> Ask
+        ensures { result ≡ asked self }
+    {
+        match self {
+            Did::Submit(_, kind, priority, _) => Ask::Submit(kind, priority),
+            Did::Look(t, _) => Ask::Look(t),
+            Did::Offer(t, _) => Ask::Offer(t),
+            Did::Second(t, _) => Ask::Second(t),
+            Did::Grow(t, _) => Ask::Grow(t),
+            Did::Verdict(t, verdict, _) => Ask::Verdict(t, verdict),
+            Did::CallerEnd(t, outcome) => Ask::CallerEnd(t, outcome),
+            Did::Open(w, _) => Ask::Open(w),
+            Did::Fail(w, _) => Ask::Fail(w),
+            Did::Take(w, _) => Ask::Take(w),
+            Did::Begin(w, _) => Ask::Begin(w),
+            Did::End(w, _, outcome) => Ask::End(w, outcome),
+            Did::Leave(w, _) => Ask::Leave(w),
+            Did::Shutdown => Ask::Shutdown,
+            Did::Stop(_) => Ask::Stop,
+            Did::Tidy => Ask::Tidy,
+            Did::Ended => Ask::Ended,
+            Did::Remove(t, _) => Ask::Remove(t),
+            Did::Purge(_) => Ask::Purge,
+            Did::Cancel(t, flag, _) => Ask::Cancel(t, flag),
+            Did::TakeDone(group, _) => Ask::TakeDone(group),
+            Did::Core(size, _) => Ask::Core(size),
+            Did::Maximum(size) => Ask::Maximum(size),
+            Did::Keep(ticks) => Ask::Keep(ticks),
+            Did::CoreTimeout(on) => Ask::CoreTimeout(on),
+            Did::Tick(moment) => Ask::Tick(moment),
+            Did::Prestart(_) => Ask::Prestart,
+        }
+    }
 }

@@ -3,13 +3,13 @@
 ghost use Rattle.std.specs.Prelude.{◌≡◌, ◌==◌, ◌&&◌, nat_lt};
 ghost use Rattle.tp_ring.specs.Ranks.{key};
 
-/// One place of a ring.
+/// One place of a ring. Its fields stand from the widest to the narrowest, so that a task's place takes 16 bytes.
 #[derive(Clone, Copy)]
 pub struct Item<T> {
-    /// Who waits here, or waited.
-    pub id: T,
     /// The place number: how many offers were accepted before.
     pub number: u64,
+    /// Who waits here, or waited.
+    pub id: T,
     /// Whether it still waits. A dead item is passed over until its place is given up.
     pub live: bool,
 }

@@ -5,9 +5,9 @@ ghost use Rattle.tp_scenario.specs.Plays.{refusals_in};
 
 use std::alloc::{AllocError, Global};
 use std::io::Write;
-use tp_audit_plain::summary::Flaw;
 use tp_audit::auditor::Auditor;
 use tp_audit_causes::causes::Cause;
+use tp_audit_plain::summary::Flaw;
 use tp_record::entries::Entry;
 use tp_scenario::listeners::{Answered, Listener};
 use tp_scenario::step::Refusal;

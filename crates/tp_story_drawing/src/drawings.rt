@@ -5,11 +5,11 @@ ghost use Rattle.tp_story_drawing.specs.Drawn as drawn;
 
 use crate::pictures::picture_of;
 use std::alloc::{AllocError, Global};
-use tp_audit_plain::summary::Flaw;
 use tp_audit::auditor::Auditor;
 use tp_audit::tables::Tables;
-use tp_story_questions::accounts::{Account, Said};
+use tp_audit_plain::summary::Flaw;
 use tp_record::entries::{Did, Entry, Opened, Ruled, Started, Took};
+use tp_story_questions::accounts::{Account, Said};
 use tp_story_words::forms::Form;
 use tp_types::configs::Config;
 use tp_types::ids::{SlotId, TaskId};

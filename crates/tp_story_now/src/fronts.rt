@@ -11,9 +11,9 @@ ghost use Rattle.tp_story_now.specs.Fronts.{first_of, has_entry, is_full};
 
 use std::alloc::Global;
 use std::marker::Model;
-use tp_audit_plain::summary::Flaw;
 use tp_audit::auditor::Auditor;
 use tp_audit::tables::Tables;
+use tp_audit_plain::summary::Flaw;
 use tp_record::entries::Entry;
 use tp_story_times::times::Times;
 use tp_types::configs::Config;

@@ -1,8 +1,8 @@
 //! What is told of a record entry by entry, to answer a question about it.
 
 use std::alloc::Global;
-use tp_audit_plain::summary::Flaw;
 use tp_audit::auditor::Auditor;
+use tp_audit_plain::summary::Flaw;
 use tp_record::entries::Entry;
 use tp_story_words::forms::Form;
 use tp_types::configs::Config;

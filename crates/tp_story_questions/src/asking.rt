@@ -6,8 +6,8 @@ ghost use Rattle.tp_story_questions.specs.Asking.{IsToldAll, SaysOfAll};
 
 use crate::accounts::{Account, Said};
 use std::alloc::Global;
-use tp_audit_plain::summary::Flaw;
 use tp_audit_causes::flaws::flaw_text;
+use tp_audit_plain::summary::Flaw;
 use tp_record::entries::Entry;
 use tp_story_words::forms::Form;
 use tp_text_record::reading::Taker;

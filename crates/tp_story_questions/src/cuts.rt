@@ -5,8 +5,8 @@ ghost use Rattle.tp_story_questions.specs.Saying.{cut_text};
 
 use crate::accounts::{Account, Said};
 use std::alloc::{AllocError, Global};
-use tp_audit_plain::summary::{Flaw, Summary};
 use tp_audit::auditor::Auditor;
+use tp_audit_plain::summary::{Flaw, Summary};
 use tp_record::entries::Entry;
 use tp_story_words::forms::Form;
 use tp_story_words::objects::CountMembers;

@@ -2,10 +2,10 @@
 
 use crate::accounts::{Account, Said};
 use std::alloc::{AllocError, Global};
-use tp_audit_plain::summary::Flaw;
 use tp_audit::auditor::Auditor;
-use tp_story_now::fronts::Front;
+use tp_audit_plain::summary::Flaw;
 use tp_record::entries::Entry;
+use tp_story_now::fronts::Front;
 use tp_story_words::forms::Form;
 use tp_story_words::fronts::front_text;
 use tp_types::configs::Config;

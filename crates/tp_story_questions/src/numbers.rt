@@ -2,8 +2,8 @@
 
 use crate::accounts::{Account, Said};
 use std::alloc::Global;
-use tp_audit_plain::summary::Flaw;
 use tp_audit::auditor::Auditor;
+use tp_audit_plain::summary::Flaw;
 use tp_record::entries::Entry;
 use tp_story_stats::stats::Stats;
 use tp_story_words::forms::Form;

@@ -2,9 +2,9 @@
 
 use crate::accounts::{Account, Said};
 use std::alloc::{AllocError, Global};
-use tp_audit_plain::summary::Flaw;
 use tp_audit::auditor::Auditor;
 use tp_audit_causes::rows::{ShownSlots, ShownTasks};
+use tp_audit_plain::summary::Flaw;
 use tp_record::entries::Entry;
 use tp_story::stories::Story;
 use tp_story::subjects::Subject;

@@ -4,8 +4,8 @@ ghost use Rattle.std.specs.Prelude.{◌≡◌, ◌&&◌, count_by};
 ghost use Rattle.tp_record.specs.State as states;
 ghost use Rattle.tp_story_stats.specs.Sorts as sorts;
 
-use tp_rules::counts::is_fate;
 use tp_record::rows::TaskRow;
+use tp_rules::counts::is_fate;
 use tp_types::tasks::{Fate, Kind};
 
 /// What kind of task, without the group's number.

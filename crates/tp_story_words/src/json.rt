@@ -8,8 +8,8 @@ use std::io::{self, Write};
 use tp_audit::tables::Tables;
 use tp_audit_causes::rows::{ShownSlot, ShownTask};
 use tp_story_now::fronts::Front;
-use tp_text::pools::ShownQueue;
 use tp_story_times::times::Since;
+use tp_text::pools::ShownQueue;
 use tp_types::configs::Config;
 use tp_types::ids::{SlotId, TaskId};
 

@@ -15,7 +15,8 @@ use Rattle.tp_text.specs.EntryLine.{words, pass_name, entry_line, did_words, ent
 use Rattle.tp_text.specs.Fits.{Fits32}
 use Rattle.tp_text.specs.Lines.{ended}
 use Rattle.tp_text.specs.Reads.{ReadsAs}
-use Rattle.tp_text_record.specs.EntryFits.{FitsDid, FitsPass, HasLine, asked}
+use Rattle.tp_record.specs.Asked.{asked}
+use Rattle.tp_text_record.specs.EntryFits.{FitsDid, FitsPass, HasLine}
 use Rattle.tp_text_record.specs.Rests.{split_words}
 use Rattle.tp_text_record.proofs.AnswerLaws.{test_false}
 use Rattle.tp_text_record.proofs.EntryTexts.{entry_line-words}

@@ -23,7 +23,8 @@ use Rattle.tp_text.specs.Lines.{IsLines, ended}
 use Rattle.tp_text.proofs.LineSplits.{same_lines}
 use Rattle.tp_text.proofs.NumberTexts.{own}
 use Rattle.tp_text_record.specs.declared.versions.Version.{Version}
-use Rattle.tp_text_record.specs.EntryFits.{HasLine, IsStep, Suits, asked}
+use Rattle.tp_record.specs.Asked.{asked}
+use Rattle.tp_text_record.specs.EntryFits.{HasLine, IsStep, Suits}
 use Rattle.tp_text_record.specs.Rests.{split_words}
 use Rattle.tp_text_record.specs.RecordText.{HasText, end_line, entry_text, entry_texts, record_lines, record_text}
 use Rattle.tp_text_record.proofs.BodyLines.{no_end, same_number, split_entry}

@@ -7,57 +7,23 @@ ghost use Rattle.tp_text.specs.EntryLine.{entry_line, pass_name, did_words, entr
 ghost use Rattle.tp_text.specs.Fits.{Fits32};
 ghost use Rattle.tp_text.specs.Lines.{ended};
 ghost use Rattle.tp_text.specs.Reads.{ReadsAs};
-ghost use Rattle.tp_text_record.specs.EntryFits.{FitsPass, HasLine, IsStep, asked as ask_of};
+ghost use Rattle.tp_record.specs.Asked.{asked};
+ghost use Rattle.tp_text_record.specs.EntryFits.{FitsPass, HasLine, IsStep};
 ghost use Rattle.tp_text_record.specs.Rests.{ReadsOn, left, split_words};
 
 use crate::dids::did_of;
 use crate::versions::{Version, suits};
 use crate::words::{next_word, number_on};
-use tp_record::entries::{Ask, Did, Entry};
+use tp_record::entries::{Did, Entry};
 use tp_text::numbers::number;
-
-/// The one ask that an answer of this form answers.
-fn asked(did: Did) -> Ask
-    ensures { result ≡ ask_of did }
-{
-    match did {
-        Did::Submit(_, kind, priority, _) => Ask::Submit(kind, priority),
-        Did::Look(task, _) => Ask::Look(task),
-        Did::Offer(task, _) => Ask::Offer(task),
-        Did::Second(task, _) => Ask::Second(task),
-        Did::Grow(task, _) => Ask::Grow(task),
-        Did::Verdict(task, verdict, _) => Ask::Verdict(task, verdict),
-        Did::CallerEnd(task, outcome) => Ask::CallerEnd(task, outcome),
-        Did::Open(slot, _) => Ask::Open(slot),
-        Did::Fail(slot, _) => Ask::Fail(slot),
-        Did::Take(slot, _) => Ask::Take(slot),
-        Did::Begin(slot, _) => Ask::Begin(slot),
-        Did::End(slot, _, outcome) => Ask::End(slot, outcome),
-        Did::Leave(slot, _) => Ask::Leave(slot),
-        Did::Shutdown => Ask::Shutdown,
-        Did::Stop(_) => Ask::Stop,
-        Did::Tidy => Ask::Tidy,
-        Did::Ended => Ask::Ended,
-        Did::Remove(task, _) => Ask::Remove(task),
-        Did::Purge(_) => Ask::Purge,
-        Did::Cancel(task, flag, _) => Ask::Cancel(task, flag),
-        Did::TakeDone(group, _) => Ask::TakeDone(group),
-        Did::Core(core, _) => Ask::Core(core),
-        Did::Maximum(maximum) => Ask::Maximum(maximum),
-        Did::Keep(keep) => Ask::Keep(keep),
-        Did::CoreTimeout(on) => Ask::CoreTimeout(on),
-        Did::Tick(now) => Ask::Tick(now),
-        Did::Prestart(_) => Ask::Prestart,
-    }
-}
 
 /// The entry of a pass and of what was done.
 fn entry_by(by: u32, did: Did) -> Entry
-    ensures { result ≡ record { by = by; ask = ask_of did; did = did } }
+    ensures { result ≡ record { by = by; ask = asked did; did = did } }
 {
     Entry {
         by,
-        ask: asked(did),
+        ask: did.ask(),
         did,
     }
 }

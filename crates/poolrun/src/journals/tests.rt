@@ -1,5 +1,6 @@
 //! Journals of runs, by a writer that waits and one that fails.
 
+use poolrun_threads::texts::run_text;
 use std::alloc::Global;
 use std::io::{self, ErrorKind, Write};
 use std::sync::atomic::{AtomicBool, Ordering};
@@ -10,7 +11,6 @@ use std::time::{Clock, Duration};
 use tp_journal::endings::{Ended, Wish};
 use tp_journal::writers::Cut;
 use tp_text::watched::WatchedWriter;
-use poolrun_threads::texts::run_text;
 use tp_types::refusals::PoolError;
 
 const JOBS: &str = "pool 1 1 unbounded keep 0 abort

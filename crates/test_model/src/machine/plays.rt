@@ -72,7 +72,7 @@ pub fn read(pool: &Pool) -> Reading {
         state: pool.state(),
         moment: pool.now(),
         entries: pool.entries().len(),
-        last: pool.entries().last().copied(),
+        last: pool.entries().last().map(|packed| packed.unpack()),
     }
 }
 

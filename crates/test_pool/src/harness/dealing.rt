@@ -3,7 +3,7 @@
 use crate::harness::boards::{Board, Signal};
 use crate::harness::calls::{Call, Tested, make};
 use crate::harness::chores::{Chore, Deed};
-use crate::harness::findings::is_unstaffed;
+use crate::harness::findings::is_unstaffed_at;
 use crate::harness::playing::{SOME_SECONDS, comes, handed, rest};
 use crate::harness::scripts::{Deal, SETTINGS, View};
 use std::sync::{Arc, Wait};
@@ -14,6 +14,7 @@ use tp_machine::machine::releases::Keeper;
 use tp_pool::answers::{Admitted, Refused};
 use tp_pool::callers::{PoolName, Runtime};
 use tp_record::entries::{Did, Failed};
+use tp_record::packed::Packed;
 use tp_types::refusals::PoolError;
 use tp_types::states::{Counts, RunState};
 use tp_types::tasks::Kind;
@@ -205,7 +206,7 @@ fn insists_task<G: PoolName, K: Keeper + Send + 'static, R: Runtime>(
 }
 
 // Whether the last step of the pass says that no worker was made.
-fn has_failed(last: Option<&Did>) -> bool {
+fn has_failed(last: Option<Did>) -> bool {
     matches!(last, Some(Did::Fail(_, Failed::Nothing)))
 }
 
@@ -236,16 +237,22 @@ fn insists<G: PoolName, K: Keeper + Send + 'static, R: Runtime>(
     let before = seen(rt, pool, pass);
     let answer = make(rt, pool, call, pass);
     let after = seen(rt, pool, pass);
-    let last = pass.receipts().last();
-    if !is_wanting(
-        answer,
-        after == before,
-        has_failed(last.map(|entry| &entry.did)),
-    ) {
+    let last = pass.receipts().last().map(|packed| packed.unpack().did);
+    if !is_wanting(answer, after == before, has_failed(last)) {
         return answer;
     }
     let more = after.1.live.saturating_sub(before.1.live);
     make(rt, pool, left_of(call, more), pass)
+}
+
+// Whether these are the first entries of the unstaffed pool, so many of them, by the first caller.
+fn are_unstaffed(receipts: &[Packed], wanted: usize) -> bool {
+    for (at, packed) in receipts.iter().enumerate() {
+        if !is_unstaffed_at(&packed.unpack(), at) {
+            return false;
+        }
+    }
+    receipts.len() == wanted
 }
 
 // Whether the pass has so many receipts, and the pool has made as many steps.
@@ -268,7 +275,7 @@ pub fn deals<G: PoolName, K: Keeper + Send + 'static, R: Clock + Runtime>(
 ) -> bool {
     match deal {
         Deal::Give(deed) => gives(rt, pool, board, deed, pass),
-        Deal::Unstaffed(entries) => is_unstaffed(pass.receipts(), entries),
+        Deal::Unstaffed(entries) => are_unstaffed(pass.receipts(), entries),
         Deal::Answers => answers(rt, pool, board),
         Deal::TimesOut(stay) => times_out(rt, pool, board, stay, pass),
         Deal::OneLeaves => one_leaves(rt, pool, board, pass),

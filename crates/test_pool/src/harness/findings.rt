@@ -128,16 +128,19 @@ pub const UNSTAFFED: [Did; 8] = [
     Did::Ended,
 ];
 
+/// Whether this is an entry of the unstaffed pool, the one after so many, by the first caller.
+pub fn is_unstaffed_at(entry: &Entry, at: usize) -> bool {
+    entry.by == 0 && UNSTAFFED.get(at) == Some(&entry.did)
+}
+
 /// Whether these are the first entries of the unstaffed pool, so many of them, by the first caller.
-pub fn is_unstaffed(entries: &[Entry], entries_wanted: usize) -> bool {
-    let mut found = 0usize;
-    for (entry, did) in entries.iter().zip(&UNSTAFFED) {
-        if entry.by != 0 || entry.did != *did {
+fn is_unstaffed(entries: &[Entry], entries_wanted: usize) -> bool {
+    for (at, entry) in entries.iter().enumerate() {
+        if !is_unstaffed_at(entry, at) {
             return false;
         }
-        found = found.saturating_add(1);
     }
-    found == entries_wanted && entries.len() == entries_wanted
+    entries.len() == entries_wanted
 }
 
 fn taken(entries: &[Entry], tasks: &[u32]) -> bool {

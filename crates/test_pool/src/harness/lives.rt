@@ -20,6 +20,7 @@ use tp_book::passes::Pass;
 use tp_pool::callers::{PoolName, Runtime, in_two};
 use tp_pool::closing::{CloseFault, Report};
 use tp_pool::names::PoolNaming;
+use tp_record::packed::unpacked;
 use tp_types::configs::Config;
 use tp_types::refusals::PoolError;
 
@@ -296,10 +297,10 @@ pub fn lived<R: Abort + Clock + Runtime>(
         &board,
         life,
     )?;
-    let entries = report.entries.as_slice();
+    let entries = unpacked(alloc, &report.entries)?;
     let seen = (
         steps,
-        missing(report.counts, entries, &board, life.findings),
+        missing(report.counts, &entries, &board, life.findings),
     );
     same(&rt, 0, &seen, &(entries.len() as u64, None));
     Ok(())

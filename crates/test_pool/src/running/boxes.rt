@@ -24,6 +24,7 @@ use tp_pool::jobs::Boxed;
 use tp_pool::names::PoolNaming;
 use tp_pool::pool::Pool;
 use tp_record::entries::{Did, Looked};
+use tp_record::packed::unpacked;
 use tp_types::configs::{Config, Policy, QueueKind, Verdict};
 use tp_types::ids::{SlotId, TaskId};
 use tp_types::refusals::PoolError;
@@ -174,11 +175,11 @@ fn lived<R: Abort + Runtime>(rt: R, alloc: Global, settings: Config) -> Result<(
     let board = Board::new(alloc)?;
     let unopened = Unopened::new(alloc)?;
     let report = life::<Brand, R>(rt, alloc, unopened, settings, &board)?;
-    let entries = report.entries.as_slice();
+    let entries = unpacked(alloc, &report.entries)?;
     same(
         &rt,
         0,
-        &missing(report.counts, entries, &board, &FOUND),
+        &missing(report.counts, &entries, &board, &FOUND),
         &None,
     );
     Ok(())

@@ -1,8 +1,5 @@
 //! A call of the program, by its command line, with a text in memory in place of the file.
 
-use std::alloc::Global;
-use std::io::Read;
-use std::test::Fail;
 use poolrun_choices::choices::{Choice, chosen};
 use poolrun_commands::audits::run_audit;
 use poolrun_commands::checks::run_check;
@@ -13,8 +10,11 @@ use poolrun_commands::objects::run_objects;
 use poolrun_commands::questions::run_asked;
 use poolrun_commands::steps::run_steps;
 use poolrun_commands::telling::name_of;
-use tp_story_drawing::drawings::Window;
+use std::alloc::Global;
+use std::io::Read;
+use std::test::Fail;
 use tp_messages::messages::UNADORNED;
+use tp_story_drawing::drawings::Window;
 use tp_story_words::forms::Form;
 use tp_text::watched::{WatchedReader, WatchedWriter};
 

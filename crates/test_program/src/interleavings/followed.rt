@@ -4,9 +4,9 @@ ghost use Rattle.tp_explore_text.specs.Explored.{IsExplored};
 
 use std::alloc::Global;
 use std::test::Fail;
-use tp_explore_ends::witnesses::witness;
 use tp_explore::deeds::Mover;
 use tp_explore::moves::Move;
+use tp_explore_ends::witnesses::witness;
 use tp_explore_text::explored::Explored;
 use tp_protocols::paths::{Next, follows};
 use tp_record::entries::Did;

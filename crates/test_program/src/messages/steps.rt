@@ -6,10 +6,10 @@ use crate::messages::compare::same;
 use std::alloc::Global;
 use std::process::Abort;
 use std::test::Fail;
-use tp_scenario_replay::records::Recording;
-use tp_scenario_replay::refusals::Refusals;
 use tp_scenario::listeners::Both;
 use tp_scenario::play::play;
+use tp_scenario_replay::records::Recording;
+use tp_scenario_replay::refusals::Refusals;
 use tp_text::watched::WatchedWriter;
 
 const REFUSED: &[u8] = b"pool 1 1 unbounded keep 5 abort limit 64

@@ -57,6 +57,7 @@ impl<G: Naming, P, R: Keeper> Book<G, P, R> {
             seat,
         } = self;
         R::law_forgets_at_will();
+        machine.law_slots_are_small();
         let before = machine.state();
         let by = pass.payer();
         let answer = match step.make(by, load, machine) {
@@ -71,6 +72,7 @@ impl<G: Naming, P, R: Keeper> Book<G, P, R> {
             ask: step.ask(),
             did: step.did(&answer),
         };
+        machine.law_slots_are_small();
         pass.pay(accounts, glance, seat, before, machine.state(), entry);
         Ok(answer)
     }

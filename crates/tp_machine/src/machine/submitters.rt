@@ -10,9 +10,9 @@ ghost use Rattle.tp_machine.specs.Steps.{IsStep, Stays, IsRefusedBy};
 
 use super::{Machine, note, note_owed};
 use crate::answers::Judged;
+use tp_machine_submitters::{callerend, grow, look, offer, second, submit, verdict};
 use tp_record::entries::{Ask, Did, Grown, Looked, Offered, Seconded};
 use tp_record::recorders::Recorder;
-use tp_machine_submitters::{callerend, grow, look, offer, second, submit, verdict};
 use tp_types::configs::Verdict;
 use tp_types::ids::TaskId;
 use tp_types::refusals::PoolError;

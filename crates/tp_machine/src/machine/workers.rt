@@ -9,12 +9,12 @@ ghost use Rattle.tp_machine.specs.Steps.{IsStep, IsRefusedBy};
 
 use super::{Machine, note_owed};
 use crate::answers::Begun;
+use tp_machine_workers::{begin, end, fail, leave, open, take};
 use tp_record::entries::{Ask, Did, Failed, Opened, Took};
 use tp_record::recorders::Recorder;
 use tp_types::ids::{SlotId, TaskId};
 use tp_types::refusals::PoolError;
 use tp_types::tasks::Outcome;
-use tp_machine_workers::{begin, end, fail, leave, open, take};
 
 impl<P, R: Recorder> Machine<P, R> {
     /// The factory made a worker for the reserved slot, as `addWorker` once its thread runs: it is live, or given up where the

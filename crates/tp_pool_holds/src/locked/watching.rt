@@ -8,6 +8,7 @@ use crate::names::PoolNaming;
 use std::alloc::Global;
 use tp_machine::machine::releases::Keeper;
 use tp_record::entries::Entry;
+use tp_record::packed::unpacked;
 use tp_types::ids::{SlotId, TaskId};
 use tp_types::limits::MAX_WORKERS;
 use tp_types::refusals::PoolError;
@@ -53,7 +54,7 @@ impl<G: PoolNaming, J: Drop> Core<G, J> {
         } else {
             entries.len()
         };
-        match Vec::from_slice(alloc, &entries[from..]) {
+        match unpacked(alloc, &entries[from..]) {
             Ok(since) => Ok(since),
             Err(_) => Err(PoolError::NoMemory),
         }

@@ -32,22 +32,20 @@ pub returns-in-Err-run_jobs-clause-tells_writer : goal.returns-in-Err-run_jobs-c
 returns-in-Err-run_jobs-clause-tells_writer g c =
     none_written c.args.writer.now _ (not_written _ (run_inner (Unit {0}) c.in-Ok.jobs.config c.in-Err-run_jobs.error c.in-Err-run_jobs.ensures.refused))
 
-pub returns-in-Err-record_text-clause-refused : goal.returns-in-Err-record_text-clause-refused
-returns-in-Err-record_text-clause-refused g c =
-    inr (inr (c.in-Ok.jobs, inr (c.args.text.now, refl, c.in-Ok.ensures), inr (inl c.in-Err-record_text.ensures.only_memory)), refl)
+pub returns-in-Err-report_text-clause-refused : goal.returns-in-Err-report_text-clause-refused
+returns-in-Err-report_text-clause-refused g c =
+    inr (inr (c.in-Ok.jobs, inr (c.args.text.now, refl, c.in-Ok.ensures), inr (inl c.in-Err-report_text.ensures.only_memory)), refl)
 
-pub returns-in-Err-record_text-clause-reads : goal.returns-in-Err-record_text-clause-reads
-returns-in-Err-record_text-clause-reads g c = not_read _ (ap is_outer c.in-Err-record_text.ensures.only_memory)
+pub returns-in-Err-report_text-clause-reads : goal.returns-in-Err-report_text-clause-reads
+returns-in-Err-report_text-clause-reads g c = not_read _ (ap is_outer c.in-Err-report_text.ensures.only_memory)
 
-pub returns-in-Err-record_text-clause-tells_writer : goal.returns-in-Err-record_text-clause-tells_writer
-returns-in-Err-record_text-clause-tells_writer g c =
-    none_written c.args.writer.now _ (not_written _ (ap is_outer c.in-Err-record_text.ensures.only_memory))
+pub returns-in-Err-report_text-clause-tells_writer : goal.returns-in-Err-report_text-clause-tells_writer
+returns-in-Err-report_text-clause-tells_writer g c =
+    none_written c.args.writer.now _ (not_written _ (ap is_outer c.in-Err-report_text.ensures.only_memory))
 
 pub returns-clause-written : goal.returns-clause-written
 returns-clause-written g c =
-    let config = c.in-Ok.jobs.config in
-    let entries = c.in-Ok-run_jobs.report.entries.items in
-    let text = c.as_slice-record.ensures.value ∙ c.in-Ok-record_text.ensures.text ∙ ap (text_of version.Two config) c.as_slice.ensures.value in
+    let text = c.as_slice-record.ensures.value ∙ c.in-Ok-report_text.ensures.text in
     let old = g.W.Write.contents c.args.writer.now.inner in
     let new = g.W.Write.contents c.write_text.new.writer.inner in
     on_ok c.write_text.result (Appends old new c.as_slice-record.result.now) (WritesRun (Some c.args.text.now) old new)
@@ -59,7 +57,7 @@ returns-clause-journal g c =
     let config = c.in-Ok.jobs.config in
     let entries = c.in-Ok-run_jobs.report.entries.items in
     let bytes = c.as_slice-record.result.now in
-    let text = c.as_slice-record.ensures.value ∙ c.in-Ok-record_text.ensures.text ∙ ap (text_of version.Two config) c.as_slice.ensures.value in
+    let text = c.as_slice-record.ensures.value ∙ c.in-Ok-report_text.ensures.text in
     let contents = g.V.Write.contents in
     let ended = c.ended_at-2.result in
     let whole =

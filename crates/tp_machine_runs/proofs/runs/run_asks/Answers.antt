@@ -1,4 +1,4 @@
-use Rattle.std.proofs.Common.{[], arith, sym, subst}
+use Rattle.std.proofs.Common.{[], ◌∙◌, arith, sym, subst}
 use Rattle.tp_types.specs.declared.tasks.TheConstants.{WIDEST}
 use Rattle.tp_machine_runs.proofs.Running.{HasRun, has_run_next, none_run, none_promised, ran_all, ran_lawful}
 use Rattle.tp_machine_runs.proofs.runs.run_asks.Goals as goal
@@ -39,8 +39,8 @@ loop-by-preserved c =
 
 pub returns-clause-run : goal.returns-clause-run
 returns-clause-run c =
-    ran_all c.args.config c.args.asks.now c.loop-by.by-index c.loop-by.answers.items c.loop-by.machine c.loop-by.invariant.run c.into_entries.result.items c.into_entries.ensures c.loop-by-test.false
+    ran_all c.args.config c.args.asks.now c.loop-by.by-index c.loop-by.answers.items c.loop-by.machine c.loop-by.invariant.run c.in-Ok-unpacked.entries.items (c.in-Ok-unpacked.ensures ∙ c.entries.ensures) c.loop-by-test.false
 
 pub returns-clause-lawful : goal.returns-clause-lawful
 returns-clause-lawful c =
-    ran_lawful c.args.config c.args.asks.now c.loop-by.by-index c.loop-by.answers.items c.loop-by.machine c.loop-by.invariant.run c.into_entries.result.items c.into_entries.ensures c.in-Ok.ensures.good
+    ran_lawful c.args.config c.args.asks.now c.loop-by.by-index c.loop-by.answers.items c.loop-by.machine c.loop-by.invariant.run c.in-Ok-unpacked.entries.items (c.in-Ok-unpacked.ensures ∙ c.entries.ensures) c.in-Ok.ensures.good

@@ -1,7 +1,7 @@
 use Rattle.std.proofs.Common.{subst, sym}
 use Rattle.tp_glance.specs.Word.{IsFrontOf}
 use Rattle.tp_glance.proofs.Fronts.{IsFrontOf_noted}
-use Rattle.tp_book.proofs.Stepping.{grown, rank_at, advances, unmoved, denies}
+use Rattle.tp_book.proofs.Stepping.{grown, rank_at, asked_step, small_step, advances, unmoved, denies}
 use Rattle.tp_book.proofs.book.Book.step_by.Goals as goal
 
 pub returns-in-Err-clause-refused : goal.returns-in-Err-clause-refused
@@ -33,3 +33,15 @@ returns-clause-step g c =
 
 pub returns-clause-goes_on : goal.returns-clause-goes_on
 returns-clause-goes_on g c = subst (λ h. IsFrontOf (g.A.Payer.front c.args.pass.now) h.entries) (sym c.pay.ensures.noted) (IsFrontOf_noted _ c.pay.ensures.knew)
+
+-- what the machine's step gives tells its ask
+pub pay-requires-clause-asked : goal.pay-requires-clause-asked
+pay-requires-clause-asked g c =
+    asked_step g.R.Recorder.tells g.R.Recorder.terms c.self.inside.machine c.make.new.machine c.self.inside.seat c.payer-by.result _ c.ask.result _ c.did.result c.self.invariant.0
+    c.in-Ok.ensures.step c.ask.ensures c.did.ensures
+
+-- and names slots that the machine has, before it or after it
+pub pay-requires-clause-slots : goal.pay-requires-clause-slots
+pay-requires-clause-slots g c =
+    small_step g.R.Recorder.tells g.R.Recorder.terms c.self.inside.machine c.make.new.machine c.self.inside.seat c.payer-by.result _ _ c.did.result c.self.invariant.0
+    c.in-Ok.ensures.step c.did.ensures c.law_slots_are_small.ensures c.law_slots_are_small-2.ensures
