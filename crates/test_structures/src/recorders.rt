@@ -21,11 +21,11 @@ fn tick(moment: u64) -> Entry
 }
 
 /// Notes a tick where there is room for it. The answer says whether there was.
-fn note(record: &mut Full, moment: u64) -> bool {
-    if record.room() == 0 {
+fn note(full: &mut Full, moment: u64) -> bool {
+    if full.room() == 0 {
         return false;
     }
-    record.note(tick(moment));
+    full.note(tick(moment));
     true
 }
 
