@@ -9,7 +9,6 @@ use Rattle.tp_types.specs.declared.tasks.Place.{Place}
 use Rattle.tp_types.specs.declared.tasks.Place.TheVariants as at
 use Rattle.tp_record.specs.declared.entries.Ask.TheVariants as ask
 use Rattle.tp_record.specs.declared.entries.Did.TheVariants as did
-use Rattle.tp_record.specs.Fields.{place}
 use Rattle.tp_laws.proofs.Model.Readings.{row_read}
 use Rattle.tp_laws.proofs.Model.Told.{told_legal}
 use Rattle.tp_tasks.specs.declared.tasks.Tasks.{Tasks}

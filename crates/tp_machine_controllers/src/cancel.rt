@@ -5,6 +5,7 @@ ghost use Rattle.tp_machine_state.specs.Payloads.{HandsOut};
 ghost use Rattle.tp_machine_state.specs.Steps.{Stands, Fits, Accepts, Refuses, Leads};
 
 use tp_machine_state::parts::Parts;
+use tp_machine_state::step::Step;
 use tp_record::entries::{Ask, Did};
 use tp_types::ids::TaskId;
 use tp_types::refusals::PoolError;
@@ -24,18 +25,55 @@ fn effect<P>(parts: &Parts<P>, t: TaskId, flag: bool) -> Result<bool, PoolError>
     }
 }
 
-/// Whether the cancel has effect: the task has no fate yet. `flag` says whether its cancel flag is to be set. UnknownTask (6),
-/// NotFuture (9) or BookFull (5).
-pub fn answer<P>(parts: &Parts<P>, t: TaskId, flag: bool) -> Result<bool, PoolError>
-    requires stands { Stands parts.now }
-    ensures accepts { IfOk result (λ b. Accepts parts.now (Ask.Cancel t flag) (Did.Cancel t flag b)) }
-    ensures refuses { IfErr result (λ e. Refuses parts.now (Ask.Cancel t flag) e) }
-{
-    let effective = effect(parts, t, flag)?;
-    if !parts.has_room(0, 0) {
-        return Err(PoolError::BookFull);
+/// A future is cancelled; the flag asks that its job is told.
+#[derive(Clone, Copy)]
+pub struct Cancel(pub TaskId, pub bool);
+
+impl<P> Step<P> for Cancel {
+    ghost use Rattle.tp_record.specs.declared.entries.Ask.TheVariants as ask;
+    ghost use Rattle.tp_record.specs.declared.entries.Did.TheVariants as did;
+
+    /// Whether the cancel has effect: the task has no fate yet.
+    type Answer = bool;
+
+    /// The payload of a task that waited.
+    type Out = Option<P>;
+
+    ghost ask = { λ s. ask.Cancel s.0 s.1 };
+
+    ghost did = { λ s x. did.Cancel s.0 s.1 x };
+
+    ghost fits = { λ s x p. Accepts p (ask.Cancel s.0 s.1) (did.Cancel s.0 s.1 x) };
+
+    ghost moves = { λ s x o old new. HandsOut old new s.0.0 o };
+
+    ghost accepts = { λ s x p stands fits. fits };
+
+    fn ask(self) -> Ask {
+        Ask::Cancel(self.0, self.1)
     }
-    Ok(effective)
+
+    fn did(self, answer: &bool) -> Did {
+        Did::Cancel(self.0, self.1, *answer)
+    }
+
+    // UnknownTask (6), NotFuture (9) or BookFull (5).
+    fn answer(self, parts: &Parts<P>) -> Result<bool, PoolError> {
+        let effective = effect(parts, self.0, self.1)?;
+        if !parts.has_room(0, 0) {
+            return Err(PoolError::BookFull);
+        }
+        Ok(effective)
+    }
+
+    fn apply(self, parts: &mut Parts<P>, effective: bool) -> Option<P> {
+        if effective {
+            in_time(parts, self.0, self.1)
+        } else {
+            late(parts, self.0, self.1);
+            None
+        }
+    }
 }
 
 /// The task has the fate cancelled from now on, and its group has it as completed. It stays where it is: whoever comes to it skips
@@ -58,19 +96,4 @@ fn late<P>(parts: &mut Parts<P>, t: TaskId, flag: bool)
     ensures payloads { HandsOut parts.old.tasks parts.new.tasks t.0 None }
 {
     parts.count_entry(0);
-}
-
-/// Makes the cancel that was accepted. The payload of a task that waited is handed out.
-pub fn apply<P>(parts: &mut Parts<P>, t: TaskId, flag: bool, effective: bool) -> Option<P>
-    requires stands { Stands parts.old }
-    requires accepts { Accepts parts.old (Ask.Cancel t flag) (Did.Cancel t flag effective) }
-    ensures leads { Leads parts.old (Did.Cancel t flag effective) parts.new }
-    ensures payloads { HandsOut parts.old.tasks parts.new.tasks t.0 result }
-{
-    if effective {
-        in_time(parts, t, flag)
-    } else {
-        late(parts, t, flag);
-        None
-    }
 }

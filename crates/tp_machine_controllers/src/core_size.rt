@@ -1,39 +1,56 @@
 //! The core size is set, as `setCorePoolSize` does.
 
-ghost use Rattle.std.specs.Prelude.{IfOk, IfErr};
-ghost use Rattle.tp_machine_state.specs.Payloads.{Keeps};
-ghost use Rattle.tp_machine_state.specs.Steps.{Stands, Accepts, Refuses, Leads};
+ghost use Rattle.tp_machine_state.specs.Steps.{Accepts};
 
 use tp_machine_state::parts::Parts;
+use tp_machine_state::step::Step;
 use tp_queue::work::WorkQueue;
 use tp_record::entries::{Ask, Did};
 use tp_types::refusals::PoolError;
 
-/// How many prestarts the core size `core`, in workers, asks for: as many as it is larger, but no more than there are tasks in the
-/// queue. BadSizes (1) where the maximum is smaller, else BookFull (5).
-pub fn answer<P>(parts: &Parts<P>, core: u32) -> Result<u32, PoolError>
-    requires stands { Stands parts.now }
-    ensures accepts { IfOk result (λ added. Accepts parts.now (Ask.Core core) (Did.Core core added)) }
-    ensures refuses { IfErr result (λ e. Refuses parts.now (Ask.Core core) e) }
-{
-    if parts.maximum < core {
-        return Err(PoolError::BadSizes);
-    }
-    if !parts.has_room(0, 0) {
-        return Err(PoolError::BookFull);
-    }
-    let increase = core.saturating_sub(parts.core) as usize;
-    Ok(increase.min(parts.queue.len()) as u32)
-}
+/// `setCorePoolSize`, in workers.
+#[derive(Clone, Copy)]
+pub struct Core(pub u32);
 
-/// The core size is `core` workers from now on.
-pub fn apply<P>(parts: &mut Parts<P>, core: u32, added: u32)
-    requires stands { Stands parts.old }
-    requires accepts { Accepts parts.old (Ask.Core core) (Did.Core core added) }
-    ensures leads { Leads parts.old (Did.Core core added) parts.new }
-    ensures payloads { Keeps parts.old.tasks parts.new.tasks }
-{
-    let _ = added;
-    parts.count_entry(0);
-    parts.set_core(core);
+impl<P> Step<P> for Core {
+    ghost use Rattle.tp_record.specs.declared.entries.Ask.TheVariants as ask;
+    ghost use Rattle.tp_record.specs.declared.entries.Did.TheVariants as did;
+
+    /// How many prestarts the core size asks for: as many as it is larger, but no more than there are tasks in the queue.
+    type Answer = u32;
+
+    type Out = ();
+
+    ghost ask = { λ s. ask.Core s.0 };
+
+    ghost did = { λ s x. did.Core s.0 x };
+
+    ghost fits = { λ s x p. Accepts p (ask.Core s.0) (did.Core s.0 x) };
+
+    ghost accepts = { λ s x p stands fits. fits };
+
+    fn ask(self) -> Ask {
+        Ask::Core(self.0)
+    }
+
+    fn did(self, answer: &u32) -> Did {
+        Did::Core(self.0, *answer)
+    }
+
+    // BadSizes (1) where the maximum is smaller, else BookFull (5).
+    fn answer(self, parts: &Parts<P>) -> Result<u32, PoolError> {
+        if parts.maximum < self.0 {
+            return Err(PoolError::BadSizes);
+        }
+        if !parts.has_room(0, 0) {
+            return Err(PoolError::BookFull);
+        }
+        let increase = self.0.saturating_sub(parts.core) as usize;
+        Ok(increase.min(parts.queue.len()) as u32)
+    }
+
+    fn apply(self, parts: &mut Parts<P>, _added: u32) {
+        parts.count_entry(0);
+        parts.set_core(self.0);
+    }
 }

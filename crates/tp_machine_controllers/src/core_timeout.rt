@@ -1,35 +1,53 @@
 //! Core workers time out or do not, as `allowCoreThreadTimeOut` says.
 
-ghost use Rattle.std.specs.Prelude.{OnOk, IfErr};
-ghost use Rattle.tp_machine_state.specs.Payloads.{Keeps};
-ghost use Rattle.tp_machine_state.specs.Steps.{Stands, Accepts, Refuses, Leads};
+ghost use Rattle.tp_machine_state.specs.Steps.{Accepts};
 
 use tp_machine_state::parts::Parts;
+use tp_machine_state::step::Step;
 use tp_record::entries::{Ask, Did};
 use tp_types::refusals::PoolError;
 
-/// Whether core workers may time out, where `on`. KeepZero (11) where the keep-alive is 0, else BookFull (5).
-pub fn answer<P>(parts: &Parts<P>, on: bool) -> Result<(), PoolError>
-    requires stands { Stands parts.now }
-    ensures accepts { OnOk result (Accepts parts.now (Ask.CoreTimeout on) (Did.CoreTimeout on)) }
-    ensures refuses { IfErr result (λ e. Refuses parts.now (Ask.CoreTimeout on) e) }
-{
-    if on && parts.keep == 0 {
-        return Err(PoolError::KeepZero);
-    }
-    if !parts.has_room(0, 0) {
-        return Err(PoolError::BookFull);
-    }
-    Ok(())
-}
+/// `allowCoreThreadTimeOut`.
+#[derive(Clone, Copy)]
+pub struct CoreTimeout(pub bool);
 
-/// Core workers time out from now on, or do not.
-pub fn apply<P>(parts: &mut Parts<P>, on: bool)
-    requires stands { Stands parts.old }
-    requires accepts { Accepts parts.old (Ask.CoreTimeout on) (Did.CoreTimeout on) }
-    ensures leads { Leads parts.old (Did.CoreTimeout on) parts.new }
-    ensures payloads { Keeps parts.old.tasks parts.new.tasks }
-{
-    parts.count_entry(0);
-    parts.set_core_timeout(on);
+impl<P> Step<P> for CoreTimeout {
+    ghost use Rattle.tp_record.specs.declared.entries.Ask.TheVariants as ask;
+    ghost use Rattle.tp_record.specs.declared.entries.Did.TheVariants as did;
+
+    type Answer = ();
+
+    type Out = ();
+
+    ghost ask = { λ s. ask.CoreTimeout s.0 };
+
+    ghost did = { λ s x. did.CoreTimeout s.0 };
+
+    ghost fits = { λ s x p. Accepts p (ask.CoreTimeout s.0) (did.CoreTimeout s.0) };
+
+    ghost accepts = { λ s x p stands fits. fits };
+
+    fn ask(self) -> Ask {
+        Ask::CoreTimeout(self.0)
+    }
+
+    fn did(self, _answer: &()) -> Did {
+        Did::CoreTimeout(self.0)
+    }
+
+    // KeepZero (11) where the keep-alive is 0 and core workers are to time out, else BookFull (5).
+    fn answer(self, parts: &Parts<P>) -> Result<(), PoolError> {
+        if self.0 && parts.keep == 0 {
+            return Err(PoolError::KeepZero);
+        }
+        if !parts.has_room(0, 0) {
+            return Err(PoolError::BookFull);
+        }
+        Ok(())
+    }
+
+    fn apply(self, parts: &mut Parts<P>, _answer: ()) {
+        parts.count_entry(0);
+        parts.set_core_timeout(self.0);
+    }
 }

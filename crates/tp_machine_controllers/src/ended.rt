@@ -1,32 +1,53 @@
 //! The terminated hook has run, as at the end of `tryTerminate`.
 
-ghost use Rattle.std.specs.Prelude.{OnOk, IfErr};
-ghost use Rattle.tp_machine_state.specs.Payloads.{Keeps};
-ghost use Rattle.tp_machine_state.specs.Steps.{Stands, Fits, Refuses, Leads};
+ghost use Rattle.std.specs.Prelude.{refl};
+ghost use Rattle.tp_machine_state.specs.Steps.{Fits};
 
 use tp_machine_state::parts::Parts;
+use tp_machine_state::step::Step;
 use tp_record::entries::{Ask, Did};
 use tp_types::refusals::PoolError;
 use tp_types::states::RunState;
 
-/// Whether the terminated hook was to run. NotThere (8).
-pub fn answer<P>(parts: &Parts<P>) -> Result<(), PoolError>
-    ensures fits { OnOk result (Fits parts.now Ask.Ended Did.Ended) }
-    ensures refuses { IfErr result (λ e. Refuses parts.now Ask.Ended e) }
-{
-    match parts.state {
-        RunState::Tidying => Ok(()),
-        _ => Err(PoolError::NotThere),
-    }
-}
+/// The terminated hook has run.
+#[derive(Clone, Copy)]
+pub struct Ended;
 
-/// The pool is terminated.
-pub fn apply<P>(parts: &mut Parts<P>)
-    requires stands { Stands parts.old }
-    requires fits { Fits parts.old Ask.Ended Did.Ended }
-    ensures leads { Leads parts.old Did.Ended parts.new }
-    ensures payloads { Keeps parts.old.tasks parts.new.tasks }
-{
-    parts.count_entry(1);
-    parts.reach(RunState::Terminated);
+impl<P> Step<P> for Ended {
+    ghost use Rattle.tp_record.specs.declared.entries.Ask.TheVariants as ask;
+    ghost use Rattle.tp_record.specs.declared.entries.Did.TheVariants as did;
+    ghost use Rattle.tp_machine_state.proofs.Standing.{accepts_owed};
+
+    type Answer = ();
+
+    type Out = ();
+
+    ghost ask = { λ s. ask.Ended };
+
+    ghost did = { λ s x. did.Ended };
+
+    ghost fits = { λ s x p. Fits p ask.Ended did.Ended };
+
+    ghost accepts = { λ s x p stands fits. accepts_owed p stands ask.Ended did.Ended (λ n. refl) fits };
+
+    fn ask(self) -> Ask {
+        Ask::Ended
+    }
+
+    fn did(self, _answer: &()) -> Did {
+        Did::Ended
+    }
+
+    // NotThere (8).
+    fn answer(self, parts: &Parts<P>) -> Result<(), PoolError> {
+        match parts.state {
+            RunState::Tidying => Ok(()),
+            _ => Err(PoolError::NotThere),
+        }
+    }
+
+    fn apply(self, parts: &mut Parts<P>, _answer: ()) {
+        parts.count_entry(1);
+        parts.reach(RunState::Terminated);
+    }
 }

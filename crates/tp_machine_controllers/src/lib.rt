@@ -1,5 +1,5 @@
-//! Controllers' steps: each in a module named as the step (the core size's as `core_size`), with `answer`, which reads what the step
-//! answers, and `apply`, which makes an accepted answer.
+//! Controllers' steps: each is a value in a module named as the step (the core size's as `core_size`), whose `answer` reads what the
+//! step answers, and whose `apply` makes an accepted answer. `stop` and `maximum` take memory between the two, so they have functions.
 #![tactic(auto)]
 
 pub mod cancel;

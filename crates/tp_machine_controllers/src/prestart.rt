@@ -1,36 +1,69 @@
 //! A worker is started ahead of tasks, as `prestartCoreThread` does.
 
-ghost use Rattle.std.specs.Prelude.{◌≡◌, ◌&&◌, nat_lt, IfOk, IfErr, IfSome, Some, None};
+ghost use Rattle.std.specs.Prelude.{◌≡◌, ◌&&◌, nat_lt, Some, None};
 ghost use Rattle.tp_record.specs.State.{State};
 ghost use Rattle.tp_record.specs.Step.{slot_count, wants_worker};
 ghost use Rattle.tp_machine_state.specs.Payloads.{Keeps};
 ghost use Rattle.tp_machine_state.specs.Shows.{Shows};
-ghost use Rattle.tp_machine_state.specs.Steps.{Stands, Accepts, Refuses, Leads};
+ghost use Rattle.tp_machine_state.specs.Steps.{Stands, Accepts, Leads};
 
 use tp_machine_state::parts::Parts;
+use tp_machine_state::step::Step;
 use tp_record::entries::{Ask, Did};
 use tp_record::rows::Stage;
 use tp_types::ids::SlotId;
 use tp_types::refusals::PoolError;
 
-/// The bare slot that is to be reserved, the next one, where there are fewer slots than the core size and the pool wants a
-/// worker. BookFull (5).
-pub fn answer<P>(parts: &Parts<P>) -> Result<Option<SlotId>, PoolError>
-    requires stands { Stands parts.now }
-    ensures accepts { IfOk result (λ o. Accepts parts.now Ask.Prestart (Did.Prestart o)) }
-    ensures next { IfOk result (λ o. IfSome o (λ w. w.0 ≡ parts.now.slots.next)) }
-    ensures refuses { IfErr result (λ e. Refuses parts.now Ask.Prestart e) }
-{
-    if !is_wanted(parts) {
-        if !parts.has_room(0, 0) {
+/// A worker is started ahead of tasks.
+#[derive(Clone, Copy)]
+pub struct Prestart;
+
+impl<P> Step<P> for Prestart {
+    ghost use Rattle.tp_record.specs.declared.entries.Ask.TheVariants as ask;
+    ghost use Rattle.tp_record.specs.declared.entries.Did.TheVariants as did;
+
+    /// The bare slot that is to be reserved, the next one, where there are fewer slots than the core size and the pool wants
+    /// a worker.
+    type Answer = Option<SlotId>;
+
+    type Out = ();
+
+    ghost ask = { λ s. ask.Prestart };
+
+    ghost did = { λ s x. did.Prestart x };
+
+    ghost fits = { λ s x p. Accepts p ask.Prestart (did.Prestart x) };
+
+    ghost accepts = { λ s x p stands fits. fits };
+
+    fn ask(self) -> Ask {
+        Ask::Prestart
+    }
+
+    fn did(self, answer: &Option<SlotId>) -> Did {
+        Did::Prestart(*answer)
+    }
+
+    // BookFull (5).
+    fn answer(self, parts: &Parts<P>) -> Result<Option<SlotId>, PoolError> {
+        if !is_wanted(parts) {
+            if !parts.has_room(0, 0) {
+                return Err(PoolError::BookFull);
+            }
+            return Ok(None);
+        }
+        if !parts.has_room(0, 3) {
             return Err(PoolError::BookFull);
         }
-        return Ok(None);
+        Ok(Some(parts.slots.next_number()))
     }
-    if !parts.has_room(0, 3) {
-        return Err(PoolError::BookFull);
+
+    fn apply(self, parts: &mut Parts<P>, slot: Option<SlotId>) {
+        match slot {
+            None => nothing(parts),
+            Some(w) => reserve(parts, w),
+        }
     }
-    Ok(Some(parts.slots.next_number()))
 }
 
 /// Whether a core worker is missing that the pool wants.
@@ -38,20 +71,6 @@ fn is_wanted<P>(parts: &Parts<P>) -> bool
     ensures { (s : State) → Shows parts.now s → result ≡ (nat_lt (slot_count s) s.core && wants_worker s) }
 {
     parts.slots.len() < parts.core as usize && parts.wants_worker()
-}
-
-/// Makes an accepted answer: the slot is reserved, if there is one.
-pub fn apply<P>(parts: &mut Parts<P>, slot: Option<SlotId>)
-    requires stands { Stands parts.old }
-    requires accepts { Accepts parts.old Ask.Prestart (Did.Prestart slot) }
-    requires next { IfSome slot (λ w. w.0 ≡ parts.old.slots.next) }
-    ensures leads { Leads parts.old (Did.Prestart slot) parts.new }
-    ensures payloads { Keeps parts.old.tasks parts.new.tasks }
-{
-    match slot {
-        None => nothing(parts),
-        Some(w) => reserve(parts, w),
-    }
 }
 
 /// No slot is reserved.

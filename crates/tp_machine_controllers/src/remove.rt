@@ -1,11 +1,11 @@
 //! A queued task is removed, as `ThreadPoolExecutor.remove`.
 
-ghost use Rattle.std.specs.Bool.{OnTrue, OnFalse};
 ghost use Rattle.std.specs.Prelude.{◌≡◌, true, false, None, IfOk, IfErr};
 ghost use Rattle.tp_machine_state.specs.Payloads.{Keeps, HandsOut};
 ghost use Rattle.tp_machine_state.specs.Steps.{Stands, Fits, Accepts, Refuses, Leads};
 
 use tp_machine_state::parts::Parts;
+use tp_machine_state::step::Step;
 use tp_record::entries::{Ask, Did};
 use tp_types::ids::TaskId;
 use tp_types::refusals::PoolError;
@@ -20,20 +20,6 @@ fn is_queued<P>(parts: &Parts<P>, t: TaskId) -> Result<bool, PoolError>
         Some(row) => Ok(matches!(row.place, Place::Queued)),
         None => Err(PoolError::UnknownTask),
     }
-}
-
-/// Whether the task is in the queue, so that it can be removed. UnknownTask (6) or BookFull (5).
-pub fn answer<P>(parts: &Parts<P>, t: TaskId) -> Result<bool, PoolError>
-    requires stands { Stands parts.now }
-    ensures accepts { IfOk result (λ b. Accepts parts.now (Ask.Remove t) (Did.Remove t b)) }
-    ensures refuses { IfErr result (λ e. Refuses parts.now (Ask.Remove t) e) }
-{
-    let queued = is_queued(parts, t)?;
-    // A queued task owes 6 entries.
-    if !parts.has_room(6 * u64::from(queued), 0) {
-        return Err(PoolError::BookFull);
-    }
-    Ok(queued)
 }
 
 /// The task leaves the queue and is gone, with the fate removed unless it was cancelled. Its payload is handed out, if it was
@@ -59,19 +45,55 @@ fn absent<P>(parts: &mut Parts<P>, t: TaskId)
     parts.count_entry(0);
 }
 
-/// Makes the removal that was answered. The payload of a task that was queued and not cancelled is handed out.
-pub fn apply<P>(parts: &mut Parts<P>, t: TaskId, queued: bool) -> Option<P>
-    requires stands { Stands parts.old }
-    requires accepts { Accepts parts.old (Ask.Remove t) (Did.Remove t queued) }
-    ensures leads { Leads parts.old (Did.Remove t queued) parts.new }
-    ensures payload { OnTrue queued (HandsOut parts.old.tasks parts.new.tasks t.0 result) }
-    ensures payloads { OnFalse queued (Keeps parts.old.tasks parts.new.tasks) }
-    ensures nothing { OnFalse queued (result ≡ None) }
-{
-    if queued {
-        present(parts, t)
-    } else {
-        absent(parts, t);
-        None
+/// `ThreadPoolExecutor.remove`.
+#[derive(Clone, Copy)]
+pub struct Remove(pub TaskId);
+
+impl<P> Step<P> for Remove {
+    ghost use Rattle.std.specs.Bool.{OnTrue, OnFalse};
+    ghost use Rattle.tp_record.specs.declared.entries.Ask.TheVariants as ask;
+    ghost use Rattle.tp_record.specs.declared.entries.Did.TheVariants as did;
+
+    /// Whether the task is in the queue, so that it can be removed.
+    type Answer = bool;
+
+    /// The payload of a task that was queued and not cancelled.
+    type Out = Option<P>;
+
+    ghost ask = { λ s. ask.Remove s.0 };
+
+    ghost did = { λ s x. did.Remove s.0 x };
+
+    ghost fits = { λ s x p. Accepts p (ask.Remove s.0) (did.Remove s.0 x) };
+
+    ghost moves = { λ s x o old new. OnTrue x (HandsOut old new s.0.0 o) × OnFalse x (Keeps old new × (o ≡ None)) };
+
+    ghost accepts = { λ s x p stands fits. fits };
+
+    fn ask(self) -> Ask {
+        Ask::Remove(self.0)
+    }
+
+    fn did(self, answer: &bool) -> Did {
+        Did::Remove(self.0, *answer)
+    }
+
+    // UnknownTask (6) or BookFull (5).
+    fn answer(self, parts: &Parts<P>) -> Result<bool, PoolError> {
+        let queued = is_queued(parts, self.0)?;
+        // A queued task owes 6 entries.
+        if !parts.has_room(6 * u64::from(queued), 0) {
+            return Err(PoolError::BookFull);
+        }
+        Ok(queued)
+    }
+
+    fn apply(self, parts: &mut Parts<P>, queued: bool) -> Option<P> {
+        if queued {
+            present(parts, self.0)
+        } else {
+            absent(parts, self.0);
+            None
+        }
     }
 }

@@ -1,35 +1,53 @@
 //! The moment is later: time is ticks that callers hand in.
 
-ghost use Rattle.std.specs.Prelude.{OnOk, IfErr};
-ghost use Rattle.tp_machine_state.specs.Payloads.{Keeps};
-ghost use Rattle.tp_machine_state.specs.Steps.{Stands, Accepts, Refuses, Leads};
+ghost use Rattle.tp_machine_state.specs.Steps.{Accepts};
 
 use tp_machine_state::parts::Parts;
+use tp_machine_state::step::Step;
 use tp_record::entries::{Ask, Did};
 use tp_types::refusals::PoolError;
 
-/// Whether the moment may be `now`, in ticks. ClockBack (10) where it was later already, else BookFull (5).
-pub fn answer<P>(parts: &Parts<P>, now: u64) -> Result<(), PoolError>
-    requires stands { Stands parts.now }
-    ensures accepts { OnOk result (Accepts parts.now (Ask.Tick now) (Did.Tick now)) }
-    ensures refuses { IfErr result (λ e. Refuses parts.now (Ask.Tick now) e) }
-{
-    if now < parts.moment {
-        return Err(PoolError::ClockBack);
-    }
-    if !parts.has_room(0, 0) {
-        return Err(PoolError::BookFull);
-    }
-    Ok(())
-}
+/// The moment, in ticks.
+#[derive(Clone, Copy)]
+pub struct Tick(pub u64);
 
-/// The moment is `now`, in ticks.
-pub fn apply<P>(parts: &mut Parts<P>, now: u64)
-    requires stands { Stands parts.old }
-    requires accepts { Accepts parts.old (Ask.Tick now) (Did.Tick now) }
-    ensures leads { Leads parts.old (Did.Tick now) parts.new }
-    ensures payloads { Keeps parts.old.tasks parts.new.tasks }
-{
-    parts.count_entry(0);
-    parts.set_moment(now);
+impl<P> Step<P> for Tick {
+    ghost use Rattle.tp_record.specs.declared.entries.Ask.TheVariants as ask;
+    ghost use Rattle.tp_record.specs.declared.entries.Did.TheVariants as did;
+
+    type Answer = ();
+
+    type Out = ();
+
+    ghost ask = { λ s. ask.Tick s.0 };
+
+    ghost did = { λ s x. did.Tick s.0 };
+
+    ghost fits = { λ s x p. Accepts p (ask.Tick s.0) (did.Tick s.0) };
+
+    ghost accepts = { λ s x p stands fits. fits };
+
+    fn ask(self) -> Ask {
+        Ask::Tick(self.0)
+    }
+
+    fn did(self, _answer: &()) -> Did {
+        Did::Tick(self.0)
+    }
+
+    // ClockBack (10) where it was later already, else BookFull (5).
+    fn answer(self, parts: &Parts<P>) -> Result<(), PoolError> {
+        if self.0 < parts.moment {
+            return Err(PoolError::ClockBack);
+        }
+        if !parts.has_room(0, 0) {
+            return Err(PoolError::BookFull);
+        }
+        Ok(())
+    }
+
+    fn apply(self, parts: &mut Parts<P>, _answer: ()) {
+        parts.count_entry(0);
+        parts.set_moment(self.0);
+    }
 }

@@ -1,38 +1,60 @@
 //! A pool without slots goes on to its terminated hook, as `tryTerminate` does.
 
-ghost use Rattle.std.specs.Prelude.{OnOk, IfErr};
-ghost use Rattle.tp_machine_state.specs.Payloads.{Keeps};
-ghost use Rattle.tp_machine_state.specs.Steps.{Stands, Fits, Refuses, Leads};
+ghost use Rattle.std.specs.Prelude.{refl};
+ghost use Rattle.tp_machine_state.specs.Steps.{Fits};
 
 use tp_machine_state::parts::Parts;
+use tp_machine_state::step::Step;
 use tp_queue::work::WorkQueue;
 use tp_record::entries::{Ask, Did};
 use tp_types::refusals::PoolError;
 use tp_types::states::RunState;
 
-/// Whether no slot is left and nothing is queued that could run: at stop nothing can. NotThere (8).
-pub fn answer<P>(parts: &Parts<P>) -> Result<(), PoolError>
-    ensures fits { OnOk result (Fits parts.now Ask.Tidy Did.Tidy) }
-    ensures refuses { IfErr result (λ e. Refuses parts.now Ask.Tidy e) }
-{
-    if parts.slots.len() > 0 {
-        return Err(PoolError::NotThere);
-    }
-    match parts.state {
-        RunState::Stop => Ok(()),
-        // A queued task would be left to nobody: its second look reserves a slot for it
-        RunState::Shutdown if parts.queue.len() == 0 => Ok(()),
-        _ => Err(PoolError::NotThere),
-    }
-}
+/// A pool without slots goes on to its terminated hook.
+#[derive(Clone, Copy)]
+pub struct Tidy;
 
-/// The pool is tidying: its terminated hook is to run.
-pub fn apply<P>(parts: &mut Parts<P>)
-    requires stands { Stands parts.old }
-    requires fits { Fits parts.old Ask.Tidy Did.Tidy }
-    ensures leads { Leads parts.old Did.Tidy parts.new }
-    ensures payloads { Keeps parts.old.tasks parts.new.tasks }
-{
-    parts.count_entry(parts.owed_until(RunState::Tidying));
-    parts.reach(RunState::Tidying);
+impl<P> Step<P> for Tidy {
+    ghost use Rattle.tp_record.specs.declared.entries.Ask.TheVariants as ask;
+    ghost use Rattle.tp_record.specs.declared.entries.Did.TheVariants as did;
+    ghost use Rattle.tp_machine_state.proofs.Standing.{accepts_owed};
+
+    type Answer = ();
+
+    type Out = ();
+
+    ghost ask = { λ s. ask.Tidy };
+
+    ghost did = { λ s x. did.Tidy };
+
+    ghost fits = { λ s x p. Fits p ask.Tidy did.Tidy };
+
+    ghost accepts = { λ s x p stands fits. accepts_owed p stands ask.Tidy did.Tidy (λ n. refl) fits };
+
+    fn ask(self) -> Ask {
+        Ask::Tidy
+    }
+
+    fn did(self, _answer: &()) -> Did {
+        Did::Tidy
+    }
+
+    // No slot may be left, and nothing queued that could run: at stop nothing can. NotThere (8).
+    fn answer(self, parts: &Parts<P>) -> Result<(), PoolError> {
+        if parts.slots.len() > 0 {
+            return Err(PoolError::NotThere);
+        }
+        match parts.state {
+            RunState::Stop => Ok(()),
+            // A queued task would be left to nobody: its second look reserves a slot for it
+            RunState::Shutdown if parts.queue.len() == 0 => Ok(()),
+            _ => Err(PoolError::NotThere),
+        }
+    }
+
+    // The pool is tidying: its terminated hook is to run.
+    fn apply(self, parts: &mut Parts<P>, _answer: ()) {
+        parts.count_entry(parts.owed_until(RunState::Tidying));
+        parts.reach(RunState::Tidying);
+    }
 }

@@ -1,11 +1,11 @@
 //! A submitter asks for a slot up to the maximum size, after its offer found the queue full: the last `addWorker` in `execute`.
 
-ghost use Rattle.std.specs.Prelude.{ℕ, ◌≡◌, ◌^◌, IfOk, IfErr, IfSome};
-ghost use Rattle.tp_record.specs.Effects.{reserves};
+ghost use Rattle.std.specs.Prelude.{◌≡◌, refl};
 ghost use Rattle.tp_machine_state.specs.Payloads.{Keeps};
-ghost use Rattle.tp_machine_state.specs.Steps.{Stands, Fits, Refuses, Leads};
+ghost use Rattle.tp_machine_state.specs.Steps.{Stands, Fits, Leads};
 
 use tp_machine_state::parts::Parts;
+use tp_machine_state::step::Step;
 use tp_record::entries::{Ask, Did, Grown};
 use tp_record::rows::Stage;
 use tp_types::ids::{SlotId, TaskId};
@@ -13,38 +13,57 @@ use tp_types::refusals::PoolError;
 use tp_types::states::RunState;
 use tp_types::tasks::Place;
 
-/// Whether a slot is reserved for the task, or it is refused. UnknownTask (6) where there is no such task, NotThere (8)
-/// where it is not to grow the pool.
-pub fn answer<P>(parts: &Parts<P>, t: TaskId) -> Result<Grown, PoolError>
-    ensures fits { IfOk result (λ g. Fits parts.now (Ask.Grow t) (Did.Grow t g)) }
-    ensures next { IfOk result (λ g. IfSome (reserves (Did.Grow t g)) (λ w. w ≡ parts.now.slots.next)) }
-    ensures refuses { IfErr result (λ e. Refuses parts.now (Ask.Grow t) e) }
-{
-    let Some(row) = parts.tasks.row(t) else {
-        return Err(PoolError::UnknownTask);
-    };
-    let Place::ToGrow = row.place else {
-        return Err(PoolError::NotThere);
-    };
-    // Reserved and live slots count together, so that no two submitters fill the same gap.
-    if parts.state == RunState::Running && parts.slots.len() < parts.maximum as usize {
-        Ok(Grown::Reserve(parts.slots.next_number()))
-    } else {
-        Ok(Grown::Refuse)
-    }
-}
+/// The submitter asks for a slot up to the maximum.
+#[derive(Clone, Copy)]
+pub struct Grow(pub TaskId);
 
-/// Makes an accepted answer.
-pub fn apply<P>(parts: &mut Parts<P>, t: TaskId, grown: Grown)
-    requires stands { Stands parts.old }
-    requires fits { Fits parts.old (Ask.Grow t) (Did.Grow t grown) }
-    requires next { IfSome (reserves (Did.Grow t grown)) (λ w. w ≡ parts.old.slots.next) }
-    ensures leads { Leads parts.old (Did.Grow t grown) parts.new }
-    ensures payloads { Keeps parts.old.tasks parts.new.tasks }
-{
-    match grown {
-        Grown::Reserve(w) => reserve(parts, t, w),
-        Grown::Refuse => refuse(parts, t),
+impl<P> Step<P> for Grow {
+    ghost use Rattle.tp_record.specs.declared.entries.Ask.TheVariants as ask;
+    ghost use Rattle.tp_record.specs.declared.entries.Did.TheVariants as did;
+    ghost use Rattle.tp_machine_state.proofs.Standing.{accepts_owed};
+
+    /// Whether a slot is reserved for the task, or it is refused.
+    type Answer = Grown;
+
+    type Out = ();
+
+    ghost ask = { λ s. ask.Grow s.0 };
+
+    ghost did = { λ s x. did.Grow s.0 x };
+
+    ghost fits = { λ s x p. Fits p (ask.Grow s.0) (did.Grow s.0 x) };
+
+    ghost accepts = { λ s x p stands fits. accepts_owed p stands (ask.Grow s.0) (did.Grow s.0 x) (λ n. refl) fits };
+
+    fn ask(self) -> Ask {
+        Ask::Grow(self.0)
+    }
+
+    fn did(self, answer: &Grown) -> Did {
+        Did::Grow(self.0, *answer)
+    }
+
+    // UnknownTask (6) where there is no such task, NotThere (8) where it is not to grow the pool.
+    fn answer(self, parts: &Parts<P>) -> Result<Grown, PoolError> {
+        let Some(row) = parts.tasks.row(self.0) else {
+            return Err(PoolError::UnknownTask);
+        };
+        let Place::ToGrow = row.place else {
+            return Err(PoolError::NotThere);
+        };
+        // Reserved and live slots count together, so that no two submitters fill the same gap.
+        if parts.state == RunState::Running && parts.slots.len() < parts.maximum as usize {
+            Ok(Grown::Reserve(parts.slots.next_number()))
+        } else {
+            Ok(Grown::Refuse)
+        }
+    }
+
+    fn apply(self, parts: &mut Parts<P>, grown: Grown) {
+        match grown {
+            Grown::Reserve(w) => reserve(parts, self.0, w),
+            Grown::Refuse => refuse(parts, self.0),
+        }
     }
 }
 

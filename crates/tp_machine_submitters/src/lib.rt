@@ -1,5 +1,6 @@
-//! Submitters' steps: each in a module named as the step, with `answer`, which reads what the step answers, and `apply`, which
-//! makes an accepted answer. They are the branches of `ThreadPoolExecutor.execute`.
+//! Submitters' steps: each is a value in a module named as the step, whose `answer` reads what the step answers, and whose `apply`
+//! makes an accepted answer. A submission takes memory between the two, so `submit` has functions. They are the branches of
+//! `ThreadPoolExecutor.execute`.
 #![tactic(auto)]
 
 pub mod callerend;

@@ -1,44 +1,65 @@
 //! The submitter looks for a core slot again, after a retry, as the first branch of `execute`.
 
-ghost use Rattle.std.specs.Prelude.{ℕ, ◌≡◌, IfOk, IfErr, IfSome};
-ghost use Rattle.tp_record.specs.Effects.{reserves};
+ghost use Rattle.std.specs.Prelude.{◌≡◌, refl};
 ghost use Rattle.tp_machine_state.specs.Payloads.{Keeps};
-ghost use Rattle.tp_machine_state.specs.Steps.{Stands, Fits, Refuses, Leads};
+ghost use Rattle.tp_machine_state.specs.Steps.{Stands, Fits, Leads};
 
 use tp_machine_state::parts::Parts;
+use tp_machine_state::step::Step;
 use tp_record::entries::{Ask, Did, Looked};
 use tp_record::rows::Stage;
 use tp_types::ids::{SlotId, TaskId};
 use tp_types::refusals::PoolError;
 use tp_types::tasks::Place;
 
-/// Whether a core slot is reserved for the task, or it is to be offered, or it is refused. UnknownTask (6) or NotThere (8).
-pub fn answer<P>(parts: &Parts<P>, t: TaskId) -> Result<Looked, PoolError>
-    ensures fits { IfOk result (λ l. Fits parts.now (Ask.Look t) (Did.Look t l)) }
-    ensures next { IfOk result (λ l. IfSome (reserves (Did.Look t l)) (λ w. w ≡ parts.now.slots.next)) }
-    ensures refuses { IfErr result (λ e. Refuses parts.now (Ask.Look t) e) }
-{
-    let Some(row) = parts.tasks.row(t) else {
-        return Err(PoolError::UnknownTask);
-    };
-    let Place::Looking = row.place else {
-        return Err(PoolError::NotThere);
-    };
-    Ok(parts.look())
-}
+/// The submitter looks for a core slot again.
+#[derive(Clone, Copy)]
+pub struct Look(pub TaskId);
 
-/// Makes an accepted answer: the task is held by the next slot, or its submitter is to offer it, or it awaits a verdict.
-pub fn apply<P>(parts: &mut Parts<P>, t: TaskId, looked: Looked)
-    requires stands { Stands parts.old }
-    requires fits { Fits parts.old (Ask.Look t) (Did.Look t looked) }
-    requires next { IfSome (reserves (Did.Look t looked)) (λ w. w ≡ parts.old.slots.next) }
-    ensures leads { Leads parts.old (Did.Look t looked) parts.new }
-    ensures payloads { Keeps parts.old.tasks parts.new.tasks }
-{
-    match looked {
-        Looked::Reserve(w) => reserve(parts, t, w),
-        Looked::Queue => queue(parts, t),
-        Looked::Refuse => refuse(parts, t),
+impl<P> Step<P> for Look {
+    ghost use Rattle.tp_record.specs.declared.entries.Ask.TheVariants as ask;
+    ghost use Rattle.tp_record.specs.declared.entries.Did.TheVariants as did;
+    ghost use Rattle.tp_machine_state.proofs.Standing.{accepts_owed};
+
+    /// Whether a core slot is reserved for the task, or it is to be offered, or it is refused.
+    type Answer = Looked;
+
+    type Out = ();
+
+    ghost ask = { λ s. ask.Look s.0 };
+
+    ghost did = { λ s x. did.Look s.0 x };
+
+    ghost fits = { λ s x p. Fits p (ask.Look s.0) (did.Look s.0 x) };
+
+    ghost accepts = { λ s x p stands fits. accepts_owed p stands (ask.Look s.0) (did.Look s.0 x) (λ n. refl) fits };
+
+    fn ask(self) -> Ask {
+        Ask::Look(self.0)
+    }
+
+    fn did(self, answer: &Looked) -> Did {
+        Did::Look(self.0, *answer)
+    }
+
+    // UnknownTask (6) or NotThere (8).
+    fn answer(self, parts: &Parts<P>) -> Result<Looked, PoolError> {
+        let Some(row) = parts.tasks.row(self.0) else {
+            return Err(PoolError::UnknownTask);
+        };
+        let Place::Looking = row.place else {
+            return Err(PoolError::NotThere);
+        };
+        Ok(parts.look())
+    }
+
+    // The task is held by the next slot, or its submitter is to offer it, or it awaits a verdict.
+    fn apply(self, parts: &mut Parts<P>, looked: Looked) {
+        match looked {
+            Looked::Reserve(w) => reserve(parts, self.0, w),
+            Looked::Queue => queue(parts, self.0),
+            Looked::Refuse => refuse(parts, self.0),
+        }
     }
 }
 

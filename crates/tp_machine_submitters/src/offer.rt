@@ -1,10 +1,11 @@
 //! The submitter offers its task to the queue, as `workQueue.offer` in `execute`.
 
-ghost use Rattle.std.specs.Prelude.{ℕ, ◌≡◌, IfOk, IfErr};
+ghost use Rattle.std.specs.Prelude.{refl};
 ghost use Rattle.tp_machine_state.specs.Payloads.{Keeps};
-ghost use Rattle.tp_machine_state.specs.Steps.{Stands, Fits, Refuses, Leads};
+ghost use Rattle.tp_machine_state.specs.Steps.{Stands, Fits, Leads};
 
 use tp_machine_state::parts::Parts;
+use tp_machine_state::step::Step;
 use tp_queue::work::WorkQueue;
 use tp_record::entries::{Ask, Did, Offered};
 use tp_types::configs::QueueKind;
@@ -12,42 +13,65 @@ use tp_types::ids::{SlotId, TaskId};
 use tp_types::refusals::PoolError;
 use tp_types::tasks::Place;
 
-/// Whether the queue takes the task, or a worker does, or neither. UnknownTask (6) or NotThere (8).
-#[inline(always)]
-pub fn answer<P>(parts: &Parts<P>, t: TaskId) -> Result<Offered, PoolError>
-    ensures fits { IfOk result (λ o. Fits parts.now (Ask.Offer t) (Did.Offer t o)) }
-    ensures refuses { IfErr result (λ e. Refuses parts.now (Ask.Offer t) e) }
-{
-    let Some(row) = parts.tasks.row(t) else {
-        return Err(PoolError::UnknownTask);
-    };
-    let Place::ToOffer = row.place else {
-        return Err(PoolError::NotThere);
-    };
-    // The run state is not looked at: a shutdown may come right after any test of it, so it is the second look that does.
-    Ok(match parts.config.queue {
-        QueueKind::Handoff => match parts.slots.longest_idle() {
-            Some(w) => Offered::Hand(w),
-            None => Offered::Full,
-        },
-        QueueKind::Bounded(capacity) if parts.queue.len() >= capacity as usize => Offered::Full,
-        QueueKind::Bounded(_) | QueueKind::Unbounded | QueueKind::Priority => Offered::Queued,
-    })
-}
+/// The submitter offers its task to the queue.
+#[derive(Clone, Copy)]
+pub struct Offer(pub TaskId);
 
-/// Makes an accepted answer: the task is queued, or in the slot of the worker that was idle longest, or its submitter is to
-/// grow the pool.
-#[inline(always)]
-pub fn apply<P>(parts: &mut Parts<P>, t: TaskId, offered: Offered)
-    requires stands { Stands parts.old }
-    requires fits { Fits parts.old (Ask.Offer t) (Did.Offer t offered) }
-    ensures leads { Leads parts.old (Did.Offer t offered) parts.new }
-    ensures payloads { Keeps parts.old.tasks parts.new.tasks }
-{
-    match offered {
-        Offered::Queued => queue(parts, t),
-        Offered::Hand(w) => hand(parts, t, w),
-        Offered::Full => turn_away(parts, t),
+impl<P> Step<P> for Offer {
+    ghost use Rattle.tp_record.specs.declared.entries.Ask.TheVariants as ask;
+    ghost use Rattle.tp_record.specs.declared.entries.Did.TheVariants as did;
+    ghost use Rattle.tp_machine_state.proofs.Standing.{accepts_owed};
+
+    /// Whether the queue takes the task, or a worker does, or neither.
+    type Answer = Offered;
+
+    type Out = ();
+
+    ghost ask = { λ s. ask.Offer s.0 };
+
+    ghost did = { λ s x. did.Offer s.0 x };
+
+    ghost fits = { λ s x p. Fits p (ask.Offer s.0) (did.Offer s.0 x) };
+
+    ghost accepts = { λ s x p stands fits. accepts_owed p stands (ask.Offer s.0) (did.Offer s.0 x) (λ n. refl) fits };
+
+    #[inline(always)]
+    fn ask(self) -> Ask {
+        Ask::Offer(self.0)
+    }
+
+    #[inline(always)]
+    fn did(self, answer: &Offered) -> Did {
+        Did::Offer(self.0, *answer)
+    }
+
+    // UnknownTask (6) or NotThere (8).
+    #[inline(always)]
+    fn answer(self, parts: &Parts<P>) -> Result<Offered, PoolError> {
+        let Some(row) = parts.tasks.row(self.0) else {
+            return Err(PoolError::UnknownTask);
+        };
+        let Place::ToOffer = row.place else {
+            return Err(PoolError::NotThere);
+        };
+        // The run state is not looked at: a shutdown may come right after any test of it, so it is the second look that does.
+        Ok(match parts.config.queue {
+            QueueKind::Handoff => match parts.slots.longest_idle() {
+                Some(w) => Offered::Hand(w),
+                None => Offered::Full,
+            },
+            QueueKind::Bounded(capacity) if parts.queue.len() >= capacity as usize => Offered::Full,
+            QueueKind::Bounded(_) | QueueKind::Unbounded | QueueKind::Priority => Offered::Queued,
+        })
+    }
+
+    #[inline(always)]
+    fn apply(self, parts: &mut Parts<P>, offered: Offered) {
+        match offered {
+            Offered::Queued => queue(parts, self.0),
+            Offered::Hand(w) => hand(parts, self.0, w),
+            Offered::Full => turn_away(parts, self.0),
+        }
     }
 }
 

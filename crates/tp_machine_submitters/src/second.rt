@@ -1,15 +1,15 @@
 //! The submitter looks a second time, after its offer was taken, as the recheck in `execute`.
 
-ghost use Rattle.std.specs.Prelude.{ℕ, ◌≡◌, ◌==◌, ◌&&◌, nat_lt, IfOk, IfErr, IfSome};
-ghost use Rattle.tp_record.specs.Effects.{reserves};
+ghost use Rattle.std.specs.Prelude.{◌≡◌, ◌==◌, ◌&&◌, nat_lt, refl};
 ghost use Rattle.tp_record.specs.Fields.{is_queued_place};
 ghost use Rattle.tp_record.specs.State.{State};
 ghost use Rattle.tp_record.specs.Step.{slot_count, wants_worker};
 ghost use Rattle.tp_machine_state.specs.Payloads.{Keeps};
 ghost use Rattle.tp_machine_state.specs.Shows.{Shows};
-ghost use Rattle.tp_machine_state.specs.Steps.{Stands, Fits, Refuses, Leads};
+ghost use Rattle.tp_machine_state.specs.Steps.{Stands, Fits, Leads};
 
 use tp_machine_state::parts::Parts;
+use tp_machine_state::step::Step;
 use tp_record::entries::{Ask, Did, Seconded};
 use tp_record::rows::{Stage, TaskRow};
 use tp_types::ids::{SlotId, TaskId};
@@ -17,25 +17,64 @@ use tp_types::refusals::PoolError;
 use tp_types::states::RunState;
 use tp_types::tasks::Place;
 
-/// Whether the task stays, or stays with a slot reserved to serve it, or comes back. UnknownTask (6) or NotThere (8).
-#[inline(always)]
-pub fn answer<P>(parts: &Parts<P>, t: TaskId) -> Result<Seconded, PoolError>
-    ensures fits { IfOk result (λ s. Fits parts.now (Ask.Second t) (Did.Second t s)) }
-    ensures next { IfOk result (λ s. IfSome (reserves (Did.Second t s)) (λ w. w ≡ parts.now.slots.next)) }
-    ensures refuses { IfErr result (λ e. Refuses parts.now (Ask.Second t) e) }
-{
-    let Some(row) = parts.tasks.row(t) else {
-        return Err(PoolError::UnknownTask);
-    };
-    if !row.second {
-        return Err(PoolError::NotThere);
+/// The second look after an offer.
+#[derive(Clone, Copy)]
+pub struct Second(pub TaskId);
+
+impl<P> Step<P> for Second {
+    ghost use Rattle.tp_record.specs.declared.entries.Ask.TheVariants as ask;
+    ghost use Rattle.tp_record.specs.declared.entries.Did.TheVariants as did;
+    ghost use Rattle.tp_machine_state.proofs.Standing.{accepts_owed};
+
+    /// Whether the task stays, or stays with a slot reserved to serve it, or comes back.
+    type Answer = Seconded;
+
+    type Out = ();
+
+    ghost ask = { λ s. ask.Second s.0 };
+
+    ghost did = { λ s x. did.Second s.0 x };
+
+    ghost fits = { λ s x p. Fits p (ask.Second s.0) (did.Second s.0 x) };
+
+    ghost accepts = { λ s x p stands fits. accepts_owed p stands (ask.Second s.0) (did.Second s.0 x) (λ n. refl) fits };
+
+    #[inline(always)]
+    fn ask(self) -> Ask {
+        Ask::Second(self.0)
     }
-    if comes_back(parts, row) {
-        Ok(Seconded::Back)
-    } else if is_deserted(parts) {
-        Ok(Seconded::StayReserve(parts.slots.next_number()))
-    } else {
-        Ok(Seconded::Stay)
+
+    #[inline(always)]
+    fn did(self, answer: &Seconded) -> Did {
+        Did::Second(self.0, *answer)
+    }
+
+    // UnknownTask (6) or NotThere (8).
+    #[inline(always)]
+    fn answer(self, parts: &Parts<P>) -> Result<Seconded, PoolError> {
+        let Some(row) = parts.tasks.row(self.0) else {
+            return Err(PoolError::UnknownTask);
+        };
+        if !row.second {
+            return Err(PoolError::NotThere);
+        }
+        if comes_back(parts, row) {
+            Ok(Seconded::Back)
+        } else if is_deserted(parts) {
+            Ok(Seconded::StayReserve(parts.slots.next_number()))
+        } else {
+            Ok(Seconded::Stay)
+        }
+    }
+
+    // The task stays, or stays with the next slot to serve it, or is out of the queue and awaits a verdict.
+    #[inline(always)]
+    fn apply(self, parts: &mut Parts<P>, seconded: Seconded) {
+        match seconded {
+            Seconded::Stay => stay(parts, self.0),
+            Seconded::StayReserve(w) => reserve(parts, self.0, w),
+            Seconded::Back => take_back(parts, self.0),
+        }
     }
 }
 
@@ -56,23 +95,6 @@ fn is_deserted<P>(parts: &Parts<P>) -> bool
 {
     // The last worker may have left after the look and before the offer: then nobody would ever take the task.
     parts.slots.len() == 0 && parts.wants_worker()
-}
-
-/// Makes an accepted answer: the task stays, or stays with the next slot to serve it, or is out of the queue and awaits a
-/// verdict.
-#[inline(always)]
-pub fn apply<P>(parts: &mut Parts<P>, t: TaskId, seconded: Seconded)
-    requires stands { Stands parts.old }
-    requires fits { Fits parts.old (Ask.Second t) (Did.Second t seconded) }
-    requires next { IfSome (reserves (Did.Second t seconded)) (λ w. w ≡ parts.old.slots.next) }
-    ensures leads { Leads parts.old (Did.Second t seconded) parts.new }
-    ensures payloads { Keeps parts.old.tasks parts.new.tasks }
-{
-    match seconded {
-        Seconded::Stay => stay(parts, t),
-        Seconded::StayReserve(w) => reserve(parts, t, w),
-        Seconded::Back => take_back(parts, t),
-    }
 }
 
 /// The task stays where it is.

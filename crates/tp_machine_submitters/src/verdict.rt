@@ -1,6 +1,6 @@
 //! What becomes of a task that the pool refused, as its `RejectedExecutionHandler` says.
 
-ghost use Rattle.std.specs.Prelude.{ℕ, ◌≡◌, ◌≤◌, true, List, is_some, IfOk, IfErr, Some, None};
+ghost use Rattle.std.specs.Prelude.{ℕ, ◌≡◌, ◌≤◌, true, is_some, List, Some, None};
 ghost use Rattle.tp_record.specs.declared.entries.Entry.{Entry};
 ghost use Rattle.tp_record.specs.Left.{mark};
 ghost use Rattle.tp_record.specs.State.{State, state};
@@ -8,12 +8,12 @@ ghost use Rattle.tp_record.specs.Step.{Legal, allows, rule, retried, retry_of};
 ghost use Rattle.tp_tasks.specs.Tasks.{row_of};
 ghost use Rattle.tp_machine_state.specs.Payloads.{Keeps, HandsOut};
 ghost use Rattle.tp_machine_state.specs.Shows.{Shows};
-ghost use Rattle.tp_machine_state.specs.Steps.{Stands, Accepts, Refuses, Leads};
+ghost use Rattle.tp_machine_state.specs.Steps.{Stands, Accepts, Leads};
 ghost use Rattle.tp_machine_state.specs.Terms.{terms};
 ghost use Rattle.tp_machine_submitters.specs.Owed.{retry_rise};
-ghost use Rattle.tp_machine_submitters.specs.Verdicts.{Yields};
 
 use tp_machine_state::parts::Parts;
+use tp_machine_state::step::Step;
 use tp_queue::work::WorkQueue;
 use tp_record::entries::{Ask, Did, Ruled};
 use tp_record::rows::TaskRow;
@@ -24,48 +24,72 @@ use tp_types::refusals::PoolError;
 use tp_types::states::RunState;
 use tp_types::tasks::{Fate, Place};
 
-/// What the verdict makes of the refused task. There is room for it, also where it is a retry. UnknownTask (6) where there
-/// is no such task, NotThere (8) where it awaits no verdict or the policy does not allow this one.
-pub fn answer<P>(parts: &Parts<P>, t: TaskId, verdict: Verdict) -> Result<Ruled, PoolError>
-    requires stands { Stands parts.now }
-    ensures accepts { IfOk result (λ r. Accepts parts.now (Ask.Verdict t verdict) (Did.Verdict t verdict r)) }
-    ensures refuses { IfErr result (λ e. Refuses parts.now (Ask.Verdict t verdict) e) }
-{
-    let Some(row) = parts.tasks.row(t) else {
-        return Err(PoolError::UnknownTask);
-    };
-    let Place::Refused = row.place else {
-        return Err(PoolError::NotThere);
-    };
-    if allows(parts.config.policy, verdict) {
-        Ok(rule(parts, t, row, verdict))
-    } else {
-        Err(PoolError::NotThere)
-    }
-}
+/// The policy or a handler says what becomes of a refused task.
+#[derive(Clone, Copy)]
+pub struct Judge(pub TaskId, pub Verdict);
 
-/// Makes an accepted answer, and gives the payload of the task that waits no more, if it still had one: the refused task's
-/// own, or the dropped head's where the refused task is to look again.
-pub fn apply<P>(parts: &mut Parts<P>, t: TaskId, verdict: Verdict, ruled: Ruled) -> Option<P>
-    requires stands { Stands parts.old }
-    requires accepts { Accepts parts.old (Ask.Verdict t verdict) (Did.Verdict t verdict ruled) }
-    ensures leads { Leads parts.old (Did.Verdict t verdict ruled) parts.new }
-    ensures payloads { Yields parts.old.tasks parts.new.tasks t ruled result }
-    ensures run { ruled ≡ Ruled.Caller → is_some result ≡ true }
-{
-    match ruled {
-        Ruled::Rejected => reject(parts, t, verdict),
-        Ruled::Discarded => discard(parts, t, verdict),
-        Ruled::Caller => Some(run(parts, t, verdict)),
-        Ruled::Skip => {
-            skip(parts, t, verdict);
-            None
+impl<P> Step<P> for Judge {
+    ghost use Rattle.tp_record.specs.declared.entries.Ask.TheVariants as ask;
+    ghost use Rattle.tp_record.specs.declared.entries.Did.TheVariants as did;
+    ghost use Rattle.tp_record.specs.declared.entries.Ruled.TheVariants as ruled;
+    ghost use Rattle.tp_machine_submitters.specs.Verdicts.{Yields};
+
+    /// What the verdict makes of the refused task. There is room for it, also where it is a retry.
+    type Answer = Ruled;
+
+    /// The payload of the task that waits no more, if it still had one: the refused task's own, or the dropped head's where
+    /// the refused task is to look again.
+    type Out = Option<P>;
+
+    ghost ask = { λ s. ask.Verdict s.0 s.1 };
+
+    ghost did = { λ s x. did.Verdict s.0 s.1 x };
+
+    ghost fits = { λ s x p. Accepts p (ask.Verdict s.0 s.1) (did.Verdict s.0 s.1 x) };
+
+    ghost moves = { λ s x o old new. Yields old new s.0 x o × (x ≡ ruled.Caller → is_some o ≡ true) };
+
+    ghost accepts = { λ s x p stands fits. fits };
+
+    fn ask(self) -> Ask {
+        Ask::Verdict(self.0, self.1)
+    }
+
+    fn did(self, answer: &Ruled) -> Did {
+        Did::Verdict(self.0, self.1, *answer)
+    }
+
+    // UnknownTask (6) where there is no such task, NotThere (8) where it awaits no verdict or the policy does not allow this
+    // one.
+    fn answer(self, parts: &Parts<P>) -> Result<Ruled, PoolError> {
+        let Some(row) = parts.tasks.row(self.0) else {
+            return Err(PoolError::UnknownTask);
+        };
+        let Place::Refused = row.place else {
+            return Err(PoolError::NotThere);
+        };
+        if allows(parts.config.policy, self.1) {
+            Ok(rule(parts, self.0, row, self.1))
+        } else {
+            Err(PoolError::NotThere)
         }
-        Ruled::Retry => {
-            retry(parts, t, verdict);
-            None
+    }
+
+    fn apply(self, parts: &mut Parts<P>, ruled: Ruled) -> Option<P> {
+        match ruled {
+            Ruled::Rejected => reject(parts, self.0, self.1),
+            Ruled::Discarded => discard(parts, self.0, self.1),
+            Ruled::Caller => Some(run(parts, self.0, self.1)),
+            Ruled::Skip => {
+                skip(parts, self.0, self.1);
+                None
+            }
+            Ruled::Retry => {
+                retry(parts, self.0, self.1);
+                None
+            }
+            Ruled::RetryDrop(head) => retry_drop(parts, self.0, self.1, head),
         }
-        Ruled::RetryDrop(head) => retry_drop(parts, t, verdict, head),
     }
 }
 

@@ -10,7 +10,6 @@ use Rattle.tp_record.specs.declared.rows.TaskRow.{TaskRow}
 use Rattle.tp_record.specs.Lists.{is_among}
 use Rattle.tp_record.specs.Left.{mark, MayAll}
 use Rattle.tp_record.specs.State.{state, task_at, no_row}
-use Rattle.tp_record.specs.Step.{is_known}
 use Rattle.tp_machine_workers.specs.Taken.{AreGone}
 
 pub all_gone : (c : Config) (h : List Entry) (rs : List ℕ) → MayAll rs (state c h) → AreGone (mark rs (state c h))

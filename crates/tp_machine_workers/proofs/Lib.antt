@@ -1,3 +1,4 @@
+pub mod Promised
 pub mod Reserved
 pub mod Falls
 pub mod Waiting

@@ -1,61 +1,88 @@
 //! A worker begins the task that it took, as `beforeExecute` and the task's `run` do.
 
-ghost use Rattle.std.specs.Prelude.{ℕ, ◌≡◌, Some, None, IfOk, IfErr};
+ghost use Rattle.std.specs.Prelude.{refl, Some, None};
 ghost use Rattle.tp_machine_state.specs.Payloads.{Keeps, HandsOut};
-ghost use Rattle.tp_machine_state.specs.Steps.{Stands, Fits, Refuses, Leads};
-ghost use Rattle.tp_machine_workers.specs.Begun.{Begins};
+ghost use Rattle.tp_machine_state.specs.Steps.{Stands, Fits, Leads};
 
 use crate::owed::owed_at_take;
 use tp_machine_state::parts::Parts;
+use tp_machine_state::step::Step;
 use tp_record::entries::{Ask, Did, Started};
 use tp_record::rows::{SlotRow, Stage};
 use tp_types::ids::{SlotId, TaskId};
 use tp_types::refusals::PoolError;
 use tp_types::tasks::Place;
 
-/// What the worker begins: the task that it took, or nothing, where that was cancelled. UnknownSlot (7) where there is no such
-/// slot, NotThere (8) where its worker has taken no task.
-#[inline(always)]
-pub fn answer<P>(parts: &Parts<P>, w: SlotId) -> Result<Started, PoolError>
-    ensures fits { IfOk result (λ b. Fits parts.now (Ask.Begin w) (Did.Begin w b)) }
-    ensures refuses { IfErr result (λ e. Refuses parts.now (Ask.Begin w) e) }
-{
-    let Some(slot) = parts.slots.get(w) else {
-        return Err(PoolError::UnknownSlot);
-    };
-    let Stage::Working = slot.stage else {
-        return Err(PoolError::NotThere);
-    };
-    let Some(t) = slot.task else {
-        return Err(PoolError::NotThere);
-    };
-    let Some(row) = parts.tasks.row(t) else {
-        return Err(PoolError::NotThere);
-    };
-    let Place::Taken(_) = row.place else {
-        return Err(PoolError::NotThere);
-    };
-    // A cancel may have come since the task was taken. One that comes after this can no longer keep the body from running.
-    if row.cancelled {
-        Ok(Started::Skip(t))
-    } else {
-        Ok(Started::Run(t))
-    }
-}
+/// A worker begins the task that it took.
+#[derive(Clone, Copy)]
+pub struct Begin(pub SlotId);
 
-/// Makes an accepted answer, and hands out the payload of a task that runs. A skipped task has none.
-#[inline(always)]
-pub fn apply<P>(parts: &mut Parts<P>, w: SlotId, started: Started) -> Option<P>
-    requires stands { Stands parts.old }
-    requires fits { Fits parts.old (Ask.Begin w) (Did.Begin w started) }
-    ensures leads { Leads parts.old (Did.Begin w started) parts.new }
-    ensures payloads { Begins parts.old.tasks started parts.new.tasks result }
-{
-    match started {
-        Started::Run(t) => Some(run(parts, w, t)),
-        Started::Skip(t) => {
-            skip(parts, w, t);
-            None
+impl<P> Step<P> for Begin {
+    ghost use Rattle.tp_record.specs.declared.entries.Ask.TheVariants as ask;
+    ghost use Rattle.tp_record.specs.declared.entries.Did.TheVariants as did;
+    ghost use Rattle.tp_machine_state.proofs.Standing.{accepts_owed};
+    ghost use Rattle.tp_machine_workers.specs.Begun.{Begins};
+
+    /// What the worker begins: the task that it took, or nothing, where that was cancelled.
+    type Answer = Started;
+
+    /// The payload of a task that runs. A skipped task has none.
+    type Out = Option<P>;
+
+    ghost ask = { λ s. ask.Begin s.0 };
+
+    ghost did = { λ s x. did.Begin s.0 x };
+
+    ghost fits = { λ s x p. Fits p (ask.Begin s.0) (did.Begin s.0 x) };
+
+    ghost moves = { λ s x o old new. Begins old x new o };
+
+    ghost accepts = { λ s x p stands fits. accepts_owed p stands (ask.Begin s.0) (did.Begin s.0 x) (λ n. refl) fits };
+
+    #[inline(always)]
+    fn ask(self) -> Ask {
+        Ask::Begin(self.0)
+    }
+
+    #[inline(always)]
+    fn did(self, answer: &Started) -> Did {
+        Did::Begin(self.0, *answer)
+    }
+
+    // UnknownSlot (7) where there is no such slot, NotThere (8) where its worker has taken no task.
+    #[inline(always)]
+    fn answer(self, parts: &Parts<P>) -> Result<Started, PoolError> {
+        let Some(slot) = parts.slots.get(self.0) else {
+            return Err(PoolError::UnknownSlot);
+        };
+        let Stage::Working = slot.stage else {
+            return Err(PoolError::NotThere);
+        };
+        let Some(t) = slot.task else {
+            return Err(PoolError::NotThere);
+        };
+        let Some(row) = parts.tasks.row(t) else {
+            return Err(PoolError::NotThere);
+        };
+        let Place::Taken(_) = row.place else {
+            return Err(PoolError::NotThere);
+        };
+        // A cancel may have come since the task was taken. One that comes after this can no longer keep the body from running.
+        if row.cancelled {
+            Ok(Started::Skip(t))
+        } else {
+            Ok(Started::Run(t))
+        }
+    }
+
+    #[inline(always)]
+    fn apply(self, parts: &mut Parts<P>, started: Started) -> Option<P> {
+        match started {
+            Started::Run(t) => Some(run(parts, self.0, t)),
+            Started::Skip(t) => {
+                skip(parts, self.0, t);
+                None
+            }
         }
     }
 }

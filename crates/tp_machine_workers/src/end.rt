@@ -1,26 +1,80 @@
 //! A worker has run its task, as where the task's `run` returns in `runWorker`, and `afterExecute` ran.
 
-ghost use Rattle.std.specs.Prelude.{ℕ, ◌≡◌, true, false, IfOk, IfErr, IfSome, IsSome};
+ghost use Rattle.std.specs.Prelude.{◌≡◌, ◌↔◌, refl, true, false, IfSome, IfOk, IfErr, IsSome, IsTrue};
 ghost use Rattle.tp_types.specs.Promise.{FitsPromise};
 ghost use Rattle.tp_record.specs.Effects.{Outcome, is_plain_fault};
 ghost use Rattle.tp_record.specs.State.{State, task_at};
 ghost use Rattle.tp_tasks.specs.Tasks.{promise_of, row_of};
+ghost use Rattle.tp_machine_state.specs.Outcomes.{FitsThere};
 ghost use Rattle.tp_machine_state.specs.Payloads.{Keeps};
 ghost use Rattle.tp_machine_state.specs.Shows.{Shows};
-ghost use Rattle.tp_machine_state.specs.Steps.{Stands, Fits, Refuses, Leads};
+ghost use Rattle.tp_machine_state.specs.Steps.{Stands, Fits, Leads, Refuses};
 
 use crate::owed::owed_at_take;
 use tp_machine_state::parts::Parts;
+use tp_machine_state::step::Step;
 use tp_record::entries::{Ask, Did};
 use tp_record::rows::{SlotRow, Stage};
 use tp_types::ids::{SlotId, TaskId};
 use tp_types::refusals::PoolError;
 use tp_types::tasks::{Fate, Kind, Outcome, Place};
 
+/// A worker has run its task.
+#[derive(Clone, Copy)]
+pub struct End(pub SlotId, pub Outcome);
+
+impl<P> Step<P> for End {
+    ghost use Rattle.tp_record.specs.declared.entries.Ask.TheVariants as ask;
+    ghost use Rattle.tp_record.specs.declared.entries.Did.TheVariants as did;
+    ghost use Rattle.tp_machine_state.proofs.Standing.{accepts_owed};
+
+    /// Which task the worker ends.
+    type Answer = TaskId;
+
+    type Out = ();
+
+    ghost ask = { λ s. ask.End s.0 s.1 };
+
+    ghost did = { λ s x. did.End s.0 x s.1 };
+
+    ghost fits = { λ s x p. Fits p (ask.End s.0 s.1) (did.End s.0 x s.1) × IfSome (promise_of p.tasks x.0) (λ k. FitsPromise k s.1) };
+
+    ghost accepts = { λ s x p stands fits. accepts_owed p stands (ask.End s.0 s.1) (did.End s.0 x s.1) (λ n. refl) fits.0 };
+
+    #[inline(always)]
+    fn ask(self) -> Ask {
+        Ask::End(self.0, self.1)
+    }
+
+    #[inline(always)]
+    fn did(self, answer: &TaskId) -> Did {
+        Did::End(self.0, *answer, self.1)
+    }
+
+    #[inline(always)]
+    fn answer(self, parts: &Parts<P>) -> Result<TaskId, PoolError> {
+        if fits_there(parts, self.0, &self.1) {
+            running_in(parts, self.0)
+        } else {
+            Err(PoolError::TornRecord)
+        }
+    }
+
+    // The worker's task ended with this outcome, which is as it promised.
+    #[inline(always)]
+    fn apply(self, parts: &mut Parts<P>, t: TaskId) {
+        if is_plain_fault(parts, t, self.1) {
+            dies(parts, self.0, t, self.1);
+        } else {
+            works(parts, self.0, t, self.1);
+        }
+    }
+}
+
 /// Which task the worker ends, whatever its outcome. UnknownSlot (7) where there is no such slot, NotThere (8) where its worker
 /// runs no task.
 #[inline(always)]
-pub fn answer<P>(parts: &Parts<P>, w: SlotId) -> Result<TaskId, PoolError>
+fn running_in<P>(parts: &Parts<P>, w: SlotId) -> Result<TaskId, PoolError>
     ensures fits { (o : Outcome) → IfOk result (λ t. Fits parts.now (Ask.End w o) (Did.End w t o)) }
     ensures refuses { (o : Outcome) → IfErr result (λ e. Refuses parts.now (Ask.End w o) e) }
 {
@@ -42,19 +96,18 @@ pub fn answer<P>(parts: &Parts<P>, w: SlotId) -> Result<TaskId, PoolError>
     }
 }
 
-/// Makes an accepted answer: the worker's task ended with this outcome, which is as it promised.
+/// Whether the outcome is as the task promised that runs in this slot, where one does. The `end` of a task that is only held or
+/// taken is refused with NotThere (8), whatever the outcome.
 #[inline(always)]
-pub fn apply<P>(parts: &mut Parts<P>, w: SlotId, t: TaskId, outcome: Outcome)
-    requires stands { Stands parts.old }
-    requires fits { Fits parts.old (Ask.End w outcome) (Did.End w t outcome) }
-    requires promised { IfSome (promise_of parts.old.tasks t.0) (λ p. FitsPromise p outcome) }
-    ensures leads { Leads parts.old (Did.End w t outcome) parts.new }
-    ensures payloads { Keeps parts.old.tasks parts.new.tasks }
+pub fn fits_there<P>(parts: &Parts<P>, w: SlotId, outcome: &Outcome) -> bool
+    ensures { IsTrue result ↔ FitsThere parts.now w outcome.now }
 {
-    if is_plain_fault(parts, t, outcome) {
-        dies(parts, w, t, outcome);
-    } else {
-        works(parts, w, t, outcome);
+    let Some(SlotRow { task: Some(t), .. }) = parts.slots.get(w) else {
+        return true;
+    };
+    match (parts.tasks.row(t), parts.tasks.promise(t)) {
+        (Some(row), Some(promise)) if row.place == Place::Running(w) => promise.fits(outcome),
+        _ => true,
     }
 }
 

@@ -1,11 +1,12 @@
 //! The factory made no worker for a reserved slot, as `addWorkerFailed`.
 
-ghost use Rattle.std.specs.Prelude.{IfOk, IfErr};
-ghost use Rattle.tp_machine_state.specs.Steps.{Stands, Fits, Refuses, Leads};
+ghost use Rattle.std.specs.Prelude.{refl};
+ghost use Rattle.tp_machine_state.specs.Steps.{Stands, Fits, Leads};
 ghost use Rattle.tp_machine_state.specs.Payloads.{Keeps};
 
 use crate::freed::{give_back, turn_away};
 use tp_machine_state::parts::Parts;
+use tp_machine_state::step::Step;
 use tp_record::entries::{Ask, Did, Failed};
 use tp_record::rows::Stage;
 use tp_types::ids::{SlotId, TaskId};
@@ -13,38 +14,61 @@ use tp_types::refusals::PoolError;
 use tp_types::states::RunState;
 use tp_types::tasks::Place;
 
-/// What becomes of the slot's first task: offered to the queue, where the slot was of the core and the pool runs, else
-/// refused. UnknownSlot (7) or NotThere (8).
-pub fn answer<P>(parts: &Parts<P>, w: SlotId) -> Result<Failed, PoolError>
-    ensures fits { IfOk result (λ f. Fits parts.now (Ask.Fail w) (Did.Fail w f)) }
-    ensures refuses { IfErr result (λ e. Refuses parts.now (Ask.Fail w) e) }
-{
-    let Some(slot) = parts.slots.get(w) else {
-        return Err(PoolError::UnknownSlot);
-    };
-    if !slot.stage.is_reserved() {
-        return Err(PoolError::NotThere);
-    }
-    let Some(t) = slot.task else {
-        return Ok(Failed::Nothing);
-    };
-    match slot.stage {
-        Stage::ReservedCore if parts.state == RunState::Running => Ok(Failed::Offer(t)),
-        _ => Ok(Failed::Refuse(t)),
-    }
-}
+/// No worker was made for a reserved slot.
+#[derive(Clone, Copy)]
+pub struct Fail(pub SlotId);
 
-/// Makes an accepted answer: the slot is freed, and its first task is to be offered, or refused.
-pub fn apply<P>(parts: &mut Parts<P>, w: SlotId, failed: Failed)
-    requires stands { Stands parts.old }
-    requires fits { Fits parts.old (Ask.Fail w) (Did.Fail w failed) }
-    ensures leads { Leads parts.old (Did.Fail w failed) parts.new }
-    ensures payloads { Keeps parts.old.tasks parts.new.tasks }
-{
-    match failed {
-        Failed::Nothing => give_back(parts, w),
-        Failed::Offer(t) => offer(parts, w, t),
-        Failed::Refuse(t) => turn_away(parts, w, t),
+impl<P> Step<P> for Fail {
+    ghost use Rattle.tp_record.specs.declared.entries.Ask.TheVariants as ask;
+    ghost use Rattle.tp_record.specs.declared.entries.Did.TheVariants as did;
+    ghost use Rattle.tp_machine_state.proofs.Standing.{accepts_owed};
+
+    /// What becomes of the slot's first task: offered to the queue, where the slot was of the core and the pool runs, else
+    /// refused.
+    type Answer = Failed;
+
+    type Out = ();
+
+    ghost ask = { λ s. ask.Fail s.0 };
+
+    ghost did = { λ s x. did.Fail s.0 x };
+
+    ghost fits = { λ s x p. Fits p (ask.Fail s.0) (did.Fail s.0 x) };
+
+    ghost accepts = { λ s x p stands fits. accepts_owed p stands (ask.Fail s.0) (did.Fail s.0 x) (λ n. refl) fits };
+
+    fn ask(self) -> Ask {
+        Ask::Fail(self.0)
+    }
+
+    fn did(self, answer: &Failed) -> Did {
+        Did::Fail(self.0, *answer)
+    }
+
+    // UnknownSlot (7) or NotThere (8).
+    fn answer(self, parts: &Parts<P>) -> Result<Failed, PoolError> {
+        let Some(slot) = parts.slots.get(self.0) else {
+            return Err(PoolError::UnknownSlot);
+        };
+        if !slot.stage.is_reserved() {
+            return Err(PoolError::NotThere);
+        }
+        let Some(t) = slot.task else {
+            return Ok(Failed::Nothing);
+        };
+        match slot.stage {
+            Stage::ReservedCore if parts.state == RunState::Running => Ok(Failed::Offer(t)),
+            _ => Ok(Failed::Refuse(t)),
+        }
+    }
+
+    // The slot is freed, and its first task is to be offered, or refused.
+    fn apply(self, parts: &mut Parts<P>, failed: Failed) {
+        match failed {
+            Failed::Nothing => give_back(parts, self.0),
+            Failed::Offer(t) => offer(parts, self.0, t),
+            Failed::Refuse(t) => turn_away(parts, self.0, t),
+        }
     }
 }
 

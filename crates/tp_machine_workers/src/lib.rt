@@ -1,4 +1,4 @@
-//! Workers' steps: each in a module named as the step, with `answer`, which reads what the step answers, and `apply`, which makes
+//! Workers' steps: each is a value in a module named as the step, whose `answer` reads what the step answers, and whose `apply` makes
 //! an accepted answer.
 #![tactic(auto)]
 

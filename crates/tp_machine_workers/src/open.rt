@@ -1,13 +1,14 @@
 //! The factory made a worker for a reserved slot, as where `ThreadFactory.newThread` in `addWorker` gave a thread.
 
-ghost use Rattle.std.specs.Prelude.{ℕ, ◌≡◌, Some, None, IfOk, IfErr};
+ghost use Rattle.std.specs.Prelude.{◌≡◌, refl, Some, None};
 ghost use Rattle.tp_record.specs.State.{slot_at};
-ghost use Rattle.tp_machine_state.specs.Steps.{Stands, Fits, Refuses, Leads};
+ghost use Rattle.tp_machine_state.specs.Steps.{Stands, Fits, Leads};
 ghost use Rattle.tp_machine_state.specs.Payloads.{Keeps};
 
 use crate::freed::{give_back, turn_away};
 use crate::owed::owed_at_take;
 use tp_machine_state::parts::Parts;
+use tp_machine_state::step::Step;
 use tp_record::entries::{Ask, Did, Opened};
 use tp_record::rows::Stage;
 use tp_types::ids::{SlotId, TaskId};
@@ -15,42 +16,65 @@ use tp_types::refusals::PoolError;
 use tp_types::states::RunState;
 use tp_types::tasks::Place;
 
-/// What becomes of the slot: live, or freed, where the pool was shut down while the worker was made; a first task is
-/// refused then. UnknownSlot (7) or NotThere (8).
-pub fn answer<P>(parts: &Parts<P>, w: SlotId) -> Result<Opened, PoolError>
-    ensures fits { IfOk result (λ o. Fits parts.now (Ask.Open w) (Did.Open w o)) }
-    ensures refuses { IfErr result (λ e. Refuses parts.now (Ask.Open w) e) }
-{
-    let Some(slot) = parts.slots.get(w) else {
-        return Err(PoolError::UnknownSlot);
-    };
-    if !slot.stage.is_reserved() {
-        return Err(PoolError::NotThere);
-    }
-    // A bare slot is live at a shutdown too: it may be the only one, reserved for tasks that wait in the queue.
-    let is_live = match parts.state {
-        RunState::Running => true,
-        RunState::Shutdown => slot.task.is_none(),
-        _ => false,
-    };
-    match slot.task {
-        _ if is_live => Ok(Opened::Live),
-        Some(t) => Ok(Opened::GivenUpRefuse(t)),
-        None => Ok(Opened::GivenUp),
-    }
-}
+/// A worker was made for a reserved slot.
+#[derive(Clone, Copy)]
+pub struct Open(pub SlotId);
 
-/// Makes an accepted answer: the slot is live, or freed and its first task refused.
-pub fn apply<P>(parts: &mut Parts<P>, w: SlotId, opened: Opened)
-    requires stands { Stands parts.old }
-    requires fits { Fits parts.old (Ask.Open w) (Did.Open w opened) }
-    ensures leads { Leads parts.old (Did.Open w opened) parts.new }
-    ensures payloads { Keeps parts.old.tasks parts.new.tasks }
-{
-    match opened {
-        Opened::Live => go_live(parts, w),
-        Opened::GivenUp => give_back(parts, w),
-        Opened::GivenUpRefuse(t) => turn_away(parts, w, t),
+impl<P> Step<P> for Open {
+    ghost use Rattle.tp_record.specs.declared.entries.Ask.TheVariants as ask;
+    ghost use Rattle.tp_record.specs.declared.entries.Did.TheVariants as did;
+    ghost use Rattle.tp_machine_state.proofs.Standing.{accepts_owed};
+
+    /// What becomes of the slot: live, or freed, where the pool was shut down while the worker was made; a first task is
+    /// refused then.
+    type Answer = Opened;
+
+    type Out = ();
+
+    ghost ask = { λ s. ask.Open s.0 };
+
+    ghost did = { λ s x. did.Open s.0 x };
+
+    ghost fits = { λ s x p. Fits p (ask.Open s.0) (did.Open s.0 x) };
+
+    ghost accepts = { λ s x p stands fits. accepts_owed p stands (ask.Open s.0) (did.Open s.0 x) (λ n. refl) fits };
+
+    fn ask(self) -> Ask {
+        Ask::Open(self.0)
+    }
+
+    fn did(self, answer: &Opened) -> Did {
+        Did::Open(self.0, *answer)
+    }
+
+    // UnknownSlot (7) or NotThere (8).
+    fn answer(self, parts: &Parts<P>) -> Result<Opened, PoolError> {
+        let Some(slot) = parts.slots.get(self.0) else {
+            return Err(PoolError::UnknownSlot);
+        };
+        if !slot.stage.is_reserved() {
+            return Err(PoolError::NotThere);
+        }
+        // A bare slot is live at a shutdown too: it may be the only one, reserved for tasks that wait in the queue.
+        let is_live = match parts.state {
+            RunState::Running => true,
+            RunState::Shutdown => slot.task.is_none(),
+            _ => false,
+        };
+        match slot.task {
+            _ if is_live => Ok(Opened::Live),
+            Some(t) => Ok(Opened::GivenUpRefuse(t)),
+            None => Ok(Opened::GivenUp),
+        }
+    }
+
+    // The slot is live, or freed and its first task refused.
+    fn apply(self, parts: &mut Parts<P>, opened: Opened) {
+        match opened {
+            Opened::Live => go_live(parts, self.0),
+            Opened::GivenUp => give_back(parts, self.0),
+            Opened::GivenUpRefuse(t) => turn_away(parts, self.0, t),
+        }
     }
 }
 

@@ -1,17 +1,18 @@
 //! A worker asks for its next task, as `getTask`.
 
-ghost use Rattle.std.specs.Prelude.{ℕ, ◌≡◌, ◌==◌, ◌&&◌, ◌||◌, not, true, false, nat_le, nat_lt, length, IfOk, IfErr};
+ghost use Rattle.std.specs.Prelude.{ℕ, ◌≡◌, ◌==◌, ◌&&◌, ◌||◌, not, true, false, nat_le, nat_lt, length, refl};
 ghost use Rattle.std.specs.Result.{result_map_both};
 ghost use Rattle.tp_record.specs.Fields.{is_idle_row};
 ghost use Rattle.tp_record.specs.State.{State, task_at, slot_at};
 ghost use Rattle.tp_record.specs.Step.{held_answer, take_next, slot_count};
 ghost use Rattle.tp_machine_state.specs.Payloads.{Keeps};
 ghost use Rattle.tp_machine_state.specs.Shows.{Shows};
-ghost use Rattle.tp_machine_state.specs.Steps.{Stands, Fits, Refuses, Leads};
+ghost use Rattle.tp_machine_state.specs.Steps.{Stands, Fits, Leads};
 ghost use Rattle.tp_machine_workers.specs.Taken.{AreGone};
 
 use crate::owed::owed_at_take;
 use tp_machine_state::parts::Parts;
+use tp_machine_state::step::Step;
 use tp_queue::work::WorkQueue;
 use tp_record::entries::{Ask, Did, Took};
 use tp_record::rows::{SlotRow, Stage};
@@ -20,21 +21,63 @@ use tp_types::refusals::PoolError;
 use tp_types::states::RunState;
 use tp_types::tasks::Place;
 
-/// What the worker takes: the task that its slot holds, before all else, and else what the queue has for it. UnknownSlot (7)
-/// where there is no such slot, NotThere (8) where its worker is not made, dying or busy with a task that it took, and where an
-/// idle worker stays idle.
-#[inline(always)]
-pub fn answer<P>(parts: &Parts<P>, w: SlotId) -> Result<Took, PoolError>
-    ensures fits { IfOk result (λ k. Fits parts.now (Ask.Take w) (Did.Take w k)) }
-    ensures refuses { IfErr result (λ e. Refuses parts.now (Ask.Take w) e) }
-{
-    let Some(slot) = parts.slots.get(w) else {
-        return Err(PoolError::UnknownSlot);
-    };
-    match (slot.stage, slot.task) {
-        (Stage::Working, Some(t)) => first_task(parts, t),
-        (Stage::Working | Stage::Idle(_), None) => next_task(parts, slot.stage),
-        _ => Err(PoolError::NotThere),
+/// A worker asks for its next task.
+#[derive(Clone, Copy)]
+pub struct Take(pub SlotId);
+
+impl<P> Step<P> for Take {
+    ghost use Rattle.tp_record.specs.declared.entries.Ask.TheVariants as ask;
+    ghost use Rattle.tp_record.specs.declared.entries.Did.TheVariants as did;
+    ghost use Rattle.tp_machine_state.proofs.Standing.{accepts_owed};
+
+    /// What the worker takes: the task that its slot holds, before all else, and else what the queue has for it.
+    type Answer = Took;
+
+    // No payload is handed out before the task begins.
+    type Out = ();
+
+    ghost ask = { λ s. ask.Take s.0 };
+
+    ghost did = { λ s x. did.Take s.0 x };
+
+    ghost fits = { λ s x p. Fits p (ask.Take s.0) (did.Take s.0 x) };
+
+    ghost accepts = { λ s x p stands fits. accepts_owed p stands (ask.Take s.0) (did.Take s.0 x) (λ n. refl) fits };
+
+    #[inline(always)]
+    fn ask(self) -> Ask {
+        Ask::Take(self.0)
+    }
+
+    #[inline(always)]
+    fn did(self, answer: &Took) -> Did {
+        Did::Take(self.0, *answer)
+    }
+
+    // UnknownSlot (7) where there is no such slot, NotThere (8) where its worker is not made, dying or busy with a task that it
+    // took, and where an idle worker stays idle.
+    #[inline(always)]
+    fn answer(self, parts: &Parts<P>) -> Result<Took, PoolError> {
+        let Some(slot) = parts.slots.get(self.0) else {
+            return Err(PoolError::UnknownSlot);
+        };
+        match (slot.stage, slot.task) {
+            (Stage::Working, Some(t)) => first_task(parts, t),
+            (Stage::Working | Stage::Idle(_), None) => next_task(parts, slot.stage),
+            _ => Err(PoolError::NotThere),
+        }
+    }
+
+    #[inline(always)]
+    fn apply(self, parts: &mut Parts<P>, took: Took) {
+        match took {
+            Took::Held(t) => held(parts, self.0, t),
+            Took::Head(t) if is_idle(parts, self.0) => head_idle(parts, self.0, t),
+            Took::Head(t) => head(parts, self.0, t),
+            Took::Leave if is_idle(parts, self.0) => leave_idle(parts, self.0),
+            Took::Leave => leave(parts, self.0),
+            Took::Idle => rest(parts, self.0),
+        }
     }
 }
 
@@ -110,24 +153,6 @@ pub fn keeps_all<P>(parts: &Parts<P>) -> bool
     let count = parts.slots.len();
     let is_within = count <= parts.core as usize && !parts.core_timeout;
     parts.state == RunState::Running && count <= parts.maximum as usize && is_within
-}
-
-/// Makes an accepted answer. No payload is handed out before the task begins.
-#[inline(always)]
-pub fn apply<P>(parts: &mut Parts<P>, w: SlotId, took: Took)
-    requires stands { Stands parts.old }
-    requires fits { Fits parts.old (Ask.Take w) (Did.Take w took) }
-    ensures leads { Leads parts.old (Did.Take w took) parts.new }
-    ensures payloads { Keeps parts.old.tasks parts.new.tasks }
-{
-    match took {
-        Took::Held(t) => held(parts, w, t),
-        Took::Head(t) if is_idle(parts, w) => head_idle(parts, w, t),
-        Took::Head(t) => head(parts, w, t),
-        Took::Leave if is_idle(parts, w) => leave_idle(parts, w),
-        Took::Leave => leave(parts, w),
-        Took::Idle => rest(parts, w),
-    }
 }
 
 /// Whether the slot's worker is idle.

@@ -10,6 +10,7 @@ use crate::pool::PoolOf;
 use std::sync::Wait;
 use tp_book::passes::Pass;
 use tp_machine::machine::releases::Keeper;
+use tp_machine::typed::Plain;
 use tp_machine::typed::controllers::{Cancel, Purge, Remove};
 use tp_machine::typed::settings::{CoreTimeout, Keep, Maximum, Tick};
 use tp_pool_holds::answers::Removal;
@@ -54,7 +55,7 @@ impl<G: PoolNaming, J: Drop, E: Edge, K: Keeper> PoolOf<G, J, E, K> {
         ensures refused { IfErr result (Refuses true (K.terms G.config) (pass.old.room < 1) pass.new (Ask.Keep keep)) }
         ensures unchanged { OnErr result (AddsNone pass.old pass.new) }
     {
-        self.shared().control(rt, Keep(keep), pass)
+        self.shared().control(rt, Plain(Keep(keep)), pass)
     }
 
     /// Says whether core workers time out too, as `allowCoreThreadTimeOut`. NoMemory (4) for its receipt,
@@ -69,7 +70,7 @@ impl<G: PoolNaming, J: Drop, E: Edge, K: Keeper> PoolOf<G, J, E, K> {
         ensures refused { IfErr result (Refuses true (K.terms G.config) (pass.old.room < 1) pass.new (Ask.CoreTimeout on)) }
         ensures unchanged { OnErr result (AddsNone pass.old pass.new) }
     {
-        self.shared().control(rt, CoreTimeout(on), pass)
+        self.shared().control(rt, Plain(CoreTimeout(on)), pass)
     }
 
     /// Sets the moment, in ticks; Java's pool reads a clock instead. Keep-alives and deadlines are measured
@@ -79,7 +80,7 @@ impl<G: PoolNaming, J: Drop, E: Edge, K: Keeper> PoolOf<G, J, E, K> {
         ensures refused { IfErr result (Refuses true (K.terms G.config) (pass.old.room < 1) pass.new (Ask.Tick now)) }
         ensures unchanged { OnErr result (AddsNone pass.old pass.new) }
     {
-        self.shared().control(rt, Tick(now), pass)
+        self.shared().control(rt, Plain(Tick(now)), pass)
     }
 
     /// Takes the cancelled tasks out of the queue, as `ThreadPoolExecutor.purge`, and answers how many they
@@ -90,7 +91,7 @@ impl<G: PoolNaming, J: Drop, E: Edge, K: Keeper> PoolOf<G, J, E, K> {
         ensures refused { IfErr result (Refuses true (K.terms G.config) (pass.old.room < 1) pass.new Ask.Purge) }
         ensures unchanged { OnErr result (AddsNone pass.old pass.new) }
     {
-        self.shared().control_and_end(rt, Purge, pass)
+        self.shared().control_and_end(rt, Plain(Purge), pass)
     }
 
     /// Takes a task out of the queue, as `ThreadPoolExecutor.remove`, and hands its job back unless it was

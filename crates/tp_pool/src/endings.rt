@@ -16,6 +16,7 @@ use std::sync::Wait;
 use std::thread::Threads;
 use tp_book::passes::Pass;
 use tp_machine::machine::releases::Keeper;
+use tp_machine::typed::Plain;
 use tp_machine::typed::controllers::Shutdown;
 use tp_pool_holds::answers::Drained;
 use tp_pool_holds::names::PoolNaming;
@@ -82,7 +83,7 @@ impl<G: PoolNaming, J: Drop, E: Edge, K: Keeper> PoolOf<G, J, E, K> {
             return Err(error);
         }
         let shared = self.shared();
-        let (shut, remains) = shared.ask_left(rt, Shutdown, pass);
+        let (shut, remains) = shared.ask_left(rt, Plain(Shutdown), pass);
         match shut {
             Ok(()) => {
                 shared.try_end(rt, pass);

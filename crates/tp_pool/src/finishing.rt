@@ -10,6 +10,7 @@ use crate::pool::PoolOf;
 use std::thread;
 use tp_book::passes::Pass;
 use tp_machine::machine::releases::Keeper;
+use tp_machine::typed::Plain;
 use tp_machine::typed::controllers::Shutdown;
 use tp_pool_holds::names::PoolNaming;
 use tp_pool_threads::edges::Edge;
@@ -44,7 +45,7 @@ impl<
         if self.glance(pass) != RunState::Running {
             return;
         }
-        let (_, remains) = self.shared().ask_left(rt, Shutdown, pass);
+        let (_, remains) = self.shared().ask_left(rt, Plain(Shutdown), pass);
         if remains != Remains::End {
             self.rescue(*rt, remains);
         }

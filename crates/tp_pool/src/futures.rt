@@ -12,6 +12,7 @@ use crate::pool::PoolOf;
 use std::sync::Wait;
 use tp_book::passes::Pass;
 use tp_machine::machine::releases::Keeper;
+use tp_machine::typed::Plain;
 use tp_machine::typed::controllers::TakeDone;
 use tp_pool_holds::answers::Admitted;
 use tp_pool_holds::names::PoolNaming;
@@ -93,7 +94,7 @@ impl<G: PoolNaming, J: Drop, E: Edge, K: Keeper> PoolOf<G, J, E, K> {
         ensures refused { IfErr result (Refuses true (K.terms G.config) (pass.old.room < 1) pass.new (Ask.TakeDone group)) }
         ensures unchanged { OnErr result (AddsNone pass.old pass.new) }
     {
-        self.shared().control(rt, TakeDone(group), pass)
+        self.shared().control(rt, Plain(TakeDone(group)), pass)
     }
 
     /// As `take_done`, but it waits while none is done and one is open, as `ExecutorCompletionService.take`.

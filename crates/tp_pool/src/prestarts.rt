@@ -10,6 +10,7 @@ use std::sync::Wait;
 use std::thread::Threads;
 use tp_book::passes::Pass;
 use tp_machine::machine::releases::Keeper;
+use tp_machine::typed::Plain;
 use tp_machine::typed::settings::{Core, Prestart};
 use tp_pool_holds::names::PoolNaming;
 use tp_pool_threads::edges::Edge;
@@ -55,7 +56,7 @@ impl<
         if let Err(error) = pass.reserve(1 + 2 * most as usize) {
             return Err(error);
         }
-        let added = match self.shared().ask(rt, Core(core), pass) {
+        let added = match self.shared().ask(rt, Plain(Core(core)), pass) {
             Ok(added) => added,
             Err(error) => return Err(error),
         };
@@ -151,7 +152,7 @@ impl<
         ensures refused { IfErr result (IsRefusal true (K.terms G.config) pass.new Ask.Prestart) }
         ensures unchanged { OnErr result (LooksOnly (K.terms G.config) pass.old pass.new) }
     {
-        let w = match self.shared().ask(&rt, Prestart, pass) {
+        let w = match self.shared().ask(&rt, Plain(Prestart), pass) {
             Ok(Some(w)) => w,
             Ok(None) => return Ok(false),
             Err(error) => return Err(error),

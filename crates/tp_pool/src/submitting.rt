@@ -18,6 +18,7 @@ use std::sync::Wait;
 use std::thread::Threads;
 use tp_book::passes::Pass;
 use tp_machine::machine::releases::Keeper;
+use tp_machine::typed::Plain;
 use tp_machine::typed::submitters::{CallerEnd, Grow, Look, Offer, Submit};
 use tp_pool_holds::answers::{Admitted, Refused};
 use tp_pool_holds::names::PoolNaming;
@@ -266,15 +267,15 @@ impl<G: PoolNaming, J: Drop, E: Edge, K: Keeper> PoolOf<G, J, E, K> {
     {
         let shared = self.shared();
         match next {
-            Next::Offer => shared.further(rt, Offer(t), pass),
+            Next::Offer => shared.further(rt, Plain(Offer(t)), pass),
             Next::Second => self.second(rt, t, make, pass),
-            Next::Look => shared.further(rt, Look(t), pass),
-            Next::Grow => shared.further(rt, Grow(t), pass),
+            Next::Look => shared.further(rt, Plain(Look(t)), pass),
+            Next::Grow => shared.further(rt, Plain(Grow(t)), pass),
             Next::Judge => self.judge(rt, t, self.verdict(rt, t), make, held, pass),
             Next::RunHere => {
                 let flag = shared.flag_at_caller(rt, t)?;
                 let outcome = run(held.take()?.into_job(), flag);
-                shared.further(rt, CallerEnd(t, outcome), pass)
+                shared.further(rt, Plain(CallerEnd(t, outcome)), pass)
             }
             Next::Staff(w) => self.open_by(rt, w, staffed_by(make, w), make, pass).ok(),
             Next::End(_) | Next::Astray => None,

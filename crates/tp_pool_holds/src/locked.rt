@@ -135,51 +135,9 @@ impl<G: PoolNaming, J: Drop, R: Keeper> Core<G, J, R> {
         })
     }
 
-    /// Makes this step with a pass, a caller's or a worker's: `Book::step_by`. The threads that an accepted step
-    /// concerns are to be woken, and the flags of tasks that it concerns are set, or let go of. Where no record is kept, the
-    /// tasks are forgotten that are gone with it and to which nothing is owed.
-    #[inline(always)]
-    pub fn step_by<S: Marks<J>, A: Payer<G>>(
-        &mut self,
-        step: S,
-        load: S::Load,
-        glance: &Glance<G>,
-        pass: &mut A,
-    ) -> Result<S::Answer, (PoolError, S::Load)>
-        requires brings { S.brings step load }
-        requires ready { A.ready pass.old (S.ask step) }
-        ensures answers { IfOk result (λ x. S.answers step x) }
-        ensures holds { IfOk result (λ x. Holds R.RECEIPTS self.old self.new (A.number pass.old) (S.ask step) (S.did step x) (S.moves step load x)) }
-        ensures makes { IfOk result (λ x. Makes J (R.terms G.config) (A.number pass.old) (A.front pass.old) (S.ask step) (S.did step x) (S.moves step load x) (A.front pass.new)) }
-        ensures says { IfOk result (λ x. S.says step x (R.terms G.config) self.old.book.history) }
-        ensures paid { IfOk result (λ x. A.paid pass.old (entry_of (A.number pass.old) (S.ask step) (S.did step x)) pass.new) }
-        ensures denies { IfErr result (λ r. Denies R.RECEIPTS self.old self.new (S.ask step) r.0) }
-        ensures refused { IfErr result (λ r. Refused J R.RECEIPTS (R.terms G.config) (A.front pass.old) (S.ask step) r.0 (A.front pass.new)) }
-        ensures shown { OnErr result (A.shown pass.old pass.new) }
-        ensures returned { IfErr result (λ r. r.1 ≡ load) }
-        ensures number { A.number pass.new ≡ A.number pass.old }
-        ensures goes_on { IsFrontOf (A.front pass.old) self.old.book.history }
-        ensures front { (OnOk result (A.front pass.new ≡ self.new.book.history)) × (OnErr result (A.front pass.new ≡ self.old.book.history)) }
-        ensures released { A.released pass.new ≡ released_of self.old.book }
-    {
-        let Core {
-            book,
-            flags,
-            waking,
-            roster: _,
-        } = self;
-        book.law_is_balanced();
-        let answer = match book.step_by(step, load, glance, pass) {
-            Ok(answer) => answer,
-            Err(refused) => return Err(refused),
-        };
-        rouse(book, waking, &step.ask(), &step.did(&answer));
-        mark_flags(book, flags, step.mark(&answer));
-        settle(book, step.gone(&answer), glance);
-        Ok(answer)
-    }
-
-    /// As `step_by`, for a step with which nothing comes.
+    /// Makes this step with a pass, a caller's or a worker's: `Book::step_by`. Nothing comes with it. The threads that an
+    /// accepted step concerns are to be woken, and the flags of tasks that it concerns are set, or let go of. Where no record
+    /// is kept, the tasks are forgotten that are gone with it and to which nothing is owed.
     #[inline(always)]
     pub fn step<S: Marks<J> + Step<Task<J>, Load = ()>, A: Payer<G>>(
         &mut self,
@@ -202,10 +160,21 @@ impl<G: PoolNaming, J: Drop, R: Keeper> Core<G, J, R> {
         ensures front { (OnOk result (A.front pass.new ≡ self.new.book.history)) × (OnErr result (A.front pass.new ≡ self.old.book.history)) }
         ensures released { A.released pass.new ≡ released_of self.old.book }
     {
-        match self.step_by(step, (), glance, pass) {
-            Ok(answer) => Ok(answer),
-            Err((error, _)) => Err(error),
-        }
+        let Core {
+            book,
+            flags,
+            waking,
+            roster: _,
+        } = self;
+        book.law_is_balanced();
+        let answer = match book.step_by(step, (), glance, pass) {
+            Ok(answer) => answer,
+            Err((error, ())) => return Err(error),
+        };
+        rouse(book, waking, &step.ask(), &step.did(&answer));
+        mark_flags(book, flags, step.mark(&answer));
+        settle(book, step.gone(&answer), glance);
+        Ok(answer)
     }
 
     /// As `step`, with a caller's pass that has room for its receipt.

@@ -8,6 +8,7 @@ use std::sync::{Arc, Wait};
 use std::thread::Threads;
 use tp_book::passes::WorkerPass;
 use tp_machine::machine::releases::Keeper;
+use tp_machine::typed::Plain;
 use tp_machine::typed::controllers::{Ended, Tidy};
 use tp_machine::typed::settings::Prestart;
 use tp_pool_holds::names::PoolNaming;
@@ -24,7 +25,7 @@ impl<G: PoolNaming, J: Drop, E: Edge, K: Keeper, R: Wait> House<R> for Shared<G,
     ghost did = { λ old d new. (new.number ≡ old.number) × IsDone J K.RECEIPTS (K.terms G.config) old.number old.front new.front d };
 
     fn tidy(&self, rt: &R, pass: &mut WorkerPass<G>) -> bool {
-        self.step(rt, Tidy, pass).is_ok()
+        self.step(rt, Plain(Tidy), pass).is_ok()
     }
 
     fn terminated(&self, rt: &R, _pass: &mut WorkerPass<G>) {
@@ -32,11 +33,11 @@ impl<G: PoolNaming, J: Drop, E: Edge, K: Keeper, R: Wait> House<R> for Shared<G,
     }
 
     fn ended(&self, rt: &R, pass: &mut WorkerPass<G>) {
-        let _ = self.step(rt, Ended, pass);
+        let _ = self.step(rt, Plain(Ended), pass);
     }
 
     fn prestart(&self, rt: &R, pass: &mut WorkerPass<G>) -> Option<SlotId> {
-        match self.step(rt, Prestart, pass) {
+        match self.step(rt, Plain(Prestart), pass) {
             Ok(reserved) => reserved,
             Err(_) => None,
         }

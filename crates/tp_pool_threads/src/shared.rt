@@ -21,8 +21,8 @@ use tp_book::passes::Pass;
 use tp_book::payers::Payer;
 use tp_glance::glance::Glance;
 use tp_machine::machine::releases::Keeper;
-use tp_machine::typed::Step;
 use tp_machine::typed::controllers::{Ended, Tidy};
+use tp_machine::typed::{Plain, Step};
 use tp_pool_holds::answers::Drained;
 use tp_pool_holds::locked::{Core, Marks};
 use tp_pool_holds::locks::PoolLock;
@@ -328,7 +328,7 @@ impl<G: PoolNaming, J: Drop, E: Edge, K: Keeper> Shared<G, J, E, K> {
         ensures refused { ¬ IsTrue result → IsBarred (K.terms G.config) pass.new.front Ask.Tidy }
         ensures unchanged { ¬ IsTrue result → LooksOnly (K.terms G.config) pass.old pass.new }
     {
-        self.ask(rt, Tidy, pass).is_ok()
+        self.ask(rt, Plain(Tidy), pass).is_ok()
     }
 
     /// The terminated hook, with no lock held, and the step `ended`, by the pass that made the step
@@ -341,7 +341,7 @@ impl<G: PoolNaming, J: Drop, E: Edge, K: Keeper> Shared<G, J, E, K> {
         ensures unchanged { OnErr result (LooksOnly (K.terms G.config) pass.old pass.new) }
     {
         self.around.edge.terminated(rt);
-        match self.ask(rt, Ended, pass) {
+        match self.ask(rt, Plain(Ended), pass) {
             Ok(()) => Ok(()),
             Err(_) => Err(PoolError::TornRecord),
         }

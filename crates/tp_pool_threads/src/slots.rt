@@ -12,6 +12,7 @@ use std::sync::Wait;
 use tp_book::payers::Payer;
 use tp_glance::glance::Glance;
 use tp_machine::machine::releases::Keeper;
+use tp_machine::typed::Plain;
 use tp_machine::typed::workers::Fail;
 use tp_pool_holds::locked::Core;
 use tp_pool_holds::names::PoolNaming;
@@ -42,7 +43,7 @@ fn opened<G: PoolNaming, J: Drop, K: Keeper, A: Payer<G>>(
             Err(error) => Err(error),
         }
     } else {
-        match core.step(Fail(w), glance, pass) {
+        match core.step(Plain(Fail(w)), glance, pass) {
             Ok(failed) => Ok(Did::Fail(w, failed)),
             Err(error) => Err(error),
         }

@@ -16,8 +16,8 @@ use crate::shared::{Shared, left_in};
 use std::sync::{MutexGuard, Wait};
 use tp_book::passes::Pass;
 use tp_machine::machine::releases::Keeper;
-use tp_machine::typed::Step;
 use tp_machine::typed::submitters::{Judge, Second, Submit};
+use tp_machine::typed::{Plain, Step};
 use tp_pool_holds::locked::{Core, Marks};
 use tp_pool_holds::names::PoolNaming;
 use tp_pool_holds::tasks::Task;
@@ -97,7 +97,7 @@ impl<G: PoolNaming, J: Drop, E: Edge, K: Keeper> Shared<G, J, E, K> {
         self.release(core);
     }
 
-    /// A further step of a submission: what it did.
+    /// A further step of a submission, in a hold of its own: what it did.
     #[inline(always)]
     pub fn further<R: Wait, X: Drop, S: Marks<J> + Step<Task<J>, Load = (), Answer = X>>(
         &self,
@@ -112,7 +112,10 @@ impl<G: PoolNaming, J: Drop, E: Edge, K: Keeper> Shared<G, J, E, K> {
         ensures refused { IfNone result (HasNoOutcome (S.ask step) → IsHalted K.RECEIPTS (K.terms G.config) pass.new (S.ask step)) }
         ensures unchanged { IfNone result (LooksOnly (K.terms G.config) pass.old pass.new) }
     {
-        match self.ask(rt, step, pass) {
+        let mut core = self.hold(rt);
+        let answer = core.ask(step, &self.around.glance, pass);
+        self.release(core);
+        match answer {
             Ok(answer) => Some(step.did(&answer)),
             Err(_) => None,
         }
@@ -129,7 +132,7 @@ impl<G: PoolNaming, J: Drop, E: Edge, K: Keeper> Shared<G, J, E, K> {
         ensures remains { result.0 ≡ Some (Did.Second t Seconded.Back) → IsLeft (state (K.terms G.config) pass.new.front) result.1 }
     {
         let mut core = self.hold(rt);
-        let answer = core.ask(Second(t), &self.around.glance, pass);
+        let answer = core.ask(Plain(Second(t)), &self.around.glance, pass);
         let remains = left_by_second(&core, &answer);
         self.release(core);
         match answer {

@@ -12,8 +12,8 @@ use std::sync::{Arc, MutexGuard, Wait};
 use std::thread::{Threads, yield_now};
 use tp_book::passes::WorkerPass;
 use tp_machine::machine::releases::Keeper;
-use tp_machine::typed::controllers;
 use tp_machine::typed::workers::{End, Leave};
+use tp_machine::typed::{Plain, controllers};
 use tp_pool_holds::locked::{Core, Taking};
 use tp_pool_holds::names::PoolNaming;
 use tp_pool_holds::roster::Start;
@@ -393,7 +393,7 @@ impl<G: PoolNaming, J: Drop, E: Edge, K: Keeper> Shared<G, J, E, K> {
         ensures number { pass.new.number ≡ pass.old.number }
     {
         let mut core = self.hold_in_turn(rt, holds);
-        let told = core.step(End(w, outcome), &self.around.glance, pass);
+        let told = core.step(Plain(End(w, outcome)), &self.around.glance, pass);
         let dying = core.is_dying(w);
         self.release_in_turn(core, holds);
         match told {
@@ -418,7 +418,7 @@ impl<G: PoolNaming, J: Drop, E: Edge, K: Keeper> Shared<G, J, E, K> {
         ensures asks { Leaves J K.RECEIPTS (K.terms G.config) pass.old.number pass.old.front w pass.new.front (λ r. result ≡ departed_of r) }
         ensures number { pass.new.number ≡ pass.old.number }
     {
-        match self.step(rt, Leave(w), pass) {
+        match self.step(rt, Plain(Leave(w)), pass) {
             Ok(Some(next)) => Departed::Replaced(next),
             Ok(None) => Departed::Alone,
             Err(_) => Departed::Refused,
@@ -468,9 +468,9 @@ impl<G: PoolNaming, J: Drop, E: Edge, K: Keeper> Shared<G, J, E, K> {
         ensures ends { EndsPool J K.RECEIPTS (K.terms G.config) pass.old.number pass.old.front pass.new.front }
         ensures number { pass.new.number ≡ pass.old.number }
     {
-        if self.step(rt, controllers::Tidy, pass).is_ok() {
+        if self.step(rt, Plain(controllers::Tidy), pass).is_ok() {
             self.around.edge.terminated(rt);
-            let _ = self.step(rt, controllers::Ended, pass);
+            let _ = self.step(rt, Plain(controllers::Ended), pass);
         }
     }
 

@@ -1,6 +1,6 @@
 //! An entry in 24 bytes, as a record keeps it: what was asked is read off what was done. An entry is packed and unpacked here alone.
 
-ghost use Rattle.std.specs.Prelude.{◌≡◌, ◌%◌, ◌^◌, ◌<◌, IfOk};
+ghost use Rattle.std.specs.Prelude.{◌≡◌, ◌%◌, ◌^◌, ◌<◌, IfOk, vec_capacity};
 ghost use Rattle.tp_record.specs.Asked.{asked};
 ghost use Rattle.tp_record.specs.Packed.{did_of, entry_of, Fits16, HasSmallLook, HasSmallOffer, HasSmallSecond, HasSmallGrowth, HasSmallReserve, HasSmallSlots, looked_of, offered_of, seconded_of, grown_of, ruled_of, outcome_of, opened_of, failed_of, took_of, started_of, reserved_of, is_answer_yes};
 
@@ -108,6 +108,9 @@ const NO_TASK: TaskId = TaskId(0);
 
 const NO_SLOT: u16 = 0;
 
+// What a step says that answers nothing, and has no number and no value.
+const NOTHING: (Answer, u32, u64) = (Answer::Nothing, 0, 0);
+
 // One more than the greatest u32.
 const HALF: u64 = 1 << 32;
 
@@ -174,27 +177,33 @@ fn pack_did(by: u32, did: Did) -> Packed
         Did::Second(t, seconded) => of_task(by, Step::Second, t, pack_seconded(seconded)),
         Did::Grow(t, grown) => of_task(by, Step::Grow, t, pack_grown(grown)),
         Did::Verdict(t, verdict, ruled) => of_verdict(by, t, verdict, pack_ruled(ruled)),
-        Did::CallerEnd(t, o) => of_end(by, Step::CallerEnd, t, NO_SLOT, pack_outcome(o)),
+        Did::CallerEnd(t, o) => of_parts(by, Step::CallerEnd, t, NO_SLOT, pack_outcome(o)),
         Did::Open(w, opened) => of_slot(by, Step::Open, small(w), pack_opened(opened)),
         Did::Fail(w, failed) => of_slot(by, Step::Fail, small(w), pack_failed(failed)),
         Did::Take(w, took) => of_slot(by, Step::Take, small(w), pack_took(took)),
         Did::Begin(w, started) => of_slot(by, Step::Begin, small(w), pack_started(started)),
-        Did::End(w, t, o) => of_end(by, Step::End, t, small(w), pack_outcome(o)),
+        Did::End(w, t, o) => of_parts(by, Step::End, t, small(w), pack_outcome(o)),
         Did::Leave(w, reserved) => of_leave(by, small(w), pack_reserved(reserved)),
-        Did::Shutdown => of_pool(by, Step::Shutdown, Answer::Nothing, 0),
-        Did::Stop(count) => of_number(by, Step::Stop, count, 0),
-        Did::Tidy => of_pool(by, Step::Tidy, Answer::Nothing, 0),
-        Did::Ended => of_pool(by, Step::Ended, Answer::Nothing, 0),
+        Did::Shutdown => of_pool(by, Step::Shutdown, NOTHING),
+        Did::Stop(count) => of_pool(by, Step::Stop, (Answer::Nothing, count, 0)),
+        Did::Tidy => of_pool(by, Step::Tidy, NOTHING),
+        Did::Ended => of_pool(by, Step::Ended, NOTHING),
         Did::Remove(t, gone) => of_task(by, Step::Remove, t, (yes_or_no(gone), NO_SLOT)),
-        Did::Purge(count) => of_number(by, Step::Purge, count, 0),
+        Did::Purge(count) => of_pool(by, Step::Purge, (Answer::Nothing, count, 0)),
         Did::Cancel(t, flag, done) => of_cancel(by, t, flag, yes_or_no(done)),
-        Did::TakeDone(group, t) => of_done(by, group, t),
-        Did::Core(size, more) => of_number(by, Step::Core, size, u64::from(more)),
-        Did::Maximum(size) => of_number(by, Step::Maximum, size, 0),
-        Did::Keep(ticks) => of_pool(by, Step::Keep, Answer::Nothing, ticks),
-        Did::CoreTimeout(on) => of_pool(by, Step::CoreTimeout, yes_or_no(on), 0),
-        Did::Tick(moment) => of_pool(by, Step::Tick, Answer::Nothing, moment),
-        Did::Prestart(reserved) => of_prestart(by, pack_reserved(reserved)),
+        Did::TakeDone(group, t) => of_parts(
+            by,
+            Step::TakeDone,
+            t,
+            NO_SLOT,
+            (Answer::Nothing, group, 0),
+        ),
+        Did::Core(size, more) => of_pool(by, Step::Core, (Answer::Nothing, size, u64::from(more))),
+        Did::Maximum(size) => of_pool(by, Step::Maximum, (Answer::Nothing, size, 0)),
+        Did::Keep(ticks) => of_pool(by, Step::Keep, (Answer::Nothing, 0, ticks)),
+        Did::CoreTimeout(on) => of_pool(by, Step::CoreTimeout, (yes_or_no(on), 0, 0)),
+        Did::Tick(moment) => of_pool(by, Step::Tick, (Answer::Nothing, 0, moment)),
+        Did::Prestart(reserved) => of_task(by, Step::Prestart, NO_TASK, pack_reserved(reserved)),
     }
 }
 
@@ -250,41 +259,34 @@ pub fn unpacked(alloc: Global, packed: &[Packed]) -> Result<Vec<Entry>, AllocErr
     Ok(entries)
 }
 
-// An entry of a task's step.
-#[inline(always)]
-fn of_task(by: u32, step: Step, t: TaskId, said: (Answer, u16)) -> Packed
-    ensures { result ≡ entry_of by (did_of step said.0 t 0 (record { 0 = said.1 }) 0) }
+// What stands in the room behind entries before an entry does.
+const BLANK: Packed = Packed {
+    value: 0,
+    by: 0,
+    task: NO_TASK,
+    number: 0,
+    slot: NO_SLOT,
+    step: Step::Tidy,
+    answer: Answer::Nothing,
+};
+
+/// Writes the room behind these entries once, so that no page of it is a new one where an entry is noted: a page that is touched
+/// first within a hold is paid for by each thread that waits for the lock.
+#[tactic(auto, using(crate::proofs::Rooms::front_kept, std::proofs::lemmas::List::take_all))]
+pub fn write_room(entries: &mut Vec<Packed>)
+    ensures same { entries.new.items ≡ entries.old.items }
+    ensures room { vec_capacity entries.old ≡ vec_capacity entries.new }
 {
-    Packed {
-        value: 0,
-        slot: said.1,
-        by,
-        task: t,
-        number: 0,
-        step,
-        answer: said.0,
+    let count = entries.len();
+    for _ in count..entries.capacity() {
+        entries.push_reserved(BLANK);
     }
+    entries.truncate(count);
 }
 
-// An entry of a slot's step, which gives a task or none.
+// An entry by its parts: what the step answered, with a number and a value, and the task and the slot that it is of.
 #[inline(always)]
-fn of_slot(by: u32, step: Step, slot: u16, said: (Answer, TaskId)) -> Packed
-    ensures { result ≡ entry_of by (did_of step said.0 said.1 0 (record { 0 = slot }) 0) }
-{
-    Packed {
-        value: 0,
-        slot,
-        by,
-        task: said.1,
-        number: 0,
-        step,
-        answer: said.0,
-    }
-}
-
-// An entry of a task's end, with its outcome.
-#[inline(always)]
-fn of_end(by: u32, step: Step, t: TaskId, slot: u16, said: (Answer, u32, u64)) -> Packed
+fn of_parts(by: u32, step: Step, t: TaskId, slot: u16, said: (Answer, u32, u64)) -> Packed
     ensures { result ≡ entry_of by (did_of step said.0 t said.1 (record { 0 = slot }) said.2) }
 {
     Packed {
@@ -298,36 +300,28 @@ fn of_end(by: u32, step: Step, t: TaskId, slot: u16, said: (Answer, u32, u64)) -
     }
 }
 
-// An entry of the pool's, with ticks or none.
+// An entry of a task's step, which names a slot or none.
 #[inline(always)]
-fn of_pool(by: u32, step: Step, answer: Answer, value: u64) -> Packed
-    ensures { result ≡ entry_of by (did_of step answer NO_TASK 0 (record { 0 = 0 }) value) }
+fn of_task(by: u32, step: Step, t: TaskId, said: (Answer, u16)) -> Packed
+    ensures { result ≡ entry_of by (did_of step said.0 t 0 (record { 0 = said.1 }) 0) }
 {
-    Packed {
-        value,
-        slot: NO_SLOT,
-        by,
-        task: NO_TASK,
-        number: 0,
-        step,
-        answer,
-    }
+    of_parts(by, step, t, said.1, (said.0, 0, 0))
 }
 
-// An entry with a number, and another or none.
+// An entry of a slot's step, which gives a task or none.
 #[inline(always)]
-fn of_number(by: u32, step: Step, number: u32, value: u64) -> Packed
-    ensures { result ≡ entry_of by (did_of step Answer.Nothing NO_TASK number (record { 0 = 0 }) value) }
+fn of_slot(by: u32, step: Step, slot: u16, said: (Answer, TaskId)) -> Packed
+    ensures { result ≡ entry_of by (did_of step said.0 said.1 0 (record { 0 = slot }) 0) }
 {
-    Packed {
-        value,
-        slot: NO_SLOT,
-        by,
-        task: NO_TASK,
-        number,
-        step,
-        answer: Answer::Nothing,
-    }
+    of_parts(by, step, said.1, slot, (said.0, 0, 0))
+}
+
+// An entry of the pool's, which names no task and no slot.
+#[inline(always)]
+fn of_pool(by: u32, step: Step, said: (Answer, u32, u64)) -> Packed
+    ensures { result ≡ entry_of by (did_of step said.0 NO_TASK said.1 (record { 0 = 0 }) said.2) }
+{
+    of_parts(by, step, NO_TASK, NO_SLOT, said)
 }
 
 // An entry of a slot that is freed, with the one reserved in its place.
@@ -335,47 +329,13 @@ fn of_number(by: u32, step: Step, number: u32, value: u64) -> Packed
 fn of_leave(by: u32, slot: u16, said: (Answer, u16)) -> Packed
     ensures { result ≡ entry_of by (did_of Step.Leave said.0 NO_TASK said.1 (record { 0 = slot }) 0) }
 {
-    Packed {
-        value: 0,
+    of_parts(
+        by,
+        Step::Leave,
+        NO_TASK,
         slot,
-        by,
-        task: NO_TASK,
-        number: u32::from(said.1),
-        step: Step::Leave,
-        answer: said.0,
-    }
-}
-
-// An entry of a `prestart`.
-#[inline(always)]
-fn of_prestart(by: u32, said: (Answer, u16)) -> Packed
-    ensures { result ≡ entry_of by (did_of Step.Prestart said.0 NO_TASK 0 (record { 0 = said.1 }) 0) }
-{
-    Packed {
-        value: 0,
-        slot: said.1,
-        by,
-        task: NO_TASK,
-        number: 0,
-        step: Step::Prestart,
-        answer: said.0,
-    }
-}
-
-// An entry of a group's next task.
-#[inline(always)]
-fn of_done(by: u32, group: u32, t: TaskId) -> Packed
-    ensures { result ≡ entry_of by (did_of Step.TakeDone Answer.Nothing t group (record { 0 = 0 }) 0) }
-{
-    Packed {
-        value: 0,
-        slot: NO_SLOT,
-        by,
-        task: t,
-        number: group,
-        step: Step::TakeDone,
-        answer: Answer::Nothing,
-    }
+        (said.0, u32::from(said.1), 0),
+    )
 }
 
 // An entry of a submission.
@@ -388,15 +348,7 @@ fn of_submit(by: u32, t: TaskId, kind: Kind, priority: u32, said: (Answer, u16))
         Kind::Future => (Step::SubmitFuture, 0),
         Kind::Group(group) => (Step::SubmitGroup, u64::from(group)),
     };
-    Packed {
-        value,
-        slot: said.1,
-        by,
-        task: t,
-        number: priority,
-        step,
-        answer: said.0,
-    }
+    of_parts(by, step, t, said.1, (said.0, priority, value))
 }
 
 // An entry of a verdict.
@@ -410,7 +362,7 @@ fn of_verdict(by: u32, t: TaskId, verdict: Verdict, said: (Answer, u32)) -> Pack
         Verdict::Discard => Step::Discard,
         Verdict::DiscardOldest => Step::DiscardOldest,
     };
-    of_end(by, step, t, NO_SLOT, (said.0, said.1, 0))
+    of_parts(by, step, t, NO_SLOT, (said.0, said.1, 0))
 }
 
 // An entry of a cancel.

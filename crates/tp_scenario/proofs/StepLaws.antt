@@ -22,8 +22,6 @@ use Rattle.tp_machine_state.specs.Payloads.{PutsIn}
 use Rattle.tp_machine.specs.Seen.{Seen, At, config_of, promise}
 use Rattle.tp_machine.specs.Steps.{IsStep, IsRefusedBy, Stays}
 use Rattle.tp_machine.specs.Readings.{EachState}
-use Rattle.tp_machine.specs.Stepped.{FitsOutcome}
-use Rattle.tp_machine.specs.Typed.{IsDeniedBy}
 use Rattle.tp_machine.proofs.Refusals.{refused_as}
 use Rattle.tp_text.specs.RunText.{drained}
 use Rattle.tp_scenario.specs.declared.counted.Counted.{Counted}
@@ -61,11 +59,6 @@ more_at (x ∷ os) o zero = grind (arith, nat_tests)
 more_at (x ∷ os) o (suc u) =
     let same : (suc u == length (x ∷ os)) ≡ (u == length os) = grind (arith, nat_tests) in
     ap (λ b. if b then Some (promise_of o) else option_map promise_of (slice_get os u)) same ∙ more_at os o u
-
--- a step that fits with its task's promise is refused as the machine's call is
-pub not_torn : {P R : Type 0} (tells : R → List Entry → List ℕ → Type 0) (m : Seen P R) (a : Ask) (e : PoolError) → FitsOutcome m a → IsDeniedBy tells m a e → IsRefusedBy tells m a e
-not_torn tells m a e fits (inl torn) = absurd (torn.1 fits)
-not_torn tells m a e fits (inr refused) = refused.1
 
 module _ (m n : Seen (Unit {0}) Counted) (os : Outcomes) (p : Playing) (is : IsAt (record { machine = m; outcomes = os }) p) where
   -- an accepted step is told with its entry

@@ -18,13 +18,13 @@ use crate::lines::ScenarioLine;
 use std::alloc::{AllocError, Global};
 use std::marker::Model;
 use tp_machine::machine::Machine;
-use tp_machine::typed::Step;
 use tp_machine::typed::controllers::{
     Cancel, Ended, Purge, Remove, Shutdown, Stop, TakeDone, Tidy,
 };
 use tp_machine::typed::settings::{Core, CoreTimeout, Keep, Maximum, Prestart, Tick};
 use tp_machine::typed::submitters::{CallerEnd, Grow, Judge, Look, Offer, Second, Submit};
 use tp_machine::typed::workers::{Begin, End, Fail, Leave, Open, Take};
+use tp_machine::typed::{Plain, Step};
 use tp_record::entries::{Ask, Entry};
 use tp_text::commands::{PoolVerb, SizeVerb, SlotVerb, TaskVerb, TickVerb};
 use tp_types::configs::Config;
@@ -197,13 +197,13 @@ impl Runner {
         ensures { (p : Playing) → IsAt self.old p → TellsLine p (line.OfTask verb task) result self.new }
     {
         match verb {
-            TaskVerb::Look => self.make(Look(task)),
-            TaskVerb::Offer => self.make(Offer(task)),
-            TaskVerb::Second => self.make(Second(task)),
-            TaskVerb::Grow => self.make(Grow(task)),
+            TaskVerb::Look => self.make(Plain(Look(task))),
+            TaskVerb::Offer => self.make(Plain(Offer(task))),
+            TaskVerb::Second => self.make(Plain(Second(task))),
+            TaskVerb::Grow => self.make(Plain(Grow(task))),
             TaskVerb::CallerEnd => {
                 let outcome = self.outcome_of(task);
-                self.make(CallerEnd(task, outcome))
+                self.make(Plain(CallerEnd(task, outcome)))
             }
             TaskVerb::Remove => self.make(Remove(task)),
         }
@@ -215,15 +215,15 @@ impl Runner {
         ensures { (p : Playing) → IsAt self.old p → TellsLine p (line.OfSlot verb slot) result self.new }
     {
         match verb {
-            SlotVerb::Open => self.make(Open(slot)),
-            SlotVerb::Fail => self.make(Fail(slot)),
-            SlotVerb::Take => self.make(Take(slot)),
+            SlotVerb::Open => self.make(Plain(Open(slot))),
+            SlotVerb::Fail => self.make(Plain(Fail(slot))),
+            SlotVerb::Take => self.make(Plain(Take(slot))),
             SlotVerb::Begin => self.make(Begin(slot)),
             SlotVerb::End => {
                 let outcome = self.outcome_there(slot);
-                self.make(End(slot, outcome))
+                self.make(Plain(End(slot, outcome)))
             }
-            SlotVerb::Leave => self.make(Leave(slot)),
+            SlotVerb::Leave => self.make(Plain(Leave(slot))),
         }
     }
 
@@ -233,12 +233,12 @@ impl Runner {
         ensures { (p : Playing) → IsAt self.old p → TellsLine p (line.OfPool verb) result self.new }
     {
         match verb {
-            PoolVerb::Shutdown => self.make(Shutdown),
+            PoolVerb::Shutdown => self.make(Plain(Shutdown)),
             PoolVerb::Stop => self.stop(),
-            PoolVerb::Tidy => self.make(Tidy),
-            PoolVerb::Ended => self.make(Ended),
-            PoolVerb::Purge => self.make(Purge),
-            PoolVerb::Prestart => self.make(Prestart),
+            PoolVerb::Tidy => self.make(Plain(Tidy)),
+            PoolVerb::Ended => self.make(Plain(Ended)),
+            PoolVerb::Purge => self.make(Plain(Purge)),
+            PoolVerb::Prestart => self.make(Plain(Prestart)),
         }
     }
 
@@ -248,8 +248,8 @@ impl Runner {
         ensures { (p : Playing) → IsAt self.old p → TellsLine p (line.OfSize verb number) result self.new }
     {
         match verb {
-            SizeVerb::TakeDone => self.make(TakeDone(number)),
-            SizeVerb::Core => self.make(Core(number)),
+            SizeVerb::TakeDone => self.make(Plain(TakeDone(number))),
+            SizeVerb::Core => self.make(Plain(Core(number))),
             SizeVerb::Maximum => self.make(Maximum(number)),
         }
     }
@@ -260,8 +260,8 @@ impl Runner {
         ensures { (p : Playing) → IsAt self.old p → TellsLine p (line.OfTicks verb ticks) result self.new }
     {
         match verb {
-            TickVerb::Keep => self.make(Keep(ticks)),
-            TickVerb::Tick => self.make(Tick(ticks)),
+            TickVerb::Keep => self.make(Plain(Keep(ticks))),
+            TickVerb::Tick => self.make(Plain(Tick(ticks))),
         }
     }
 
@@ -317,7 +317,7 @@ impl Runner {
             ScenarioLine::Cancel(task, flag) => Ok(self.make(Cancel(task, flag))),
             ScenarioLine::OfSize(verb, number) => Ok(self.of_size(verb, number)),
             ScenarioLine::OfTicks(verb, ticks) => Ok(self.of_ticks(verb, ticks)),
-            ScenarioLine::CoreTimeout(on) => Ok(self.make(CoreTimeout(on))),
+            ScenarioLine::CoreTimeout(on) => Ok(self.make(Plain(CoreTimeout(on)))),
         }
     }
 

@@ -8,10 +8,16 @@ ghost use Rattle.tp_machine.specs.Answers.{IsJudged, IsReturnedAt};
 ghost use Rattle.tp_machine.specs.Seen.{At, FitsAtCaller};
 ghost use Rattle.tp_machine.specs.Steps.{IsStep, Stays, IsRefusedBy};
 
-use super::{Machine, note, note_owed};
+use super::{Machine, note};
 use crate::answers::Judged;
-use tp_machine_submitters::{callerend, grow, look, offer, second, submit, verdict};
-use tp_record::entries::{Ask, Did, Grown, Looked, Offered, Seconded};
+use tp_machine_submitters::callerend::CallerEnd;
+use tp_machine_submitters::grow::Grow;
+use tp_machine_submitters::look::Look;
+use tp_machine_submitters::offer::Offer;
+use tp_machine_submitters::second::Second;
+use tp_machine_submitters::submit;
+use tp_machine_submitters::verdict::Judge;
+use tp_record::entries::{Ask, Did, Looked};
 use tp_record::recorders::Recorder;
 use tp_types::configs::Verdict;
 use tp_types::ids::TaskId;
@@ -89,27 +95,8 @@ impl<P, R: Recorder> Machine<P, R> {
         ensures unchanged { OnErr result (self.new ≡ self.old) }
         ensures payloads { Keeps self.old.parts.tasks self.new.parts.tasks }
     {
-        match self.make_look(by, t) {
-            Ok(answer) => Ok(Did::Look(t, answer)),
-            Err(error) => Err(error),
-        }
-    }
-
-    /// The step of `look`, which answers its own part of the entry alone.
-    pub(crate) fn make_look(&mut self, by: u32, t: TaskId) -> Result<Looked, PoolError>
-        ensures step { IfOk result (λ x. IsStep R.tells self.old self.new by (Ask.Look t) (Did.Look t x)) }
-        ensures refused { IfErr result (λ e. IsRefusedBy R.tells self.old (Ask.Look t) e) }
-        ensures unchanged { OnErr result (self.new ≡ self.old) }
-        ensures payloads { Keeps self.old.parts.tasks self.new.parts.tasks }
-    {
-        let looked = match look::answer(&self.parts, t) {
-            Ok(looked) => looked,
-            Err(error) => return Err(error),
-        };
-        let did = Did::Look(t, looked);
-        note_owed(&self.parts, &mut self.noted, by, Ask::Look(t), did);
-        look::apply(&mut self.parts, t, looked);
-        Ok(looked)
+        let (answer, ()) = self.call(by, Look(t))?;
+        Ok(Did::Look(t, answer))
     }
 
     /// Offers the task to the queue, as `workQueue.offer` in `execute`: it is queued, handed to the worker that is idle longest, or the
@@ -120,28 +107,8 @@ impl<P, R: Recorder> Machine<P, R> {
         ensures unchanged { OnErr result (self.new ≡ self.old) }
         ensures payloads { Keeps self.old.parts.tasks self.new.parts.tasks }
     {
-        match self.make_offer(by, t) {
-            Ok(answer) => Ok(Did::Offer(t, answer)),
-            Err(error) => Err(error),
-        }
-    }
-
-    /// The step of `offer`, which answers its own part of the entry alone.
-    #[inline(always)]
-    pub(crate) fn make_offer(&mut self, by: u32, t: TaskId) -> Result<Offered, PoolError>
-        ensures step { IfOk result (λ x. IsStep R.tells self.old self.new by (Ask.Offer t) (Did.Offer t x)) }
-        ensures refused { IfErr result (λ e. IsRefusedBy R.tells self.old (Ask.Offer t) e) }
-        ensures unchanged { OnErr result (self.new ≡ self.old) }
-        ensures payloads { Keeps self.old.parts.tasks self.new.parts.tasks }
-    {
-        let offered = match offer::answer(&self.parts, t) {
-            Ok(offered) => offered,
-            Err(error) => return Err(error),
-        };
-        let did = Did::Offer(t, offered);
-        note_owed(&self.parts, &mut self.noted, by, Ask::Offer(t), did);
-        offer::apply(&mut self.parts, t, offered);
-        Ok(offered)
+        let (answer, ()) = self.call(by, Offer(t))?;
+        Ok(Did::Offer(t, answer))
     }
 
     /// Takes the second look that the task owes after its offer, as the recheck in `execute`: a pool that was shut down meanwhile gives a
@@ -152,28 +119,8 @@ impl<P, R: Recorder> Machine<P, R> {
         ensures unchanged { OnErr result (self.new ≡ self.old) }
         ensures payloads { Keeps self.old.parts.tasks self.new.parts.tasks }
     {
-        match self.make_second(by, t) {
-            Ok(answer) => Ok(Did::Second(t, answer)),
-            Err(error) => Err(error),
-        }
-    }
-
-    /// The step of `second`, which answers its own part of the entry alone.
-    #[inline(always)]
-    pub(crate) fn make_second(&mut self, by: u32, t: TaskId) -> Result<Seconded, PoolError>
-        ensures step { IfOk result (λ x. IsStep R.tells self.old self.new by (Ask.Second t) (Did.Second t x)) }
-        ensures refused { IfErr result (λ e. IsRefusedBy R.tells self.old (Ask.Second t) e) }
-        ensures unchanged { OnErr result (self.new ≡ self.old) }
-        ensures payloads { Keeps self.old.parts.tasks self.new.parts.tasks }
-    {
-        let seconded = match second::answer(&self.parts, t) {
-            Ok(seconded) => seconded,
-            Err(error) => return Err(error),
-        };
-        let did = Did::Second(t, seconded);
-        note_owed(&self.parts, &mut self.noted, by, Ask::Second(t), did);
-        second::apply(&mut self.parts, t, seconded);
-        Ok(seconded)
+        let (answer, ()) = self.call(by, Second(t))?;
+        Ok(Did::Second(t, answer))
     }
 
     /// Grows the pool for the task that the full queue did not take, as the last `addWorker` of `execute`, or refuses it. UnknownTask (6)
@@ -184,27 +131,8 @@ impl<P, R: Recorder> Machine<P, R> {
         ensures unchanged { OnErr result (self.new ≡ self.old) }
         ensures payloads { Keeps self.old.parts.tasks self.new.parts.tasks }
     {
-        match self.make_grow(by, t) {
-            Ok(answer) => Ok(Did::Grow(t, answer)),
-            Err(error) => Err(error),
-        }
-    }
-
-    /// The step of `grow`, which answers its own part of the entry alone.
-    pub(crate) fn make_grow(&mut self, by: u32, t: TaskId) -> Result<Grown, PoolError>
-        ensures step { IfOk result (λ x. IsStep R.tells self.old self.new by (Ask.Grow t) (Did.Grow t x)) }
-        ensures refused { IfErr result (λ e. IsRefusedBy R.tells self.old (Ask.Grow t) e) }
-        ensures unchanged { OnErr result (self.new ≡ self.old) }
-        ensures payloads { Keeps self.old.parts.tasks self.new.parts.tasks }
-    {
-        let grown = match grow::answer(&self.parts, t) {
-            Ok(grown) => grown,
-            Err(error) => return Err(error),
-        };
-        let did = Did::Grow(t, grown);
-        note_owed(&self.parts, &mut self.noted, by, Ask::Grow(t), did);
-        grow::apply(&mut self.parts, t, grown);
-        Ok(grown)
+        let (answer, ()) = self.call(by, Grow(t))?;
+        Ok(Did::Grow(t, answer))
     }
 
     /// What becomes of a refused task, as `RejectedExecutionHandler.rejectedExecution`. It hands out the task's own payload where
@@ -217,20 +145,8 @@ impl<P, R: Recorder> Machine<P, R> {
         ensures refused { IfErr result (λ e. IsRefusedBy R.tells self.old (Ask.Verdict t verdict) e) }
         ensures unchanged { OnErr result (self.new ≡ self.old) }
     {
-        let ruled = match verdict::answer(&self.parts, t, verdict) {
-            Ok(ruled) => ruled,
-            Err(error) => return Err(error),
-        };
-        let did = Did::Verdict(t, verdict, ruled);
-        note(
-            &self.parts,
-            &mut self.noted,
-            by,
-            Ask::Verdict(t, verdict),
-            did,
-        );
-        let payload = verdict::apply(&mut self.parts, t, verdict, ruled);
-        Ok(Judged::of(did, ruled, payload))
+        let (ruled, payload) = self.call(by, Judge(t, verdict))?;
+        Ok(Judged::of(Did::Verdict(t, verdict, ruled), ruled, payload))
     }
 
     /// The task's caller ran it to this outcome, which is as the task promised. UnknownTask (6) or NotThere (8).
@@ -241,17 +157,7 @@ impl<P, R: Recorder> Machine<P, R> {
         ensures unchanged { OnErr result (self.new ≡ self.old) }
         ensures payloads { Keeps self.old.parts.tasks self.new.parts.tasks }
     {
-        if let Err(error) = callerend::answer(&self.parts, t) {
-            return Err(error);
-        }
-        note_owed(
-            &self.parts,
-            &mut self.noted,
-            by,
-            Ask::CallerEnd(t, outcome),
-            Did::CallerEnd(t, outcome),
-        );
-        callerend::apply(&mut self.parts, t, outcome);
+        let ((), ()) = self.call(by, CallerEnd(t, outcome))?;
         Ok(())
     }
 }

@@ -4,214 +4,22 @@ ghost use Rattle.std.specs.Prelude.{length, map, All, IfSome, ◌≡◌, ◌<◌
 ghost use Rattle.tp_record.specs.declared.entries.Ask.TheVariants as ask;
 ghost use Rattle.tp_record.specs.declared.entries.Did.TheVariants as did;
 ghost use Rattle.tp_record.specs.Fields.{queue};
-ghost use Rattle.tp_machine_state.specs.Payloads.{Keeps, HandsOut};
+ghost use Rattle.tp_machine_state.specs.Payloads.{HandsOut};
 ghost use Rattle.tp_machine.specs.Answers.{IsPaidAt, IsRemoval, HandsBack};
 
 use super::Step;
 use crate::machine::Machine;
+pub use tp_machine_controllers::cancel::Cancel;
+pub use tp_machine_controllers::ended::Ended;
+pub use tp_machine_controllers::purge::Purge;
+pub use tp_machine_controllers::remove::Remove;
+pub use tp_machine_controllers::shutdown::Shutdown;
+pub use tp_machine_controllers::take_done::TakeDone;
+pub use tp_machine_controllers::tidy::Tidy;
 use tp_record::entries::{Ask, Did};
 use tp_record::recorders::Recorder;
 use tp_types::ids::TaskId;
 use tp_types::refusals::PoolError;
-
-/// `shutdown`.
-#[derive(Clone, Copy)]
-pub struct Shutdown;
-
-impl<P> Step<P> for Shutdown {
-    type Load = ();
-
-    type Answer = ();
-
-    ghost ask = { λ s. ask.Shutdown };
-
-    ghost did = { λ s x. did.Shutdown };
-
-    ghost moves = { λ s l x old new. Keeps old new };
-
-    #[inline(always)]
-    fn ask(self) -> Ask {
-        Ask::Shutdown
-    }
-
-    #[inline(always)]
-    fn did(self, _answer: &()) -> Did {
-        Did::Shutdown
-    }
-
-    #[inline(always)]
-    fn make<R: Recorder>(
-        self,
-        by: u32,
-        load: (),
-        machine: &mut Machine<P, R>,
-    ) -> Result<(), (PoolError, ())> {
-        match machine.shutdown(by) {
-            Ok(()) => Ok(()),
-            Err(error) => Err((error, load)),
-        }
-    }
-}
-
-/// The pool without slots goes on to its terminated hook.
-#[derive(Clone, Copy)]
-pub struct Tidy;
-
-impl<P> Step<P> for Tidy {
-    type Load = ();
-
-    type Answer = ();
-
-    ghost ask = { λ s. ask.Tidy };
-
-    ghost did = { λ s x. did.Tidy };
-
-    ghost moves = { λ s l x old new. Keeps old new };
-
-    #[inline(always)]
-    fn ask(self) -> Ask {
-        Ask::Tidy
-    }
-
-    #[inline(always)]
-    fn did(self, _answer: &()) -> Did {
-        Did::Tidy
-    }
-
-    #[inline(always)]
-    fn make<R: Recorder>(
-        self,
-        by: u32,
-        load: (),
-        machine: &mut Machine<P, R>,
-    ) -> Result<(), (PoolError, ())> {
-        match machine.tidy(by) {
-            Ok(()) => Ok(()),
-            Err(error) => Err((error, load)),
-        }
-    }
-}
-
-/// The terminated hook has run.
-#[derive(Clone, Copy)]
-pub struct Ended;
-
-impl<P> Step<P> for Ended {
-    type Load = ();
-
-    type Answer = ();
-
-    ghost ask = { λ s. ask.Ended };
-
-    ghost did = { λ s x. did.Ended };
-
-    ghost moves = { λ s l x old new. Keeps old new };
-
-    #[inline(always)]
-    fn ask(self) -> Ask {
-        Ask::Ended
-    }
-
-    #[inline(always)]
-    fn did(self, _answer: &()) -> Did {
-        Did::Ended
-    }
-
-    #[inline(always)]
-    fn make<R: Recorder>(
-        self,
-        by: u32,
-        load: (),
-        machine: &mut Machine<P, R>,
-    ) -> Result<(), (PoolError, ())> {
-        match machine.terminated(by) {
-            Ok(()) => Ok(()),
-            Err(error) => Err((error, load)),
-        }
-    }
-}
-
-/// `purge`.
-#[derive(Clone, Copy)]
-pub struct Purge;
-
-impl<P> Step<P> for Purge {
-    type Load = ();
-
-    type Answer = u32;
-
-    ghost ask = { λ s. ask.Purge };
-
-    ghost did = { λ s x. did.Purge x };
-
-    ghost moves = { λ s l x old new. Keeps old new };
-
-    #[inline(always)]
-    fn ask(self) -> Ask {
-        Ask::Purge
-    }
-
-    #[inline(always)]
-    fn did(self, answer: &u32) -> Did {
-        Did::Purge(*answer)
-    }
-
-    #[inline(always)]
-    fn make<R: Recorder>(
-        self,
-        by: u32,
-        load: (),
-        machine: &mut Machine<P, R>,
-    ) -> Result<u32, (PoolError, ())> {
-        match machine.purge(by) {
-            Ok(answer) => Ok(answer),
-            Err(error) => Err((error, load)),
-        }
-    }
-}
-
-/// The group's next completed task.
-#[derive(Clone, Copy)]
-pub struct TakeDone(pub u32);
-
-impl<P> Step<P> for TakeDone {
-    type Load = ();
-
-    type Answer = TaskId;
-
-    ghost ask = { λ s. ask.TakeDone s.0 };
-
-    ghost did = { λ s x. did.TakeDone s.0 x };
-
-    ghost moves = { λ s l x old new. Keeps old new };
-
-    #[inline(always)]
-    fn ask(self) -> Ask {
-        Ask::TakeDone(self.0)
-    }
-
-    #[inline(always)]
-    fn did(self, answer: &TaskId) -> Did {
-        Did::TakeDone(self.0, *answer)
-    }
-
-    #[inline(always)]
-    fn make<R: Recorder>(
-        self,
-        by: u32,
-        load: (),
-        machine: &mut Machine<P, R>,
-    ) -> Result<TaskId, (PoolError, ())> {
-        match machine.take_done(by, self.0) {
-            Ok(answer) => Ok(answer),
-            Err(error) => Err((error, load)),
-        }
-    }
-}
-
-/// `remove`.
-#[derive(Clone, Copy)]
-pub struct Remove(pub TaskId);
 
 impl<P> Step<P> for Remove {
     type Load = ();
@@ -250,10 +58,6 @@ impl<P> Step<P> for Remove {
     }
 }
 
-/// `Future.cancel`.
-#[derive(Clone, Copy)]
-pub struct Cancel(pub TaskId, pub bool);
-
 impl<P> Step<P> for Cancel {
     type Load = ();
 
@@ -282,7 +86,7 @@ impl<P> Step<P> for Cancel {
         load: (),
         machine: &mut Machine<P, R>,
     ) -> Result<(bool, Option<P>), (PoolError, ())> {
-        match machine.cancel(by, self.0, self.1) {
+        match machine.make(by, self) {
             Ok(answer) => Ok(answer),
             Err(error) => Err((error, load)),
         }

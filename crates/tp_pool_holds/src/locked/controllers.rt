@@ -22,6 +22,7 @@ use std::alloc::Global;
 use tp_book::passes::Pass;
 use tp_glance::glance::Glance;
 use tp_machine::machine::releases::Keeper;
+use tp_machine::typed::Plain;
 use tp_machine::typed::controllers::{Stop, Tidy};
 use tp_record::entries::{Ask, Did};
 use tp_types::ids::TaskId;
@@ -129,7 +130,7 @@ impl<G: PoolNaming, J: Drop, R: Keeper> Core<G, J, R> {
         if has_come(deadline, self.book.now()) {
             return Look::Late;
         }
-        match self.ask(Tidy, glance, pass) {
+        match self.ask(Plain(Tidy), glance, pass) {
             Ok(()) => return Look::Tidied,
             Err(_) => {}
         }

@@ -19,13 +19,13 @@ use tp_book::book::Book;
 use tp_glance::glance::Glance;
 use tp_machine::answers::{Begun, Judged};
 use tp_machine::machine::releases::Keeper;
-use tp_machine::typed::Step;
 use tp_machine::typed::controllers::{
     Cancel, Ended, Purge, Remove, Shutdown, Stop, TakeDone, Tidy,
 };
 use tp_machine::typed::settings::{Core, CoreTimeout, Keep, Maximum, Prestart, Tick};
 use tp_machine::typed::submitters::{CallerEnd, Grow, Judge, Look, Offer, Second, Submit};
 use tp_machine::typed::workers::{Begin, End, Fail, Leave, Open, Take};
+use tp_machine::typed::{Plain, Step};
 use tp_record::entries::{Did, Failed, Grown, Looked, Offered, Opened, Ruled, Seconded, Took};
 use tp_types::ids::{SlotId, TaskId};
 use tp_types::limits::MAX_WORKERS;
@@ -152,29 +152,29 @@ impl<J: Drop> Marks<J> for Submit {
     }
 }
 
-impl<J> Marks<J> for Look {
+impl<J> Marks<J> for Plain<Look> {
     #[inline(always)]
     fn gone<'a>(self, _answer: &'a Looked) -> Gone<'a, J> {
         Gone::Nobody
     }
 }
 
-impl<J> Marks<J> for Offer {
+impl<J> Marks<J> for Plain<Offer> {
     #[inline(always)]
     fn gone<'a>(self, _answer: &'a Offered) -> Gone<'a, J> {
         Gone::Nobody
     }
 }
 
-impl<J: Drop> Marks<J> for Second {
+impl<J: Drop> Marks<J> for Plain<Second> {
     // A worker may have run the task before its submitter looked a second time.
     #[inline(always)]
     fn gone<'a>(self, _answer: &'a Seconded) -> Gone<'a, J> {
-        Gone::One(self.0)
+        Gone::One(self.0.0)
     }
 }
 
-impl<J> Marks<J> for Grow {
+impl<J> Marks<J> for Plain<Grow> {
     #[inline(always)]
     fn gone<'a>(self, _answer: &'a Grown) -> Gone<'a, J> {
         Gone::Nobody
@@ -209,31 +209,31 @@ impl<J: Drop> Marks<J> for Judge {
     }
 }
 
-impl<J: Drop> Marks<J> for CallerEnd {
+impl<J: Drop> Marks<J> for Plain<CallerEnd> {
     fn mark(self, _answer: &()) -> Mark {
-        Mark::EndsAtCaller(self.0)
+        Mark::EndsAtCaller(self.0.0)
     }
 
     fn gone<'a>(self, _answer: &'a ()) -> Gone<'a, J> {
-        Gone::One(self.0)
+        Gone::One(self.0.0)
     }
 }
 
-impl<J> Marks<J> for Open {
+impl<J> Marks<J> for Plain<Open> {
     #[inline(always)]
     fn gone<'a>(self, _answer: &'a Opened) -> Gone<'a, J> {
         Gone::Nobody
     }
 }
 
-impl<J> Marks<J> for Fail {
+impl<J> Marks<J> for Plain<Fail> {
     #[inline(always)]
     fn gone<'a>(self, _answer: &'a Failed) -> Gone<'a, J> {
         Gone::Nobody
     }
 }
 
-impl<J> Marks<J> for Take {
+impl<J> Marks<J> for Plain<Take> {
     #[inline(always)]
     fn gone<'a>(self, _answer: &'a Took) -> Gone<'a, J> {
         Gone::Nobody
@@ -247,21 +247,21 @@ impl<J> Marks<J> for Begin {
     }
 }
 
-impl<J> Marks<J> for Leave {
+impl<J> Marks<J> for Plain<Leave> {
     #[inline(always)]
     fn gone<'a>(self, _answer: &'a Option<SlotId>) -> Gone<'a, J> {
         Gone::Nobody
     }
 }
 
-impl<J: Drop> Marks<J> for End {
+impl<J: Drop> Marks<J> for Plain<End> {
     #[inline(always)]
     fn gone<'a>(self, answer: &'a TaskId) -> Gone<'a, J> {
         Gone::One(*answer)
     }
 }
 
-impl<J> Marks<J> for Shutdown {
+impl<J> Marks<J> for Plain<Shutdown> {
     #[inline(always)]
     fn gone<'a>(self, _answer: &'a ()) -> Gone<'a, J> {
         Gone::Nobody
@@ -279,28 +279,28 @@ impl<J: Drop> Marks<J> for Stop {
     }
 }
 
-impl<J> Marks<J> for Tidy {
+impl<J> Marks<J> for Plain<Tidy> {
     #[inline(always)]
     fn gone<'a>(self, _answer: &'a ()) -> Gone<'a, J> {
         Gone::Nobody
     }
 }
 
-impl<J> Marks<J> for Ended {
+impl<J> Marks<J> for Plain<Ended> {
     #[inline(always)]
     fn gone<'a>(self, _answer: &'a ()) -> Gone<'a, J> {
         Gone::Nobody
     }
 }
 
-impl<J> Marks<J> for Purge {
+impl<J> Marks<J> for Plain<Purge> {
     #[inline(always)]
     fn gone<'a>(self, _answer: &'a u32) -> Gone<'a, J> {
         Gone::Nobody
     }
 }
 
-impl<J> Marks<J> for TakeDone {
+impl<J> Marks<J> for Plain<TakeDone> {
     #[inline(always)]
     fn gone<'a>(self, _answer: &'a TaskId) -> Gone<'a, J> {
         Gone::Nobody
@@ -332,7 +332,7 @@ impl<J> Marks<J> for Cancel {
     }
 }
 
-impl<J> Marks<J> for Core {
+impl<J> Marks<J> for Plain<Core> {
     #[inline(always)]
     fn gone<'a>(self, _answer: &'a u32) -> Gone<'a, J> {
         Gone::Nobody
@@ -346,28 +346,28 @@ impl<J> Marks<J> for Maximum {
     }
 }
 
-impl<J> Marks<J> for Keep {
+impl<J> Marks<J> for Plain<Keep> {
     #[inline(always)]
     fn gone<'a>(self, _answer: &'a ()) -> Gone<'a, J> {
         Gone::Nobody
     }
 }
 
-impl<J> Marks<J> for CoreTimeout {
+impl<J> Marks<J> for Plain<CoreTimeout> {
     #[inline(always)]
     fn gone<'a>(self, _answer: &'a ()) -> Gone<'a, J> {
         Gone::Nobody
     }
 }
 
-impl<J> Marks<J> for Tick {
+impl<J> Marks<J> for Plain<Tick> {
     #[inline(always)]
     fn gone<'a>(self, _answer: &'a ()) -> Gone<'a, J> {
         Gone::Nobody
     }
 }
 
-impl<J> Marks<J> for Prestart {
+impl<J> Marks<J> for Plain<Prestart> {
     #[inline(always)]
     fn gone<'a>(self, _answer: &'a Option<SlotId>) -> Gone<'a, J> {
         Gone::Nobody

@@ -20,6 +20,7 @@ use crate::names::PoolNaming;
 use tp_book::passes::Pass;
 use tp_glance::glance::Glance;
 use tp_machine::machine::releases::Keeper;
+use tp_machine::typed::Plain;
 use tp_machine::typed::controllers::TakeDone;
 use tp_record::entries::{Ask, Did};
 use tp_types::ids::{SlotId, TaskId};
@@ -219,7 +220,7 @@ impl<G: PoolNaming, J: Drop, R: Keeper> Core<G, J, R> {
         ensures front { (OnErr result (pass.new.front ≡ self.old.book.history)) × (IfOk result (λ found. IfNone found (pass.new.front ≡ self.old.book.history))) }
     {
         let open = self.book.group_open(group);
-        let error = match self.ask(TakeDone(group), glance, pass) {
+        let error = match self.ask(Plain(TakeDone(group)), glance, pass) {
             Ok(t) => return Ok(Some(t)),
             Err(error) => error,
         };

@@ -16,6 +16,7 @@ use tp_book::passes::Pass;
 use tp_book::payers::Payer;
 use tp_glance::glance::Glance;
 use tp_machine::machine::releases::Keeper;
+use tp_machine::typed::Plain;
 use tp_machine::typed::submitters::Submit;
 use tp_machine::typed::workers::Open;
 use tp_protocols::flags::CancelFlag;
@@ -124,7 +125,7 @@ impl<G: PoolNaming, J: Drop, R: Keeper> Core<G, J, R> {
         ensures number { A.number pass.new ≡ A.number pass.old }
         ensures front { A.front pass.new ≡ self.new.book.history }
     {
-        let opened = self.step(Open(w), glance, pass);
+        let opened = self.step(Plain(Open(w)), glance, pass);
         self.roster.tell(w, start_of(&opened));
         opened
     }

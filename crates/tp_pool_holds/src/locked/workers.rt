@@ -22,6 +22,7 @@ use tp_book::passes::WorkerPass;
 use tp_glance::glance::Glance;
 use tp_machine::answers::Begun as Started;
 use tp_machine::machine::releases::Keeper;
+use tp_machine::typed::Plain;
 use tp_machine::typed::workers::{Begin, Take};
 use tp_protocols::flags::CancelFlag;
 use tp_protocols::turns::Begun;
@@ -81,7 +82,7 @@ impl<G: PoolNaming, J: Drop, R: Keeper> Core<G, J, R> {
             × (result ≡ taking_of r) × (self.new ≡ record mid { waking = self.new.waking }) × HasLooked mid.waking self.new.waking w.0 (result ≡ Taking.Sleeps) }
         ensures asks { Asks J R.RECEIPTS (R.terms G.config) pass.old.number pass.old.front (Ask.Take w) (λ x. Did.Take w x) (λ _. Keeps) pass.new.front (λ r. result ≡ taking_of r) }
     {
-        let taking = taking_from(&self.step(Take(w), glance, pass));
+        let taking = taking_from(&self.step(Plain(Take(w)), glance, pass));
         let queued = self.book.counts().queued;
         self.waking.took(w, taking == Taking::Sleeps, queued);
         taking

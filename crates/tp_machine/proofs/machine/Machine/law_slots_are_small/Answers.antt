@@ -1,9 +1,6 @@
-use Rattle.std.proofs.Common.{subst, sym, ap}
+use Rattle.std.proofs.Common.{subst}
 use Rattle.std.specs.Prelude.{IsSome, ◌<◌, ◌^◌, ℕ}
-use Rattle.tp_record.specs.Left.{left}
-use Rattle.tp_record.specs.State.{slot_at, state}
-use Rattle.tp_machine_state.specs.Terms.{terms}
-use Rattle.tp_machine.specs.Seen.{Seen}
+use Rattle.tp_record.specs.State.{slot_at}
 use Rattle.tp_machine.specs.Readings.{EachState}
 use Rattle.tp_machine.proofs.machine.Machine.law_slots_are_small.Goals as goal
 

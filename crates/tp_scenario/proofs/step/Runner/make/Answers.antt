@@ -1,7 +1,8 @@
 use Rattle.std.proofs.Common.{◌∙◌, None, ap, map, sym, subst, append-nil}
 use Rattle.tp_machine.specs.Stepped.{FitsOutcome}
 use Rattle.tp_scenario.specs.Answered.{IsAt, Running, notes}
-use Rattle.tp_scenario.proofs.StepLaws.{accepted, denied, none_back, not_torn}
+use Rattle.tp_machine.proofs.Making.{not_torn}
+use Rattle.tp_scenario.proofs.StepLaws.{accepted, denied, none_back}
 use Rattle.tp_scenario.proofs.step.Runner.make.Goals.{in-Ok, in-Err}
 use Rattle.tp_scenario.proofs.step.Runner.make.Goals as goal
 

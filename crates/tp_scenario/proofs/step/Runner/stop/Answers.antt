@@ -3,7 +3,8 @@ use Rattle.tp_record.specs.declared.entries.Ask.TheVariants as ask
 use Rattle.tp_record.specs.declared.entries.Did.TheVariants as did
 use Rattle.tp_record.specs.Fields.{queue}
 use Rattle.tp_scenario.specs.Answered.{IsAt, Running, notes}
-use Rattle.tp_scenario.proofs.StepLaws.{accepted, denied, not_torn}
+use Rattle.tp_machine.proofs.Making.{not_torn}
+use Rattle.tp_scenario.proofs.StepLaws.{accepted, denied}
 use Rattle.tp_scenario.proofs.step.Runner.stop.Goals.{in-Ok, in-Err}
 use Rattle.tp_scenario.proofs.step.Runner.stop.Goals as goal
 

@@ -4,7 +4,8 @@ use Rattle.tp_record.specs.declared.entries.Did.TheVariants as did
 use Rattle.tp_machine_state.specs.Payloads.{PutsIn}
 use Rattle.tp_machine.specs.Seen.{At}
 use Rattle.tp_scenario.specs.Answered.{ArePromised, IsAt, Running, notes}
-use Rattle.tp_scenario.proofs.StepLaws.{accepted, denied, not_torn, promised_more}
+use Rattle.tp_machine.proofs.Making.{not_torn}
+use Rattle.tp_scenario.proofs.StepLaws.{accepted, denied, promised_more}
 use Rattle.tp_scenario.proofs.step.Runner.submit.Goals as goal
 
 pub invariant_of-self-in-Ok : goal.invariant_of-self-in-Ok
