@@ -33,9 +33,9 @@ In a signature `rt` is the runtime by which a call waits, `alloc` the allocator,
 SECTIONS = {
     "Settings": ("They are a value, as `Config::fixed(2).queue(QueueKind::Bounded(8)).policy(Policy::CallerRuns)`. `fixed`, as `Executors.newFixedThreadPool`, has so many workers that stay, a queue with room for any number of tasks, the policy abort, and a record of 4,096 entries. `core`, `maximum`, `queue`, `keep`, `core_timeout`, `policy` and `record_limit` each set one, in the range that the [pool line](SCENARIOS.md#the-pool-line) has.",
         "makers::single makers::cached makers::by_processors sizes::for_jobs"),
-    "A pool's whole life in one call": ("A closure that is a job sends a value of any type by the two ends of a channel, `send` and `take`. `run_tasks_with_tally` and `run_all_with_tally` keep no record, and take any number of jobs.", "running::run_tasks lives::with_pool lives::with_tally recorded::with_journal ticking::with_ticker lives::run_all tasks::job oneshot::oneshot"),
-    "What a caller of `with_pool` asks": ("The trait `Calls`, with those of `Controls`. Its `pool` is lent to each caller, and has the caller's pass and runtime. A `Group` keeps its tasks' tickets, by `submit_to` and `take`; its `results` goes through all. `take_for` and `next_for` wait for at most so long by the clock, else 16. There are these calls, too, which are the pool's of the same name: {twins}. `state` is a `glance`.",
-        "Calls::execute Calls::submit Calls::get Calls::get_for Group::submit Group::next"),
+    "A pool's whole life in one call": ("A closure that is a job sends a value of any type by a channel (`oneshot`, `send`, `take`). `run_tasks_with_tally` and `run_all_with_tally` keep no record, and take any number of jobs.", "running::run_tasks lives::with_pool lives::with_tally recorded::with_journal ticking::with_ticker lives::run_all tasks::job"),
+    "What a caller of `with_pool` asks": ("The trait `Calls`, with those of `Controls`. Its `pool` is lent to each caller, and has the caller's pass and runtime. A `Group` keeps its tasks' tickets: it has `submit`, and `results` goes through all. `take_for` and `next_for` wait for at most so long by the clock, else 16. There are these calls, too, which are the pool's of the same name: {twins}. `state` is a `glance`.",
+        "Calls::execute Calls::submit Calls::get Calls::get_for Calls::run batches::invoke_all Group::next"),
     "Open, share and close": ("Where the pool itself is wanted, for threads and passes of one's own. `Pool::new` is `ThreadPoolExecutor`'s constructor; it takes boxes of a factory, a handler, hooks and a gate. `close_one` takes the pass of a single caller.",
         "PoolOf::over PoolOf::split_pass PoolOf::handle+1 PoolOf::close PoolOf::let_go reports::outcome_of"),
     "Submit": ("A submission that is refused with 4 or 5 has made no step, and gives its job back. 12 comes after the task's steps, with the job unless it was cancelled. `execute_at` takes the priority too. `invoke_all_until` cancels what is open at a moment in ticks, `invoke_all_for` by the clock.",
@@ -47,11 +47,11 @@ SECTIONS = {
         "CompletionService::submit CompletionService::take CompletionService::poll"),
     "Shut down and wait": ("`await_end` is `await_termination` with no deadline where it is None.", "PoolOf::shutdown PoolOf::shutdown_now+1 PoolOf::await_termination PoolOf::await_end_for PoolOf::is_stranded+1"),
     "Change settings and single tasks": ("`prestart_all` starts workers up to the core size, as `prestartAllCoreThreads`, and answers how many.", "PoolOf::set_core+1 PoolOf::set_maximum PoolOf::set_keep PoolOf::allow_core_timeout PoolOf::prestart_core PoolOf::tick+1 PoolOf::remove+1 PoolOf::purge"),
-    "Look": ("`look_by`, `snapshot_by` and `record_since_by` take a sight, which `sight` splits off a pass, and answer at its new front. `catch_up` lets a sight and a pass know the record as it is now. `state`, `counts`, `now`, `steps`, `place`, `fate`, `promise`, `task_in` and `group_open` tell one thing each, of *some pool*.",
+    "Look": ("`look_by`, `snapshot_by` and `record_since_by` take a sight, which `sight` splits off a pass, and answer at its new front. `state`, `counts`, `now`, `steps`, `place`, `fate`, `promise`, `task_in` and `group_open` tell one thing each, of *some pool*.",
         "PoolOf::glance+1 PoolOf::look PoolOf::snapshot PoolOf::record_since PoolOf::wait_step"),
 }
 # Calls that the page leaves out: others stand on them, or do the same in another form.
-LEFT_OUT = """PoolOf::new lives::run_all_with_tally running::run_tasks_with_tally invoking::invoke_all_until invoking::invoke_all_for futures::get_until PoolOf::prestart_all CompletionService::new PoolOf::close_one CloseFault::let_go Sender::send Receiver::take PoolOf::sight reports::faulted PoolOf::execute_at PoolOf::kept PoolOf::abandon PoolOf::forget_abandoned
+LEFT_OUT = """PoolOf::new oneshot::oneshot Group::submit lives::run_all_with_tally running::run_tasks_with_tally invoking::invoke_all_until invoking::invoke_all_for futures::get_until PoolOf::prestart_all CompletionService::new PoolOf::close_one CloseFault::let_go Sender::send Receiver::take PoolOf::sight reports::faulted PoolOf::execute_at PoolOf::kept PoolOf::abandon PoolOf::forget_abandoned
     Config::fixed Config::core Config::maximum Config::queue Config::keep Config::core_timeout Config::policy Config::record_limit Boxes::new Find::take futures::task_of PoolOf::look_by PoolOf::catch_up PoolOf::snapshot_by PoolOf::record_since_by PoolOf::release PoolOf::result PoolOf::result_with
     PoolOf::await_result PoolOf::await_result_with PoolOf::await_result_for PoolOf::take_done PoolOf::await_done PoolOf::group_open PoolOf::state PoolOf::counts PoolOf::now PoolOf::steps PoolOf::place PoolOf::fate PoolOf::promise PoolOf::task_in PoolOf::await_end
     futures::get_with futures::get_until_with futures::try_get_with Calls::host Calls::set Calls::enter Calls::ticket Calls::submit_to Calls::take Group::new Group::len Group::results Group::next_for Calls::take_for PoolOf::await_done_for""".split()
@@ -74,6 +74,8 @@ SAYS = {
     "IsConfig": "a pool is made only with good settings, and begins with no entry",
     "IsAllUntil|IsAll|AreTurnedBack": "the numbers are those of the jobs' submissions, in order, and no task is open at the pass's front",
     "IsAnyValue|HasNoValue": "the value is that of one of these tasks, and 18 comes only where none has one, at the pass's front",
+    "ThroughBoth .IsTaken": "the path of each submission, in order; then what each future answers, or the submission's refusal",
+    "IsTaken": "*path*; then *front*, of its own future",
     "IsNext": "*step*, and what is told is so of the task that it took, at the pass's front",
     "IsAdmitted|Admits|AddsJob": "*path*",
     "AddsAndEnds": "*step*, and the pool's end where it comes next",
@@ -151,7 +153,7 @@ def sentences(doc):
 
 def alike(doc):
     """The calls as which a comment says that this one is refused."""
-    return re.findall(r"(?:[Rr]efused as|^As|[Ee]lse as) `(?:\w+::)?(\w+)`", doc)
+    return re.findall(r"(?:[Rr]efused as|^As|[Ee]lse as|or as) `(?:\w+::)?(\w+)`", doc)
 
 
 def numbers(doc, of):

@@ -17,7 +17,7 @@ impl Task for Request {
     }
 }
 
-/// A caller's life: it hands in four requests, and then waits for each answer.
+/// A caller's life: it hands in four requests, and waits for their answers.
 #[derive(Drop)]
 struct Serving(HostRuntime);
 
@@ -38,22 +38,18 @@ impl Life for Serving {
             }
             server.shutdown()?;
         }
-        let mut tickets = Vec::new(self.0.alloc());
+        let mut requests = Vec::new(self.0.alloc());
         for number in first..first.saturating_add(4) {
-            tickets.push(server.submit(Request(number))?)?;
+            requests.push(Request(number))?;
         }
-        let mut answers = Vec::new(self.0.alloc());
-        for ticket in &tickets {
-            answers.push(server.get(ticket))?;
-        }
-        Ok(answers)
+        invoke_all(server, self.0.alloc(), requests)
     }
 }
 
 fn main(rt: HostRuntime) -> anyhow::Result<()> {
     let alloc = rt.alloc();
-    let words = env::args(&rt)?.collect::<Vec<String>>(alloc)?;
-    let wish = wish_at(&rt, words.get(1))?;
+    let path = env::args(&rt)?.nth(1);
+    let wish = wish_at(&rt, path.as_ref())?;
     let queue = QueueKind::Bounded(2);
     let settings = Config::fixed(1).queue(queue).policy(Policy::CallerRuns);
     let (served, _, end) = with_journal(&rt, alloc, settings, Defaults, 3, &Serving(rt), wish)?;

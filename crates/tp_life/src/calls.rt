@@ -158,7 +158,7 @@ pub trait Controls {
 /// The calls of a running pool, made by one caller with its pass, and by the runtime by which it waits: so no call names either. Who
 /// is generic in it names no pool's type. What its calls say is what the pool's own calls say.
 pub trait Calls: Controls {
-    ghost use Rattle.std.specs.Prelude.{true, None, ◌≡◌, ◌⊎◌, ◌<◌, ◌≤◌, List, length, IfOk, IfErr, OnOk, OnErr};
+    ghost use Rattle.std.specs.Prelude.{true, None, ◌≡◌, ◌⊎◌, ◌<◌, ◌≤◌, List, Result, length, IfOk, IfErr, OnOk, OnErr};
     ghost use Rattle.tp_record.specs.Fields.{rank};
     ghost use Rattle.tp_record.specs.declared.entries.Entry.{Entry};
     ghost use Rattle.tp_glance.specs.Word.{IsFrontOf};
@@ -169,10 +169,12 @@ pub trait Calls: Controls {
     ghost use Rattle.tp_pool_holds.specs.Steps.{Removes, Stops};
     ghost use Rattle.tp_pool_holds.specs.declared.tasks.Task.{Task as TaskOf};
     ghost use Rattle.tp_pool.specs.Admissions.{Admits, AtPriority, IsAdmitted, IsTurnedAway};
-    ghost use Rattle.tp_pool.specs.Submissions.{AddsJob};
+    ghost use Rattle.tp_pool.specs.Submissions.{AddsJob, Submits};
     ghost use Rattle.tp_pool.specs.Timed.{IsFoundInTime, IsUndoneInTime};
+    ghost use Rattle.tp_book.specs.PassView.{PassView};
+    ghost use Rattle.tp_types.specs.declared.ids.TaskId.{TaskId as TaskIdOf};
     ghost use Rattle.tp_pool_threads.specs.Endings.{AddsAndEnds};
-    ghost use Rattle.tp_life.specs.Futures.{IsAnswer};
+    ghost use Rattle.tp_life.specs.Futures.{IsAnswer, IsTaken};
     ghost use Rattle.tp_life_values.specs.declared.tasks.TheConstants.{VOID};
 
     /// What it runs.
@@ -291,6 +293,17 @@ pub trait Calls: Controls {
         ensures refused { IfErr result (λ r. AtPriority (Self.Task.urgency task) (λ p. IsTurnedAway Self.keeps Self.terms Kind.Future p task VOID (Self.pass self.old) (Self.pass self.new) r)) }
     {
         self.ticket(Kind::Future, task)
+    }
+
+    /// Submits a task with a future and waits for its value, as `submit(task).get()`. Refused as `submit`, but the task is dropped then, or
+    /// as `get`.
+    final fn run(&mut self, task: Self::Task) -> Result<<Self::Task as Task>::Output, PoolError>
+        ensures { (submitted : Result TaskIdOf PoolError) × (mid : PassView) × Submits Self.keeps Self.terms task VOID (Self.Task.urgency task) submitted (Self.pass self.old) mid × IsTaken Self.keeps Self.terms Self.Task.gives submitted result mid (Self.pass self.new) }
+    {
+        match self.submit(task) {
+            Ok(ticket) => self.get(&ticket),
+            Err(refused) => Err(refused.error),
+        }
     }
 
     /// Submits a task of this group, as `CompletionService.submit`, and answers its ticket. A number names a group. Refused as `execute`.

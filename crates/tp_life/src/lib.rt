@@ -2,6 +2,7 @@
 //! values of any type.
 #![tactic(auto)]
 
+pub mod batches;
 pub mod calls;
 mod desk;
 pub mod groups;
@@ -13,6 +14,7 @@ pub mod ticking;
 
 /// What a first program names: `use tp_life::prelude::*;`.
 pub mod prelude {
+    pub use crate::batches::invoke_all;
     pub use crate::calls::{Calls, Controls, Life, Setting, Ticket};
     pub use crate::groups::Group;
     pub use crate::lives::{with_pool, with_tally};
