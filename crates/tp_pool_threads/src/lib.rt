@@ -12,6 +12,7 @@ pub mod defaults;
 pub mod edges;
 pub mod lock;
 mod opening;
+mod pauses;
 pub mod policies;
 pub mod rescues;
 pub mod shared;

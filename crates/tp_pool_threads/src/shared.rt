@@ -11,7 +11,8 @@ ghost use Rattle.tp_pool_threads.specs.Endings.{AddsEnding, IsBarred};
 ghost use Rattle.tp_pool_threads.specs.Refusals.{none_forgotten};
 
 use crate::edges::Edge;
-use crate::lock::{CALLER, WORKER, polite};
+use crate::lock::polite;
+use crate::pauses::{CALLER, WORKER};
 use crate::policies::PolicyOf;
 use std::alloc::Global;
 use std::collections::VecDeque;
