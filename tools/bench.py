@@ -8,7 +8,8 @@ rotating order, `lab_bench raw .. RUNS`; the median of a program's runs is one v
 and the greatest. `x1.40` says that the program is 1.40 times as quick as the first one. Behind it stands how quick it is beside the textbook's
 pool of the same program, and beside Java's.
 
-A load is COURSE:WORKERS,SUBMITTERS,TURNS; `--only` takes those that contain one of the words. A turn of `spin_loop` takes some 4.6 nanoseconds.
+A load is COURSE:WORKERS,SUBMITTERS,JOB, with the length of a job in nanoseconds; `--only` takes those that contain one of the words. A job
+passes turns of `spin_loop`. A turn takes 4.6 nanoseconds on one machine and 13 on another, so it is measured first, by the first program.
 The autogroup is set to -20 where that is allowed, so that a shared machine disturbs less. `busy` is how many processors others used meanwhile:
 above 0.2 a figure is not to be trusted.
 """
@@ -22,9 +23,9 @@ import tempfile
 import time
 
 HERE = pathlib.Path(__file__).resolve().parent / "bench"
-LOADS = ["through:1,1,0", "through:2,1,0", "through:4,1,0", "through:4,2,0", "through:2,1,500", "through:4,1,500", "through:4,1,1250", "through:4,1,2500",
-         "through:4,1,10870", "through:4,8,0", "through:4,32,0", "life:1,1,0", "life:2,1,0", "life:4,1,0", "life:4,2,0", "life:4,1,10", "answer:1,1,0", "answer:4,1,0"]
-TASKS = {0: 100_000, 500: 40_000, 1250: 20_000, 2500: 12_000, 10870: 4_000}
+LOADS = ["through:1,1,0", "through:2,1,0", "through:4,1,0", "through:4,2,0", "through:2,1,2300", "through:4,1,2300", "through:4,1,5750",
+         "through:4,1,11500", "through:4,1,50000", "through:4,8,0", "through:4,32,0", "life:1,1,0", "life:2,1,0", "life:4,1,0", "life:4,2,0", "life:4,1,10", "answer:1,1,0", "answer:4,1,0"]
+TASKS = {0: 100_000, 2_300: 40_000, 5_750: 20_000, 11_500: 12_000, 50_000: 4_000}
 ANSWERS = 5_000
 PINS = {1: "0,1", 2: "0,1,2", 4: "0,1,2,3,0"}
 HERTZ = os.sysconf("SC_CLK_TCK")
@@ -40,15 +41,22 @@ def own():
     return sum(os.times()[:4])
 
 
-def plan(load):
-    """The words of a load for `raw`, but for the number of runs, and its list of processors."""
+def plan(load, turn):
+    """The words of a load for `raw`, but for the number of runs, and its list of processors. A turn takes so many nanoseconds."""
     course, numbers = load.split(":")
-    workers, submitters, turns = map(int, numbers.split(","))
-    if course == "life" and turns == 10:
-        tasks, turns = 10, 0
+    workers, submitters, job = map(int, numbers.split(","))
+    if course == "life" and job == 10:
+        tasks, job = 10, 0
     else:
-        tasks = ANSWERS if course == "answer" else TASKS[turns] // submitters
-    return [course, *map(str, [workers, submitters, tasks, turns])], PINS[workers]
+        tasks = ANSWERS if course == "answer" else TASKS[job] // submitters
+    return [course, *map(str, [workers, submitters, tasks, round(job / turn)])], PINS[workers]
+
+
+def turn_of(program, preload):
+    """How many nanoseconds a turn takes, by jobs so long that the pool is nothing beside them."""
+    tasks, turns = 200, 20_000
+    times = ran([program, "raw", "through", "1", "1", str(tasks), str(turns), "5"], PINS[1], preload)
+    return statistics.median(times["textbook"]) / tasks / turns
 
 
 def quick():
@@ -82,9 +90,9 @@ def values(load, times):
     return {"median": statistics.median(times)}
 
 
-def told(load, found, first):
+def told(load, words, found, first):
     """The lines of a load. `found` has lists of values by program, pool and what is compared."""
-    tasks = 1 if load.startswith("answer") else int(plan(load)[0][3]) * int(plan(load)[0][2])
+    tasks = 1 if load.startswith("answer") else int(words[3]) * int(words[2])
     for (program, pool, what), all_values in sorted(found.items(), key=lambda item: (item[0][2], item[0][1], item[0][0] != first)):
         middle = statistics.median(all_values)
         line = f"  {pool:8} {what:6} {program}: {middle / tasks:.0f} ns [{min(all_values) / tasks:.0f} to {max(all_values) / tasks:.0f}]"
@@ -109,20 +117,22 @@ def main():
             subprocess.run(["javac", "-d", folder, str(HERE / "Peers.java")], check=True)
         runners = [(program, [program, "raw"], preload) for program in asked.programs]
         runners += [("java", ["java", "-cp", folder, "Peers"], None)] if asked.java else []
+        turn = turn_of(asked.programs[0], preload)
+        print(f"a turn takes {turn:.1f} ns")
         for load in LOADS:
             if not any(word in load for word in asked.only):
                 continue
-            words, pins = plan(load)
+            words, pins = plan(load, turn)
             found, before, since, mine = {}, used(), time.monotonic(), own()
             for round_number in range(asked.rounds):
-                turn = round_number % len(runners)
-                for name, command, pinned in runners[turn:] + runners[:turn]:
+                at = round_number % len(runners)
+                for name, command, pinned in runners[at:] + runners[:at]:
                     for pool, times in ran([*command, *words, str(asked.runs)], pins, pinned).items():
                         for what, value in values(load, times).items():
                             found.setdefault((name, pool, what), []).append(value)
             busy = (used() - before - (own() - mine)) / (time.monotonic() - since)
             print(f"{load} ({words[3]} tasks, busy {busy:.1f})", flush=True)
-            told(load, found, asked.programs[0])
+            told(load, words, found, asked.programs[0])
 
 
 if __name__ == "__main__":
