@@ -47,7 +47,7 @@ SECTIONS = {
         "CompletionService::submit CompletionService::take CompletionService::poll"),
     "Shut down and wait": ("`await_end` is `await_termination` with no deadline where it is None.", "PoolOf::shutdown PoolOf::shutdown_now+1 PoolOf::await_termination PoolOf::await_end_for PoolOf::is_stranded+1"),
     "Change settings and single tasks": ("`prestart_all` starts workers up to the core size, as `prestartAllCoreThreads`, and answers how many.", "PoolOf::set_core+1 PoolOf::set_maximum PoolOf::set_keep PoolOf::allow_core_timeout PoolOf::prestart_core PoolOf::tick+1 PoolOf::remove+1 PoolOf::purge"),
-    "Look": ("`look_by`, `snapshot_by` and `record_since_by` take a sight, which `sight` splits off a pass, and answer at its new front. `state`, `counts`, `now`, `steps`, `place`, `fate`, `promise`, `task_in` and `group_open` tell one thing each, of *some pool*.",
+    "Look": ("`look_by`, `snapshot_by` and `record_since_by` take a sight, which `sight` splits off a pass, and answer at its new front. `catch_up` lets a sight and a pass know the record as it is now. `state`, `counts`, `now`, `steps`, `place`, `fate`, `promise`, `task_in` and `group_open` tell one thing each, of *some pool*.",
         "PoolOf::glance+1 PoolOf::look PoolOf::snapshot PoolOf::record_since PoolOf::wait_step"),
 }
 # Calls that the page leaves out: others stand on them, or do the same in another form.

@@ -16,9 +16,9 @@ use tp_types::refusals::PoolError;
 // What a submission came to: a ticket, or its refusal.
 type Submitted<W> = Result<Ticket<W>, PoolError>;
 
-/// Submits these tasks with futures, in their order, and then waits for each: what became of each, in the same order, as
-/// `ExecutorService.invokeAll`. A task whose submission is refused is told of by that refusal, and those behind it are submitted all the
-/// same. NoMemory (4) for the answer, before the first task is submitted: then the tasks are dropped.
+/// Submits these tasks with futures, waits for each, and tells what became of each, in their order, as `ExecutorService.invokeAll`. A
+/// task whose submission is refused is told of by that refusal, and those behind it are submitted all the same. NoMemory (4) for the
+/// answer, before the first task is submitted: then the tasks are dropped.
 pub fn invoke_all<W: Task, P: Calls<Task = W>>(
     pool: &mut P,
     alloc: Global,

@@ -45,7 +45,7 @@ pub use tp_pool_holds::answers::{Admitted, Drained, Refused, Removal};
 pub use tp_pool_holds::{answers, names};
 pub use tp_pool_threads::defaults::Defaults;
 pub use tp_pool_threads::edges::Edge;
-pub use tp_pool_threads::{defaults, lock};
+pub use tp_pool_threads::{defaults, lock, pauses};
 pub use tp_protocols::flags::CancelFlag;
 pub use tp_protocols::jobs::Job;
 pub use tp_protocols::{factories, gates, handlers, hooks};

@@ -12,7 +12,7 @@ pub mod defaults;
 pub mod edges;
 pub mod lock;
 mod opening;
-mod pauses;
+pub mod pauses;
 pub mod policies;
 pub mod rescues;
 pub mod shared;

@@ -97,7 +97,7 @@ impl<G: PoolNaming, J: Drop, E: Edge, K: Keeper> Shared<G, J, E, K> {
         self.release(core);
     }
 
-    /// A further step of a submission, in a hold of its own: what it did.
+    /// A further step of a submission: what it did.
     #[inline(always)]
     pub fn further<R: Wait, X: Drop, S: Marks<J> + Step<Task<J>, Load = (), Answer = X>>(
         &self,
@@ -112,10 +112,7 @@ impl<G: PoolNaming, J: Drop, E: Edge, K: Keeper> Shared<G, J, E, K> {
         ensures refused { IfNone result (HasNoOutcome (S.ask step) → IsHalted K.RECEIPTS (K.terms G.config) pass.new (S.ask step)) }
         ensures unchanged { IfNone result (LooksOnly (K.terms G.config) pass.old pass.new) }
     {
-        let mut core = self.hold(rt);
-        let answer = core.ask(step, &self.around.glance, pass);
-        self.release(core);
-        match answer {
+        match self.ask(rt, step, pass) {
             Ok(answer) => Some(step.did(&answer)),
             Err(_) => None,
         }

@@ -1,34 +1,24 @@
 //! The pool's lock.
 
-use crate::harness::boards::Signal;
-use crate::harness::calls::Call;
-use crate::harness::findings::Finding;
-use crate::harness::lives::lives;
-use crate::harness::scripts::{AWAITS_END, Cue, IS_OVER, Life, PAIR, SHUTS_DOWN, Step};
+use crate::compare::same;
+use std::sync::{Mutex, Wait};
 use std::test::Fail;
-use tp_record::entries::Did;
+use std::thread;
+use tp_pool::lock::polite;
+use tp_pool::pauses::WORKER;
 
-const TICK: Step = Step::Call(Call::Tick(0));
-
-const TICKS: [Step; 100] = [TICK; 100];
-
-const OVER: [Step; 1] = [IS_OVER];
-
-// Each of two callers takes the lock five hundred times, for a step of its own.
-static IN_TURNS: [Life; 1] = [Life {
-    middle: &[TICK],
-    rounds: 500,
-    last: &[
-        Step::Cue(Cue::Reaches(Signal::Over, 1)),
-        SHUTS_DOWN,
-        AWAITS_END,
-    ],
-    beside: &[&TICKS, &TICKS, &TICKS, &TICKS, &TICKS, &OVER],
-    findings: &[Finding::Told(1000, Did::Tick(0))],
-    ..PAIR
-}];
+// Adds 1 so many times, and takes the lock for each.
+fn add<R: Wait>(rt: &R, lock: &Mutex<u64>, times: u32) {
+    for _ in 0..times {
+        let mut sum = polite(rt, lock, WORKER);
+        *sum = sum.saturating_add(1);
+    }
+}
 
 #[test]
 fn two_threads_take_turns(rt: HostRuntime) -> Result<(), Fail> {
-    lives(rt, rt.alloc(), &IN_TURNS)
+    let lock = Mutex::new(0);
+    thread::join(&rt, || add(&rt, &lock, 1000), || add(&rt, &lock, 1000));
+    same(&rt, 0, &lock.into_inner(), &2000);
+    Ok(())
 }
