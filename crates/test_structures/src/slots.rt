@@ -3,7 +3,7 @@
 ghost use Rattle.std.specs.Prelude.{◌≤◌};
 
 use crate::compare::Answer::{self, Count, Done, Refused, Seat, Slot};
-use crate::compare::{Tested, asks, play, same};
+use crate::compare::{Tested, asks, play};
 use std::alloc::{AllocError, Global};
 use std::process::Abort;
 use tp_record::rows::{SlotRow, Stage};
@@ -348,27 +348,6 @@ const SET: [(Call, Answer); 8] = [
 fn sets_rows_of_busy_workers(rt: HostRuntime) {
     let mut table = Table::new(rt.alloc(), 1).expect(&rt, "memory");
     play(&rt, &mut table, &SET);
-}
-
-/// A stage, the core size, the keep-alive, whether it holds for the core, the moment, and whether the worker's time is over.
-const TIMES_OUT: [(Stage, u32, u64, bool, u64, bool); 7] = [
-    (Stage::Idle(5), 1, 10, false, 14, false),
-    (Stage::Idle(5), 1, 10, false, 15, true),
-    (Stage::Idle(5), 2, 10, false, 15, false),
-    (Stage::Idle(5), 2, 10, true, 15, true),
-    (Stage::Idle(5), 2, 10, true, 4, false),
-    (Stage::Working, 1, 0, false, 15, true),
-    (Stage::Working, 1, 1, false, 15, false),
-];
-
-#[test]
-fn times_out_at_the_keep_alive(rt: HostRuntime) {
-    let table = idle_workers(&rt, 2);
-    for (at, (stage, core, keep, core_timeout, moment, want)) in TIMES_OUT.iter().enumerate() {
-        let slots = &table.slots;
-        let out = slots.timed_out(*stage, *core, *keep, *core_timeout, *moment);
-        same(&rt, at, &out, want);
-    }
 }
 
 const GROWN: [(Call, Answer); 6] = [

@@ -1,6 +1,6 @@
 -- What an auditor judges of an entry, by what its tables show.
 use Rattle.std.proofs.Common.{◌&&◌, ◌↔◌, IsTrue, inl, inr, map, ◌≡◌, ℕ, suc, ◌+◌, ◌<◌, ◌≤◌, take, reverse, get_or, length-take, Bool, true, false, cond, List, [], ◌∷◌, length, Option, Some, None, Ok, Err, refl, arith, sym, ap, subst, ◌∙◌}
-use Rattle.std.specs.Prelude.{slice_get, count_by, is_some, unwrap_or, IfSome}
+use Rattle.std.specs.Prelude.{count_by, is_some, unwrap_or, IfSome}
 use Rattle.std.proofs.lemmas.Bool.{false≢true, and_parts}
 use Rattle.std.proofs.lemmas.List.{length-reverse}
 use Rattle.tp_types.specs.RunState.{state_rank}
@@ -10,7 +10,6 @@ use Rattle.tp_types.specs.declared.refusals.PoolError.{PoolError}
 use Rattle.tp_types.specs.declared.refusals.PoolError.TheVariants.{BookFull}
 use Rattle.tp_record.specs.declared.entries.Entry.{Entry}
 use Rattle.tp_record.specs.declared.entries.Ask.{Ask}
-use Rattle.tp_record.specs.declared.entries.Ask.TheVariants as ask
 use Rattle.tp_record.specs.declared.entries.Did.{Did}
 use Rattle.tp_record.specs.Effects.{reserves, completes}
 use Rattle.tp_record.specs.Fields.{is_live, rank, task_rows, slot_rows, live, largest}
@@ -19,7 +18,7 @@ use Rattle.tp_record.specs.Step.{Answer, Legal, Gives, fitting, step, within_roo
 use Rattle.tp_laws.proofs.Model.Weak.{within}
 use Rattle.tp_laws.proofs.Model.NextState.{next_is_state}
 use Rattle.tp_laws.proofs.Model.Told.{sound_legal, given_answer, given_legal}
-use Rattle.tp_rules.specs.Snapshot.{IsAnswer, IsFirstDone}
+use Rattle.tp_rules.specs.Snapshot.{IsAnswer}
 use Rattle.tp_rules.proofs.Numbers.{taken_at}
 use Rattle.tp_rules.proofs.Sizes.{length-task_rows}
 use Rattle.tp_audit_plain.specs.declared.summary.Summary.{Summary}
@@ -57,18 +56,6 @@ is_leaving d true e = refl
 is_leaving d false e = cc
 
 module _ (c : Config) (h : List Entry) (t : Tables) (at : StandsAt c h t) where
-  -- the state, with what is done in it
-  state_shown : ◌≡◌ {A = State} (record (shown t) { done = (state c h).done }) (state c h)
-  state_shown = ap (λ (s : State). record s { done = (state c h).done }) at.shows.kept
-
-  -- the answer over the tables is the answer over the state
-  pub answer_shown : (r : Answer) (n : ℕ) (a : Ask) (first : Option ℕ) → ((g : ℕ) → a ≡ ask.TakeDone g → first ≡ slice_get (done_in t.done g) 0) →
-      ((done : List ℕ) → IsFirstDone (record (shown t) { done = done }) a first → IsAnswer ⊥ r (fitting c (record (shown t) { done = done }) n a)) → IsAnswer ⊥ r (fitting c (state c h) n a)
-  answer_shown r n a first asked answers =
-      subst (λ (s : State). IsAnswer ⊥ r (fitting c s n a)) state_shown
-      (answers (state c h).done
-      (λ g is. asked g is ∙ ap (λ xs. slice_get xs 0) (at.shows.done g) ∙ ap (λ (s : State). slice_get (done_of s g) 0) (sym state_shown)))
-
   free_shown : (d : Did) → IfSome (reserves d) (λ w. is_free_for (shown t) d w ≡ true) → IfSome (reserves d) (λ w. is_free_for (state c h) d w ≡ true)
   free_shown d free = subst (λ s. IfSome (reserves d) (λ w. is_free_for s d w ≡ true)) at.shows.kept free
 

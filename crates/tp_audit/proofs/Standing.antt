@@ -1,11 +1,10 @@
 -- What a legal history and an entry that the step gives after it say of the state that the tables show.
 use Rattle.std.proofs.Common.{◌≡◌, ℕ, suc, ◌+◌, ◌<◌, ◌≤◌, ◌^◌, Bool, true, false, List, [], ◌∷◌, length, Some, None, refl, arith, sym, ap, subst, ◌∙◌}
 use Rattle.std.specs.Prelude.{Contains, ◌==◌, nat_le}
-use Rattle.std.proofs.lemmas.Bool.{false≢true, eqb-true}
+use Rattle.std.proofs.lemmas.Bool.{false≢true, eqb-true, ltb-true}
 use Rattle.tp_types.specs.declared.configs.Config.{Config}
 use Rattle.tp_types.specs.declared.configs.Verdict.TheVariants as verdict
 use Rattle.tp_types.specs.declared.ids.TaskId.{TaskId}
-use Rattle.tp_types.specs.declared.tasks.Place.TheVariants as places
 use Rattle.tp_record.specs.declared.entries.Entry.{Entry}
 use Rattle.tp_record.specs.declared.entries.Did.{Did}
 use Rattle.tp_record.specs.declared.entries.Did.TheVariants as did
@@ -15,11 +14,12 @@ use Rattle.tp_record.specs.declared.entries.Ruled.TheVariants as ruled
 use Rattle.tp_record.specs.declared.rows.Stage.TheVariants as stages
 use Rattle.tp_record.specs.Lists.{is_it, is_among, IsOnce}
 use Rattle.tp_record.specs.Effects.{queues, idles}
-use Rattle.tp_record.specs.Fields.{queue, idling, is_queued, is_queued_place, is_idle_row, slot_row, rank, submitted, retries}
-use Rattle.tp_record.specs.State.{State, state, slot_at, task_at, due}
+use Rattle.tp_record.specs.Fields.{queue, idling, is_queued, is_queued_place, is_idle_row, slot_row, rank, retries}
+use Rattle.tp_record.specs.State.{State, state, slot_at, due}
 use Rattle.tp_record.specs.Step.{Legal, leaves_room, retry_of}
 use Rattle.tp_laws.proofs.Model.Readings.{slot_read, tasks_counted}
 use Rattle.tp_laws.proofs.Model.Places.{head_queued}
+use Rattle.tp_rules.specs.Answers.{MayTry}
 use Rattle.tp_rules.proofs.Sizes.{length-queue}
 use Rattle.tp_laws.proofs.Model.Given.{Given, GivenRuled}
 use Rattle.tp_laws.proofs.Model.Told.{sound_legal}
@@ -104,22 +104,23 @@ module _ (c : Config) (h : List Entry) (t : Tables) (at : StandsAt c h t) where
   once_shown = subst (λ (s : State). IsOnce s.queue) (sym at.shows.kept) (once-queue c h)
 
   -- a retry is given of a refused task
-  pub retry_given : (x : TaskId) → x.0 < length (shown t).tasks → (task_at (shown t) x.0).place ≡ places.Refused → (shown t).rank ≡ 0 → (task_at (shown t) x.0).retries < 64 →
-      Given c h (did.Verdict x verdict.DiscardOldest (retry_of (queue c h)))
-  retry_given x known refused runs few =
-      let row = ap (λ s. task_at s x.0) at.shows.kept ∙ row_sound h (sound_legal c h at.legal) c x.0 in
-      let count : length (shown t).tasks ≡ submitted h = ap (λ s. length s.tasks) at.shows.kept ∙ tasks_counted h in
+  pub retry_given : (x : TaskId) → MayTry (state c h) x.0 → Given c h (did.Verdict x verdict.DiscardOldest (retry_of (queue c h)))
+  retry_given x may =
+      let row = row_sound h (sound_legal c h at.legal) c x.0 in
+      let count = tasks_counted h in
+      let known = ltb-true x.0 (length (state c h).tasks) may.known in
       let tries = ap (λ r. r.retries) row in
-      ((omega (arith, known, count), sym (ap (λ r. r.place) row) ∙ refused), ruling (queue c h) refl (sym (ap (λ s. s.rank) at.shows.kept) ∙ runs) (omega (arith, few, tries)))
+      let few = may.few in
+      ((omega (arith, known, count), sym (ap (λ r. r.place) row) ∙ may.refused), ruling (queue c h) refl may.runs (omega (arith, few, tries)))
     where
       ruling : (q : List ℕ) → queue c h ≡ q → rank h ≡ 0 → retries h x.0 < 64 → GivenRuled c h x.0 (retry_of q)
       ruling [] is runs few = (runs, few, is)
       ruling (u ∷ us) is runs few = (runs, few, (us, is), head_queued c h at.legal u us is)
 
   -- so is the room for it
-  pub retry_shown : (x : TaskId) → x.0 < length (shown t).tasks → (task_at (shown t) x.0).place ≡ places.Refused → (shown t).rank ≡ 0 → (task_at (shown t) x.0).retries < 64 →
+  pub retry_shown : (x : TaskId) → MayTry (state c h) x.0 →
       room_by c (did.Verdict x verdict.DiscardOldest (retry_of (shown t).queue)) (shown t) t.due ≡ leaves_room c (shown t) (did.Verdict x verdict.DiscardOldest (retry_of (shown t).queue))
-  retry_shown x known refused runs few =
+  retry_shown x may =
       let queues : queue c h ≡ (shown t).queue = ap (λ s. s.queue) (sym at.shows.kept) in
       room_shown (did.Verdict x verdict.DiscardOldest (retry_of (shown t).queue))
-      (subst (λ q. Given c h (did.Verdict x verdict.DiscardOldest (retry_of q))) queues (retry_given x known refused runs few))
+      (subst (λ q. Given c h (did.Verdict x verdict.DiscardOldest (retry_of q))) queues (retry_given x may))

@@ -1,6 +1,6 @@
 //! The auditor that judges a record one entry at a time.
 
-ghost use Rattle.std.specs.Prelude.{ℕ, ◌≡◌, ◌↔◌, ◌≤◌, ◌∷◌, [], List, Err, suc, true, count_by, length, slice_get, unwrap_or, Ok, IsTrue, IfOk, IfErr, IfSome, IsOkUnless, OnOk, OnErr};
+ghost use Rattle.std.specs.Prelude.{ℕ, ◌≡◌, ◌↔◌, ◌≤◌, ◌∷◌, [], List, Err, suc, true, count_by, length, unwrap_or, Ok, IsTrue, IfOk, IfErr, IfSome, IsOkUnless, OnOk, OnErr};
 ghost use Rattle.tp_types.specs.Config.{IsConfig};
 ghost use Rattle.tp_record.specs.declared.entries.Entry.{Entry as Told};
 ghost use Rattle.tp_record.specs.Effects.{reserves};
@@ -135,8 +135,7 @@ impl Auditor {
         ensures refused { IfErr result (λ e. (h : List Told) → Judged self.now h
             → IsDenied (settings self.now) (states.state (settings self.now) h) made.0 ask e) }
     {
-        let first = self.first_asked(ask);
-        let did = match fitting(self.alloc, &self.config, &self.tables, made, ask, first) {
+        let did = match fitting(self.alloc, &self.config, &self.tables, made, ask) {
             Ok(did) => did,
             Err(refusal) => return Err(refusal),
         };
@@ -163,20 +162,9 @@ impl Auditor {
             → IsTrue result ↔ (steps.fitting (settings self.now) (states.state (settings self.now) h) (unwrap_or (reserves did) 0) ask ≡ Ok did) }
     {
         let made = SlotId(reserved_by(did).unwrap_or(0));
-        let first = self.first_asked(ask);
-        match fitting(self.alloc, &self.config, &self.tables, made, ask, first) {
+        match fitting(self.alloc, &self.config, &self.tables, made, ask) {
             Ok(answer) => are_same(answer, did),
             Err(_) => false,
-        }
-    }
-
-    /// The first completed task of the group that an ask names.
-    fn first_asked(&self, ask: Ask) -> Option<u32>
-        ensures { (g : ℕ) → ask ≡ Ask.TakeDone g → result ≡ slice_get (done_in self.now.tables.done g) 0 }
-    {
-        match ask {
-            Ask::TakeDone(group) => self.tables.done.first(group),
-            _ => None,
         }
     }
 

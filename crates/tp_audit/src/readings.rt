@@ -1,4 +1,4 @@
-//! What the tables of steps read of an auditor's tables.
+//! What the rules of steps read of an auditor's tables.
 
 use crate::rows::row_at;
 use crate::tables::Tables;
@@ -6,24 +6,16 @@ use crate::walks::count_cancelled;
 use std::alloc::Global;
 use tp_record::entries::Did;
 use tp_record::rows::{SlotRow, TaskRow};
-use tp_rules::readings::Readings;
-use tp_rules::step::retry_of;
+use tp_rules::readings::{FullReadings, Readings};
+use tp_rules::submitters::retry_of;
 use tp_types::configs::{Config, Verdict};
 use tp_types::ids::{SlotId, TaskId};
 use tp_types::refusals::PoolError;
 
 impl Readings for Tables {
-    ghost use Rattle.tp_audit.specs.Tables.{shown as state_shown, Stands};
+    ghost use Rattle.tp_audit.specs.Tables.{Shows};
 
-    ghost shown = { λ t. state_shown t };
-
-    ghost stands = { λ t c. Stands c t };
-
-    ghost lacks = { ⊥ };
-
-    fn law_few_wait(&self, _config: &Config) {
-        let _ = &self.queue;
-    }
+    ghost shows = { λ t s. Shows t s };
 
     fn rank(&self) -> u8 {
         self.rank
@@ -53,8 +45,12 @@ impl Readings for Tables {
         self.tasks.len()
     }
 
-    fn task(&self, t: TaskId) -> TaskRow {
-        row_at(&self.tasks, t)
+    fn task(&self, t: TaskId) -> Option<TaskRow> {
+        if (t.0 as usize) < self.tasks.len() {
+            Some(row_at(&self.tasks, t))
+        } else {
+            None
+        }
     }
 
     fn slot(&self, w: SlotId) -> Option<SlotRow> {
@@ -75,6 +71,22 @@ impl Readings for Tables {
 
     fn longest_idle(&self) -> Option<usize> {
         self.idling.first()
+    }
+
+    fn first_done(&self, group: u32) -> Option<u32> {
+        self.done.first(group)
+    }
+}
+
+impl FullReadings for Tables {
+    ghost use Rattle.tp_audit.specs.Tables.{Stands};
+
+    ghost stands = { λ t c. Stands c t };
+
+    ghost lacks = { ⊥ };
+
+    fn waiting(&self, _config: &Config) -> u32 {
+        self.queue.len() as u32
     }
 
     fn cancelled_count(&self, _config: &Config) -> u32 {

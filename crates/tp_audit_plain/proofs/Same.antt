@@ -1,5 +1,5 @@
 -- Answers that a derived `==` holds of are equal.
-use Rattle.std.proofs.Common.{◌≡◌, ◌↔◌, ℕ, Bool, true, false, refl, sym, ap, ◌∙◌, Some, None, Ok, Err, IsTrue}
+use Rattle.std.proofs.Common.{◌≡◌, ◌↔◌, ℕ, Bool, true, refl, sym, ap, ◌∙◌, Some, None, Ok, Err, IsTrue}
 use Rattle.std.proofs.lemmas.Bool.{true≢false, eqb-true, and_parts}
 use Rattle.std.specs.Cmp.{signed_Decides, booleans_Decides}
 use Rattle.tp_types.specs.declared.ids.TaskId.{TaskId}

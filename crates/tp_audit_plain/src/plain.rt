@@ -1,6 +1,7 @@
 //! The auditor's plain form: each entry is judged by filters over the whole list of those before it.
 //!
-//! It keeps no running table, and shares nothing with the machine or with the next state. So an error there can't hide in it.
+//! It keeps no running table, and shares nothing with the machine but the rules of answers, which are proved to be the model's. So an
+//! error of a structure can't hide in it.
 //! It is for records of some hundred entries.
 
 ghost use Rattle.std.specs.Prelude.{◌≡◌, ◌≤◌, ◌↔◌, true, length, map, reverse, IsTrue, IfOk, IfErr, IfSome, IsOkUnless};

@@ -1,29 +1,15 @@
 //! A future is cancelled, as `FutureTask.cancel`.
 
-ghost use Rattle.std.specs.Prelude.{◌≡◌, true, false, None, IfOk, IfErr};
+ghost use Rattle.std.specs.Prelude.{true, false, None};
 ghost use Rattle.tp_machine_state.specs.Payloads.{HandsOut};
-ghost use Rattle.tp_machine_state.specs.Steps.{Stands, Fits, Accepts, Refuses, Leads};
+ghost use Rattle.tp_machine_state.specs.Steps.{Stands, Accepts, Leads};
 
 use tp_machine_state::parts::Parts;
 use tp_machine_state::step::Step;
 use tp_record::entries::{Ask, Did};
+use tp_rules::controllers::cancel;
 use tp_types::ids::TaskId;
 use tp_types::refusals::PoolError;
-use tp_types::tasks::Kind;
-
-/// Whether the cancel has effect, before the room is looked at.
-fn effect<P>(parts: &Parts<P>, t: TaskId, flag: bool) -> Result<bool, PoolError>
-    ensures fits { IfOk result (λ b. Fits parts.now (Ask.Cancel t flag) (Did.Cancel t flag b)) }
-    ensures refuses { IfErr result (λ e. Refuses parts.now (Ask.Cancel t flag) e) }
-{
-    let Some(row) = parts.tasks.row(t) else {
-        return Err(PoolError::UnknownTask);
-    };
-    match row.kind {
-        Kind::Plain => Err(PoolError::NotFuture),
-        Kind::Future | Kind::Group(_) => Ok(row.is_open()),
-    }
-}
 
 /// A future is cancelled; the flag asks that its job is told.
 #[derive(Clone, Copy)]
@@ -59,11 +45,7 @@ impl<P> Step<P> for Cancel {
 
     // UnknownTask (6), NotFuture (9) or BookFull (5).
     fn answer(self, parts: &Parts<P>) -> Result<bool, PoolError> {
-        let effective = effect(parts, self.0, self.1)?;
-        if !parts.has_room(0, 0) {
-            return Err(PoolError::BookFull);
-        }
-        Ok(effective)
+        parts.in_room(cancel(parts, self.0, self.1), 0, 0)
     }
 
     fn apply(self, parts: &mut Parts<P>, effective: bool) -> Option<P> {

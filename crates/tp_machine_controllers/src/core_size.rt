@@ -4,8 +4,8 @@ ghost use Rattle.tp_machine_state.specs.Steps.{Accepts};
 
 use tp_machine_state::parts::Parts;
 use tp_machine_state::step::Step;
-use tp_queue::work::WorkQueue;
 use tp_record::entries::{Ask, Did};
+use tp_rules::controllers::core;
 use tp_types::refusals::PoolError;
 
 /// `setCorePoolSize`, in workers.
@@ -39,14 +39,7 @@ impl<P> Step<P> for Core {
 
     // BadSizes (1) where the maximum is smaller, else BookFull (5).
     fn answer(self, parts: &Parts<P>) -> Result<u32, PoolError> {
-        if parts.maximum < self.0 {
-            return Err(PoolError::BadSizes);
-        }
-        if !parts.has_room(0, 0) {
-            return Err(PoolError::BookFull);
-        }
-        let increase = self.0.saturating_sub(parts.core) as usize;
-        Ok(increase.min(parts.queue.len()) as u32)
+        parts.in_room(core(parts, self.0), 0, 0)
     }
 
     fn apply(self, parts: &mut Parts<P>, _added: u32) {

@@ -5,6 +5,7 @@ ghost use Rattle.tp_machine_state.specs.Steps.{Accepts};
 use tp_machine_state::parts::Parts;
 use tp_machine_state::step::Step;
 use tp_record::entries::{Ask, Did};
+use tp_rules::controllers::core_timeout;
 use tp_types::refusals::PoolError;
 
 /// `allowCoreThreadTimeOut`.
@@ -37,13 +38,7 @@ impl<P> Step<P> for CoreTimeout {
 
     // KeepZero (11) where the keep-alive is 0 and core workers are to time out, else BookFull (5).
     fn answer(self, parts: &Parts<P>) -> Result<(), PoolError> {
-        if self.0 && parts.keep == 0 {
-            return Err(PoolError::KeepZero);
-        }
-        if !parts.has_room(0, 0) {
-            return Err(PoolError::BookFull);
-        }
-        Ok(())
+        parts.in_room(core_timeout(parts, self.0), 0, 0)
     }
 
     fn apply(self, parts: &mut Parts<P>, _answer: ()) {

@@ -6,6 +6,7 @@ ghost use Rattle.tp_machine_state.specs.Steps.{Fits};
 use tp_machine_state::parts::Parts;
 use tp_machine_state::step::Step;
 use tp_record::entries::{Ask, Did};
+use tp_rules::controllers::ended;
 use tp_types::refusals::PoolError;
 use tp_types::states::RunState;
 
@@ -40,10 +41,7 @@ impl<P> Step<P> for Ended {
 
     // NotThere (8).
     fn answer(self, parts: &Parts<P>) -> Result<(), PoolError> {
-        match parts.state {
-            RunState::Tidying => Ok(()),
-            _ => Err(PoolError::NotThere),
-        }
+        ended(parts)
     }
 
     fn apply(self, parts: &mut Parts<P>, _answer: ()) {

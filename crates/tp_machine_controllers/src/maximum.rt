@@ -10,6 +10,7 @@ ghost use Rattle.tp_machine_state.specs.Steps.{Stands, Accepts, Refuses, Leads};
 
 use tp_machine_state::parts::Parts;
 use tp_record::entries::{Ask, Did};
+use tp_rules::controllers;
 use tp_types::refusals::PoolError;
 
 /// Whether the maximum size may be `maximum` workers. BadSizes (1) where it is 0, above 1,024 or below the core size, else
@@ -19,13 +20,7 @@ pub fn answer<P>(parts: &Parts<P>, maximum: u32) -> Result<(), PoolError>
     ensures accepts { OnOk result (Accepts parts.now (Ask.Maximum maximum) (Did.Maximum maximum)) }
     ensures refuses { IfErr result (λ e. Refuses parts.now (Ask.Maximum maximum) e) }
 {
-    if maximum < 1 || 1024 < maximum || maximum < parts.core {
-        return Err(PoolError::BadSizes);
-    }
-    if !parts.has_room(0, 0) {
-        return Err(PoolError::BookFull);
-    }
-    Ok(())
+    parts.in_room(controllers::maximum(parts, maximum), 0, 0)
 }
 
 /// Makes the places for a maximum that was accepted. NoMemory (4), which comes only where there are fewer places, and then nothing

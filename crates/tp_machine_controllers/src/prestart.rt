@@ -1,16 +1,14 @@
 //! A worker is started ahead of tasks, as `prestartCoreThread` does.
 
-ghost use Rattle.std.specs.Prelude.{◌≡◌, ◌&&◌, nat_lt, Some, None};
-ghost use Rattle.tp_record.specs.State.{State};
-ghost use Rattle.tp_record.specs.Step.{slot_count, wants_worker};
+ghost use Rattle.std.specs.Prelude.{◌≡◌, Some, None};
 ghost use Rattle.tp_machine_state.specs.Payloads.{Keeps};
-ghost use Rattle.tp_machine_state.specs.Shows.{Shows};
 ghost use Rattle.tp_machine_state.specs.Steps.{Stands, Accepts, Leads};
 
 use tp_machine_state::parts::Parts;
 use tp_machine_state::step::Step;
 use tp_record::entries::{Ask, Did};
 use tp_record::rows::Stage;
+use tp_rules::controllers::lacks_core_worker;
 use tp_types::ids::SlotId;
 use tp_types::refusals::PoolError;
 
@@ -46,7 +44,7 @@ impl<P> Step<P> for Prestart {
 
     // BookFull (5).
     fn answer(self, parts: &Parts<P>) -> Result<Option<SlotId>, PoolError> {
-        if !is_wanted(parts) {
+        if !lacks_core_worker(parts) {
             if !parts.has_room(0, 0) {
                 return Err(PoolError::BookFull);
             }
@@ -64,13 +62,6 @@ impl<P> Step<P> for Prestart {
             Some(w) => reserve(parts, w),
         }
     }
-}
-
-/// Whether a core worker is missing that the pool wants.
-fn is_wanted<P>(parts: &Parts<P>) -> bool
-    ensures { (s : State) → Shows parts.now s → result ≡ (nat_lt (slot_count s) s.core && wants_worker s) }
-{
-    parts.slots.len() < parts.core as usize && parts.wants_worker()
 }
 
 /// No slot is reserved.

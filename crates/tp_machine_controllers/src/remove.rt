@@ -7,19 +7,17 @@ ghost use Rattle.tp_machine_state.specs.Steps.{Stands, Fits, Accepts, Refuses, L
 use tp_machine_state::parts::Parts;
 use tp_machine_state::step::Step;
 use tp_record::entries::{Ask, Did};
+use tp_rules::controllers::remove;
 use tp_types::ids::TaskId;
 use tp_types::refusals::PoolError;
-use tp_types::tasks::{Fate, Place};
+use tp_types::tasks::Fate;
 
 /// Whether the task is in the queue, before the room is looked at.
 fn is_queued<P>(parts: &Parts<P>, t: TaskId) -> Result<bool, PoolError>
     ensures fits { IfOk result (λ b. Fits parts.now (Ask.Remove t) (Did.Remove t b)) }
     ensures refuses { IfErr result (λ e. Refuses parts.now (Ask.Remove t) e) }
 {
-    match parts.tasks.row(t) {
-        Some(row) => Ok(matches!(row.place, Place::Queued)),
-        None => Err(PoolError::UnknownTask),
-    }
+    remove(parts, t)
 }
 
 /// The task leaves the queue and is gone, with the fate removed unless it was cancelled. Its payload is handed out, if it was

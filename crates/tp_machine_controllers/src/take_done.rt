@@ -1,24 +1,13 @@
 //! A group's next completed task is handed out, as `ExecutorCompletionService.poll`.
 
-ghost use Rattle.std.specs.Prelude.{IfOk, IfErr};
-ghost use Rattle.tp_machine_state.specs.Steps.{Fits, Accepts, Refuses};
+ghost use Rattle.tp_machine_state.specs.Steps.{Accepts};
 
 use tp_machine_state::parts::Parts;
 use tp_machine_state::step::Step;
 use tp_record::entries::{Ask, Did};
+use tp_rules::controllers::take_done;
 use tp_types::ids::TaskId;
 use tp_types::refusals::PoolError;
-
-/// The group's task that was completed first, before the room is looked at.
-fn first<P>(parts: &Parts<P>, g: u32) -> Result<TaskId, PoolError>
-    ensures fits { IfOk result (λ t. Fits parts.now (Ask.TakeDone g) (Did.TakeDone g t)) }
-    ensures refuses { IfErr result (λ e. Refuses parts.now (Ask.TakeDone g) e) }
-{
-    match parts.tasks.first_done(g) {
-        Some(t) => Ok(t),
-        None => Err(PoolError::NotThere),
-    }
-}
 
 /// `ExecutorCompletionService.poll` of this group.
 #[derive(Clone, Copy)]
@@ -51,11 +40,7 @@ impl<P> Step<P> for TakeDone {
 
     // NotThere (8) where none is left, or BookFull (5).
     fn answer(self, parts: &Parts<P>) -> Result<TaskId, PoolError> {
-        let t = first(parts, self.0)?;
-        if !parts.has_room(0, 0) {
-            return Err(PoolError::BookFull);
-        }
-        Ok(t)
+        parts.in_room(take_done(parts, self.0), 0, 0)
     }
 
     fn apply(self, parts: &mut Parts<P>, _task: TaskId) {

@@ -5,6 +5,7 @@ ghost use Rattle.tp_machine_state.specs.Steps.{Accepts};
 use tp_machine_state::parts::Parts;
 use tp_machine_state::step::Step;
 use tp_record::entries::{Ask, Did};
+use tp_rules::controllers::tick;
 use tp_types::refusals::PoolError;
 
 /// The moment, in ticks.
@@ -37,13 +38,7 @@ impl<P> Step<P> for Tick {
 
     // ClockBack (10) where it was later already, else BookFull (5).
     fn answer(self, parts: &Parts<P>) -> Result<(), PoolError> {
-        if self.0 < parts.moment {
-            return Err(PoolError::ClockBack);
-        }
-        if !parts.has_room(0, 0) {
-            return Err(PoolError::BookFull);
-        }
-        Ok(())
+        parts.in_room(tick(parts, self.0), 0, 0)
     }
 
     fn apply(self, parts: &mut Parts<P>, _answer: ()) {

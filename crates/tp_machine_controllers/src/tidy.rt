@@ -5,8 +5,8 @@ ghost use Rattle.tp_machine_state.specs.Steps.{Fits};
 
 use tp_machine_state::parts::Parts;
 use tp_machine_state::step::Step;
-use tp_queue::work::WorkQueue;
 use tp_record::entries::{Ask, Did};
+use tp_rules::controllers::tidy;
 use tp_types::refusals::PoolError;
 use tp_types::states::RunState;
 
@@ -41,15 +41,7 @@ impl<P> Step<P> for Tidy {
 
     // No slot may be left, and nothing queued that could run: at stop nothing can. NotThere (8).
     fn answer(self, parts: &Parts<P>) -> Result<(), PoolError> {
-        if parts.slots.len() > 0 {
-            return Err(PoolError::NotThere);
-        }
-        match parts.state {
-            RunState::Stop => Ok(()),
-            // A queued task would be left to nobody: its second look reserves a slot for it
-            RunState::Shutdown if parts.queue.len() == 0 => Ok(()),
-            _ => Err(PoolError::NotThere),
-        }
+        tidy(parts)
     }
 
     // The pool is tidying: its terminated hook is to run.

@@ -15,6 +15,7 @@ pub mod Purging
 pub mod Falls
 pub mod Drains
 pub mod Reading
+pub mod Rules
 pub mod Rows
 pub mod Forgetting
 pub mod Leaving

@@ -3,9 +3,11 @@ use Rattle.std.specs.Prelude.{ℕ, ◌≡◌, ◌<◌, true, false, List, map, c
 use Rattle.tp_types.specs.RunState.{state_rank}
 use Rattle.tp_types.specs.declared.ids.TaskId.{TaskId}
 use Rattle.tp_types.specs.declared.tasks.Fate.{Fate}
+use Rattle.tp_types.specs.declared.tasks.Place.TheVariants as at
 use Rattle.tp_record.specs.Lists.{is_among}
 use Rattle.tp_record.specs.Fields.{is_live}
-use Rattle.tp_record.specs.State.{State, due, slot_at}
+use Rattle.tp_record.specs.State.{State, due, slot_at, task_at}
+use Rattle.tp_record.specs.Step.{is_known}
 use Rattle.tp_queue.specs.Queues.{waiting_of}
 use Rattle.tp_tasks.specs.Tasks.{row_of, done_of, fated_of, submissions}
 use Rattle.tp_machine_state.specs.declared.parts.Parts.{Parts}
@@ -44,3 +46,12 @@ module _ {P : Type 0} where
     pub taken : count_by is_some s.slots ≡ count_by is_some p.slots.slots
     pub live : count_by is_live s.slots ≡ count_by is_live p.slots.slots
     pub owed : due s ≡ p.due
+
+-- a task that is not known is gone
+abbrev pub AreGone : State → Type 0
+AreGone s = (t : ℕ) → is_known s t ≡ false → (task_at s t).place ≡ at.Gone
+
+-- what the rules of steps read in the structures: a state that they show, of which a task that they do not know is gone
+pub record Reads {P : Type 0} (p : Parts P) (s : State) : Type 0 where
+  pub shows : Shows p s
+  pub gone : AreGone s

@@ -9,7 +9,6 @@
 
 pub mod drain_changes;
 pub mod entries;
-pub mod looks;
 pub mod offer_changes;
 pub mod owing;
 pub mod parts;

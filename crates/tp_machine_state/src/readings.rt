@@ -1,25 +1,92 @@
-//! What several steps read of the structures.
-
-ghost use Rattle.std.specs.Prelude.{◌≡◌};
-ghost use Rattle.tp_record.specs.State.{State};
-ghost use Rattle.tp_record.specs.Step.{wants_worker};
-ghost use Rattle.tp_machine_state.specs.Shows.{Shows};
+//! What the rules of steps read of the structures.
 
 use crate::parts::Parts;
 use tp_queue::work::WorkQueue;
-use tp_types::states::RunState;
+use tp_record::rows::{SlotRow, TaskRow};
+use tp_rules::readings::Readings;
+use tp_types::ids::{SlotId, TaskId};
 
-impl<P> Parts<P> {
-    /// Whether the pool wants a worker for the work that is left: while it runs, and while it is shut down with tasks in its
-    /// queue, as `addWorker` and `processWorkerExit` have it.
+impl<P> Readings for Parts<P> {
+    ghost use Rattle.tp_machine_state.specs.Shows.{Reads};
+
+    ghost shows = { λ p s. Reads p s };
+
     #[inline(always)]
-    pub fn wants_worker(&self) -> bool
-        ensures { (s : State) → Shows self.now s → result ≡ wants_worker s }
-    {
-        match self.state {
-            RunState::Running => true,
-            RunState::Shutdown => self.queue.len() > 0,
-            _ => false,
+    fn rank(&self) -> u8 {
+        self.state.rank()
+    }
+
+    #[inline(always)]
+    fn core(&self) -> u32 {
+        self.core
+    }
+
+    #[inline(always)]
+    fn maximum(&self) -> u32 {
+        self.maximum
+    }
+
+    #[inline(always)]
+    fn keep(&self) -> u64 {
+        self.keep
+    }
+
+    #[inline(always)]
+    fn core_timeout(&self) -> bool {
+        self.core_timeout
+    }
+
+    #[inline(always)]
+    fn moment(&self) -> u64 {
+        self.moment
+    }
+
+    #[inline(always)]
+    fn submitted(&self) -> usize {
+        self.tasks.submitted() as usize
+    }
+
+    #[inline(always)]
+    fn task(&self, t: TaskId) -> Option<TaskRow> {
+        self.tasks.row(t)
+    }
+
+    #[inline(always)]
+    fn slot(&self, w: SlotId) -> Option<SlotRow> {
+        self.slots.get(w)
+    }
+
+    #[inline(always)]
+    fn slot_count(&self) -> usize {
+        self.slots.len()
+    }
+
+    #[inline(always)]
+    fn queued(&self) -> usize {
+        self.queue.len()
+    }
+
+    #[inline(always)]
+    fn head(&self) -> Option<u32> {
+        match self.queue.head() {
+            Some(t) => Some(t.0),
+            None => None,
+        }
+    }
+
+    #[inline(always)]
+    fn longest_idle(&self) -> Option<usize> {
+        match self.slots.longest_idle() {
+            Some(w) => Some(w.0),
+            None => None,
+        }
+    }
+
+    #[inline(always)]
+    fn first_done(&self, group: u32) -> Option<u32> {
+        match self.tasks.first_done(group) {
+            Some(t) => Some(t.0),
+            None => None,
         }
     }
 }

@@ -1,4 +1,3 @@
-pub mod Seconds
 pub mod Offering
 pub mod Payloads
 pub mod Submitting

@@ -1,5 +1,5 @@
 -- What a verdict answers.
-use Rattle.std.proofs.Common.{◌≡◌, ℕ, ◌<◌, Bool, true, false, cond, List, [], ◌∷◌, length, Some, Ok, Err, refl, arith, sym, ap, subst, ◌∙◌}
+use Rattle.std.proofs.Common.{◌≡◌, ℕ, ◌<◌, Bool, true, false, cond, List, [], ◌∷◌, length, Ok, Err, refl, arith, sym, ap, subst, ◌∙◌}
 use Rattle.std.specs.Prelude.{◌||◌, ◌&&◌, not, nat_lt, nat_le, if◌then◌else◌}
 use Rattle.std.proofs.lemmas.Bool.{and_parts, ltb-true}
 use Rattle.std.proofs.lemmas.Bool.Decides.{nat_tests}
@@ -19,23 +19,22 @@ use Rattle.tp_record.specs.declared.rows.TaskRow.{TaskRow}
 use Rattle.tp_record.specs.Lists.{is_among}
 use Rattle.tp_record.specs.Effects.{is_retry}
 use Rattle.tp_record.specs.Fields.{rank, submitted, retries, queue}
-use Rattle.tp_record.specs.State.{State, state}
-use Rattle.tp_record.specs.Step.{Legal, leaves_room, within_room, retry_of, retried, rule, allows, is_refused_place, verdict_answer}
+use Rattle.tp_record.specs.State.{State, state, task_at}
+use Rattle.tp_record.specs.Step.{Answer, Legal, is_known, of_task, leaves_room, within_room, retry_of, retried, rule, allows, is_refused_place, verdict_answer}
 use Rattle.tp_laws.proofs.Model.Given.{IsAt}
 use Rattle.tp_laws.proofs.Model.Readings.{row_read, tasks_counted}
 use Rattle.tp_laws.proofs.Model.Inversion.{head_at}
 use Rattle.tp_laws.proofs.Model.Told.{sound_legal}
-use Rattle.tp_tasks.specs.Tasks.{row_of}
 use Rattle.tp_laws.specs.View.{View, Effect}
 use Rattle.tp_laws.proofs.Effects.Submitters.Verdict.{verdict_retry, verdict_retry_drop}
 use Rattle.tp_machine_state.specs.declared.parts.Parts.{Parts}
 use Rattle.tp_machine_state.specs.Room.{TellsRoom}
-use Rattle.tp_machine_state.specs.Shows.{Shows}
+use Rattle.tp_machine_state.specs.Shows.{Shows, Reads}
 use Rattle.tp_machine_state.specs.Steps.{Stands, Fits, Accepts}
 use Rattle.tp_machine_state.specs.Terms.{terms}
 use Rattle.tp_machine_state.proofs.Standing.{accepts_owed}
 use Rattle.tp_machine_state.proofs.Answering.{marked_effect}
-use Rattle.tp_machine_state.proofs.Reading.{row_shown, task_answers}
+use Rattle.tp_machine_state.proofs.Reading.{reads_marked}
 use Rattle.tp_machine_submitters.specs.Owed.{retry_rise}
 
 -- what is owed rises with a retry
@@ -45,7 +44,8 @@ retry_moves c h t v legal there runs few [] is = (_, verdict_retry c h t v legal
 retry_moves c h t v legal there runs few (u ∷ us) is =
     (_, verdict_retry_drop c h t (record { 0 = u }) v legal (there, (runs, few, (us, is), head_at c h (sound_legal c h legal) u us is)))
 
-module _ {P : Type 0} (p : Parts P) (h : List Entry) (rs : List ℕ) (sh : Shows p (mark rs (state (terms p) h))) (t : TaskId) (row : TaskRow) (there : row_of p.tasks t.0 ≡ Some row) where
+module _ {P : Type 0} (p : Parts P) (h : List Entry) (rs : List ℕ) (sh : Shows p (mark rs (state (terms p) h))) (t : TaskId) (row : TaskRow)
+    (shown : (is_known (mark rs (state (terms p) h)) t.0 ≡ true) × (task_at (mark rs (state (terms p) h)) t.0 ≡ row)) where
   -- a retry by its tests: b tells whether there is room for it
   pub retried_by : Legal (terms p) h → row.place ≡ at.Refused → rank h ≡ 0 → row.retries < 64 → (b : Bool) → TellsRoom p 0 (retry_rise (retry_of (queue (terms p) h))) b →
       (if b then retry_of (queue (terms p) h) else ruled.Discarded) ≡ retried (terms p) (mark rs (state (terms p) h)) t row
@@ -53,7 +53,6 @@ module _ {P : Type 0} (p : Parts P) (h : List Entry) (rs : List ℕ) (sh : Shows
       let s = mark rs (state (terms p) h) in
       let d = did.Verdict t verdict.DiscardOldest (retry_of (queue (terms p) h)) in
       let counted = tasks_counted h in
-      let shown = row_shown p s sh t.0 row there in
       let known : t.0 < submitted h = let k = ltb-true t.0 (length s.tasks) (and_parts (not (is_among t.0 rs)) (nat_lt t.0 (length s.tasks)) shown.0).1 in omega (arith, counted, k) in
       let read = sym (row_read h t.0 known) ∙ shown.1 in
       let tried = ap (λ r. r.retries) read in
@@ -82,18 +81,23 @@ rule_leaves c s t r verdict.DiscardOldest is = by (nat_lt 0 s.rank || nat_le 64 
     by false true room is = room
     by false false room is = absurd (let n : ⊥ = cc in n)
 
+-- what a step answers of a task that is known and has this row
+known_answers : (s : State) (t : TaskId) (r : TaskRow) (answer : TaskRow → Answer) → (is_known s t.0 ≡ true) × (task_at s t.0 ≡ r) → of_task s t answer ≡ answer r
+known_answers s t r answer shown = rw (shown.0, shown.1) refl
+
 -- an allowed verdict on a refused task is accepted, with the room that a retry needs
-pub accepts_verdict : {P : Type 0} (p : Parts P) → Stands p → (t : TaskId) (row : TaskRow) (v : Verdict) (r : Ruled) → row_of p.tasks t.0 ≡ Some row → row.place ≡ at.Refused → allows p.config.policy v ≡ true →
-    ((h : List Entry) (rs : List ℕ) → Legal (terms p) h → Shows p (mark rs (state (terms p) h)) → r ≡ rule (terms p) (mark rs (state (terms p) h)) t row v) → Accepts p (ask.Verdict t v) (did.Verdict t v r)
+pub accepts_verdict : {P : Type 0} (p : Parts P) → Stands p → (t : TaskId) (row : TaskRow) (v : Verdict) (r : Ruled) → ((s : State) → Reads p s → (is_known s t.0 ≡ true) × (task_at s t.0 ≡ row)) → row.place ≡ at.Refused → allows p.config.policy v ≡ true →
+    ((h : List Entry) (rs : List ℕ) → Legal (terms p) h → Reads p (mark rs (state (terms p) h)) → r ≡ rule (terms p) (mark rs (state (terms p) h)) t row v) → Accepts p (ask.Verdict t v) (did.Verdict t v r)
 accepts_verdict p stands t row v r there refused allowed ruled_so = by (is_retry r) refl
   where
     fits : Fits p (ask.Verdict t v) (did.Verdict t v r)
     fits h rs legal may sh =
-        let s = mark rs (state (terms p) h) in (
-          task_answers p s sh t row (verdict_answer (terms p) s t v) there
+        let s = mark rs (state (terms p) h) in
+        let reads = reads_marked p h rs may sh in (
+          known_answers s t row (verdict_answer (terms p) s t v) (there s reads)
               ∙ ap (λ b. cond (b && allows p.config.policy v) (Ok (did.Verdict t v (rule (terms p) s t row v))) (Err NotThere)) (ap is_refused_place refused)
               ∙ ap (λ b. cond b (Ok (did.Verdict t v (rule (terms p) s t row v))) (Err NotThere)) allowed
-              ∙ ap (λ x. Ok (did.Verdict t v x)) (sym (ruled_so h rs legal sh)),
+              ∙ ap (λ x. Ok (did.Verdict t v x)) (sym (ruled_so h rs legal reads)),
           tt,
         )
 
@@ -101,6 +105,6 @@ accepts_verdict p stands t row v r there refused allowed ruled_so = by (is_retry
     by false is = accepts_owed p stands (ask.Verdict t v) (did.Verdict t v r) (λ n. ap not is) fits
     by true is = λ h rs legal may sh.
         let s = mark rs (state (terms p) h) in
-        let e = ruled_so h rs legal sh in
+        let e = ruled_so h rs legal (reads_marked p h rs may sh) in
         let leaves = subst (λ x. leaves_room (terms p) s (did.Verdict t v x) ≡ true) (sym e) (rule_leaves (terms p) s t row v (ap is_retry (sym e) ∙ is)) in
         (ap (within_room (terms p) s) (fits h rs legal may sh).0 ∙ ap (λ b. cond b (Ok (did.Verdict t v r)) (Err BookFull)) leaves, tt)

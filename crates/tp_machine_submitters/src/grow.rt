@@ -8,9 +8,9 @@ use tp_machine_state::parts::Parts;
 use tp_machine_state::step::Step;
 use tp_record::entries::{Ask, Did, Grown};
 use tp_record::rows::Stage;
+use tp_rules::submitters::grow;
 use tp_types::ids::{SlotId, TaskId};
 use tp_types::refusals::PoolError;
-use tp_types::states::RunState;
 use tp_types::tasks::Place;
 
 /// The submitter asks for a slot up to the maximum.
@@ -45,18 +45,7 @@ impl<P> Step<P> for Grow {
 
     // UnknownTask (6) where there is no such task, NotThere (8) where it is not to grow the pool.
     fn answer(self, parts: &Parts<P>) -> Result<Grown, PoolError> {
-        let Some(row) = parts.tasks.row(self.0) else {
-            return Err(PoolError::UnknownTask);
-        };
-        let Place::ToGrow = row.place else {
-            return Err(PoolError::NotThere);
-        };
-        // Reserved and live slots count together, so that no two submitters fill the same gap.
-        if parts.state == RunState::Running && parts.slots.len() < parts.maximum as usize {
-            Ok(Grown::Reserve(parts.slots.next_number()))
-        } else {
-            Ok(Grown::Refuse)
-        }
+        grow(parts, parts.slots.next_number(), self.0)
     }
 
     fn apply(self, parts: &mut Parts<P>, grown: Grown) {

@@ -8,6 +8,7 @@ use tp_machine_state::parts::Parts;
 use tp_machine_state::step::Step;
 use tp_record::entries::{Ask, Did, Looked};
 use tp_record::rows::Stage;
+use tp_rules::submitters::look_again;
 use tp_types::ids::{SlotId, TaskId};
 use tp_types::refusals::PoolError;
 use tp_types::tasks::Place;
@@ -44,13 +45,7 @@ impl<P> Step<P> for Look {
 
     // UnknownTask (6) or NotThere (8).
     fn answer(self, parts: &Parts<P>) -> Result<Looked, PoolError> {
-        let Some(row) = parts.tasks.row(self.0) else {
-            return Err(PoolError::UnknownTask);
-        };
-        let Place::Looking = row.place else {
-            return Err(PoolError::NotThere);
-        };
-        Ok(parts.look())
+        look_again(parts, parts.slots.next_number(), self.0)
     }
 
     // The task is held by the next slot, or its submitter is to offer it, or it awaits a verdict.

@@ -6,9 +6,8 @@ ghost use Rattle.tp_machine_state.specs.Steps.{Stands, Fits, Leads};
 
 use tp_machine_state::parts::Parts;
 use tp_machine_state::step::Step;
-use tp_queue::work::WorkQueue;
 use tp_record::entries::{Ask, Did, Offered};
-use tp_types::configs::QueueKind;
+use tp_rules::submitters::offer;
 use tp_types::ids::{SlotId, TaskId};
 use tp_types::refusals::PoolError;
 use tp_types::tasks::Place;
@@ -48,21 +47,7 @@ impl<P> Step<P> for Offer {
     // UnknownTask (6) or NotThere (8).
     #[inline(always)]
     fn answer(self, parts: &Parts<P>) -> Result<Offered, PoolError> {
-        let Some(row) = parts.tasks.row(self.0) else {
-            return Err(PoolError::UnknownTask);
-        };
-        let Place::ToOffer = row.place else {
-            return Err(PoolError::NotThere);
-        };
-        // The run state is not looked at: a shutdown may come right after any test of it, so it is the second look that does.
-        Ok(match parts.config.queue {
-            QueueKind::Handoff => match parts.slots.longest_idle() {
-                Some(w) => Offered::Hand(w),
-                None => Offered::Full,
-            },
-            QueueKind::Bounded(capacity) if parts.queue.len() >= capacity as usize => Offered::Full,
-            QueueKind::Bounded(_) | QueueKind::Unbounded | QueueKind::Priority => Offered::Queued,
-        })
+        offer(parts, parts.config.queue, self.0)
     }
 
     #[inline(always)]

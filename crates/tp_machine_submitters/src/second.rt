@@ -1,21 +1,16 @@
 //! The submitter looks a second time, after its offer was taken, as the recheck in `execute`.
 
-ghost use Rattle.std.specs.Prelude.{◌≡◌, ◌==◌, ◌&&◌, nat_lt, refl};
-ghost use Rattle.tp_record.specs.Fields.{is_queued_place};
-ghost use Rattle.tp_record.specs.State.{State};
-ghost use Rattle.tp_record.specs.Step.{slot_count, wants_worker};
+ghost use Rattle.std.specs.Prelude.{◌≡◌, refl};
 ghost use Rattle.tp_machine_state.specs.Payloads.{Keeps};
-ghost use Rattle.tp_machine_state.specs.Shows.{Shows};
 ghost use Rattle.tp_machine_state.specs.Steps.{Stands, Fits, Leads};
 
 use tp_machine_state::parts::Parts;
 use tp_machine_state::step::Step;
 use tp_record::entries::{Ask, Did, Seconded};
-use tp_record::rows::{Stage, TaskRow};
+use tp_record::rows::Stage;
+use tp_rules::submitters::second;
 use tp_types::ids::{SlotId, TaskId};
 use tp_types::refusals::PoolError;
-use tp_types::states::RunState;
-use tp_types::tasks::Place;
 
 /// The second look after an offer.
 #[derive(Clone, Copy)]
@@ -52,19 +47,7 @@ impl<P> Step<P> for Second {
     // UnknownTask (6) or NotThere (8).
     #[inline(always)]
     fn answer(self, parts: &Parts<P>) -> Result<Seconded, PoolError> {
-        let Some(row) = parts.tasks.row(self.0) else {
-            return Err(PoolError::UnknownTask);
-        };
-        if !row.second {
-            return Err(PoolError::NotThere);
-        }
-        if comes_back(parts, row) {
-            Ok(Seconded::Back)
-        } else if is_deserted(parts) {
-            Ok(Seconded::StayReserve(parts.slots.next_number()))
-        } else {
-            Ok(Seconded::Stay)
-        }
+        second(parts, parts.slots.next_number(), self.0)
     }
 
     // The task stays, or stays with the next slot to serve it, or is out of the queue and awaits a verdict.
@@ -76,25 +59,6 @@ impl<P> Step<P> for Second {
             Seconded::Back => take_back(parts, self.0),
         }
     }
-}
-
-/// Whether a task with this row is still queued after a shutdown.
-#[inline(always)]
-fn comes_back<P>(parts: &Parts<P>, row: TaskRow) -> bool
-    ensures { (s : State) → Shows parts.now s → result ≡ (nat_lt 0 s.rank && is_queued_place row.place) }
-{
-    // The shutdown may have come after the look and before the offer, which does not see it: such a task is refused after
-    // all, unless a worker took it meanwhile.
-    parts.state != RunState::Running && row.place == Place::Queued
-}
-
-/// Whether there is no slot, and the pool wants a worker.
-#[inline(always)]
-fn is_deserted<P>(parts: &Parts<P>) -> bool
-    ensures { (s : State) → Shows parts.now s → result ≡ (slot_count s == 0 && wants_worker s) }
-{
-    // The last worker may have left after the look and before the offer: then nobody would ever take the task.
-    parts.slots.len() == 0 && parts.wants_worker()
 }
 
 /// The task stays where it is.

@@ -15,6 +15,7 @@ ghost use Rattle.tp_machine_submitters.specs.Owed.{rise_of};
 use tp_machine_state::parts::Parts;
 use tp_record::entries::{Ask, Did, Looked};
 use tp_record::rows::Stage;
+use tp_rules::submitters::look;
 use tp_types::ids::{SlotId, TaskId};
 use tp_types::refusals::PoolError;
 use tp_types::tasks::{Kind, Place, Promise};
@@ -31,7 +32,7 @@ pub fn answer<P>(parts: &Parts<P>, kind: Kind, priority: u32) -> Result<Looked, 
     if parts.tasks.submitted() == u32::MAX {
         return Err(PoolError::BookFull);
     }
-    let looked = parts.look();
+    let looked = look(parts, parts.slots.next_number());
     if parts.has_room(0, rise(looked)) {
         Ok(looked)
     } else {

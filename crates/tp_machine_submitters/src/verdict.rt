@@ -3,25 +3,23 @@
 ghost use Rattle.std.specs.Prelude.{ℕ, ◌≡◌, ◌≤◌, true, is_some, List, Some, None};
 ghost use Rattle.tp_record.specs.declared.entries.Entry.{Entry};
 ghost use Rattle.tp_record.specs.Left.{mark};
-ghost use Rattle.tp_record.specs.State.{State, state};
-ghost use Rattle.tp_record.specs.Step.{Legal, allows, rule, retried, retry_of};
-ghost use Rattle.tp_tasks.specs.Tasks.{row_of};
+ghost use Rattle.tp_record.specs.State.{State, state, task_at};
+ghost use Rattle.tp_record.specs.Step.{Legal, is_known, rule};
 ghost use Rattle.tp_machine_state.specs.Payloads.{Keeps, HandsOut};
-ghost use Rattle.tp_machine_state.specs.Shows.{Shows};
+ghost use Rattle.tp_machine_state.specs.Shows.{Reads};
 ghost use Rattle.tp_machine_state.specs.Steps.{Stands, Accepts, Leads};
 ghost use Rattle.tp_machine_state.specs.Terms.{terms};
 ghost use Rattle.tp_machine_submitters.specs.Owed.{retry_rise};
 
 use tp_machine_state::parts::Parts;
 use tp_machine_state::step::Step;
-use tp_queue::work::WorkQueue;
 use tp_record::entries::{Ask, Did, Ruled};
 use tp_record::rows::TaskRow;
-use tp_types::configs::{Policy, Verdict};
+use tp_rules::readings::Readings;
+use tp_rules::submitters::{refused, retry_of, rule};
+use tp_types::configs::Verdict;
 use tp_types::ids::TaskId;
-use tp_types::limits::MAX_RETRIES;
 use tp_types::refusals::PoolError;
-use tp_types::states::RunState;
 use tp_types::tasks::{Fate, Place};
 
 /// The policy or a handler says what becomes of a refused task.
@@ -62,16 +60,9 @@ impl<P> Step<P> for Judge {
     // UnknownTask (6) where there is no such task, NotThere (8) where it awaits no verdict or the policy does not allow this
     // one.
     fn answer(self, parts: &Parts<P>) -> Result<Ruled, PoolError> {
-        let Some(row) = parts.tasks.row(self.0) else {
-            return Err(PoolError::UnknownTask);
-        };
-        let Place::Refused = row.place else {
-            return Err(PoolError::NotThere);
-        };
-        if allows(parts.config.policy, self.1) {
-            Ok(rule(parts, self.0, row, self.1))
-        } else {
-            Err(PoolError::NotThere)
+        match refused(parts, parts.config.policy, self.0, self.1) {
+            Ok(row) => Ok(ruled(parts, self.0, row, self.1)),
+            Err(e) => Err(e),
         }
     }
 
@@ -93,68 +84,25 @@ impl<P> Step<P> for Judge {
     }
 }
 
-/// Whether a policy lets this verdict be said: the pool's own, or any where a handler answers.
-fn allows(policy: Policy, verdict: Verdict) -> bool
-    ensures { result ≡ allows policy verdict }
-{
-    match policy {
-        Policy::Own => true,
-        Policy::Abort => verdict == Verdict::Abort,
-        Policy::CallerRuns => verdict == Verdict::CallerRuns,
-        Policy::Discard => verdict == Verdict::Discard,
-        Policy::DiscardOldest => verdict == Verdict::DiscardOldest,
-    }
-}
-
-/// What an allowed verdict makes of a refused task with this row. Once the pool is shut down, only rejected and discarded
-/// are left.
-fn rule<P>(parts: &Parts<P>, t: TaskId, row: TaskRow, verdict: Verdict) -> Ruled
+/// What an allowed verdict makes of a refused task with this row. A retry owes anew all that may follow a look, so its room is
+/// tested here. Where there is none the task is discarded: a refusal would leave its submitter with nothing to do.
+fn ruled<P>(parts: &Parts<P>, t: TaskId, row: TaskRow, verdict: Verdict) -> Ruled
     requires stands { Stands parts.now }
-    requires known { row_of parts.now.tasks t.0 ≡ Some row }
+    requires known { (s : State) → Reads parts.now s → (is_known s t.0 ≡ true) × (task_at s t.0 ≡ row) }
     requires refused { row.place ≡ Place.Refused }
-    ensures { (h : List Entry) (rs : List ℕ) → Legal (terms parts.now) h → Shows parts.now (mark rs (state (terms parts.now) h)) →
+    ensures { (h : List Entry) (rs : List ℕ) → Legal (terms parts.now) h → Reads parts.now (mark rs (state (terms parts.now) h)) →
         result ≡ rule (terms parts.now) (mark rs (state (terms parts.now) h)) t row verdict }
 {
-    match verdict {
-        Verdict::Abort => Ruled::Rejected,
-        Verdict::Discard => Ruled::Discarded,
-        Verdict::DiscardOldest => retried(parts, t, row),
-        Verdict::CallerRuns if parts.state != RunState::Running => Ruled::Discarded,
-        Verdict::CallerRuns if row.cancelled => Ruled::Skip,
-        Verdict::CallerRuns => Ruled::Caller,
-    }
-}
-
-/// A retry, where the pool runs and the task has retries left. It owes anew all that may follow a look, so its room is
-/// tested here. Where there is none the task is discarded: a refusal would leave its submitter with nothing to do.
-fn retried<P>(parts: &Parts<P>, t: TaskId, row: TaskRow) -> Ruled
-    requires stands { Stands parts.now }
-    requires known { row_of parts.now.tasks t.0 ≡ Some row }
-    requires refused { row.place ≡ Place.Refused }
-    ensures { (h : List Entry) (rs : List ℕ) → Legal (terms parts.now) h → Shows parts.now (mark rs (state (terms parts.now) h)) →
-        result ≡ retried (terms parts.now) (mark rs (state (terms parts.now) h)) t row }
-{
-    let RunState::Running = parts.state else {
-        return Ruled::Discarded;
-    };
-    if row.retries >= MAX_RETRIES {
-        return Ruled::Discarded;
-    }
-    let ruled = retry_of(parts);
-    if parts.has_room(0, rise(ruled)) {
-        ruled
-    } else {
-        Ruled::Discarded
-    }
-}
-
-/// The retry that there is: it drops the queue's head, where there is one.
-fn retry_of<P>(parts: &Parts<P>) -> Ruled
-    ensures { (s : State) → Shows parts.now s → result ≡ retry_of s.queue }
-{
-    match parts.queue.head() {
-        None => Ruled::Retry,
-        Some(head) => Ruled::RetryDrop(head),
+    match rule(parts, row, verdict) {
+        Some(ruled) => ruled,
+        None => {
+            let retry = retry_of(parts.head());
+            if parts.has_room(0, rise(retry)) {
+                retry
+            } else {
+                Ruled::Discarded
+            }
+        }
     }
 }
 

@@ -3,4 +3,3 @@ pub mod Reserved
 pub mod Falls
 pub mod Waiting
 pub mod GivenBack
-pub mod Gone

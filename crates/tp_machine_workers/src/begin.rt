@@ -9,6 +9,7 @@ use tp_machine_state::parts::Parts;
 use tp_machine_state::step::Step;
 use tp_record::entries::{Ask, Did, Started};
 use tp_record::rows::{SlotRow, Stage};
+use tp_rules::workers::begin;
 use tp_types::ids::{SlotId, TaskId};
 use tp_types::refusals::PoolError;
 use tp_types::tasks::Place;
@@ -52,27 +53,7 @@ impl<P> Step<P> for Begin {
     // UnknownSlot (7) where there is no such slot, NotThere (8) where its worker has taken no task.
     #[inline(always)]
     fn answer(self, parts: &Parts<P>) -> Result<Started, PoolError> {
-        let Some(slot) = parts.slots.get(self.0) else {
-            return Err(PoolError::UnknownSlot);
-        };
-        let Stage::Working = slot.stage else {
-            return Err(PoolError::NotThere);
-        };
-        let Some(t) = slot.task else {
-            return Err(PoolError::NotThere);
-        };
-        let Some(row) = parts.tasks.row(t) else {
-            return Err(PoolError::NotThere);
-        };
-        let Place::Taken(_) = row.place else {
-            return Err(PoolError::NotThere);
-        };
-        // A cancel may have come since the task was taken. One that comes after this can no longer keep the body from running.
-        if row.cancelled {
-            Ok(Started::Skip(t))
-        } else {
-            Ok(Started::Run(t))
-        }
+        begin(parts, self.0)
     }
 
     #[inline(always)]

@@ -15,6 +15,7 @@ use tp_machine_state::parts::Parts;
 use tp_machine_state::step::Step;
 use tp_record::entries::{Ask, Did};
 use tp_record::rows::{SlotRow, Stage};
+use tp_rules::workers::end;
 use tp_types::ids::{SlotId, TaskId};
 use tp_types::refusals::PoolError;
 use tp_types::tasks::{Fate, Kind, Outcome, Place};
@@ -78,22 +79,7 @@ fn running_in<P>(parts: &Parts<P>, w: SlotId) -> Result<TaskId, PoolError>
     ensures fits { (o : Outcome) → IfOk result (λ t. Fits parts.now (Ask.End w o) (Did.End w t o)) }
     ensures refuses { (o : Outcome) → IfErr result (λ e. Refuses parts.now (Ask.End w o) e) }
 {
-    let Some(slot) = parts.slots.get(w) else {
-        return Err(PoolError::UnknownSlot);
-    };
-    let Stage::Working = slot.stage else {
-        return Err(PoolError::NotThere);
-    };
-    let Some(t) = slot.task else {
-        return Err(PoolError::NotThere);
-    };
-    let Some(row) = parts.tasks.row(t) else {
-        return Err(PoolError::NotThere);
-    };
-    match row.place {
-        Place::Running(_) => Ok(t),
-        _ => Err(PoolError::NotThere),
-    }
+    end(parts, w)
 }
 
 /// Whether the outcome is as the task promised that runs in this slot, where one does. The `end` of a task that is only held or

@@ -8,10 +8,9 @@ use crate::freed::{give_back, turn_away};
 use tp_machine_state::parts::Parts;
 use tp_machine_state::step::Step;
 use tp_record::entries::{Ask, Did, Failed};
-use tp_record::rows::Stage;
+use tp_rules::workers::fail;
 use tp_types::ids::{SlotId, TaskId};
 use tp_types::refusals::PoolError;
-use tp_types::states::RunState;
 use tp_types::tasks::Place;
 
 /// No worker was made for a reserved slot.
@@ -47,19 +46,7 @@ impl<P> Step<P> for Fail {
 
     // UnknownSlot (7) or NotThere (8).
     fn answer(self, parts: &Parts<P>) -> Result<Failed, PoolError> {
-        let Some(slot) = parts.slots.get(self.0) else {
-            return Err(PoolError::UnknownSlot);
-        };
-        if !slot.stage.is_reserved() {
-            return Err(PoolError::NotThere);
-        }
-        let Some(t) = slot.task else {
-            return Ok(Failed::Nothing);
-        };
-        match slot.stage {
-            Stage::ReservedCore if parts.state == RunState::Running => Ok(Failed::Offer(t)),
-            _ => Ok(Failed::Refuse(t)),
-        }
+        fail(parts, self.0)
     }
 
     // The slot is freed, and its first task is to be offered, or refused.

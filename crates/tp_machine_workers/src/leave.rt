@@ -8,6 +8,7 @@ use tp_machine_state::parts::Parts;
 use tp_machine_state::step::Step;
 use tp_record::entries::{Ask, Did};
 use tp_record::rows::Stage;
+use tp_rules::workers::leave;
 use tp_types::ids::SlotId;
 use tp_types::refusals::PoolError;
 
@@ -44,19 +45,7 @@ impl<P> Step<P> for Leave {
 
     // UnknownSlot (7) or NotThere (8).
     fn answer(self, parts: &Parts<P>) -> Result<Option<SlotId>, PoolError> {
-        let Some(slot) = parts.slots.get(self.0) else {
-            return Err(PoolError::UnknownSlot);
-        };
-        let Stage::Dying = slot.stage else {
-            return Err(PoolError::NotThere);
-        };
-        // The place is taken in the same step as it is left: else tasks that wait in the queue could be without a worker.
-        let others = parts.slots.len().saturating_sub(1);
-        if parts.wants_worker() && others < parts.maximum as usize {
-            Ok(Some(self.0))
-        } else {
-            Ok(None)
-        }
+        leave(parts, self.0, self.0)
     }
 
     // The slot is freed, and reserved again where a worker is to come in its place.

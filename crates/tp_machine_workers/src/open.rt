@@ -11,10 +11,9 @@ use tp_machine_state::parts::Parts;
 use tp_machine_state::step::Step;
 use tp_record::entries::{Ask, Did, Opened};
 use tp_record::rows::Stage;
+use tp_rules::workers::open;
 use tp_types::ids::{SlotId, TaskId};
 use tp_types::refusals::PoolError;
-use tp_types::states::RunState;
-use tp_types::tasks::Place;
 
 /// A worker was made for a reserved slot.
 #[derive(Clone, Copy)]
@@ -49,23 +48,7 @@ impl<P> Step<P> for Open {
 
     // UnknownSlot (7) or NotThere (8).
     fn answer(self, parts: &Parts<P>) -> Result<Opened, PoolError> {
-        let Some(slot) = parts.slots.get(self.0) else {
-            return Err(PoolError::UnknownSlot);
-        };
-        if !slot.stage.is_reserved() {
-            return Err(PoolError::NotThere);
-        }
-        // A bare slot is live at a shutdown too: it may be the only one, reserved for tasks that wait in the queue.
-        let is_live = match parts.state {
-            RunState::Running => true,
-            RunState::Shutdown => slot.task.is_none(),
-            _ => false,
-        };
-        match slot.task {
-            _ if is_live => Ok(Opened::Live),
-            Some(t) => Ok(Opened::GivenUpRefuse(t)),
-            None => Ok(Opened::GivenUp),
-        }
+        open(parts, self.0)
     }
 
     // The slot is live, or freed and its first task refused.

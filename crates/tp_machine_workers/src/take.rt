@@ -1,21 +1,19 @@
 //! A worker asks for its next task, as `getTask`.
 
-ghost use Rattle.std.specs.Prelude.{ℕ, ◌≡◌, ◌==◌, ◌&&◌, ◌||◌, not, true, false, nat_le, nat_lt, length, refl};
-ghost use Rattle.std.specs.Result.{result_map_both};
+ghost use Rattle.std.specs.Prelude.{◌≡◌, ◌==◌, ◌&&◌, not, true, false, nat_le, refl};
 ghost use Rattle.tp_record.specs.Fields.{is_idle_row};
-ghost use Rattle.tp_record.specs.State.{State, task_at, slot_at};
-ghost use Rattle.tp_record.specs.Step.{held_answer, take_next, slot_count};
+ghost use Rattle.tp_record.specs.State.{State, slot_at};
+ghost use Rattle.tp_record.specs.Step.{slot_count};
 ghost use Rattle.tp_machine_state.specs.Payloads.{Keeps};
 ghost use Rattle.tp_machine_state.specs.Shows.{Shows};
 ghost use Rattle.tp_machine_state.specs.Steps.{Stands, Fits, Leads};
-ghost use Rattle.tp_machine_workers.specs.Taken.{AreGone};
 
 use crate::owed::owed_at_take;
 use tp_machine_state::parts::Parts;
 use tp_machine_state::step::Step;
-use tp_queue::work::WorkQueue;
 use tp_record::entries::{Ask, Did, Took};
 use tp_record::rows::{SlotRow, Stage};
+use tp_rules::workers::take;
 use tp_types::ids::{SlotId, TaskId};
 use tp_types::refusals::PoolError;
 use tp_types::states::RunState;
@@ -58,14 +56,7 @@ impl<P> Step<P> for Take {
     // took, and where an idle worker stays idle.
     #[inline(always)]
     fn answer(self, parts: &Parts<P>) -> Result<Took, PoolError> {
-        let Some(slot) = parts.slots.get(self.0) else {
-            return Err(PoolError::UnknownSlot);
-        };
-        match (slot.stage, slot.task) {
-            (Stage::Working, Some(t)) => first_task(parts, t),
-            (Stage::Working | Stage::Idle(_), None) => next_task(parts, slot.stage),
-            _ => Err(PoolError::NotThere),
-        }
+        take(parts, self.0)
     }
 
     #[inline(always)]
@@ -79,68 +70,6 @@ impl<P> Step<P> for Take {
             Took::Idle => rest(parts, self.0),
         }
     }
-}
-
-/// What a worker takes whose slot holds this task.
-#[inline(always)]
-fn first_task<P>(parts: &Parts<P>, t: TaskId) -> Result<Took, PoolError>
-    ensures { (s : State) (w : SlotId) → Shows parts.now s → AreGone s →
-        held_answer w t (task_at s t.0).place ≡ result_map_both (λ k. Did.Take w k) (λ e. e) result }
-{
-    let Some(row) = parts.tasks.row(t) else {
-        return Err(PoolError::NotThere);
-    };
-    match row.place {
-        Place::Held(_) => Ok(Took::Held(t)),
-        _ => Err(PoolError::NotThere),
-    }
-}
-
-/// What a worker takes whose slot holds no task.
-#[inline(always)]
-fn next_task<P>(parts: &Parts<P>, stage: Stage) -> Result<Took, PoolError>
-    ensures { (s : State) (w : SlotId) → Shows parts.now s →
-        take_next s w stage ≡ result_map_both (λ k. Did.Take w k) (λ e. e) result }
-{
-    if retires(parts) {
-        return Ok(Took::Leave);
-    }
-    // The queue comes before the timeout: a worker that timed out may be the last one, and would leave a queued task to nobody.
-    if let Some(t) = parts.queue.head() {
-        return Ok(Took::Head(t));
-    }
-    if parts.slots.timed_out(
-        stage,
-        parts.core,
-        parts.keep,
-        parts.core_timeout,
-        parts.moment,
-    ) {
-        Ok(Took::Leave)
-    } else if stage.is_idle() {
-        Err(PoolError::NotThere)
-    } else {
-        Ok(Took::Idle)
-    }
-}
-
-/// Whether a worker without a task leaves whatever time it has waited: where its pool is stopped, or shut down with nothing
-/// queued, and where there are more slots than the maximum.
-#[inline(always)]
-fn retires<P>(parts: &Parts<P>) -> bool
-    ensures { (s : State) → Shows parts.now s → result ≡
-        ((nat_le 2 s.rank || (s.rank == 1 && length s.queue == 0))
-        || (nat_lt s.maximum (slot_count s) && (nat_lt 1 (slot_count s) || length s.queue == 0))) }
-{
-    let is_empty = parts.queue.len() == 0;
-    let is_over = match parts.state {
-        RunState::Running => false,
-        RunState::Shutdown => is_empty,
-        _ => true,
-    };
-    let count = parts.slots.len();
-    // The bracket always holds, since the maximum is at least 1: it is what `getTask` asks, in its order.
-    is_over || (count > parts.maximum as usize && (count > 1 || is_empty))
 }
 
 /// Whether no idle worker leaves now, whichever it is: while the pool runs, has no more slots than its core and its maximum, and

@@ -234,9 +234,6 @@ taken_at c s w a d is not_given =
     by_test true free = absurd (not_given (gives_at c s w a d free is))
     by_test false free = free
 
-gives_at_free : (c : Config) (s : State) (w : ℕ) (a : Ask) (d : Did) → slot_at s.slots w ≡ None → steps.step c s w a ≡ Ok d → Gives c s a d
-gives_at_free c s w a d free is = gives_at c s w a d (ap (λ o. is_none o || is_it (frees d) w) free) is
-
 -- a worker that leaves frees its slot
 leave_frees : (s : State) (w : ℕ) (v : SlotId) (g : Stage) (d : Did) → steps.leave_answer s w v g ≡ Ok d → frees d ≡ Some v.0
 leave_frees s w v stages.Dying d is = by_test (steps.wants_worker s && nat_lt (steps.slot_count s - 1) s.maximum) is
@@ -254,23 +251,35 @@ or_true : (b : Bool) → (b || true) ≡ true
 or_true true = refl
 or_true false = refl
 
-gives_at_own : (c : Config) (s : State) (w : ℕ) (d : Did) → steps.step c s w (ask.Leave (record { 0 = w })) ≡ Ok d → Gives c s (ask.Leave (record { 0 = w })) d
-gives_at_own c s w d is =
-    let fits = within c s (steps.fitting c s w (ask.Leave (record { 0 = w }))) d is in
-    let own : is_it (frees d) w ≡ true =
-    ap (λ o. is_it o w) (fitting_leave_frees s w (record { 0 = w }) d (slot_at s.slots w) fits.0) ∙ eq-eqb w w refl in
-    gives_at c s w (ask.Leave (record { 0 = w })) d (ap (λ b. is_none (slot_at s.slots w) || b) own ∙ or_true (is_none (slot_at s.slots w))) is
+own_free : (c : Config) (s : State) (w : ℕ) (d : Did) → steps.fitting c s w (ask.Leave (record { 0 = w })) ≡ Ok d → is_free_for s d w ≡ true
+own_free c s w d is =
+    let own : is_it (frees d) w ≡ true = ap (λ o. is_it o w) (fitting_leave_frees s w (record { 0 = w }) d (slot_at s.slots w) is) ∙ eq-eqb w w refl in
+    ap (λ b. is_none (slot_at s.slots w) || b) own ∙ or_true (is_none (slot_at s.slots w))
 
--- what the step answers at a number that it may use, a record may have
+-- a number that the step may use is free for what fits there
+free_at : (c : Config) (s : State) (w : ℕ) (a : Ask) (d : Did) → steps.IsFreeTo s a w → steps.fitting c s w a ≡ Ok d → is_free_for s d w ≡ true
+free_at c s w a d (inl free) is = ap (λ o. is_none o || is_it (frees d) w) free
+free_at c s w a d (inr leaves) is =
+    let P : Ask → Type 0 = λ b. (steps.fitting c s w b ≡ Ok d → is_free_for s d w ≡ true) in
+    subst P (sym leaves) (own_free c s w d) is
+
+-- what fits at such a number fits at the one that its entry reserves, if it reserves any
+pub fitting_at : (c : Config) (s : State) (w : ℕ) (a : Ask) (d : Did) → steps.IsFreeTo s a w → steps.fitting c s w a ≡ Ok d →
+    (steps.fitting c s (unwrap_or (reserves d) 0) a ≡ Ok d) × IfSome (reserves d) (λ v. is_free_for s d v ≡ true)
+fitting_at c s w a d free is =
+    let P : Option ℕ → Type 0 = λ o. (steps.fitting c s (unwrap_or o 0) a ≡ Ok d) × IfSome o (λ v. is_free_for s d v ≡ true) in
+    elim ((fitting_makes c s w a).made d is) [
+      | inl m ↦ subst P (sym m) (is, free_at c s w a d free is)
+      | inr m ↦ subst P (sym m.0) (m.1, tt)
+    ]
+
+-- what the step answers there, a record may have
 gives_at_free_to : (c : Config) (s : State) (w : ℕ) (a : Ask) (d : Did) → steps.IsFreeTo s a w → steps.step c s w a ≡ Ok d → Gives c s a d
-gives_at_free_to c s w a d (inl free) is = gives_at_free c s w a d free is
-gives_at_free_to c s w a d (inr leaves) is =
-    let P : Ask → Type 0 = λ b. (steps.step c s w b ≡ Ok d → Gives c s b d) in
-    subst P (sym leaves) (gives_at_own c s w d) is
+gives_at_free_to c s w a d free is = gives_at c s w a d (free_at c s w a d free (within c s (steps.fitting c s w a) d is).0) is
 
 -- what the step answers at the least number that is no slot, a record may have
 pub gives_at_least : (c : Config) (s : State) (a : Ask) (d : Did) → steps.step c s (least_free s.slots) a ≡ Ok d → Gives c s a d
-gives_at_least c s a d is = gives_at_free c s (least_free s.slots) a d (slot_at-least_free s.slots) is
+gives_at_least c s a d is = gives_at_free_to c s (least_free s.slots) a d (inl (slot_at-least_free s.slots)) is
 
 -- an answer over a snapshot, at the least number that is no slot there
 pub answer_at_least : (c : Config) (r : Answer) (p s : State) (w : ℕ) (a : Ask) → p ≡ s → w ≡ least_free p.slots →

@@ -1,14 +1,9 @@
 -- What a snapshot shows, and how large a state is.
-use Rattle.std.specs.Prelude.{ℕ, suc, ◌≡◌, ◌⊎◌, ◌≤◌, ◌<◌, ◌^◌, List, [], ◌∷◌, length, Option, Some, None, Result, Ok, Err, MatchResult, slice_get}
+use Rattle.std.specs.Prelude.{ℕ, suc, ◌≡◌, ◌⊎◌, ◌≤◌, ◌<◌, ◌^◌, List, [], ◌∷◌, length, Option, Some, None, Result, Ok, Err, MatchResult}
 use Rattle.tp_record.specs.declared.rows.SlotRow.{SlotRow}
-use Rattle.tp_record.specs.declared.rows.TaskRow.{TaskRow}
-use Rattle.tp_types.specs.declared.tasks.Place.TheVariants as at
 use Rattle.tp_types.specs.declared.refusals.PoolError.{PoolError}
 use Rattle.tp_types.specs.declared.refusals.PoolError.TheVariants.{NoMemory}
-use Rattle.tp_record.specs.declared.entries.Ask.{Ask}
-use Rattle.tp_record.specs.declared.entries.Ask.TheVariants as ask
-use Rattle.tp_record.specs.State.{State, row_at, task_at}
-use Rattle.tp_record.specs.Step.{done_of}
+use Rattle.tp_record.specs.State.{State, row_at}
 use Rattle.tp_rules.specs.declared.snapshot.Snapshot.{Snapshot}
 
 -- the state that a snapshot holds
@@ -52,17 +47,3 @@ abbrev pub least_free : List (Option SlotRow) → ℕ
 least_free [] = 0
 least_free (None ∷ slots) = 0
 least_free (Some r ∷ slots) = suc (least_free slots)
-
--- task t was submitted and has this row
-pub record HasRow (s : State) (t : ℕ) (r : TaskRow) : Type 0 where
-  pub known : t < length s.tasks
-  pub row : r ≡ task_at s t
-
--- beside that, it is refused
-pub record IsRefusedTask (s : State) (t : ℕ) (r : TaskRow) : Type 0 where
-  pub has : HasRow s t r
-  pub place : r.place ≡ at.Refused
-
--- this is the first completed task of the group that the ask names
-abbrev pub IsFirstDone : State → Ask → Option ℕ → Type 0
-IsFirstDone s a first = (g : ℕ) → a ≡ ask.TakeDone g → first ≡ slice_get (done_of s g) 0

@@ -76,6 +76,34 @@ pool 1 2 bounded 1 keep 5 abort limit 128
 pool running at 7 counts submitted=0 run=0 caller=0 rejected=0 discarded=0 handedback=0 removed=0 cancelled=0 completed=0 queued=0 live=0 largest=1
 ";
 
+/// A worker that has waited for its keep-alive leaves where there are more slots than the core size. One that is not idle waits since
+/// now, so it leaves at once where the keep-alive is 0.
+const TIMES_OUT_ABOVE_THE_CORE: &str = "\
+pool 3 3 bounded 1 keep 10 abort limit 128
+1 prestart reserve w0
+2 prestart reserve w1
+3 prestart reserve w2
+4 open w0 live
+5 open w1 live
+6 open w2 live
+7 tick 5
+8 take w0 idle
+9 tick 14
+10 core 1 add 0
+11 take w0 leave: refused NotThere
+11 core 3 add 0
+12 tick 15
+13 take w0 leave: refused NotThere
+13 core 2 add 0
+14 take w0 leave
+15 core 0 add 0
+16 keep 1
+17 take w1 idle
+18 keep 0
+19 take w2 leave
+pool running at 15 counts submitted=0 run=0 caller=0 rejected=0 discarded=0 handedback=0 removed=0 cancelled=0 completed=0 queued=0 live=1 largest=3
+";
+
 /// A slot without a worker: its task is offered, or refused where it has no core slot. One that opens too late is given up.
 const FAILS_AND_GIVES_UP: &str = "\
 pool 1 3 bounded 1 keep 5 abort limit 128
@@ -101,11 +129,12 @@ task 1 Ok(Refused) Ok(None) Err(NotFuture) Ok(true)
 task 2 Ok(Refused) Ok(None) Err(NotFuture) Ok(true)
 ";
 
-static PLAYS: [&str; 5] = [
+static PLAYS: [&str; 6] = [
     WORKS,
     REFUSES_WORKERS,
     WORKS_ON_FUTURES,
     TIMES_OUT,
+    TIMES_OUT_ABOVE_THE_CORE,
     FAILS_AND_GIVES_UP,
 ];
 

@@ -1,4 +1,4 @@
-use Rattle.std.proofs.Common.{◌≡◌, Ok, reverse, ap, ◌∙◌, sym, rules}
+use Rattle.std.proofs.Common.{◌≡◌, Ok, reverse, ap, ◌∙◌, sym}
 use Rattle.tp_record.specs.declared.entries.Did.{Did}
 use Rattle.tp_record.specs.Effects.{reserves}
 use Rattle.tp_record.specs.State.{state}

@@ -1,17 +1,17 @@
 use Rattle.std.proofs.Common.{◌≡◌, Ok, sym, ap, subst, ◌∙◌, inl, inr}
-use Rattle.std.specs.Prelude.{unwrap_or}
+use Rattle.std.specs.Prelude.{◌||◌, false, true, is_none, unwrap_or, IfSome}
 use Rattle.tp_record.specs.Left.{mark}
 use Rattle.tp_record.specs.declared.entries.Ask.TheVariants as ask
 use Rattle.tp_record.specs.declared.entries.Did.TheVariants as did
 use Rattle.tp_record.specs.Effects.{reserved_looked}
-use Rattle.tp_record.specs.State.{state}
+use Rattle.tp_record.specs.State.{state, slot_at}
 use Rattle.tp_record.specs.Step.{look}
 use Rattle.tp_tasks.specs.Tasks.{submissions}
 use Rattle.tp_laws.specs.View.{View, Effect}
 use Rattle.tp_machine_state.specs.Room.{TellsRoom}
 use Rattle.tp_machine_state.specs.Terms.{terms}
 use Rattle.tp_machine_state.proofs.Answering.{accepts_room, refuses_room}
-use Rattle.tp_machine_state.proofs.Reading.{number_free}
+use Rattle.tp_machine_state.proofs.Reading.{reads_marked}
 use Rattle.tp_machine_submitters.specs.Owed.{rise_of}
 use Rattle.tp_machine_submitters.proofs.Submitting.{look_again, look_free, same_rise, submit_moves, submit_fits, few_left}
 use Rattle.tp_machine_submitters.proofs.submit.answer.Goals as goal
@@ -25,10 +25,12 @@ returns-then-has_room-clause-accepts g c =
     accepts_room p (ask.Submit k r) (did.Submit (record { 0 = submissions p.tasks }) k r l) 0 (rise_of l) c.has_room.result (subst (λ n. TellsRoom p 0 n c.has_room.result) c.rise.ensures.rise c.has_room.ensures) c.if-has_room.true
     (λ h rs legal may sh.
     let s = mark rs (state (terms p) h) in
-    let is = c.look-looked.ensures.looked s sh in
-    let again = ap (λ x. look s (unwrap_or (reserved_looked x) 0)) is ∙ look_again s p.slots.next ∙ sym is in (
+    let n = c.next_number.result.0 in
+    let is = c.look-looked.ensures.looked s (reads_marked p h rs may sh) in
+    let again = ap (λ x. look s (unwrap_or (reserved_looked x) 0)) is ∙ look_again s n ∙ sym is in
+    let none = sh.seen.seats n ∙ ap (slot_at p.slots.slots) c.next_number.ensures.next ∙ c.next_number.ensures.free in (
       submit_fits p (few_left c.submitted.result (submissions p.tasks) c.submitted.ensures p.tasks.small c.if-submitted.false) k r h rs sh (unwrap_or (reserved_looked l) 0) ∙ ap (λ x. Ok (did.Submit (record { 0 = submissions p.tasks }) k r x)) again,
-      number_free p s sh (did.Submit (record { 0 = submissions p.tasks }) k r l) (reserved_looked l) c.look-looked.ensures.free,
+      subst (λ x. IfSome (reserved_looked x) (λ v. (is_none (slot_at s.slots v) || false) ≡ true)) (sym is) (look_free s n none),
     ))
     (λ h rs legal sh given. submit_moves (terms p) h (record { 0 = submissions p.tasks }) k r l legal given)
 
@@ -42,7 +44,7 @@ returns-else-has_room-clause-refuses g c =
     (λ h rs legal may sh w free.
     let s = mark rs (state (terms p) h) in
     let d = did.Submit (record { 0 = submissions p.tasks }) k r (look s w) in
-    let rise : rise_of (look s w) ≡ rise_of l = same_rise s p.slots.next w ∙ ap rise_of (sym (c.look-looked.ensures.looked s sh)) in (
+    let rise : rise_of (look s w) ≡ rise_of l = same_rise s c.next_number.result.0 w ∙ ap rise_of (sym (c.look-looked.ensures.looked s (reads_marked p h rs may sh))) in (
       d,
       submit_fits p (few_left c.submitted.result (submissions p.tasks) c.submitted.ensures p.tasks.small c.if-submitted.false) k r h rs sh w,
       look_free s w (elim free [ inl f ↦ f | inr leave ↦ absurd (let n : ⊥ = cc in n) ]),

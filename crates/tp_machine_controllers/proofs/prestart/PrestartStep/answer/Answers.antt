@@ -7,10 +7,11 @@ use Rattle.tp_record.specs.State.{State, state, slot_at}
 use Rattle.tp_record.specs.Step.{Answer, slot_count, wants_worker, fitting, is_free_for, IsFreeTo}
 use Rattle.tp_laws.proofs.Effects.Controllers.Prestart.{prestart as prestart_effect, prestart_none}
 use Rattle.tp_machine_state.specs.declared.parts.Parts.{Parts}
-use Rattle.tp_machine_state.specs.Shows.{Shows}
+use Rattle.tp_machine_state.specs.Shows.{Reads}
 use Rattle.tp_machine_state.specs.Steps.{Fits}
 use Rattle.tp_machine_state.specs.Terms.{terms}
 use Rattle.tp_machine_state.proofs.Answering.{Moves, accepts_room, refuses_room}
+use Rattle.tp_machine_state.proofs.Reading.{reads_marked}
 use Rattle.tp_machine_controllers.proofs.prestart.PrestartStep.answer.Goals as goal
 
 -- what the step answers, by whether a core worker is missing that the pool wants
@@ -23,10 +24,10 @@ answered s w b is c = by (nat_lt (slot_count s) s.core && wants_worker s) ∙ ap
 
 module _ {P : Type 0} (p : Parts P) where
   abbrev Wanted : Bool → Type 0
-  Wanted b = (s : State) → Shows p s → b ≡ (nat_lt (slot_count s) s.core && wants_worker s)
+  Wanted b = (s : State) → Reads p s → b ≡ (nat_lt (slot_count s) s.core && wants_worker s)
 
   fits_none : Wanted false → Fits p ask.Prestart (did.Prestart None)
-  fits_none wanted = λ h rs legal may sh. (answered (mark rs (state (terms p) h)) 0 false (wanted (mark rs (state (terms p) h)) sh) (terms p), tt)
+  fits_none wanted = λ h rs legal may sh. (answered (mark rs (state (terms p) h)) 0 false (wanted (mark rs (state (terms p) h)) (reads_marked p h rs may sh)) (terms p), tt)
 
   moves_none : Moves p 0 0 (did.Prestart None)
   moves_none = λ h rs legal sh given. (_, prestart_none (terms p) h legal given)
@@ -40,14 +41,14 @@ returns-then-not-has_room-clause-denies g c =
     inr (
       tt,
       refuses_room p ask.Prestart 0 0 c.has_room.result c.has_room.ensures c.if-not-has_room.true
-          (λ h rs legal may sh w free. (did.Prestart None, answered (mark rs (state (terms p) h)) w false (sym c.if-not-is_wanted.true ∙ c.is_wanted.ensures (mark rs (state (terms p) h)) sh) (terms p), tt, moves_none p)),
+          (λ h rs legal may sh w free. (did.Prestart None, answered (mark rs (state (terms p) h)) w false (sym c.if-not-lacks_core_worker.true ∙ c.lacks_core_worker.ensures (mark rs (state (terms p) h)) (reads_marked p h rs may sh)) (terms p), tt, moves_none p)),
     )
 
-pub returns-then-not-is_wanted-clause-fits : goal.returns-then-not-is_wanted-clause-fits
-returns-then-not-is_wanted-clause-fits g c =
+pub returns-then-not-lacks_core_worker-clause-fits : goal.returns-then-not-lacks_core_worker-clause-fits
+returns-then-not-lacks_core_worker-clause-fits g c =
     let p = c.args.parts.now in
     accepts_room p ask.Prestart (did.Prestart None) 0 0 c.has_room.result c.has_room.ensures c.if-not-has_room.false
-    (fits_none p (λ s sh. sym c.if-not-is_wanted.true ∙ c.is_wanted.ensures s sh)) (moves_none p)
+    (fits_none p (λ s sh. sym c.if-not-lacks_core_worker.true ∙ c.lacks_core_worker.ensures s sh)) (moves_none p)
 
 pub returns-then-not-has_room-2-clause-denies : goal.returns-then-not-has_room-2-clause-denies
 returns-then-not-has_room-2-clause-denies g c =
@@ -57,7 +58,7 @@ returns-then-not-has_room-2-clause-denies g c =
       refuses_room p ask.Prestart 0 3 c.has_room-2.result c.has_room-2.ensures c.if-not-has_room-2.true
           (λ h rs legal may sh w free. (
             did.Prestart (Some (record { 0 = w })),
-            answered (mark rs (state (terms p) h)) w true (sym c.if-not-is_wanted.false ∙ c.is_wanted.ensures (mark rs (state (terms p) h)) sh) (terms p),
+            answered (mark rs (state (terms p) h)) w true (sym c.if-not-lacks_core_worker.false ∙ c.lacks_core_worker.ensures (mark rs (state (terms p) h)) (reads_marked p h rs may sh)) (terms p),
             free_now (mark rs (state (terms p) h)) w free,
             moves p w,
           )),
@@ -73,7 +74,7 @@ returns-clause-fits g c =
     let w = c.next_number.result in
     accepts_room p ask.Prestart (did.Prestart (Some w)) 0 3 c.has_room-2.result c.has_room-2.ensures c.if-not-has_room-2.false
     (λ h rs legal may sh. (
-      answered (mark rs (state (terms p) h)) w.0 true (sym c.if-not-is_wanted.false ∙ c.is_wanted.ensures (mark rs (state (terms p) h)) sh) (terms p),
+      answered (mark rs (state (terms p) h)) w.0 true (sym c.if-not-lacks_core_worker.false ∙ c.lacks_core_worker.ensures (mark rs (state (terms p) h)) (reads_marked p h rs may sh)) (terms p),
       ap (λ o. is_none o || false) (ap (λ n. slot_at (mark rs (state (terms p) h)).slots n) c.next_number.ensures.next ∙ sh.seen.seats p.slots.next ∙ c.next_number.ensures.free),
     ))
     (moves p w.0)

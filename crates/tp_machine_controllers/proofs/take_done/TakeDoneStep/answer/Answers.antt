@@ -1,24 +1,17 @@
-use Rattle.std.proofs.Common.{refl, inr}
+use Rattle.std.proofs.Common.{refl}
 use Rattle.tp_record.specs.declared.entries.Ask.TheVariants as ask
 use Rattle.tp_record.specs.declared.entries.Did.TheVariants as did
-use Rattle.tp_laws.proofs.Effects.Controllers.TakeDone.{take_done}
-use Rattle.tp_machine_state.proofs.Answering.{accepts_room, refuses_fitting}
+use Rattle.tp_laws.proofs.Effects.Controllers.TakeDone.{take_done as take_done_effect}
 use Rattle.tp_machine_state.specs.Terms.{terms}
+use Rattle.tp_machine_state.proofs.Rules.{accepts_in, denies_in}
 use Rattle.tp_machine_controllers.proofs.take_done.TakeDoneStep.answer.Goals as goal
-
-pub returns-then-not-has_room-clause-denies : goal.returns-then-not-has_room-clause-denies
-returns-then-not-has_room-clause-denies g c =
-    let p = c.args.parts.now in
-    let t = c.in_ok-t.t in
-    inr (
-      tt,
-      refuses_fitting p (ask.TakeDone c.args.self.0) (did.TakeDone c.args.self.0 t) 0 0 _ c.has_room.ensures c.if-not-has_room.true c.in_ok-t.ensures.fits (λ s w. refl)
-          (λ h rs legal sh given. (_, take_done (terms p) h c.args.self.0 t legal given)),
-    )
 
 pub returns-clause-fits : goal.returns-clause-fits
 returns-clause-fits g c =
     let p = c.args.parts.now in
-    let t = c.in_ok-t.t in
-    accepts_room p (ask.TakeDone c.args.self.0) (did.TakeDone c.args.self.0 t) 0 0 _ c.has_room.ensures c.if-not-has_room.false c.in_ok-t.ensures.fits
-    (λ h rs legal sh given. (_, take_done (terms p) h c.args.self.0 t legal given))
+    accepts_in p (ask.TakeDone c.args.self.0) (did.TakeDone c.args.self.0) (λ w s. refl) 0 0 (λ x. refl) (λ t h rs legal sh given. (_, take_done_effect (terms p) h c.args.self.0 t legal given)) c.take_done.result c.in_room.result c.in_room.ensures c.take_done.ensures
+
+pub returns-clause-denies : goal.returns-clause-denies
+returns-clause-denies g c =
+    let p = c.args.parts.now in
+    denies_in p (ask.TakeDone c.args.self.0) (did.TakeDone c.args.self.0) (λ w s. refl) 0 0 (λ x. refl) (λ t h rs legal sh given. (_, take_done_effect (terms p) h c.args.self.0 t legal given)) tt c.take_done.result c.in_room.result c.in_room.ensures c.take_done.ensures

@@ -1,23 +1,12 @@
-use Rattle.std.proofs.Common.{Ok, ap, sym, ◌∙◌}
-use Rattle.std.specs.Prelude.{unwrap_or}
-use Rattle.tp_record.specs.Left.{mark}
+use Rattle.std.proofs.Common.{refl}
+use Rattle.tp_record.specs.declared.entries.Ask.TheVariants as ask
 use Rattle.tp_record.specs.declared.entries.Did.TheVariants as did
-use Rattle.tp_record.specs.Effects.{reserved_looked}
-use Rattle.tp_record.specs.State.{state}
-use Rattle.tp_record.specs.Step.{look, look_answer}
-use Rattle.tp_machine_state.proofs.Reading.{task_answers, number_free}
-use Rattle.tp_machine_submitters.proofs.Submitting.{look_again}
-use Rattle.tp_machine_state.specs.Terms.{terms}
+use Rattle.tp_machine_state.proofs.Rules.{fits_next, denies_at}
 use Rattle.tp_machine_submitters.proofs.look.LookStep.answer.Goals as goal
 
 pub returns-clause-fits : goal.returns-clause-fits
-returns-clause-fits g c = λ h rs legal may sh.
-    let p = c.args.parts.now in
-    let s = mark rs (state (terms p) h) in
-    let is = c.look.ensures.looked s sh in
-    let w = unwrap_or (reserved_looked c.look.result) 0 in (
-      task_answers p s sh c.args.self.0 c.in-Some.row (λ r. look_answer s w c.args.self.0 r.place) (sym c.row.ensures ∙ c.in-Some.is)
-          ∙ ap (look_answer s w c.args.self.0) c.in-Looking.is
-          ∙ ap (λ l. Ok (did.Look c.args.self.0 l)) (ap (λ l. look s (unwrap_or (reserved_looked l) 0)) is ∙ look_again s p.slots.next ∙ sym is),
-      number_free p s sh (did.Look c.args.self.0 c.look.result) (reserved_looked c.look.result) c.look.ensures.free,
-    )
+returns-clause-fits g c =
+    fits_next c.args.parts.now (ask.Look c.args.self.0) (did.Look c.args.self.0) c.next_number.result.0 (λ w s. refl) c.next_number.ensures.next c.next_number.ensures.free c.look_again.result c.look_again.ensures.answers
+
+pub returns-clause-denies : goal.returns-clause-denies
+returns-clause-denies g c = denies_at c.args.parts.now (ask.Look c.args.self.0) (did.Look c.args.self.0) c.next_number.result.0 (λ w s. refl) tt c.look_again.result c.look_again.ensures.answers
