@@ -7,6 +7,7 @@ ghost use Rattle.tp_machine_state.specs.Steps.{Stands, Accepts, Leads};
 use tp_machine_state::parts::Parts;
 use tp_machine_state::step::Step;
 use tp_record::entries::{Ask, Did};
+use tp_record::owed::RESERVED;
 use tp_record::rows::Stage;
 use tp_rules::controllers::lacks_core_worker;
 use tp_types::ids::SlotId;
@@ -50,7 +51,7 @@ impl<P> Step<P> for Prestart {
             }
             return Ok(None);
         }
-        if !parts.has_room(0, 3) {
+        if !parts.has_room(0, RESERVED) {
             return Err(PoolError::BookFull);
         }
         Ok(Some(parts.slots.next_number()))
@@ -83,6 +84,6 @@ fn reserve<P>(parts: &mut Parts<P>, w: SlotId)
     ensures payloads { Keeps parts.old.tasks parts.new.tasks }
 {
     let _ = w;
-    parts.count_rising_entry(3);
+    parts.count_rising_entry(RESERVED);
     parts.reserve(Stage::ReservedBare, None);
 }

@@ -5,6 +5,7 @@ ghost use Rattle.tp_machine_state.specs.Steps.{Accepts};
 use tp_machine_state::parts::Parts;
 use tp_machine_state::step::Step;
 use tp_record::entries::{Ask, Did};
+use tp_record::owed::QUEUED;
 use tp_types::refusals::PoolError;
 
 /// `purge`.
@@ -42,7 +43,7 @@ impl<P> Step<P> for Purge {
     fn answer(self, parts: &Parts<P>) -> Result<u32, PoolError> {
         let cancelled = parts.count_cancelled();
         // A queued task owes 6 entries.
-        if !parts.has_room(6 * u64::from(cancelled), 0) {
+        if !parts.has_room(QUEUED * u64::from(cancelled), 0) {
             return Err(PoolError::BookFull);
         }
         Ok(cancelled)
@@ -52,6 +53,6 @@ impl<P> Step<P> for Purge {
     // went out where they were cancelled.
     fn apply(self, parts: &mut Parts<P>, cancelled: u32) {
         parts.purge();
-        parts.count_entry(6 * u64::from(cancelled));
+        parts.count_entry(QUEUED * u64::from(cancelled));
     }
 }

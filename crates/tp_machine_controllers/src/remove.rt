@@ -7,6 +7,7 @@ ghost use Rattle.tp_machine_state.specs.Steps.{Stands, Fits, Accepts, Refuses, L
 use tp_machine_state::parts::Parts;
 use tp_machine_state::step::Step;
 use tp_record::entries::{Ask, Did};
+use tp_record::owed::QUEUED;
 use tp_rules::controllers::remove;
 use tp_types::ids::TaskId;
 use tp_types::refusals::PoolError;
@@ -28,7 +29,7 @@ fn present<P>(parts: &mut Parts<P>, t: TaskId) -> Option<P>
     ensures leads { Leads parts.old (Did.Remove t true) parts.new }
     ensures payloads { HandsOut parts.old.tasks parts.new.tasks t.0 result }
 {
-    parts.count_entry(6);
+    parts.count_entry(QUEUED);
     parts.unqueue(t);
     parts.finish_task(t, Fate::Removed)
 }
@@ -80,7 +81,7 @@ impl<P> Step<P> for Remove {
     fn answer(self, parts: &Parts<P>) -> Result<bool, PoolError> {
         let queued = is_queued(parts, self.0)?;
         // A queued task owes 6 entries.
-        if !parts.has_room(6 * u64::from(queued), 0) {
+        if !parts.has_room(QUEUED * u64::from(queued), 0) {
             return Err(PoolError::BookFull);
         }
         Ok(queued)

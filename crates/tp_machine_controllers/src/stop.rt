@@ -12,6 +12,7 @@ use std::alloc::Global;
 use tp_machine_state::parts::Parts;
 use tp_queue::work::WorkQueue;
 use tp_record::entries::{Ask, Did};
+use tp_record::owed::QUEUED;
 use tp_types::ids::TaskId;
 use tp_types::refusals::PoolError;
 use tp_types::states::RunState;
@@ -35,7 +36,7 @@ fn fall<P>(parts: &Parts<P>, count: u32) -> u64
     requires stands { Stands parts.now }
     ensures { result ≡ 6 * count + ((if state_rank parts.now.state == 0 then count_by is_at_take parts.now.slots.slots else 0) + (2 - state_rank parts.now.state)) }
 {
-    6 * u64::from(count) + parts.owed_until(RunState::Stop)
+    QUEUED * u64::from(count) + parts.owed_until(RunState::Stop)
 }
 
 /// A list with memory for all tasks that a stop hands back, before it is made. NoMemory (4), which comes only where a task is

@@ -10,6 +10,7 @@ ghost use Rattle.tp_machine_state.specs.Steps.{Stands, Fits, Leads};
 use tp_machine_state::parts::Parts;
 use tp_machine_state::step::Step;
 use tp_record::entries::{Ask, Did};
+use tp_record::owed::AT_CALLER;
 use tp_types::ids::TaskId;
 use tp_types::refusals::PoolError;
 use tp_types::tasks::{Fate, Outcome, Place};
@@ -69,6 +70,6 @@ fn apply<P>(parts: &mut Parts<P>, t: TaskId, outcome: Outcome)
     ensures leads { Leads parts.old (Did.CallerEnd t outcome) parts.new }
     ensures payloads { Keeps parts.old.tasks parts.new.tasks }
 {
-    parts.count_entry(1);
+    parts.count_entry(AT_CALLER);
     parts.complete_task(t, Fate::RunByCaller, outcome);
 }

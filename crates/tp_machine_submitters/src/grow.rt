@@ -7,6 +7,7 @@ ghost use Rattle.tp_machine_state.specs.Steps.{Stands, Fits, Leads};
 use tp_machine_state::parts::Parts;
 use tp_machine_state::step::Step;
 use tp_record::entries::{Ask, Did, Grown};
+use tp_record::owed::{HELD, REFUSED, RESERVED, TO_GROW};
 use tp_record::rows::Stage;
 use tp_rules::submitters::grow;
 use tp_types::ids::{SlotId, TaskId};
@@ -64,7 +65,7 @@ fn reserve<P>(parts: &mut Parts<P>, t: TaskId, w: SlotId)
     ensures leads { Leads parts.old (Did.Grow t (Grown.Reserve w)) parts.new }
     ensures payloads { Keeps parts.old.tasks parts.new.tasks }
 {
-    parts.count_entry(1);
+    parts.count_entry(TO_GROW - HELD - RESERVED);
     parts.place_task(t, Place::Held(w));
     parts.reserve(Stage::ReservedMaximum, Some(t));
 }
@@ -76,6 +77,6 @@ fn refuse<P>(parts: &mut Parts<P>, t: TaskId)
     ensures leads { Leads parts.old (Did.Grow t Grown.Refuse) parts.new }
     ensures payloads { Keeps parts.old.tasks parts.new.tasks }
 {
-    parts.count_entry(7);
+    parts.count_entry(TO_GROW - REFUSED);
     parts.place_task(t, Place::Refused);
 }

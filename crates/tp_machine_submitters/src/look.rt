@@ -7,6 +7,7 @@ ghost use Rattle.tp_machine_state.specs.Steps.{Stands, Fits, Leads};
 use tp_machine_state::parts::Parts;
 use tp_machine_state::step::Step;
 use tp_record::entries::{Ask, Did, Looked};
+use tp_record::owed::{HELD_FOR_CORE, LOOKING, REFUSED, RESERVED, TO_OFFER};
 use tp_record::rows::Stage;
 use tp_rules::submitters::look_again;
 use tp_types::ids::{SlotId, TaskId};
@@ -66,7 +67,7 @@ fn reserve<P>(parts: &mut Parts<P>, t: TaskId, w: SlotId)
     ensures leads { Leads parts.old (Did.Look t (Looked.Reserve w)) parts.new }
     ensures payloads { Keeps parts.old.tasks parts.new.tasks }
 {
-    parts.count_entry(1);
+    parts.count_entry(LOOKING - HELD_FOR_CORE - RESERVED);
     parts.place_task(t, Place::Held(w));
     parts.reserve(Stage::ReservedCore, Some(t));
 }
@@ -78,7 +79,7 @@ fn queue<P>(parts: &mut Parts<P>, t: TaskId)
     ensures leads { Leads parts.old (Did.Look t Looked.Queue) parts.new }
     ensures payloads { Keeps parts.old.tasks parts.new.tasks }
 {
-    parts.count_entry(2);
+    parts.count_entry(LOOKING - TO_OFFER);
     parts.place_task(t, Place::ToOffer);
 }
 
@@ -89,6 +90,6 @@ fn refuse<P>(parts: &mut Parts<P>, t: TaskId)
     ensures leads { Leads parts.old (Did.Look t Looked.Refuse) parts.new }
     ensures payloads { Keeps parts.old.tasks parts.new.tasks }
 {
-    parts.count_entry(11);
+    parts.count_entry(LOOKING - REFUSED);
     parts.place_task(t, Place::Refused);
 }

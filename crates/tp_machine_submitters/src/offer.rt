@@ -7,6 +7,7 @@ ghost use Rattle.tp_machine_state.specs.Steps.{Stands, Fits, Leads};
 use tp_machine_state::parts::Parts;
 use tp_machine_state::step::Step;
 use tp_record::entries::{Ask, Did, Offered};
+use tp_record::owed::{HELD, IDLE, QUEUED, SECOND_LOOK, TO_GROW, TO_OFFER, WORKING};
 use tp_rules::submitters::offer;
 use tp_types::ids::{SlotId, TaskId};
 use tp_types::refusals::PoolError;
@@ -68,7 +69,7 @@ fn queue<P>(parts: &mut Parts<P>, t: TaskId)
     ensures leads { Leads parts.old (Did.Offer t Offered.Queued) parts.new }
     ensures payloads { Keeps parts.old.tasks parts.new.tasks }
 {
-    parts.count_entry(1);
+    parts.count_entry(TO_OFFER - QUEUED - SECOND_LOOK);
     parts.enqueue(t);
 }
 
@@ -80,7 +81,7 @@ fn hand<P>(parts: &mut Parts<P>, t: TaskId, w: SlotId)
     ensures leads { Leads parts.old (Did.Offer t (Offered.Hand w)) parts.new }
     ensures payloads { Keeps parts.old.tasks parts.new.tasks }
 {
-    parts.count_entry(1);
+    parts.count_entry(TO_OFFER + IDLE - HELD - WORKING - SECOND_LOOK);
     parts.hand_task(t, w);
     parts.wake(w, Some(t));
 }
@@ -93,6 +94,6 @@ fn turn_away<P>(parts: &mut Parts<P>, t: TaskId)
     ensures leads { Leads parts.old (Did.Offer t Offered.Full) parts.new }
     ensures payloads { Keeps parts.old.tasks parts.new.tasks }
 {
-    parts.count_entry(2);
+    parts.count_entry(TO_OFFER - TO_GROW);
     parts.place_task(t, Place::ToGrow);
 }

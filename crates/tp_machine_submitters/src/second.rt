@@ -7,6 +7,7 @@ ghost use Rattle.tp_machine_state.specs.Steps.{Stands, Fits, Leads};
 use tp_machine_state::parts::Parts;
 use tp_machine_state::step::Step;
 use tp_record::entries::{Ask, Did, Seconded};
+use tp_record::owed::{QUEUED, REFUSED, RESERVED, SECOND_LOOK};
 use tp_record::rows::Stage;
 use tp_rules::submitters::second;
 use tp_types::ids::{SlotId, TaskId};
@@ -69,7 +70,7 @@ fn stay<P>(parts: &mut Parts<P>, t: TaskId)
     ensures leads { Leads parts.old (Did.Second t Seconded.Stay) parts.new }
     ensures payloads { Keeps parts.old.tasks parts.new.tasks }
 {
-    parts.count_entry(4);
+    parts.count_entry(SECOND_LOOK);
     parts.settle_task(t);
 }
 
@@ -82,7 +83,7 @@ fn reserve<P>(parts: &mut Parts<P>, t: TaskId, w: SlotId)
     ensures leads { Leads parts.old (Did.Second t (Seconded.StayReserve w)) parts.new }
     ensures payloads { Keeps parts.old.tasks parts.new.tasks }
 {
-    parts.count_entry(1);
+    parts.count_entry(SECOND_LOOK - RESERVED);
     parts.settle_task(t);
     parts.reserve(Stage::ReservedBare, None);
 }
@@ -95,7 +96,7 @@ fn take_back<P>(parts: &mut Parts<P>, t: TaskId)
     ensures leads { Leads parts.old (Did.Second t Seconded.Back) parts.new }
     ensures payloads { Keeps parts.old.tasks parts.new.tasks }
 {
-    parts.count_entry(8);
+    parts.count_entry(QUEUED + SECOND_LOOK - REFUSED);
     parts.unqueue(t);
     parts.return_task(t);
 }

@@ -14,6 +14,7 @@ ghost use Rattle.tp_machine_submitters.specs.Owed.{rise_of};
 
 use tp_machine_state::parts::Parts;
 use tp_record::entries::{Ask, Did, Looked};
+use tp_record::owed::{HELD_FOR_CORE, REFUSED, RESERVED, TO_OFFER};
 use tp_record::rows::Stage;
 use tp_rules::submitters::look;
 use tp_types::ids::{SlotId, TaskId};
@@ -92,9 +93,9 @@ fn rise(looked: Looked) -> u64
     ensures bound { result ≤ 12 }
 {
     match looked {
-        Looked::Reserve(_) => 12,
-        Looked::Queue => 11,
-        Looked::Refuse => 2,
+        Looked::Reserve(_) => HELD_FOR_CORE + RESERVED,
+        Looked::Queue => TO_OFFER,
+        Looked::Refuse => REFUSED,
     }
 }
 
@@ -118,7 +119,7 @@ where
     ensures leads { Leads parts.old (Did.Submit result kind priority (Looked.Reserve w)) parts.new }
     ensures payloads { PutsIn parts.old.tasks parts.new.tasks result.0 promise payload }
 {
-    parts.count_rising_entry(12);
+    parts.count_rising_entry(HELD_FOR_CORE + RESERVED);
     let t = parts.put_task(kind, priority, Place::Held(w), promise, payload);
     parts.reserve(Stage::ReservedCore, Some(t));
     t
@@ -136,7 +137,7 @@ where
     ensures leads { Leads parts.old (Did.Submit result kind priority Looked.Queue) parts.new }
     ensures payloads { PutsIn parts.old.tasks parts.new.tasks result.0 promise payload }
 {
-    parts.count_rising_entry(11);
+    parts.count_rising_entry(TO_OFFER);
     parts.put_task(kind, priority, Place::ToOffer, promise, payload)
 }
 
@@ -158,6 +159,6 @@ where
     ensures leads { Leads parts.old (Did.Submit result kind priority Looked.Refuse) parts.new }
     ensures payloads { PutsIn parts.old.tasks parts.new.tasks result.0 promise payload }
 {
-    parts.count_rising_entry(2);
+    parts.count_rising_entry(REFUSED);
     parts.put_task(kind, priority, Place::Refused, promise, payload)
 }

@@ -14,6 +14,7 @@ ghost use Rattle.tp_machine_submitters.specs.Owed.{retry_rise};
 use tp_machine_state::parts::Parts;
 use tp_machine_state::step::Step;
 use tp_record::entries::{Ask, Did, Ruled};
+use tp_record::owed::{AT_CALLER, LOOKING, QUEUED, REFUSED};
 use tp_record::rows::TaskRow;
 use tp_rules::readings::Readings;
 use tp_rules::submitters::{refused, retry_of, rule};
@@ -106,14 +107,14 @@ fn ruled<P>(parts: &Parts<P>, t: TaskId, row: TaskRow, verdict: Verdict) -> Rule
     }
 }
 
-/// How many more entries are owed after this retry. A dropped head owed 6 entries, which are taken off.
+/// How many more entries are owed after this retry.
 fn rise(retry: Ruled) -> u64
     ensures rise { result ≡ retry_rise retry }
     ensures bound { result ≤ 11 }
 {
     match retry {
-        Ruled::RetryDrop(_) => 5,
-        _ => 11,
+        Ruled::RetryDrop(_) => LOOKING - REFUSED - QUEUED,
+        _ => LOOKING - REFUSED,
     }
 }
 
@@ -124,7 +125,7 @@ fn reject<P>(parts: &mut Parts<P>, t: TaskId, verdict: Verdict) -> Option<P>
     ensures leads { Leads parts.old (Did.Verdict t verdict Ruled.Rejected) parts.new }
     ensures payloads { HandsOut parts.old.tasks parts.new.tasks t.0 result }
 {
-    parts.count_entry(2);
+    parts.count_entry(REFUSED);
     parts.finish_task(t, Fate::Rejected)
 }
 
@@ -135,7 +136,7 @@ fn discard<P>(parts: &mut Parts<P>, t: TaskId, verdict: Verdict) -> Option<P>
     ensures leads { Leads parts.old (Did.Verdict t verdict Ruled.Discarded) parts.new }
     ensures payloads { HandsOut parts.old.tasks parts.new.tasks t.0 result }
 {
-    parts.count_entry(2);
+    parts.count_entry(REFUSED);
     parts.finish_task(t, Fate::Discarded)
 }
 
@@ -146,7 +147,7 @@ fn run<P>(parts: &mut Parts<P>, t: TaskId, verdict: Verdict) -> P
     ensures leads { Leads parts.old (Did.Verdict t verdict Ruled.Caller) parts.new }
     ensures payloads { HandsOut parts.old.tasks parts.new.tasks t.0 (Some result) }
 {
-    parts.count_entry(1);
+    parts.count_entry(REFUSED - AT_CALLER);
     parts.begin_task(t, Place::Caller)
 }
 
@@ -157,7 +158,7 @@ fn skip<P>(parts: &mut Parts<P>, t: TaskId, verdict: Verdict)
     ensures leads { Leads parts.old (Did.Verdict t verdict Ruled.Skip) parts.new }
     ensures payloads { HandsOut parts.old.tasks parts.new.tasks t.0 None }
 {
-    parts.count_entry(2);
+    parts.count_entry(REFUSED);
     parts.place_task(t, Place::Gone);
 }
 
@@ -168,7 +169,7 @@ fn retry<P>(parts: &mut Parts<P>, t: TaskId, verdict: Verdict)
     ensures leads { Leads parts.old (Did.Verdict t verdict Ruled.Retry) parts.new }
     ensures payloads { Keeps parts.old.tasks parts.new.tasks }
 {
-    parts.count_rising_entry(11);
+    parts.count_rising_entry(LOOKING - REFUSED);
     parts.retry_task(t);
 }
 
@@ -179,7 +180,7 @@ fn retry_drop<P>(parts: &mut Parts<P>, t: TaskId, verdict: Verdict, head: TaskId
     ensures leads { Leads parts.old (Did.Verdict t verdict (Ruled.RetryDrop head)) parts.new }
     ensures payloads { HandsOut parts.old.tasks parts.new.tasks head.0 result }
 {
-    parts.count_rising_entry(5);
+    parts.count_rising_entry(LOOKING - REFUSED - QUEUED);
     parts.dequeue();
     let payload = parts.finish_task(head, Fate::Discarded);
     parts.retry_task(t);

@@ -8,6 +8,7 @@ use crate::owed::owed_at_take;
 use tp_machine_state::parts::Parts;
 use tp_machine_state::step::Step;
 use tp_record::entries::{Ask, Did, Started};
+use tp_record::owed::{RUNNING, TAKEN, WORKING};
 use tp_record::rows::{SlotRow, Stage};
 use tp_rules::workers::begin;
 use tp_types::ids::{SlotId, TaskId};
@@ -76,7 +77,7 @@ fn run<P>(parts: &mut Parts<P>, w: SlotId, t: TaskId) -> P
     ensures leads { Leads parts.old (Did.Begin w (Started.Run t)) parts.new }
     ensures payloads { HandsOut parts.old.tasks parts.new.tasks t.0 (Some result) }
 {
-    parts.count_entry(1);
+    parts.count_entry(TAKEN - RUNNING);
     let payload = parts.begin_task(t, Place::Running(w));
     parts.set_slot(
         w,
@@ -96,7 +97,7 @@ fn skip<P>(parts: &mut Parts<P>, w: SlotId, t: TaskId)
     ensures leads { Leads parts.old (Did.Begin w (Started.Skip t)) parts.new }
     ensures payloads { Keeps parts.old.tasks parts.new.tasks }
 {
-    parts.count_entry(6 - owed_at_take(parts.state));
+    parts.count_entry(TAKEN + WORKING - owed_at_take(parts.state));
     parts.place_task(t, Place::Gone);
     parts.set_slot(
         w,

@@ -14,6 +14,7 @@ use crate::owed::owed_at_take;
 use tp_machine_state::parts::Parts;
 use tp_machine_state::step::Step;
 use tp_record::entries::{Ask, Did};
+use tp_record::owed::{DYING, RUNNING, WORKING};
 use tp_record::rows::{SlotRow, Stage};
 use tp_rules::workers::end;
 use tp_types::ids::{SlotId, TaskId};
@@ -122,7 +123,7 @@ fn works<P>(parts: &mut Parts<P>, w: SlotId, t: TaskId, outcome: Outcome)
     ensures leads { Leads parts.old (Did.End w t outcome) parts.new }
     ensures payloads { Keeps parts.old.tasks parts.new.tasks }
 {
-    parts.count_entry(5 - owed_at_take(parts.state));
+    parts.count_entry(RUNNING + WORKING - owed_at_take(parts.state));
     parts.complete_task(t, Fate::Run, outcome);
     parts.set_slot(
         w,
@@ -145,7 +146,7 @@ fn dies<P>(parts: &mut Parts<P>, w: SlotId, t: TaskId, outcome: Outcome)
     ensures leads { Leads parts.old (Did.End w t outcome) parts.new }
     ensures payloads { Keeps parts.old.tasks parts.new.tasks }
 {
-    parts.count_entry(1);
+    parts.count_entry(RUNNING + WORKING - DYING);
     parts.complete_task(t, Fate::Run, outcome);
     parts.set_slot(
         w,

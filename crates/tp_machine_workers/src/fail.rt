@@ -8,6 +8,7 @@ use crate::freed::{give_back, turn_away};
 use tp_machine_state::parts::Parts;
 use tp_machine_state::step::Step;
 use tp_record::entries::{Ask, Did, Failed};
+use tp_record::owed::{HELD_FOR_CORE, RESERVED, TO_OFFER};
 use tp_rules::workers::fail;
 use tp_types::ids::{SlotId, TaskId};
 use tp_types::refusals::PoolError;
@@ -66,7 +67,7 @@ fn offer<P>(parts: &mut Parts<P>, w: SlotId, t: TaskId)
     ensures leads { Leads parts.old (Did.Fail w (Failed.Offer t)) parts.new }
     ensures payloads { Keeps parts.old.tasks parts.new.tasks }
 {
-    parts.count_entry(1);
+    parts.count_entry(HELD_FOR_CORE + RESERVED - TO_OFFER);
     parts.place_task(t, Place::ToOffer);
     parts.give_up(w);
 }

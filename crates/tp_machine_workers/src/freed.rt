@@ -9,6 +9,7 @@ ghost use Rattle.tp_machine_state.specs.Payloads.{Keeps};
 ghost use Rattle.tp_machine_workers.specs.Freed.{GivesBack, TurnsAway, first_weight};
 
 use tp_machine_state::parts::Parts;
+use tp_record::owed::{HELD, HELD_FOR_CORE, REFUSED, RESERVED};
 use tp_record::rows::Stage;
 use tp_types::ids::{SlotId, TaskId};
 use tp_types::tasks::Place;
@@ -20,7 +21,7 @@ pub fn give_back<P>(parts: &mut Parts<P>, w: SlotId)
     ensures leads { (a : Ask) → (d : Did) → GivesBack w a d → Fits parts.old a d → Leads parts.old d parts.new }
     ensures payloads { Keeps parts.old.tasks parts.new.tasks }
 {
-    parts.count_entry(3);
+    parts.count_entry(RESERVED);
     parts.give_up(w);
 }
 
@@ -52,7 +53,7 @@ fn first_weight(stage: Stage) -> u64
     ensures bound { result ≤ 10 }
 {
     match stage {
-        Stage::ReservedCore => 10,
-        _ => 6,
+        Stage::ReservedCore => HELD_FOR_CORE + RESERVED - REFUSED,
+        _ => HELD + RESERVED - REFUSED,
     }
 }

@@ -7,6 +7,7 @@ ghost use Rattle.tp_machine_state.specs.Payloads.{Keeps};
 use tp_machine_state::parts::Parts;
 use tp_machine_state::step::Step;
 use tp_record::entries::{Ask, Did};
+use tp_record::owed::{DYING, RESERVED};
 use tp_record::rows::Stage;
 use tp_rules::workers::leave;
 use tp_types::ids::SlotId;
@@ -64,7 +65,7 @@ fn alone<P>(parts: &mut Parts<P>, w: SlotId)
     ensures leads { Leads parts.old (Did.Leave w None) parts.new }
     ensures payloads { Keeps parts.old.tasks parts.new.tasks }
 {
-    parts.count_entry(4);
+    parts.count_entry(DYING);
     parts.free(w);
 }
 
@@ -75,7 +76,7 @@ fn renewed<P>(parts: &mut Parts<P>, w: SlotId)
     ensures leads { Leads parts.old (Did.Leave w (Some w)) parts.new }
     ensures payloads { Keeps parts.old.tasks parts.new.tasks }
 {
-    parts.count_entry(1);
+    parts.count_entry(DYING - RESERVED);
     parts.free(w);
     parts.reserve(Stage::ReservedBare, None);
 }

@@ -10,6 +10,7 @@ use crate::owed::owed_at_take;
 use tp_machine_state::parts::Parts;
 use tp_machine_state::step::Step;
 use tp_record::entries::{Ask, Did, Opened};
+use tp_record::owed::{HELD, HELD_FOR_CORE, RESERVED, WORKING};
 use tp_record::rows::Stage;
 use tp_rules::workers::open;
 use tp_types::ids::{SlotId, TaskId};
@@ -87,7 +88,7 @@ fn live_bare<P>(parts: &mut Parts<P>, w: SlotId)
     ensures payloads { Keeps parts.old.tasks parts.new.tasks }
 {
     let owed = owed_at_take(parts.state);
-    parts.count_entry(3 - owed);
+    parts.count_entry(RESERVED - owed);
     parts.open(w);
 }
 
@@ -99,7 +100,7 @@ fn live_core<P>(parts: &mut Parts<P>, w: SlotId)
     ensures leads { Leads parts.old (Did.Open w Opened.Live) parts.new }
     ensures payloads { Keeps parts.old.tasks parts.new.tasks }
 {
-    parts.count_entry(5);
+    parts.count_entry(HELD_FOR_CORE + RESERVED - HELD - WORKING);
     parts.open(w);
 }
 
@@ -111,6 +112,6 @@ fn live_maximum<P>(parts: &mut Parts<P>, w: SlotId)
     ensures leads { Leads parts.old (Did.Open w Opened.Live) parts.new }
     ensures payloads { Keeps parts.old.tasks parts.new.tasks }
 {
-    parts.count_entry(1);
+    parts.count_entry(RESERVED - WORKING);
     parts.open(w);
 }

@@ -12,6 +12,7 @@ use crate::owed::owed_at_take;
 use tp_machine_state::parts::Parts;
 use tp_machine_state::step::Step;
 use tp_record::entries::{Ask, Did, Took};
+use tp_record::owed::{HELD, IDLE, QUEUED, TAKEN, WORKING};
 use tp_record::rows::{SlotRow, Stage};
 use tp_rules::workers::take;
 use tp_types::ids::{SlotId, TaskId};
@@ -103,7 +104,7 @@ fn held<P>(parts: &mut Parts<P>, w: SlotId, t: TaskId)
     ensures leads { Leads parts.old (Did.Take w (Took.Held t)) parts.new }
     ensures payloads { Keeps parts.old.tasks parts.new.tasks }
 {
-    parts.count_entry(1);
+    parts.count_entry(HELD - TAKEN);
     parts.place_task(t, Place::Taken(w));
     parts.set_slot(
         w,
@@ -144,7 +145,7 @@ fn head_idle<P>(parts: &mut Parts<P>, w: SlotId, t: TaskId)
     ensures leads { Leads parts.old (Did.Take w (Took.Head t)) parts.new }
     ensures payloads { Keeps parts.old.tasks parts.new.tasks }
 {
-    parts.count_entry(1);
+    parts.count_entry(QUEUED + IDLE - TAKEN - WORKING);
     parts.dequeue();
     parts.place_task(t, Place::Taken(w));
     parts.wake(w, Some(t));
@@ -172,7 +173,7 @@ fn leave_idle<P>(parts: &mut Parts<P>, w: SlotId)
     ensures leads { Leads parts.old (Did.Take w Took.Leave) parts.new }
     ensures payloads { Keeps parts.old.tasks parts.new.tasks }
 {
-    parts.count_entry(1);
+    parts.count_entry(IDLE);
     parts.free(w);
 }
 
@@ -184,6 +185,6 @@ fn rest<P>(parts: &mut Parts<P>, w: SlotId)
     ensures leads { Leads parts.old (Did.Take w Took.Idle) parts.new }
     ensures payloads { Keeps parts.old.tasks parts.new.tasks }
 {
-    parts.count_entry(1);
+    parts.count_entry(WORKING - IDLE);
     parts.idle(w);
 }

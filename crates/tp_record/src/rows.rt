@@ -2,7 +2,7 @@
 
 ghost use Rattle.std.specs.Prelude.{◌≡◌, ◌≤◌, ◌+◌, Some, None, is_none, false, if◌then◌else◌};
 
-use crate::owed::{place_weight, stage_weight};
+use crate::owed::{SECOND_LOOK, place_weight, stage_weight};
 use tp_types::ids::TaskId;
 use tp_types::refusals::PoolError;
 use tp_types::tasks::{Fate, Kind, Outcome, Place};
@@ -198,6 +198,6 @@ impl TaskRow {
         ensures weight { result ≡ states.place_weight for_core self.place + (if self.second then 4 else 0) }
         ensures bound { result ≤ 17 }
     {
-        place_weight(for_core, self.place) + if self.second { 4 } else { 0 }
+        place_weight(for_core, self.place) + if self.second { SECOND_LOOK } else { 0 }
     }
 }
