@@ -22,7 +22,7 @@ import sys
 import tempfile
 
 ROOT = os.path.dirname(os.path.dirname(os.path.abspath(__file__)))
-# No function of ours is called so: of a check of it alone, the compiler's part is left.
+# No function of ours is called so: of a check of it alone, the compiler's part is left, and a line that says so.
 NONE = "no_function_is_called_so"
 
 
@@ -81,7 +81,7 @@ def errors(home, made):
     ran = subprocess.run(["rt", "check", "--jobs", "1", "--only", NONE], cwd=home, stdout=subprocess.PIPE, stderr=subprocess.STDOUT, text=True)
     for path, text in was.items():
         path.write_text(text)
-    return [line for line in ran.stdout.split("\n") if "error" in line]
+    return [line for line in ran.stdout.split("\n") if "error" in line and NONE not in line]
 
 
 def refused_by_types(home, found):
