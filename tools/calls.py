@@ -13,7 +13,7 @@ import sys
 
 ROOT = pathlib.Path(__file__).resolve().parent.parent
 PAGE = ROOT / "docs" / "CALLS.md"
-SOURCES = ["tp_types/src/settings.rt", "tp_life/src/*.rt", "tp_life_values/src/*.rt", "tp_pool_advice/src/*.rt", "tp_pool/src/*.rt", "tp_service/src/*.rt"]
+SOURCES = ["tp_types/src/settings.rt", "tp_life/src/*.rt", "tp_pool_advice/src/*.rt", "tp_pool/src/*.rt", "tp_service/src/*.rt"]
 HEAD = """# The calls
 
 `tools/calls.py` makes this page of the sources, whose comments say more. Each call has its signature, what it does and the Java call that it mirrors ([what differs](JAVA.md)), its [refusals](TROUBLE.md), and what is proved of it.

@@ -3,7 +3,7 @@
 use crate::chores::{Chore, Sign, Work};
 use crate::mishaps::Mishap;
 use tp_life::prelude::*;
-use tp_life_values::tasks::{Find, Held};
+use tp_life::tasks::{Find, Held};
 use tp_types::tasks::Kind;
 
 /// A call.

@@ -11,7 +11,7 @@ use std::marker::Brand;
 use std::thread::{self, Threads};
 use std::time::Clock;
 use tp_life::prelude::*;
-use tp_life_values::tasks::Held;
+use tp_life::tasks::Held;
 use tp_machine::machine::releases::Keeper;
 use tp_pool::names::PoolNaming;
 use tp_pool::prelude::{Handle, Kind, Pass, PoolName, PoolOf, Reporter, Runtime, Unopened};

@@ -13,9 +13,9 @@ use Rattle.tp_scenario.specs.declared.listeners.Both.{Both}
 use Rattle.tp_scenario.specs.Played.{Ending, IsPlayed, IsRun}
 use Rattle.tp_scenario.proofs.Endings.{ran_from, unread}
 use Rattle.tp_scenario.specs.Plays.{Answered, IsPlayOf, RefusesPlay, refusals_in}
-use Rattle.tp_scenario_replay.specs.declared.records.Recording.{Recording}
-use Rattle.tp_scenario_replay.specs.declared.refusals.Refusals.{Refusals}
-use Rattle.tp_scenario_replay.specs.Records.{IsRecordOf}
+use Rattle.poolrun_commands.specs.declared.records.Recording.{Recording}
+use Rattle.poolrun_commands.specs.declared.refusals.Refusals.{Refusals}
+use Rattle.poolrun_commands.specs.Records.{IsRecordOf}
 use Rattle.poolrun_choices.specs.declared.choices.Playing.{Playing}
 use Rattle.poolrun_commands.specs.Steps.{IsPassed, IsRecordRun, OfText, Plays, PrintsRecord, ending}
 

@@ -6,3 +6,4 @@ pub mod Explores
 pub mod Questions
 pub mod Status
 pub mod Steps
+pub mod Records

@@ -9,8 +9,8 @@ use Rattle.tp_text.specs.declared.watched.WatchedWriter.{WatchedWriter}
 use Rattle.tp_text.specs.Watching.{TellsReader, TellsWriter, sink, source}
 use Rattle.tp_story.specs.Stories.{Telling, Tells}
 use Rattle.tp_story.specs.declared.subjects.Subject.TheVariants as subject
-use Rattle.tp_story_now.specs.Fronts.{Followed, Follows}
-use Rattle.tp_story_stats.specs.Counted.{Counts}
+use Rattle.tp_story.specs.Fronts.{Followed, Follows}
+use Rattle.tp_story.specs.Counted.{Counts}
 use Rattle.tp_story_words.specs.declared.forms.Form.{Form}
 use Rattle.tp_story_questions.specs.declared.numbers.Counted.{Counted}
 use Rattle.tp_story_questions.specs.Answers.{IsAsked}

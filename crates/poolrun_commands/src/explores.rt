@@ -9,6 +9,7 @@ ghost use Rattle.poolrun_commands.specs.Explores.{Explores, IsFound, IsTold, IsT
 ghost use Rattle.poolrun_commands.specs.Status.{Ends};
 
 use crate::progress::ProgressLine;
+use crate::records::Recording;
 use crate::statuses::finish;
 use crate::telling::tell_refusal;
 use crate::texts::text_or_status;
@@ -25,7 +26,6 @@ use tp_explore_walk::systems::Watch;
 use tp_messages::messages::Style;
 use tp_messages::mistakes::Kind;
 use tp_scenario::play::play;
-use tp_scenario_replay::records::Recording;
 use tp_text::watched::{WatchedReader, WatchedWriter};
 use tp_text::writing::write_text;
 use tp_types::limits::MAX_TEXT_BYTES;

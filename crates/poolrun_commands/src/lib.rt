@@ -3,7 +3,8 @@
 //!
 //! They stand over any reader and writers, and not on the pool's storeys: a change of those then costs the program a few functions.
 //! `poolrun` adds files, the command line and `threads`, which alone stands on the pool. Tests of the commands stand above them, in
-//! `test_program`, and need no files.
+//! `test_program`, and need no files. `records` and `refusals` hear a scenario's play: they write its record, and keep which steps
+//! are refused, and why.
 #![tactic(auto)]
 
 pub mod audits;
@@ -16,6 +17,8 @@ mod listings;
 pub mod objects;
 pub mod progress;
 pub mod questions;
+pub mod records;
+pub mod refusals;
 pub mod statuses;
 pub mod steps;
 pub mod telling;

@@ -4,6 +4,7 @@ ghost use Rattle.std.specs.Prelude.{◌≤◌, length, IfOk};
 ghost use Rattle.poolrun_commands.specs.Steps.{IsPassed};
 
 use crate::listings::Listing;
+use crate::refusals::Refusals;
 use crate::statuses::finish;
 use crate::steps::passes;
 use crate::telling::tell_refusal;
@@ -19,7 +20,6 @@ use tp_record::entries::Entry;
 use tp_scenario::listeners::{Answered, Both, Listener};
 use tp_scenario::play::play;
 use tp_scenario::step::Refusal;
-use tp_scenario_replay::refusals::Refusals;
 use tp_story_words::objects::{CountMembers, entry_members};
 use tp_text::asks::ShownAsk;
 use tp_text::watched::{WatchedReader, WatchedWriter};

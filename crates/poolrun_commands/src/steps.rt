@@ -6,6 +6,8 @@ ghost use Rattle.poolrun_commands.specs.Status.{Ends};
 ghost use Rattle.poolrun_commands.specs.Steps.{IsPassed, IsRecordRun, Plays, RunsSteps};
 
 use crate::explains::explain_record;
+use crate::records::Recording;
+use crate::refusals::Refusals;
 use crate::statuses::finish;
 use crate::telling::tell_refusal;
 use crate::texts::text_or_status;
@@ -17,8 +19,6 @@ use tp_messages::mistakes::Kind;
 use tp_scenario::listeners::Both;
 use tp_scenario::play::play as play_scenario;
 use tp_scenario::run::run_text;
-use tp_scenario_replay::records::Recording;
-use tp_scenario_replay::refusals::Refusals;
 use tp_text::watched::{WatchedReader, WatchedWriter};
 use tp_types::refusals::PoolError;
 

@@ -18,8 +18,8 @@ use Rattle.tp_book.specs.declared.reports.Report.{Report}
 use Rattle.tp_pool_holds.specs.Left.{IsStranded}
 use Rattle.tp_pool_holds.specs.Moments.{AtSome}
 use Rattle.tp_pool_holds.specs.Passes.{Adds, LooksOnly, entry_of, tidied, ended}
-use Rattle.tp_pool_threads.specs.Closing.{Reports}
-use Rattle.tp_pool_threads.specs.Endings.{AddsAndEnds, IsBarred, IsEnding}
+use Rattle.tp_pool_holds.specs.Reports.{Reports}
+use Rattle.tp_pool_holds.specs.Endings.{AddsAndEnds, IsBarred, IsEnding}
 use Rattle.tp_glance.proofs.Fronts.{rank_grows}
 use Rattle.tp_pool_holds.proofs.Moments.{rank_top}
 use Rattle.tp_pool_holds.proofs.Receipts.{adds_both, adds_looks}

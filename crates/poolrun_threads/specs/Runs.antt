@@ -30,7 +30,7 @@ use Rattle.tp_book.specs.declared.reports.TallyReport.{TallyReport}
 use Rattle.tp_pool_holds.specs.Passes.{Adds, AddsNone, entry_of, tidied, ended}
 use Rattle.tp_pool.specs.Admissions.{AddsFront, AsksFor}
 use Rattle.tp_record.specs.Terms.{without_end}
-use Rattle.tp_pool_threads.specs.Closing.{Closes}
+use Rattle.tp_pool_holds.specs.Reports.{Closes}
 
 -- as what a task is submitted: its kind and its priority
 abbrev pub Asked : Type 0

@@ -2,7 +2,7 @@
 ghost use Rattle.std.specs.Prelude.{◌≡◌, [], ◌∷◌, true, reverse, IfOk, IfErr, IfSome};
 ghost use Rattle.tp_book.specs.PassView.{PassView};
 ghost use Rattle.tp_book.specs.Reports.{TellsRecord};
-ghost use Rattle.tp_pool_threads.specs.Closing.{Reports};
+ghost use Rattle.tp_pool_holds.specs.Reports.{Reports};
 ghost use Rattle.tp_journal.specs.Endings.{IfThrough};
 ghost use Rattle.tp_journal.specs.Journals.{IsJournalOf};
 ghost use Rattle.poolrun_threads.specs.Runs.{AddsEnd, IsLife, IsRun, IsShort, RefusesRun, asked};

@@ -3,7 +3,7 @@ ghost use Rattle.std.specs.Prelude.{◌≡◌, [], ◌∷◌, reverse, true, IsT
 ghost use Rattle.tp_book.specs.PassView.{PassView};
 ghost use Rattle.tp_pool_holds.specs.Left.{IsStranded};
 ghost use Rattle.tp_pool_holds.specs.Moments.{AtSome};
-ghost use Rattle.tp_pool_threads.specs.Closing.{Closes};
+ghost use Rattle.tp_pool_holds.specs.Reports.{Closes};
 ghost use Rattle.tp_journal.specs.Endings.{IfThrough};
 ghost use Rattle.tp_journal.specs.Journals.{IsJournalOf};
 ghost use Rattle.poolrun_threads.specs.Runs.{AddsEnd, IsLife, IsRun, IsShort, IsTally, RefusesRun, asked};

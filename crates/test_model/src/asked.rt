@@ -4,7 +4,7 @@ use crate::compare::same;
 use crate::judged::{LONE, plain_counts};
 use std::alloc::Global;
 use tp_audit_plain::summary::Flaw;
-use tp_machine_runs::runs::{Run, run_asks};
+use tp_machine::runs::{Run, run_asks};
 use tp_record::entries::{Ask, Did, Entry, Looked, Opened, Started, Took};
 use tp_types::configs::Config;
 use tp_types::ids::{SlotId, TaskId};

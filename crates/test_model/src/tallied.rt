@@ -3,7 +3,7 @@
 use crate::compare::same;
 use crate::judged::{LONE, NONE};
 use std::alloc::Global;
-use tp_machine_runs::tallies::{TallyAsk, TallyRun, run_tally};
+use tp_machine::tallies::{TallyAsk, TallyRun, run_tally};
 use tp_record::entries::{Ask, Did, Looked, Opened, Seconded, Started, Took};
 use tp_types::ids::{SlotId, TaskId};
 use tp_types::refusals::PoolError;

@@ -6,8 +6,8 @@ use crate::records::{IDLE, SHUTDOWN, STOP, record_of};
 use std::alloc::Global;
 use std::process::Abort;
 use std::test::Fail;
-use tp_story_now::fronts::Front;
-use tp_story_times::times::Since;
+use tp_story::fronts::Front;
+use tp_story::times::Since;
 use tp_types::ids::{SlotId, TaskId};
 use tp_types::refusals::PoolError;
 

@@ -1,6 +1,5 @@
 //! What the rules of steps read of an auditor's tables.
 
-use crate::rows::row_at;
 use crate::tables::Tables;
 use crate::walks::count_cancelled;
 use std::alloc::Global;
@@ -46,11 +45,7 @@ impl Readings for Tables {
     }
 
     fn task(&self, t: TaskId) -> Option<TaskRow> {
-        if (t.0 as usize) < self.tasks.len() {
-            Some(row_at(&self.tasks, t))
-        } else {
-            None
-        }
+        self.tasks.get(t.0 as usize).copied()
     }
 
     fn slot(&self, w: SlotId) -> Option<SlotRow> {

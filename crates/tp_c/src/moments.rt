@@ -10,7 +10,7 @@ use crate::texts::refuse;
 use std::alloc::Global;
 use tp_audit_plain::summary::Flaw;
 use tp_record::entries::Entry;
-use tp_story_now::fronts::Front;
+use tp_story::fronts::Front;
 use tp_story_words::fronts::write_front;
 use tp_text_record::reading::{Taker, read_whole};
 use tp_text_record::versions::Version;

@@ -8,7 +8,7 @@ use Rattle.tp_types.specs.declared.configs.Config.{Config}
 use Rattle.tp_glance.specs.Word.{IsFrontOf}
 use Rattle.tp_book.specs.PassView.{PassView}
 use Rattle.tp_book.specs.declared.reports.Report.{Report}
-use Rattle.tp_pool_threads.specs.Closing.{Reports}
+use Rattle.tp_pool_holds.specs.Reports.{Reports}
 
 -- the last of a list stands behind the others
 last_at : {X : Type 0} (xs : List X) (y : X) → get_or (xs ++ y ∷ []) (length xs) y ≡ y

@@ -9,8 +9,8 @@ use std::io::Write;
 use std::sync::Wait;
 use std::time::{Clock, Duration};
 use tp_book::sights::Sight;
+use tp_pool_holds::edges::Edge;
 use tp_pool_holds::names::PoolNaming;
-use tp_pool_threads::edges::Edge;
 use tp_protocols::jobs::Job;
 use tp_types::refusals::PoolError;
 

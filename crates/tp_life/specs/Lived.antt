@@ -7,7 +7,7 @@ use Rattle.tp_record.specs.declared.entries.Entry.{Entry}
 use Rattle.tp_book.specs.PassView.{PassView}
 use Rattle.tp_pool_holds.specs.Moments.{AtSome}
 use Rattle.tp_pool.specs.Lives.{IsUnopened}
-use Rattle.tp_pool_threads.specs.Closing.{Closes}
+use Rattle.tp_pool_holds.specs.Reports.{Closes}
 
 -- a caller's pass as its life begins: it has asked for nothing, and knows nothing of the pool's record
 abbrev pub IsNewPass : Bool → PassView → Type 0

@@ -4,13 +4,13 @@ ghost use Rattle.tp_types.specs.declared.ids.TaskId.{TaskId as TaskIdOf};
 ghost use Rattle.tp_book.specs.PassView.{PassView};
 ghost use Rattle.tp_pool.specs.Submissions.{Submits};
 ghost use Rattle.tp_pool.specs.Turns.{ThroughBoth};
-ghost use Rattle.tp_life_values.specs.declared.tasks.TheConstants.{VOID};
+ghost use Rattle.tp_life.specs.declared.tasks.TheConstants.{VOID};
 ghost use Rattle.tp_life.specs.Futures.{submitted_as, IsTaken};
 
 use crate::calls::{Calls, Ticket};
 use crate::running::Told;
+use crate::tasks::Task;
 use std::alloc::Global;
-use tp_life_values::tasks::Task;
 use tp_types::refusals::PoolError;
 
 // What a submission came to: a ticket, or its refusal.

@@ -1,8 +1,8 @@
 //! A pool's calls, as a caller makes them that has a pass of its own; and what a life with a pool is.
 
+use crate::tasks::{Find, Held, Task};
 use std::sync::Wait;
 use std::time::{Clock, Duration};
-use tp_life_values::tasks::{Find, Held, Task};
 use tp_pool::readings::Reading;
 use tp_pool::task_of;
 use tp_pool_holds::answers::{Admitted, Drained, Refused, Removal};
@@ -48,7 +48,7 @@ pub trait Controls {
     ghost use Rattle.tp_book.specs.PassView.{PassView};
     ghost use Rattle.tp_pool_holds.specs.Moments.{AtFront};
     ghost use Rattle.tp_pool_holds.specs.Passes.{Adds, AddsNone, AddsStep, LooksOnly, Refuses, tidied, ended};
-    ghost use Rattle.tp_pool_threads.specs.Endings.{AddsAndEnds, IsBarred};
+    ghost use Rattle.tp_pool_holds.specs.Endings.{AddsAndEnds, IsBarred};
     ghost use Rattle.tp_life.specs.Settings.{asked, done};
 
     /// The settings by which its steps are judged.
@@ -173,9 +173,9 @@ pub trait Calls: Controls {
     ghost use Rattle.tp_pool.specs.Timed.{IsFoundInTime, IsUndoneInTime};
     ghost use Rattle.tp_book.specs.PassView.{PassView};
     ghost use Rattle.tp_types.specs.declared.ids.TaskId.{TaskId as TaskIdOf};
-    ghost use Rattle.tp_pool_threads.specs.Endings.{AddsAndEnds};
+    ghost use Rattle.tp_pool_holds.specs.Endings.{AddsAndEnds};
     ghost use Rattle.tp_life.specs.Futures.{IsAnswer, IsTaken};
-    ghost use Rattle.tp_life_values.specs.declared.tasks.TheConstants.{VOID};
+    ghost use Rattle.tp_life.specs.declared.tasks.TheConstants.{VOID};
 
     /// What it runs.
     type Task: Task;

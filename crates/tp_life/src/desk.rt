@@ -5,8 +5,8 @@ use std::thread::Threads;
 use tp_machine::machine::releases::Keeper;
 use tp_pool::PoolOf;
 use tp_pool::orders::Order;
+use tp_pool_holds::edges::Edge;
 use tp_pool_holds::names::PoolNaming;
-use tp_pool_threads::edges::Edge;
 use tp_protocols::jobs::Job;
 
 // Where the desk stands: one order at a time.

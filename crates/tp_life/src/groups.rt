@@ -2,7 +2,7 @@
 ghost use Rattle.std.specs.Prelude.{◌≡◌, ◌⊎◌, [], ◌∷◌, ◌++◌, Some, length, IfErr, IfSome, IfNone, OnOk, OnErr};
 ghost use Rattle.tp_pool.specs.Admissions.{AtPriority, IsTurnedAway};
 ghost use Rattle.tp_pool.specs.Submissions.{AddsJob};
-ghost use Rattle.tp_life_values.specs.declared.tasks.TheConstants.{VOID};
+ghost use Rattle.tp_life.specs.declared.tasks.TheConstants.{VOID};
 ghost use Rattle.tp_pool_holds.specs.Readings.{IsUndoneAt};
 ghost use Rattle.tp_pool.specs.Timed.{IsUndoneInTime};
 ghost use Rattle.tp_life.specs.Groups.{HadNone, IsNext, IsOut, IsResult, IsToldOf};
@@ -10,9 +10,9 @@ ghost use Rattle.std.specs.Iterator.{at_most};
 
 use crate::calls::{Calls, Ticket};
 use crate::running::Told;
+use crate::tasks::Task;
 use std::alloc::Global;
 use std::time::Duration;
-use tp_life_values::tasks::Task;
 use tp_pool_holds::answers::Refused;
 use tp_types::ids::TaskId;
 use tp_types::refusals::PoolError;

@@ -2,15 +2,15 @@
 ghost use Rattle.std.specs.Prelude.{◌≡◌, ◌⊎◌, length, IfOk, IfErr};
 ghost use Rattle.tp_record.specs.Terms.{without_end};
 ghost use Rattle.tp_pool.specs.Lives.{IsOver, IsUnrun, sized};
-ghost use Rattle.tp_life_values.specs.declared.tasks.TheConstants.{VOID};
+ghost use Rattle.tp_life.specs.declared.tasks.TheConstants.{VOID};
 ghost use Rattle.tp_life.specs.Ran.{AreRun, AreTallied, IsTold, Pairwise};
 
+use crate::tasks::{Find, Held, Task};
 use std::alloc::Global;
 use std::sync::Wait;
 use tp_book::reports::{Report, TallyReport};
-use tp_life_values::tasks::{Find, Held, Task};
 use tp_pool::{Answer, Runtime, run_all, run_all_with_tally};
-use tp_pool_threads::edges::Edge;
+use tp_pool_holds::edges::Edge;
 use tp_types::configs::Config;
 use tp_types::refusals::PoolError;
 

@@ -6,14 +6,14 @@ ghost use Rattle.tp_life.specs.Ticking.{LeavesTicked, Tells};
 
 use crate::calls::{Calls, Life};
 use crate::lives::with_pool;
+use crate::tasks::Task;
 use std::alloc::Global;
 use std::sync::{Condvar, Mutex, Wait};
 use std::time::{Clock, Duration, Instant};
 use tp_book::reports::Report;
-use tp_life_values::tasks::Task;
 use tp_pool::Runtime;
 use tp_pool::readings::Reading;
-use tp_pool_threads::edges::Edge;
+use tp_pool_holds::edges::Edge;
 use tp_types::configs::Config;
 use tp_types::refusals::PoolError;
 

@@ -45,7 +45,7 @@ impl<P> Step<P> for Ended {
     }
 
     fn apply(self, parts: &mut Parts<P>, _answer: ()) {
-        parts.count_entry(1);
+        parts.count_entry(parts.owed_until(RunState::Terminated));
         parts.reach(RunState::Terminated);
     }
 }

@@ -45,16 +45,11 @@ impl<P> Step<P> for Prestart {
 
     // BookFull (5).
     fn answer(self, parts: &Parts<P>) -> Result<Option<SlotId>, PoolError> {
-        if !lacks_core_worker(parts) {
-            if !parts.has_room(0, 0) {
-                return Err(PoolError::BookFull);
-            }
-            return Ok(None);
+        if lacks_core_worker(parts) {
+            parts.in_room(Ok(Some(parts.slots.next_number())), 0, RESERVED)
+        } else {
+            parts.in_room(Ok(None), 0, 0)
         }
-        if !parts.has_room(0, RESERVED) {
-            return Err(PoolError::BookFull);
-        }
-        Ok(Some(parts.slots.next_number()))
     }
 
     fn apply(self, parts: &mut Parts<P>, slot: Option<SlotId>) {

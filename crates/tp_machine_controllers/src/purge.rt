@@ -42,11 +42,7 @@ impl<P> Step<P> for Purge {
     // them, and a look at each task that was cancelled there since the last purge.
     fn answer(self, parts: &Parts<P>) -> Result<u32, PoolError> {
         let cancelled = parts.count_cancelled();
-        // A queued task owes 6 entries.
-        if !parts.has_room(QUEUED * u64::from(cancelled), 0) {
-            return Err(PoolError::BookFull);
-        }
-        Ok(cancelled)
+        parts.in_room(Ok(cancelled), QUEUED * u64::from(cancelled), 0)
     }
 
     // The cancelled tasks, as many as were answered, leave the queue and are gone. They keep the fate cancelled. Their payloads

@@ -80,11 +80,7 @@ impl<P> Step<P> for Remove {
     // UnknownTask (6) or BookFull (5).
     fn answer(self, parts: &Parts<P>) -> Result<bool, PoolError> {
         let queued = is_queued(parts, self.0)?;
-        // A queued task owes 6 entries.
-        if !parts.has_room(QUEUED * u64::from(queued), 0) {
-            return Err(PoolError::BookFull);
-        }
-        Ok(queued)
+        parts.in_room(Ok(queued), QUEUED * u64::from(queued), 0)
     }
 
     fn apply(self, parts: &mut Parts<P>, queued: bool) -> Option<P> {

@@ -38,10 +38,7 @@ impl<P> Step<P> for Shutdown {
 
     // A shutdown always fits, a second one too. BookFull (5), which only a pool that is shut down answers.
     fn answer(self, parts: &Parts<P>) -> Result<(), PoolError> {
-        if !parts.has_room(parts.owed_until(RunState::Shutdown), 0) {
-            return Err(PoolError::BookFull);
-        }
-        Ok(())
+        parts.in_room(Ok(()), parts.owed_until(RunState::Shutdown), 0)
     }
 
     // The pool is shut down, unless it has come further, and idle workers wake: each is to see that it leaves, or that tasks are

@@ -25,10 +25,7 @@ pub fn answer<P>(parts: &Parts<P>) -> Result<u32, PoolError>
     ensures refuses { IfErr result (λ e. Refuses parts.now Ask.Stop e) }
 {
     let count = parts.queue.len() as u32;
-    if !parts.has_room(fall(parts, count), 0) {
-        return Err(PoolError::BookFull);
-    }
-    Ok(count)
+    parts.in_room(Ok(count), fall(parts, count), 0)
 }
 
 /// By how many entries fewer are owed after a stop that hands back so many tasks.

@@ -4,6 +4,7 @@ use Rattle.std.specs.Prelude.{unwrap_or, IfOk, IfErr, IfSome}
 use Rattle.std.proofs.lemmas.Result.{IfErr-weaker}
 use Rattle.tp_types.specs.declared.configs.Config.{Config}
 use Rattle.tp_types.specs.declared.refusals.PoolError.{PoolError}
+use Rattle.tp_types.specs.declared.refusals.PoolError.TheVariants.{BookFull}
 use Rattle.tp_record.specs.declared.entries.Ask.{Ask}
 use Rattle.tp_record.specs.declared.entries.Did.{Did}
 use Rattle.tp_record.specs.Effects.{reserves}
@@ -14,12 +15,27 @@ use Rattle.tp_rules.specs.Answers.{no_settings, Answers, AnswersBy, AnswersAt}
 use Rattle.tp_rules.proofs.Numbers.{fitting_at}
 use Rattle.tp_machine_state.specs.declared.parts.Parts.{Parts}
 use Rattle.tp_machine_state.specs.Outcomes.{Denies, FitsOutcome}
-use Rattle.tp_machine_state.specs.Room.{IsInRoom}
+use Rattle.tp_machine_state.specs.Room.{TellsRoom, IsInRoom}
 use Rattle.tp_machine_state.specs.Shows.{Reads}
 use Rattle.tp_machine_state.specs.Steps.{Fits, Accepts, Refuses}
 use Rattle.tp_machine_state.specs.Terms.{terms}
 use Rattle.tp_machine_state.proofs.Answering.{Moves, accepts_room, refuses_fitting}
 use Rattle.tp_machine_state.proofs.Reading.{reads_marked}
+
+-- The answer x, where the record has room for its entry, by which what is owed falls and rises by so much
+module _ {P X : Type 0} (p : Parts P) (a : Ask) (f : X → Did) (fall rise : ℕ) (x : X) where
+  -- is accepted where it fits
+  pub accepts_given : Fits p a (f x) → Moves p fall rise (f x) → (r : Result X PoolError) → IsInRoom p fall rise (Ok x) r → IfOk r (λ y. Accepts p a (f y))
+  accepts_given fits moves r (inl is) = subst (λ (y : Result X PoolError). IfOk y (λ z. Accepts p a (f z))) (sym is.0) (accepts_room p a (f x) fall rise true is.1 refl fits moves)
+  accepts_given fits moves r (inr is) = subst (λ (y : Result X PoolError). IfOk y (λ z. Accepts p a (f z))) (sym is.0) tt
+
+  -- and is refused else, where it may be
+  pub refuses_given : (TellsRoom p fall rise false → Refuses p a BookFull) → (r : Result X PoolError) → IsInRoom p fall rise (Ok x) r → IfErr r (λ e. Refuses p a e)
+  refuses_given full r (inl is) = subst (λ (y : Result X PoolError). IfErr y (λ e. Refuses p a e)) (sym is.0) tt
+  refuses_given full r (inr is) = subst (λ (y : Result X PoolError). IfErr y (λ e. Refuses p a e)) (sym is.0) (full is.1)
+
+  pub denies_given : FitsOutcome p a → (TellsRoom p fall rise false → Refuses p a BookFull) → (r : Result X PoolError) → IsInRoom p fall rise (Ok x) r → IfErr r (λ e. Denies p a e)
+  denies_given outcome full r is = IfErr-weaker r _ _ (λ e refused. inr (outcome, refused)) (refuses_given full r is)
 
 module _ {P X : Type 0} (p : Parts P) (a : Ask) (f : X → Did) where
   -- by a rule that answers alike by the settings c and by the pool's, and whichever number a new slot would get
@@ -56,16 +72,12 @@ module _ {P X : Type 0} (p : Parts P) (a : Ask) (f : X → Did) where
     module _ (fall rise : ℕ) (none : (x : X) → reserves (f x) ≡ None) (moves : (x : X) → Moves p fall rise (f x)) where
       pub accepts_in : (q r : Result X PoolError) → IsInRoom p fall rise q r → Answers (Reads p) a f q → IfOk r (λ x. Accepts p a (f x))
       accepts_in (Err e) r is answers = subst (λ (y : Result X PoolError). IfOk y (λ x. Accepts p a (f x))) (sym is) tt
-      accepts_in (Ok x) r (inl is) answers =
-          subst (λ (y : Result X PoolError). IfOk y (λ z. Accepts p a (f z))) (sym is.0) (accepts_room p a (f x) fall rise true is.1 refl (fits none (Ok x) answers) (moves x))
-      accepts_in (Ok x) r (inr is) answers = subst (λ (y : Result X PoolError). IfOk y (λ z. Accepts p a (f z))) (sym is.0) tt
+      accepts_in (Ok x) r is answers = accepts_given p a f fall rise x (fits none (Ok x) answers) (moves x) r is
 
       pub refuses_in : (q r : Result X PoolError) → IsInRoom p fall rise q r → Answers (Reads p) a f q → IfErr r (λ e. Refuses p a e)
       refuses_in (Err e) r is answers = subst (λ (y : Result X PoolError). IfErr y (λ d. Refuses p a d)) (sym is) (refuses (Err e) answers)
-      refuses_in (Ok x) r (inl is) answers = subst (λ (y : Result X PoolError). IfErr y (λ e. Refuses p a e)) (sym is.0) tt
-      refuses_in (Ok x) r (inr is) answers =
-          subst (λ (y : Result X PoolError). IfErr y (λ e. Refuses p a e)) (sym is.0)
-          (refuses_fitting p a (f x) fall rise false is.1 refl (fits none (Ok x) answers) (λ s w. sym (same w s) ∙ same (unwrap_or (reserves (f x)) 0) s) (moves x))
+      refuses_in (Ok x) r is answers =
+          refuses_given p a f fall rise x (λ full. refuses_fitting p a (f x) fall rise false full refl (fits none (Ok x) answers) (λ s w. sym (same w s) ∙ same (unwrap_or (reserves (f x)) 0) s) (moves x)) r is
 
       pub denies_in : FitsOutcome p a → (q r : Result X PoolError) → IsInRoom p fall rise q r → Answers (Reads p) a f q → IfErr r (λ e. Denies p a e)
       denies_in outcome q r is answers = IfErr-weaker r _ _ (λ e refused. inr (outcome, refused)) (refuses_in q r is answers)

@@ -34,11 +34,7 @@ pub fn answer<P>(parts: &Parts<P>, kind: Kind, priority: u32) -> Result<Looked, 
         return Err(PoolError::BookFull);
     }
     let looked = look(parts, parts.slots.next_number());
-    if parts.has_room(0, rise(looked)) {
-        Ok(looked)
-    } else {
-        Err(PoolError::BookFull)
-    }
+    parts.in_room(Ok(looked), 0, rise(looked))
 }
 
 /// Makes memory for the task of an accepted answer, so that nothing that becomes of it takes any. NoMemory (4). Either way
@@ -119,7 +115,7 @@ where
     ensures leads { Leads parts.old (Did.Submit result kind priority (Looked.Reserve w)) parts.new }
     ensures payloads { PutsIn parts.old.tasks parts.new.tasks result.0 promise payload }
 {
-    parts.count_rising_entry(HELD_FOR_CORE + RESERVED);
+    parts.count_rising_entry(rise(Looked::Reserve(w)));
     let t = parts.put_task(kind, priority, Place::Held(w), promise, payload);
     parts.reserve(Stage::ReservedCore, Some(t));
     t
@@ -137,7 +133,7 @@ where
     ensures leads { Leads parts.old (Did.Submit result kind priority Looked.Queue) parts.new }
     ensures payloads { PutsIn parts.old.tasks parts.new.tasks result.0 promise payload }
 {
-    parts.count_rising_entry(TO_OFFER);
+    parts.count_rising_entry(rise(Looked::Queue));
     parts.put_task(kind, priority, Place::ToOffer, promise, payload)
 }
 
@@ -159,6 +155,6 @@ where
     ensures leads { Leads parts.old (Did.Submit result kind priority Looked.Refuse) parts.new }
     ensures payloads { PutsIn parts.old.tasks parts.new.tasks result.0 promise payload }
 {
-    parts.count_rising_entry(REFUSED);
+    parts.count_rising_entry(rise(Looked::Refuse));
     parts.put_task(kind, priority, Place::Refused, promise, payload)
 }

@@ -169,7 +169,7 @@ fn retry<P>(parts: &mut Parts<P>, t: TaskId, verdict: Verdict)
     ensures leads { Leads parts.old (Did.Verdict t verdict Ruled.Retry) parts.new }
     ensures payloads { Keeps parts.old.tasks parts.new.tasks }
 {
-    parts.count_rising_entry(LOOKING - REFUSED);
+    parts.count_rising_entry(rise(Ruled::Retry));
     parts.retry_task(t);
 }
 
@@ -180,7 +180,7 @@ fn retry_drop<P>(parts: &mut Parts<P>, t: TaskId, verdict: Verdict, head: TaskId
     ensures leads { Leads parts.old (Did.Verdict t verdict (Ruled.RetryDrop head)) parts.new }
     ensures payloads { HandsOut parts.old.tasks parts.new.tasks head.0 result }
 {
-    parts.count_rising_entry(LOOKING - REFUSED - QUEUED);
+    parts.count_rising_entry(rise(Ruled::RetryDrop(head)));
     parts.dequeue();
     let payload = parts.finish_task(head, Fate::Discarded);
     parts.retry_task(t);

@@ -20,8 +20,8 @@ use Rattle.tp_pool_holds.specs.Readings.{has_come}
 use Rattle.tp_pool_holds.specs.Passes.{Adds, AddsNone, AddsStep, IsRefusal, entry_of, tidied, ended}
 use Rattle.tp_pool_holds.proofs.Receipts.{leads_front, reserved}
 use Rattle.tp_pool.specs.Lives.{IsShut}
-use Rattle.tp_pool_threads.specs.Endings.{IsBarred}
-use Rattle.tp_pool_threads.proofs.Ends.{reached}
+use Rattle.tp_pool_holds.specs.Endings.{IsBarred}
+use Rattle.tp_pool_holds.proofs.Ends.{reached}
 
 -- the wait is torn: the step `tidy` was made, and `ended` not
 abbrev pub IsTorn : Config → PassView → PassView → PoolError → Type 0

@@ -15,7 +15,7 @@ use Rattle.tp_record.specs.declared.entries.Entry.{Entry}
 use Rattle.tp_record.specs.Step.{Legal}
 use Rattle.tp_book.specs.PassView.{PassView}
 use Rattle.tp_pool_holds.specs.Passes.{Adds, AddsStep, AddsNone, LooksOnly, entry_of, opening}
-use Rattle.tp_pool_threads.specs.Endings.{IsBarred}
+use Rattle.tp_pool_holds.specs.Endings.{IsBarred}
 use Rattle.tp_pool.specs.Prestarts.{prestarted, is_live, IsPrestart, AddsPrestart, live_start, IsStarts, AddsStarts}
 use Rattle.tp_pool_holds.proofs.Receipts.{adds_both, adds_behind, step_behind, looks_adds, looks_none, stands_looking}
 

@@ -22,11 +22,11 @@ use Rattle.tp_pool_holds.specs.declared.answers.Admitted.TheVariants as admitted
 use Rattle.tp_pool_holds.specs.declared.answers.Refused.{Refused}
 use Rattle.tp_machine.specs.Answers.{ComesBack}
 use Rattle.tp_pool.specs.Admissions.{AddsPath, AddsFront, AtPriority, IsUndone, GotJob, IsAdmitted, IsJobOut, IsTurnedAway, task_of, end_of}
-use Rattle.tp_pool_threads.specs.Submitting.{TakesOut}
+use Rattle.tp_pool_holds.specs.Submitting.{TakesOut}
 use Rattle.tp_pool.specs.Submissions.{AddsJob, AddsSubmission}
 use Rattle.tp_pool_holds.proofs.Plain.{submitted_plain}
 use Rattle.tp_pool_holds.proofs.Receipts.{adds_behind, none_behind}
-use Rattle.tp_pool_threads.proofs.Returned.{takes_from}
+use Rattle.tp_pool_holds.proofs.Returned.{takes_from}
 
 -- one that was admitted
 admits : (c : Config) (k : Kind) (p : ℕ) (a : Admitted) (old new : PassView) → AddsPath c k p (task_of a) (end_of a) old new → AddsSubmission c k p (task_of a) old new

@@ -33,10 +33,10 @@ use Rattle.tp_pool_holds.specs.declared.answers.Refused.{Refused}
 use Rattle.tp_pool_holds.specs.declared.tasks.Task.{Task}
 use Rattle.tp_machine.specs.Answers.{ComesBack}
 use Rattle.tp_pool.specs.Admissions.{task_of, end_of, AddsFront, AsksFor, Awaits, GotJob, IsUndone, IsAdmitted, IsTurnedAway}
-use Rattle.tp_pool_threads.specs.Submitting.{TakesOut}
+use Rattle.tp_pool_holds.specs.Submitting.{TakesOut}
 use Rattle.tp_pool_holds.proofs.Receipts.{adds_looks, adds_then, leads_front}
 use Rattle.tp_pool.proofs.Refusals.{refuses_ever}
-use Rattle.tp_pool_threads.proofs.Returned.{comes_back_as, takes_from}
+use Rattle.tp_pool_holds.proofs.Returned.{comes_back_as, takes_from}
 use Rattle.tp_pool.proofs.Submissions.{got_on}
 use Rattle.std.proofs.lemmas.Bool.{eq-eqb}
 

@@ -27,7 +27,7 @@ use Rattle.tp_pool_holds.specs.declared.answers.Admitted.{Admitted}
 use Rattle.tp_pool_holds.specs.declared.answers.Admitted.TheVariants as admitted
 use Rattle.tp_pool_holds.specs.declared.answers.Refused.{Refused}
 use Rattle.tp_pool_holds.specs.declared.tasks.Task.{Task}
-use Rattle.tp_pool_threads.specs.Submitting.{IsHalted, TakesOut}
+use Rattle.tp_pool_holds.specs.Submitting.{IsHalted, TakesOut}
 
 -- whose submission was admitted, and how it ended
 abbrev pub task_of : Admitted → TaskId

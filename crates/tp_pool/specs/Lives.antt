@@ -19,8 +19,8 @@ use Rattle.tp_pool_holds.specs.Moments.{AtSome, BookOf}
 use Rattle.tp_pool_holds.specs.Passes.{LooksOnly}
 use Rattle.tp_pool_holds.specs.Readings.{got, IsFound}
 use Rattle.tp_pool_holds.specs.declared.tasks.Task.{Task}
-use Rattle.tp_pool_threads.specs.Closing.{Closes}
-use Rattle.tp_pool_threads.specs.Endings.{IsBarred}
+use Rattle.tp_pool_holds.specs.Reports.{Closes}
+use Rattle.tp_pool_holds.specs.Endings.{IsBarred}
 use Rattle.tp_pool.specs.Submissions.{Submits}
 use Rattle.tp_pool.specs.Turns.{ThroughBoth}
 

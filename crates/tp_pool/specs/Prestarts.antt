@@ -10,7 +10,7 @@ use Rattle.tp_record.specs.declared.entries.Opened.TheVariants as opened
 use Rattle.tp_book.specs.PassView.{PassView}
 use Rattle.tp_pool_holds.specs.Moments.{AtFront}
 use Rattle.tp_pool_holds.specs.Passes.{Adds, entry_of, opening}
-use Rattle.tp_pool_threads.specs.Endings.{IsBarred}
+use Rattle.tp_pool_holds.specs.Endings.{IsBarred}
 
 -- a prestart, and the slot that it reserved
 abbrev pub prestarted : ℕ → Option SlotId → Entry

@@ -4,7 +4,7 @@
 //! such an object: `Pool::new` would then be proved of the objects alone that it makes.
 
 use std::sync::{Mutex, Wait};
-use tp_pool_threads::edges::Edge;
+use tp_pool_holds::edges::Edge;
 use tp_protocols::factories::ThreadFactory;
 use tp_protocols::flags::CancelFlag;
 use tp_protocols::gates::{Gate, Point};

@@ -2,7 +2,7 @@
 ghost use Rattle.std.specs.Arc.{arc_value};
 ghost use Rattle.std.specs.Prelude.{◌≡◌, IfOk, IfErr};
 ghost use Rattle.tp_pool_holds.specs.Closing.{KeepsOpen};
-ghost use Rattle.tp_pool_threads.specs.Closing.{Closes};
+ghost use Rattle.tp_pool_holds.specs.Reports.{Closes};
 ghost use Rattle.tp_pool_holds.specs.declared.tasks.Task.{Task as TaskOf};
 
 use crate::pool::{Hold, PoolOf};
@@ -11,10 +11,10 @@ use std::thread;
 use tp_book::passes::Pass;
 pub use tp_book::reports::{Report, Reporter, TallyReport};
 use tp_machine::machine::releases::Keeper;
+use tp_pool_holds::closing::Reopened;
+use tp_pool_holds::edges::Edge;
 use tp_pool_holds::names::PoolNaming;
-use tp_pool_threads::closing::Reopened;
-use tp_pool_threads::edges::Edge;
-use tp_pool_threads::shared::Shared;
+use tp_pool_holds::shared::Shared;
 use tp_protocols::jobs::Job;
 use tp_record::recorders::Full;
 use tp_types::refusals::PoolError;

@@ -8,7 +8,7 @@ ghost use Rattle.tp_pool_holds.specs.Moments.{AtFront};
 ghost use Rattle.tp_pool_holds.specs.Passes.{Adds, AddsNone, Refuses, tidied, ended};
 ghost use Rattle.tp_pool_holds.specs.Readings.{has_come};
 ghost use Rattle.tp_pool_holds.specs.Steps.{Stops};
-ghost use Rattle.tp_pool_threads.specs.Endings.{AddsAndEnds, IsBarred};
+ghost use Rattle.tp_pool_holds.specs.Endings.{AddsAndEnds, IsBarred};
 
 use crate::orders::{Order, rescue_tasks_by};
 use crate::pool::PoolOf;
@@ -19,8 +19,8 @@ use tp_machine::machine::releases::Keeper;
 use tp_machine::typed::Plain;
 use tp_machine::typed::controllers::Shutdown;
 use tp_pool_holds::answers::Drained;
+use tp_pool_holds::edges::Edge;
 use tp_pool_holds::names::PoolNaming;
-use tp_pool_threads::edges::Edge;
 use tp_protocols::jobs::Job;
 use tp_record::entries::{Ask, Did};
 use tp_types::refusals::PoolError;

@@ -2,7 +2,7 @@
 ghost use Rattle.std.specs.Prelude.{◌≡◌, ◌⊎◌, [], ◌∷◌, length, IfOk, IfErr};
 ghost use Rattle.tp_pool_holds.specs.Closing.{KeepsOpen};
 ghost use Rattle.tp_pool_holds.specs.declared.tasks.Task.{Task};
-ghost use Rattle.tp_pool_threads.specs.Closing.{Closes};
+ghost use Rattle.tp_pool_holds.specs.Reports.{Closes};
 
 use crate::closing::{CloseFault, Reporter};
 use crate::pool::{Hold, PoolOf};
@@ -10,8 +10,8 @@ use std::ops::Deref;
 use std::sync::{Arc, Wait};
 use tp_book::passes::Pass;
 use tp_machine::machine::releases::Keeper;
+use tp_pool_holds::edges::Edge;
 use tp_pool_holds::names::PoolNaming;
-use tp_pool_threads::edges::Edge;
 use tp_protocols::jobs::Job;
 use tp_record::recorders::Full;
 use tp_types::refusals::PoolError;

@@ -5,7 +5,7 @@
 //! a pool a thread factory, a rejection handler, hooks and a gate, or `Defaults` for all of them. The pool calls all of
 //! them outside its lock, so each of them may ask the pool for its state, its counters and its steps. The pages of the
 //! traits say which calls from within would wait for ever. All that a caller names can be imported from here. What a
-//! pool's threads share lies below, in `tp_pool_threads`.
+//! pool's threads share lies below, in `tp_pool_holds`.
 #![tactic(auto)]
 
 pub mod abandoned;
@@ -42,10 +42,9 @@ pub use snapshots::{Busy, Snapshot};
 pub use tp_book::passes::Pass;
 pub use tp_book::sights::Sight;
 pub use tp_pool_holds::answers::{Admitted, Drained, Refused, Removal};
-pub use tp_pool_holds::{answers, names};
-pub use tp_pool_threads::defaults::Defaults;
-pub use tp_pool_threads::edges::Edge;
-pub use tp_pool_threads::{defaults, lock, pauses};
+pub use tp_pool_holds::defaults::Defaults;
+pub use tp_pool_holds::edges::Edge;
+pub use tp_pool_holds::{answers, defaults, lock, names, pauses};
 pub use tp_protocols::flags::CancelFlag;
 pub use tp_protocols::jobs::Job;
 pub use tp_protocols::{factories, gates, handlers, hooks};
@@ -61,7 +60,7 @@ pub use tp_types::tasks::{Fate, Kind, Outcome, Place, Promise};
 /// A caller's objects behind one bound.
 pub mod edges {
     pub use crate::boxes::Boxes;
-    pub use tp_pool_threads::edges::{Edge, STACK};
+    pub use tp_pool_holds::edges::{Edge, STACK};
 }
 
 /// The bodies that a pool runs.
@@ -82,8 +81,8 @@ pub mod prelude {
     pub use tp_book::opening::Unopened;
     pub use tp_book::passes::Pass;
     pub use tp_pool_holds::answers::{Admitted, Refused};
-    pub use tp_pool_threads::defaults::Defaults;
-    pub use tp_pool_threads::edges::Edge;
+    pub use tp_pool_holds::defaults::Defaults;
+    pub use tp_pool_holds::edges::Edge;
     pub use tp_protocols::flags::CancelFlag;
     pub use tp_protocols::jobs::Job;
     pub use tp_record::entries::{Did, Entry, Ruled};

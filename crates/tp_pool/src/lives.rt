@@ -4,7 +4,7 @@ ghost use Rattle.tp_record.specs.Fields.{rank};
 ghost use Rattle.tp_record.specs.Step.{Legal};
 ghost use Rattle.tp_record.specs.Terms.{without_end};
 ghost use Rattle.tp_book.specs.PassView.{PassView};
-ghost use Rattle.tp_pool_threads.specs.Closing.{Closes};
+ghost use Rattle.tp_pool_holds.specs.Reports.{Closes};
 ghost use Rattle.tp_pool.specs.Lives.{AreAnswered, AreSubmitted, AreTold, IsClosedRun, IsCut, IsOver, IsRun, IsShut, IsTallyRun, IsTold, IsUnrun, sized};
 ghost use Rattle.tp_pool.specs.Submissions.{Submits};
 
@@ -20,8 +20,8 @@ use tp_book::passes::Pass;
 use tp_book::sights::Sight;
 use tp_machine::machine::releases::Keeper;
 use tp_pool_advice::sizes::for_jobs;
+use tp_pool_holds::edges::Edge;
 use tp_pool_holds::names::PoolNaming;
-use tp_pool_threads::edges::Edge;
 use tp_protocols::jobs::Job;
 use tp_record::recorders::{Full, Tally};
 use tp_types::configs::Config;

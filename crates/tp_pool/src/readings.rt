@@ -19,9 +19,9 @@ use std::sync::Wait;
 use tp_book::passes::Pass;
 use tp_book::sights::Sight;
 use tp_machine::machine::releases::Keeper;
+use tp_pool_holds::edges::Edge;
 use tp_pool_holds::locked::Core;
 use tp_pool_holds::names::PoolNaming;
-use tp_pool_threads::edges::Edge;
 use tp_types::ids::{SlotId, TaskId};
 use tp_types::refusals::PoolError;
 use tp_types::states::{Counts, RunState};
@@ -47,11 +47,12 @@ fn reading_of<G: PoolNaming, J: Drop, K: Keeper>(core: &Core<G, J, K>, state: Ru
     ensures now { result.now ≡ (state_of core.now.book).now }
     ensures steps { result.steps ≡ length core.now.book.history }
 {
+    let book = core.book();
     Reading {
         state,
-        counts: core.counts(),
-        now: core.now(),
-        steps: core.steps(),
+        counts: book.counts(),
+        now: book.now(),
+        steps: book.steps(),
     }
 }
 
@@ -109,14 +110,14 @@ impl<G: PoolNaming, J: Drop, E: Edge, K: Keeper> PoolOf<G, J, E, K> {
     pub fn state<R: Wait>(&self, rt: &R) -> RunState
         ensures { AtSome (K.terms G.config) (λ s. state_rank result ≡ s.rank) }
     {
-        self.shared().hold(rt).state()
+        self.shared().hold(rt).book().state()
     }
 
     /// The twelve counters, all of one moment, as `getTaskCount`, `getPoolSize` and their like.
     pub fn counts<R: Wait>(&self, rt: &R) -> Counts
         ensures { AtSome (K.terms G.config) (λ s. result ≡ counts_of s) }
     {
-        self.shared().hold(rt).counts()
+        self.shared().hold(rt).book().counts()
     }
 
     /// Whether tasks are stranded: they are queued in a pool that is shut down and has no slot, live or reserved. Then no
@@ -132,42 +133,42 @@ impl<G: PoolNaming, J: Drop, E: Edge, K: Keeper> PoolOf<G, J, E, K> {
     pub fn now<R: Wait>(&self, rt: &R) -> u64
         ensures { AtSome (K.terms G.config) (λ s. result ≡ s.now) }
     {
-        self.shared().hold(rt).now()
+        self.shared().hold(rt).book().now()
     }
 
     /// Whether a task of the group has no fate yet.
     pub fn group_open<R: Wait>(&self, rt: &R, g: u32) -> bool
         ensures { AtSome (K.terms G.config) (λ s. IsTrue result ↔ HasOpen g s) }
     {
-        self.shared().hold(rt).group_open(g)
+        self.shared().hold(rt).book().group_open(g)
     }
 
     /// The task in the slot of this number, None where the slot has none or there is no such slot.
     pub fn task_in<R: Wait>(&self, rt: &R, w: SlotId) -> Option<TaskId>
         ensures { AtSome (K.terms G.config) (λ s. result ≡ task_of_row (slot_at s.slots w.0)) }
     {
-        self.shared().hold(rt).task_in(w)
+        self.shared().hold(rt).book().task_in(w)
     }
 
     /// The task's place. UnknownTask (6) where no submission got this number.
     pub fn place<R: Wait>(&self, rt: &R, t: TaskId) -> Result<Place, PoolError>
         ensures { AtSome (K.terms G.config) (λ s. OrReleased K.RECEIPTS (result ≡ known s t.0 (λ r. r.place)) ((result ≡ Err PoolError.UnknownTask) × MayRelease s t.0)) }
     {
-        self.shared().hold(rt).place(t)
+        self.shared().hold(rt).book().place(t)
     }
 
     /// The promise of the task's job. UnknownTask (6) where no submission got this number.
     pub fn promise<R: Wait>(&self, rt: &R, t: TaskId) -> Result<Promise, PoolError>
         ensures { BookAtSome (Task J) (K.terms G.config) (λ b. IsPromiseOf b t.0 K.RECEIPTS result) }
     {
-        self.shared().hold(rt).promise(t)
+        self.shared().hold(rt).book().promise(t)
     }
 
     /// The task's fate, None while it is open. UnknownTask (6) where no submission got this number.
     pub fn fate<R: Wait>(&self, rt: &R, t: TaskId) -> Result<Option<Fate>, PoolError>
         ensures { AtSome (K.terms G.config) (λ s. OrReleased K.RECEIPTS (result ≡ known s t.0 fate_of) ((result ≡ Err PoolError.UnknownTask) × MayRelease s t.0)) }
     {
-        self.shared().hold(rt).fate(t)
+        self.shared().hold(rt).book().fate(t)
     }
 
     /// The answer of the task's future, as `Future.get` gives it, but without waiting: None while the task is
@@ -180,7 +181,7 @@ impl<G: PoolNaming, J: Drop, E: Edge, K: Keeper> PoolOf<G, J, E, K> {
     pub fn result<R: Wait>(&self, rt: &R, t: TaskId) -> Result<Option<i64>, PoolError>
         ensures { BookAtSome (Task J) (K.terms G.config) (λ b. IsResult b t.0 K.RECEIPTS result) }
     {
-        self.shared().hold(rt).result(t)
+        self.shared().hold(rt).book().result(t)
     }
 
     /// As `result`, as it is after the record that the pass knows then. That record goes on from the one that it
@@ -203,6 +204,6 @@ impl<G: PoolNaming, J: Drop, E: Edge, K: Keeper> PoolOf<G, J, E, K> {
     pub fn steps<R: Wait>(&self, rt: &R) -> u64
         ensures { BookAtSome (Task J) (K.terms G.config) (λ b. result ≡ length b.history) }
     {
-        self.shared().hold(rt).steps()
+        self.shared().hold(rt).book().steps()
     }
 }

@@ -5,9 +5,9 @@ use crate::pool::{Hold, PoolOf};
 use std::sync::Wait;
 use std::thread::Threads;
 use tp_machine::machine::releases::Keeper;
+use tp_pool_holds::edges::Edge;
 use tp_pool_holds::names::PoolNaming;
-use tp_pool_threads::edges::Edge;
-use tp_pool_threads::rescues::rescue_with_own;
+use tp_pool_holds::rescues::rescue_with_own;
 use tp_protocols::jobs::Job;
 use tp_protocols::rescues::Remains;
 

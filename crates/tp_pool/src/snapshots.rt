@@ -15,10 +15,10 @@ use std::sync::Wait;
 use tp_book::sights::Sight;
 use tp_glance::glance::Glance;
 use tp_machine::machine::releases::Keeper;
+use tp_pool_holds::edges::Edge;
 pub use tp_pool_holds::locked::Busy;
 use tp_pool_holds::locked::Core;
 use tp_pool_holds::names::PoolNaming;
-use tp_pool_threads::edges::Edge;
 use tp_protocols::jobs::Job;
 use tp_record::entries::Entry;
 use tp_types::refusals::PoolError;
@@ -72,13 +72,16 @@ fn snapshot_of<G: PoolNaming, J: Job, K: Keeper>(
     ensures refused { IfErr result (λ e. e ≡ PoolError.NoMemory) }
 {
     match core.busy(alloc) {
-        Ok(busy) => Ok(Snapshot {
-            state: core.state(),
-            counts: core.counts(),
-            now: core.now(),
-            steps: core.steps(),
-            busy,
-        }),
+        Ok(busy) => {
+            let book = core.book();
+            Ok(Snapshot {
+                state: book.state(),
+                counts: book.counts(),
+                now: book.now(),
+                steps: book.steps(),
+                busy,
+            })
+        }
         Err(error) => Err(error),
     }
 }

@@ -9,7 +9,7 @@ ghost use Rattle.tp_protocols.specs.Fronts.{admission_of, follow_of, goes};
 ghost use Rattle.tp_pool_holds.specs.Passes.{AddsStep, AddsNone, IsRefusal, LooksOnly, opening};
 ghost use Rattle.tp_machine.specs.Answers.{ComesBack};
 ghost use Rattle.tp_pool.specs.Admissions.{task_of, end_of, Admits, AtPriority, Awaits, IsAdmitted, IsTurnedAway, IsUndone};
-ghost use Rattle.tp_pool_threads.specs.Submitting.{IsHalted, TakesOut};
+ghost use Rattle.tp_pool_holds.specs.Submitting.{IsHalted, TakesOut};
 
 use crate::boxes::{Boxed, Boxes};
 use crate::orders::{Order, rescue_by, staffed_by};
@@ -21,10 +21,10 @@ use tp_machine::machine::releases::Keeper;
 use tp_machine::typed::Plain;
 use tp_machine::typed::submitters::{CallerEnd, Grow, Look, Offer, Submit};
 use tp_pool_holds::answers::{Admitted, Refused};
+use tp_pool_holds::edges::Edge;
 use tp_pool_holds::names::PoolNaming;
+use tp_pool_holds::staffing::staff;
 use tp_pool_holds::tasks::Task;
-use tp_pool_threads::edges::Edge;
-use tp_pool_threads::staffing::staff;
 use tp_protocols::flags::CancelFlag;
 use tp_protocols::jobs::Job;
 use tp_protocols::laws::law_fronts_are_paths;
@@ -359,7 +359,7 @@ impl<G: PoolNaming, J: Drop, E: Edge, K: Keeper> PoolOf<G, J, E, K> {
         match shared.around.policy.verdict::<K>() {
             Some(verdict) => verdict,
             None => {
-                let state = shared.hold(rt).state();
+                let state = shared.hold(rt).book().state();
                 shared.around.edge.verdict(rt, t, state)
             }
         }

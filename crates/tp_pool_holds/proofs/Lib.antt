@@ -5,4 +5,10 @@ pub mod Plain
 pub mod Receipts
 pub mod Refusals
 pub mod Stops
-pub mod Waits
+pub mod Waiting
+pub mod Asked
+pub mod Ends
+pub mod Handed
+pub mod Left
+pub mod Certain
+pub mod Returned

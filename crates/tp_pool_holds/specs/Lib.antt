@@ -16,3 +16,9 @@ pub mod Roused
 pub mod Steps
 pub mod Waits
 pub mod Watched
+pub mod Reports
+pub mod Deeds
+pub mod Endings
+pub mod Refusals
+pub mod Rescues
+pub mod Submitting

@@ -225,6 +225,16 @@ impl<G: PoolNaming, J: Drop, R: Keeper> Core<G, J, R> {
         self.book.show_sight(glance, sight)
     }
 
+    /// The book, of which all is read that a hold tells. It stands at its history, which is legal in the pool's settings.
+    #[inline(always)]
+    pub fn book(&self) -> &Book<G, Task<J>, R>
+        ensures same { result.now ≡ self.now.book }
+        ensures stands { IsBook (TaskOf J) (R.terms G.config) result.now }
+    {
+        self.law_is_book();
+        &self.book
+    }
+
     /// The law that the book stands at its history, which is legal in the pool's settings.
     pub fn law_is_book(&self)
         ensures { IsBook (TaskOf J) (R.terms G.config) self.now.book }

@@ -7,6 +7,7 @@ ghost use Rattle.tp_rules.specs.Answers.{Answers};
 
 use crate::readings::{Readings, known, wants_worker};
 use tp_record::entries::{Ask, Did};
+use tp_types::configs::are_good_sizes;
 use tp_types::ids::{SlotId, TaskId};
 use tp_types::refusals::PoolError;
 use tp_types::tasks::{Kind, Place};
@@ -80,7 +81,7 @@ pub fn core<S: Readings>(state: &S, size: u32) -> Result<u32, PoolError>
 pub fn maximum<S: Readings>(state: &S, size: u32) -> Result<(), PoolError>
     ensures { Answers (S.shows state.now) (Ask.Maximum size) (λ x. Did.Maximum size) result }
 {
-    if size >= 1 && size <= 1024 && state.core() <= size {
+    if are_good_sizes(state.core(), size) {
         Ok(())
     } else {
         Err(PoolError::BadSizes)

@@ -89,10 +89,8 @@ fn verdict_answer<S: FullReadings>(
         Ok(row) => row,
         Err(refusal) => return Err(refusal),
     };
-    match ruled(alloc, config, state, t, row, verdict) {
-        Ok(ruled) => Ok(Did::Verdict(t, verdict, ruled)),
-        Err(_) => Err(PoolError::NoMemory),
-    }
+    let ruled = ruled(alloc, config, state, t, row, verdict)?;
+    Ok(Did::Verdict(t, verdict, ruled))
 }
 
 /// The answer to a submission. BookFull (5) where the task's number would be 4,294,967,295.
@@ -174,13 +172,10 @@ pub fn step(
     requires { IsSmall 1048576 (shown state.now) }
     ensures { IsAnswer ⊤ result (steps.step config.now (shown state.now) w.0 ask) }
 {
-    let did = match fitting(alloc, config, state, w, ask) {
-        Ok(did) => did,
-        Err(error) => return Err(error),
-    };
-    match leaves_room(alloc, config, state, did) {
-        Ok(true) => Ok(did),
-        Ok(false) => Err(PoolError::BookFull),
-        Err(error) => Err(error),
+    let did = fitting(alloc, config, state, w, ask)?;
+    if leaves_room(alloc, config, state, did)? {
+        Ok(did)
+    } else {
+        Err(PoolError::BookFull)
     }
 }

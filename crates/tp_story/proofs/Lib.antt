@@ -1,0 +1,4 @@
+pub mod Slots
+pub mod Staying
+pub mod Cutting
+pub mod Counting

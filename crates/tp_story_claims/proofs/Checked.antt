@@ -6,7 +6,7 @@ use Rattle.std.specs.declared.vec.Vec.{Vec}
 use Rattle.tp_record.specs.declared.entries.Entry.{Entry}
 use Rattle.tp_record.specs.State.{state}
 use Rattle.tp_audit.specs.Audited.{settings}
-use Rattle.tp_story_stats.specs.Counted.{Counting, Counts, ended, spans, taken}
+use Rattle.tp_story.specs.Counted.{Counting, Counts, ended, spans, taken}
 use Rattle.tp_story_claims.specs.declared.checks.Checking.{Checking}
 use Rattle.tp_story_claims.specs.declared.checks.Watched.{Watched}
 use Rattle.tp_story_claims.specs.declared.fates.Fates.{Fates}

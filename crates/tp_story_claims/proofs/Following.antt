@@ -6,7 +6,7 @@ use Rattle.tp_record.specs.State.{state}
 use Rattle.tp_record.specs.Step.{Gives, Legal}
 use Rattle.tp_audit_plain.specs.Audit.{IsFirstFlaw}
 use Rattle.tp_audit.specs.Audited.{settings}
-use Rattle.tp_story_now.specs.Fronts.{Followed, Follows, first_of}
+use Rattle.tp_story.specs.Fronts.{Followed, Follows, first_of}
 use Rattle.tp_story_questions.proofs.Flawed.{flaw_here}
 use Rattle.tp_story_claims.specs.Listed.{listed}
 use Rattle.tp_story_claims.specs.declared.differences.Meeting.{Meeting}

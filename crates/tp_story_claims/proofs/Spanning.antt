@@ -3,10 +3,10 @@ use Rattle.std.proofs.Common.{◌≡◌, ℕ, List, [], ◌∷◌, ◌++◌, len
 use Rattle.std.specs.Prelude.{max, slice_get, Option, Some, None}
 use Rattle.tp_record.specs.declared.entries.Entry.{Entry}
 use Rattle.tp_record.specs.declared.entries.Did.{Did}
-use Rattle.tp_story_times.specs.declared.times.Since.{Since}
-use Rattle.tp_story_times.specs.Since.{latest, task_since}
-use Rattle.tp_story_stats.specs.declared.spans.Span.{Span}
-use Rattle.tp_story_stats.specs.Counted.{Mover, span_since, span_to, spans}
+use Rattle.tp_story.specs.declared.times.Since.{Since}
+use Rattle.tp_story.specs.Since.{latest, task_since}
+use Rattle.tp_story.specs.declared.spans.Span.{Span}
+use Rattle.tp_story.specs.Counted.{Mover, span_since, span_to, spans}
 use Rattle.tp_story_claims.specs.Checks.{longer, most}
 
 -- the greater of three numbers

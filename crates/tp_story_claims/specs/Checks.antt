@@ -8,8 +8,8 @@ use Rattle.tp_record.specs.declared.entries.Did.TheVariants as did
 use Rattle.tp_record.specs.Fields.{rank}
 use Rattle.tp_record.specs.State.{state, counts}
 use Rattle.tp_audit.specs.Audited.{settings}
-use Rattle.tp_story_stats.specs.declared.spans.Span.{Span}
-use Rattle.tp_story_stats.specs.Counted.{Counts, spans, taken, ended, longest}
+use Rattle.tp_story.specs.declared.spans.Span.{Span}
+use Rattle.tp_story.specs.Counted.{Counts, spans, taken, ended, longest}
 use Rattle.tp_story_claims.specs.declared.claims.Claim.{Claim}
 use Rattle.tp_story_claims.specs.declared.checks.Watched.{Watched}
 use Rattle.tp_story_claims.specs.declared.checks.Checking.{Checking}

@@ -5,7 +5,7 @@ use Rattle.tp_record.specs.declared.entries.Entry.{Entry}
 use Rattle.tp_record.specs.declared.entries.Did.{Did}
 use Rattle.tp_audit_plain.specs.Audit.{IsFirstFlaw}
 use Rattle.tp_audit.specs.Audited.{settings}
-use Rattle.tp_story_now.specs.Fronts.{Followed, Follows}
+use Rattle.tp_story.specs.Fronts.{Followed, Follows}
 use Rattle.tp_text.specs.EntryLine.{entry_line}
 use Rattle.tp_story_words.specs.Fronts.{front_head}
 use Rattle.tp_story_words.specs.declared.forms.Form.{Form}

@@ -3,7 +3,7 @@
 ghost use Rattle.std.specs.Prelude.{◌≡◌, IfOk, IsOkUnless, List, map, string_bytes};
 ghost use Rattle.tp_record.specs.declared.entries.Entry.{Entry as Told};
 ghost use Rattle.tp_audit.specs.Audited as audited;
-ghost use Rattle.tp_story_stats.specs.Counted as counted;
+ghost use Rattle.tp_story.specs.Counted as counted;
 ghost use Rattle.tp_story_claims.specs.Checks as checks;
 
 use crate::claims::Claim;
@@ -13,9 +13,9 @@ use std::alloc::{AllocError, Global};
 use tp_audit::auditor::Auditor;
 use tp_audit_plain::summary::Flaw;
 use tp_record::entries::{Did, Entry};
+use tp_story::spans::Span;
+use tp_story::stats::Stats;
 use tp_story_questions::accounts::{Account, Said};
-use tp_story_stats::spans::Span;
-use tp_story_stats::stats::Stats;
 use tp_story_words::forms::{Form, Quoted};
 use tp_types::configs::Config;
 use tp_types::refusals::PoolError;

@@ -10,7 +10,7 @@ use std::alloc::{AllocError, Global};
 use tp_audit_plain::plain::are_same;
 use tp_audit_plain::summary::Flaw;
 use tp_record::entries::Entry;
-use tp_story_now::fronts::Front;
+use tp_story::fronts::Front;
 use tp_story_words::forms::{Form, Quoted};
 use tp_story_words::fronts::front_text;
 use tp_text::entries::write_entry;

@@ -8,7 +8,7 @@ use Rattle.tp_audit_plain.specs.Audit.{IsSummary}
 use Rattle.tp_text.specs.EntryLine.{line}
 use Rattle.tp_text.specs.EndLines.{counts_line, state_line}
 use Rattle.tp_audit.specs.Audited.{Judge, settings}
-use Rattle.tp_story_now.specs.Fronts.{Followed, has_entry}
+use Rattle.tp_story.specs.Fronts.{Followed, has_entry}
 use Rattle.tp_story.specs.Stories.{Telling, fate_in, fated_at, is_known, story}
 use Rattle.tp_story_words.specs.declared.forms.Form.{Form}
 use Rattle.tp_story_words.specs.declared.forms.Form.TheVariants as form

@@ -5,7 +5,7 @@ use std::alloc::{AllocError, Global};
 use tp_audit::auditor::Auditor;
 use tp_audit_plain::summary::Flaw;
 use tp_record::entries::Entry;
-use tp_story_now::fronts::Front;
+use tp_story::fronts::Front;
 use tp_story_words::forms::Form;
 use tp_story_words::fronts::front_text;
 use tp_types::configs::Config;
@@ -23,7 +23,7 @@ fn missing(alloc: Global, front: &Front) -> Result<String, AllocError> {
 impl Account for Front {
     ghost use Rattle.std.specs.Prelude.{◌≡◌};
     ghost use Rattle.tp_audit.specs.Audited as audited;
-    ghost use Rattle.tp_story_now.specs.Fronts.{Follows};
+    ghost use Rattle.tp_story.specs.Fronts.{Follows};
     ghost use Rattle.tp_story_questions.specs.Saying.{SaysFront};
 
     type Question = Option<u64>;

@@ -5,7 +5,7 @@ use std::alloc::Global;
 use tp_audit::auditor::Auditor;
 use tp_audit_plain::summary::Flaw;
 use tp_record::entries::Entry;
-use tp_story_stats::stats::Stats;
+use tp_story::stats::Stats;
 use tp_story_words::forms::Form;
 use tp_story_words::numbers::stats_text;
 use tp_types::configs::Config;
@@ -23,7 +23,7 @@ pub struct Counted {
 impl Account for Counted {
     ghost use Rattle.std.specs.Prelude.{◌≡◌, true};
     ghost use Rattle.tp_audit.specs.Audited as audited;
-    ghost use Rattle.tp_story_stats.specs.Counted.{Counts};
+    ghost use Rattle.tp_story.specs.Counted.{Counts};
 
     type Question = u64;
 

@@ -5,7 +5,7 @@ use Rattle.tp_record.specs.declared.entries.Did.TheVariants as did
 use Rattle.tp_record.specs.declared.entries.Offered.TheVariants as offered
 use Rattle.tp_record.specs.declared.entries.Ruled.TheVariants as ruled
 use Rattle.tp_record.specs.declared.entries.Started.TheVariants as started
-use Rattle.tp_story_times.specs.declared.times.Since.{Since}
+use Rattle.tp_story.specs.declared.times.Since.{Since}
 use Rattle.tp_story.specs.declared.events.Event.{Event}
 use Rattle.tp_story_words.specs.declared.words.Earlier.{Earlier}
 

@@ -8,9 +8,9 @@ use std::alloc::Global;
 use std::fmt;
 use std::io::{self, Write};
 use tp_record::rows::TaskRow;
-use tp_story_stats::fates::{Sort, count_fated};
-use tp_story_stats::spans::Span;
-use tp_story_stats::stats::Stats;
+use tp_story::fates::{Sort, count_fated};
+use tp_story::spans::Span;
+use tp_story::stats::Stats;
 use tp_types::ids::SlotId;
 use tp_types::tasks::Fate;
 

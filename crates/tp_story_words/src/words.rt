@@ -11,7 +11,7 @@ use tp_record::entries::{
 use tp_story::events::Event;
 use tp_story::scenes::Scene;
 use tp_story::subjects::Subject;
-use tp_story_times::times::Since;
+use tp_story::times::Since;
 use tp_types::ids::{SlotId, TaskId};
 use tp_types::tasks::{Kind, Outcome};
 

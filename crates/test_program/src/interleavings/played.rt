@@ -2,13 +2,13 @@
 ghost use Rattle.std.specs.Prelude.{◌<◌, length};
 ghost use Rattle.tp_explore_text.specs.Explored.{IsExplored};
 
+use poolrun_commands::records::Recording;
 use std::alloc::Global;
 use std::test::Fail;
 use tp_explore_text::ends::End;
 use tp_explore_text::explored::Explored;
 use tp_explore_text::texts::witness_text;
 use tp_scenario::play::play;
-use tp_scenario_replay::records::Recording;
 use tp_text::watched::WatchedWriter;
 use tp_text_record::judgments::{Judgment, judge_text};
 

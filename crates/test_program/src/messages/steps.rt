@@ -3,13 +3,13 @@
 ghost use Rattle.std.specs.Prelude.{◌≤◌, length};
 
 use crate::messages::compare::same;
+use poolrun_commands::records::Recording;
+use poolrun_commands::refusals::Refusals;
 use std::alloc::Global;
 use std::process::Abort;
 use std::test::Fail;
 use tp_scenario::listeners::Both;
 use tp_scenario::play::play;
-use tp_scenario_replay::records::Recording;
-use tp_scenario_replay::refusals::Refusals;
 use tp_text::watched::WatchedWriter;
 
 const REFUSED: &[u8] = b"pool 1 1 unbounded keep 5 abort limit 64

@@ -49,88 +49,7 @@ fn unless_late(late: bool, found: Result<Option<i64>, PoolError>) -> Result<Opti
 }
 
 impl<G: PoolNaming, J: Drop, R: Keeper> Core<G, J, R> {
-    /// The run state.
-    pub fn state(&self) -> RunState
-        ensures here { state_rank result ≡ (state_of self.now.book).rank }
-        ensures some { AtSome (R.terms G.config) (λ s. state_rank result ≡ s.rank) }
-    {
-        self.law_is_book();
-        self.book.state()
-    }
-
-    /// The twelve counters.
-    pub fn counts(&self) -> Counts
-        ensures here { result ≡ counts_of (state_of self.now.book) }
-        ensures some { AtSome (R.terms G.config) (λ s. result ≡ counts_of s) }
-    {
-        self.law_is_book();
-        self.book.counts()
-    }
-
-    /// The moment, in ticks.
-    pub fn now(&self) -> u64
-        ensures here { result ≡ (state_of self.now.book).now }
-        ensures some { AtSome (R.terms G.config) (λ s. result ≡ s.now) }
-    {
-        self.law_is_book();
-        self.book.now()
-    }
-
-    /// Whether a task of the group has no fate yet.
-    pub fn group_open(&self, g: u32) -> bool
-        ensures here { IsTrue result ↔ HasOpen g (state_of self.now.book) }
-        ensures some { AtSome (R.terms G.config) (λ s. IsTrue result ↔ HasOpen g s) }
-    {
-        self.law_is_book();
-        self.book.group_open(g)
-    }
-
-    /// The task in the slot of this number, None where it has none or there is no such slot.
-    pub fn task_in(&self, w: SlotId) -> Option<TaskId>
-        ensures here { result ≡ task_of_row (slot_at (state_of self.now.book).slots w.0) }
-        ensures some { AtSome (R.terms G.config) (λ s. result ≡ task_of_row (slot_at s.slots w.0)) }
-    {
-        self.law_is_book();
-        self.book.task_in(w)
-    }
-
-    /// Where the task is. UnknownTask (6).
-    pub fn place(&self, t: TaskId) -> Result<Place, PoolError>
-        ensures here { OrReleased R.RECEIPTS (result ≡ known (state_of self.now.book) t.0 (λ r. r.place)) ((result ≡ Err PoolError.UnknownTask) × IsReleased self.now.book t.0) }
-        ensures some { AtSome (R.terms G.config) (λ s. OrReleased R.RECEIPTS (result ≡ known s t.0 (λ r. r.place)) ((result ≡ Err PoolError.UnknownTask) × MayRelease s t.0)) }
-    {
-        self.law_is_book();
-        self.book.place(t)
-    }
-
-    /// What the task's job promises. UnknownTask (6).
-    pub fn promise(&self, t: TaskId) -> Result<Promise, PoolError>
-        ensures here { IsPromiseOf self.now.book t.0 R.RECEIPTS result }
-        ensures some { BookAtSome (TaskOf J) (R.terms G.config) (λ b. IsPromiseOf b t.0 R.RECEIPTS result) }
-    {
-        self.law_is_book();
-        self.book.promise(t)
-    }
-
-    /// What became of the task, None while it is open. UnknownTask (6).
-    pub fn fate(&self, t: TaskId) -> Result<Option<Fate>, PoolError>
-        ensures here { OrReleased R.RECEIPTS (result ≡ known (state_of self.now.book) t.0 fate_of) ((result ≡ Err PoolError.UnknownTask) × IsReleased self.now.book t.0) }
-        ensures some { AtSome (R.terms G.config) (λ s. OrReleased R.RECEIPTS (result ≡ known s t.0 fate_of) ((result ≡ Err PoolError.UnknownTask) × MayRelease s t.0)) }
-    {
-        self.law_is_book();
-        self.book.fate(t)
-    }
-
-    /// What the task's future answers: `Book::result`.
-    pub fn result(&self, t: TaskId) -> Result<Option<i64>, PoolError>
-        ensures here { IsResult self.now.book t.0 R.RECEIPTS result }
-        ensures some { BookAtSome (TaskOf J) (R.terms G.config) (λ b. IsResult b t.0 R.RECEIPTS result) }
-    {
-        self.law_is_book();
-        self.book.result(t)
-    }
-
-    /// As `result`. The pass then knows the whole history, at whose end this is the answer.
+    /// What the task's future answers: `Book::result`. The pass then knows the whole history, at whose end this is the answer.
     pub fn show_result(
         &mut self,
         t: TaskId,
@@ -144,16 +63,7 @@ impl<G: PoolNaming, J: Drop, R: Keeper> Core<G, J, R> {
     {
         self.law_is_book();
         self.show(glance, pass);
-        self.result(t)
-    }
-
-    /// How many entries the record has.
-    pub fn steps(&self) -> u64
-        ensures here { result ≡ length self.now.book.history }
-        ensures some { BookAtSome (TaskOf J) (R.terms G.config) (λ b. result ≡ length b.history) }
-    {
-        self.law_is_book();
-        self.book.steps()
+        self.book().result(t)
     }
 
     /// One look of a waiter for the task's future: what it answers, as `result`; while it is open TimedOut (16)
@@ -243,7 +153,8 @@ impl<G: PoolNaming, J: Drop, R: Keeper> Core<G, J, R> {
         ensures same { self.new ≡ record self.old { waking = record self.old.waking { awaited = self.new.waking.awaited } } }
         ensures some { IfSome result (λ n. (seen < n) × BookAtSome (TaskOf J) (R.terms G.config) (λ b. n ≡ length b.history)) }
     {
-        let steps = self.steps();
+        self.law_is_book();
+        let steps = self.book.steps();
         if steps > seen {
             return Some(steps);
         }

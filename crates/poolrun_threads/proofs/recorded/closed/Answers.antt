@@ -1,7 +1,7 @@
 use Rattle.std.proofs.Common.{◌≡◌, ◌∷◌, [], reverse, refl, subst, Ok, true}
 use Rattle.std.specs.Prelude.{IfOk, IsTrue}
 use Rattle.std.proofs.lemmas.Result.{IfOk-weaker}
-use Rattle.tp_pool_threads.specs.Closing.{Reports}
+use Rattle.tp_pool_holds.specs.Reports.{Reports}
 use Rattle.tp_journal.proofs.Fronts.{through_later}
 use Rattle.tp_journal.proofs.Reports.{front_of_report}
 use Rattle.poolrun_threads.specs.Runs.{AddsEnd}

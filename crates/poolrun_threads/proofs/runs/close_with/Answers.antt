@@ -1,6 +1,6 @@
 use Rattle.std.proofs.Common.{◌≡◌, true, not, ap, subst, ◌∙◌}
 use Rattle.std.specs.Result.{is_ok}
-use Rattle.tp_pool_threads.specs.Closing.{Closes}
+use Rattle.tp_pool_holds.specs.Reports.{Closes}
 use Rattle.poolrun_threads.proofs.Ends.{one_pass}
 use Rattle.poolrun_threads.proofs.runs.close_with.Goals as goal
 

@@ -3,7 +3,7 @@ use Rattle.std.proofs.lemmas.List.{length_push, map-append}
 use Rattle.tp_pool.specs.Submissions.{Submits}
 use Rattle.tp_pool.specs.Turns.{ThroughBoth}
 use Rattle.tp_pool.proofs.Turned.{all_passed, both_more}
-use Rattle.tp_life_values.specs.declared.tasks.TheConstants.{VOID}
+use Rattle.tp_life.specs.declared.tasks.TheConstants.{VOID}
 use Rattle.tp_life.specs.Futures.{submitted_as}
 use Rattle.tp_life.proofs.batches.submit_each.Goals as goal
 

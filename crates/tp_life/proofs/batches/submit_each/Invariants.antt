@@ -1,7 +1,7 @@
 use Rattle.std.proofs.Common.{◌≡◌, ◌++◌, length, map, vec_capacity}
 use Rattle.tp_pool.specs.Submissions.{Submits}
 use Rattle.tp_pool.specs.Turns.{ThroughBoth}
-use Rattle.tp_life_values.specs.declared.tasks.TheConstants.{VOID}
+use Rattle.tp_life.specs.declared.tasks.TheConstants.{VOID}
 use Rattle.tp_life.specs.Futures.{submitted_as}
 use Rattle.tp_life.proofs.batches.submit_each.Given as goal
 

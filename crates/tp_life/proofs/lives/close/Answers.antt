@@ -1,7 +1,7 @@
 use Rattle.std.proofs.Common.{sym, subst}
 use Rattle.tp_pool_holds.specs.Closing.{KeepsOpen}
 use Rattle.tp_pool_holds.specs.declared.tasks.Task.{Task}
-use Rattle.tp_pool_threads.specs.Closing.{Closes}
+use Rattle.tp_pool_holds.specs.Reports.{Closes}
 use Rattle.tp_life.specs.Lived.{IsUntold}
 use Rattle.tp_life.proofs.Untold.{untold}
 use Rattle.tp_life.proofs.lives.close.Goals as goal

@@ -1,6 +1,6 @@
 use Rattle.std.proofs.Common.{subst}
 use Rattle.tp_pool.specs.Lives.{IsTallyRun}
-use Rattle.tp_life_values.specs.declared.tasks.TheConstants.{VOID}
+use Rattle.tp_life.specs.declared.tasks.TheConstants.{VOID}
 use Rattle.tp_life.proofs.running.run_tasks_with_tally.Goals as goal
 
 pub returns-in-Ok-told-clause-run : goal.returns-in-Ok-told-clause-run

@@ -1,4 +1,4 @@
-use Rattle.std.proofs.Common.{suc, arith, sym, ap, subst, ◌∙◌}
+use Rattle.std.proofs.Common.{◌≡◌, suc, arith, sym, ap, subst, ◌∙◌}
 use Rattle.tp_record.specs.declared.entries.Ask.TheVariants as ask
 use Rattle.tp_record.specs.declared.entries.Did.TheVariants as did
 use Rattle.tp_record.specs.declared.entries.Looked.TheVariants as looked
@@ -18,7 +18,9 @@ count_rising_entry-requires g c =
     let old = c.args.parts.now in
     let stands = c.requires.stands in
     let e = rising_here old stands (ask.Submit c.args.kind c.args.priority) (did.Submit (record { 0 = submissions old.tasks }) c.args.kind c.args.priority looked.Queue) _ 11 c.requires.accepts (submit_queue (terms old) stands.history (record { 0 = submissions old.tasks }) c.args.kind c.args.priority stands.legal) in
-    record { few = e.0; rise = e.1 }
+    let more = e.1 in
+    let rise : c.rise.result ≡ 11 = c.rise.ensures.rise in
+    record { few = e.0; rise = omega (arith, more, rise) }
 
 pub returns-clause-leads : goal.returns-clause-leads
 returns-clause-leads g c =
@@ -31,9 +33,10 @@ returns-clause-leads g c =
     let m = c.put_task.ensures.rest in
     let number = c.put_task.ensures.number ∙ ap (λ p. submissions p.tasks) k in
     let due = ap (λ p. p.due) m ∙ ap (λ p. p.due) k in
+    let rise : c.rise.result ≡ 11 = c.rise.ensures.rise in
     leads_by old c.put_task.new.self (ask.Submit kind priority) (did.Submit t kind priority looked.Queue) 0 11 (subst (λ n. Fits old (ask.Submit kind priority) (did.Submit (record { 0 = n }) kind priority looked.Queue)) (sym number) fits)
     (λ h rs legal given sh. (_, submit_queue (terms old) h t kind priority legal given, c.put_task.ensures.views _ (c.count_rising_entry.ensures.views _ sh.seen)))
-    (ap terms m ∙ ap terms k) (ap (λ p. p.steps) m ∙ ap (λ p. p.steps) k) (omega (arith, due))
+    (ap terms m ∙ ap terms k) (ap (λ p. p.steps) m ∙ ap (λ p. p.steps) k) (omega (arith, due, rise))
     (c.put_task.ensures.tied (terms old) (suc old.steps) (c.count_rising_entry.ensures.tied (terms old) (suc old.steps) (tied_more (terms old) old.steps old c.requires.stands.tied)))
 
 pub put_task-requires-clause-few : goal.put_task-requires-clause-few

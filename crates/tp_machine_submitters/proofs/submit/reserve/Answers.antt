@@ -26,7 +26,9 @@ count_rising_entry-requires g c =
     let old = c.args.parts.now in
     let stands = c.requires.stands in
     let e = rising_here old stands (ask.Submit c.args.kind c.args.priority) (did.Submit (record { 0 = submissions old.tasks }) c.args.kind c.args.priority (looked.Reserve c.args.w)) _ 12 c.requires.accepts (submit_reserve (terms old) stands.history (record { 0 = submissions old.tasks }) c.args.kind c.args.priority c.args.w stands.legal) in
-    record { few = e.0; rise = e.1 }
+    let more = e.1 in
+    let rise : c.rise.result ≡ 12 = c.rise.ensures.rise in
+    record { few = e.0; rise = omega (arith, more, rise) }
 
 pub reserve-requires : goal.reserve-requires
 reserve-requires g c =
@@ -57,6 +59,7 @@ returns-clause-leads g c =
     let number = c.put_task-t.ensures.number ∙ ap (λ p. submissions p.tasks) k in
     let slot = c.reserve.ensures.number ∙ ap (λ p. p.slots.next) m ∙ ap (λ p. p.slots.next) k ∙ sym c.requires.next in
     let due = ap (λ p. p.due) r ∙ ap (λ p. p.due) m ∙ ap (λ p. p.due) k in
+    let rise : c.rise.result ≡ 12 = c.rise.ensures.rise in
     leads_by old c.reserve.new.self (ask.Submit kind priority) (did.Submit t kind priority (looked.Reserve w)) 0 12 (subst (λ n. Fits old (ask.Submit kind priority) (did.Submit (record { 0 = n }) kind priority (looked.Reserve w))) (sym number) fits)
     (λ h rs legal given sh.
     let s = mark rs (state (terms old) h) in
@@ -65,7 +68,7 @@ returns-clause-leads g c =
       submit_reserve (terms old) h t kind priority w legal given,
       views_numbered c.reserve.new.self v _ _ (Some (for_core t)) (suc (slot_count s)) slot (c.reserve.ensures.views v (c.put_task-t.ensures.views _ (c.count_rising_entry.ensures.views _ sh.seen))),
     ))
-    (ap terms r ∙ ap terms m ∙ ap terms k) (ap (λ p. p.steps) r ∙ ap (λ p. p.steps) m ∙ ap (λ p. p.steps) k) (omega (arith, due))
+    (ap terms r ∙ ap terms m ∙ ap terms k) (ap (λ p. p.steps) r ∙ ap (λ p. p.steps) m ∙ ap (λ p. p.steps) k) (omega (arith, due, rise))
     (c.reserve.ensures.tied (terms old) (suc old.steps) (c.put_task-t.ensures.tied (terms old) (suc old.steps) (c.count_rising_entry.ensures.tied (terms old) (suc old.steps) (tied_more (terms old) old.steps old c.requires.stands.tied))))
 
 pub put_task-t-requires-clause-few : goal.put_task-t-requires-clause-few

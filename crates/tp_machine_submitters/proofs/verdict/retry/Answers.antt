@@ -1,4 +1,4 @@
-use Rattle.std.proofs.Common.{suc, refl, arith, ap, ◌∙◌}
+use Rattle.std.proofs.Common.{◌≡◌, suc, refl, arith, ap, ◌∙◌}
 use Rattle.tp_types.specs.declared.tasks.Place.TheVariants as at
 use Rattle.tp_record.specs.declared.entries.Ask.TheVariants as ask
 use Rattle.tp_record.specs.declared.entries.Did.TheVariants as did
@@ -19,7 +19,9 @@ count_rising_entry-requires g c =
     let old = c.args.parts.now in
     let stands = c.requires.stands in
     let e = rising_here old stands (ask.Verdict c.args.t c.args.verdict) (did.Verdict c.args.t c.args.verdict ruled.Retry) _ 11 c.requires.accepts (verdict_retry (terms old) stands.history c.args.t c.args.verdict stands.legal) in
-    record { few = e.0; rise = e.1 }
+    let more = e.1 in
+    let rise : c.rise.result ≡ 11 = c.rise.ensures.rise in
+    record { few = e.0; rise = omega (arith, more, rise) }
 
 pub retry_task-requires : goal.retry_task-requires
 retry_task-requires g c =
@@ -40,7 +42,8 @@ returns-clause-leads g c =
     let k = c.count_rising_entry.ensures.rest in
     let m = c.retry_task.ensures.rest in
     let due = ap (λ p. p.due) m ∙ ap (λ p. p.due) k in
+    let rise : c.rise.result ≡ 11 = c.rise.ensures.rise in
     leads_by old c.retry_task.new.self (ask.Verdict t c.args.verdict) (did.Verdict t c.args.verdict ruled.Retry) 0 11 fits
     (λ h rs legal given sh. (_, verdict_retry (terms old) h t c.args.verdict legal given, c.retry_task.ensures.views _ (c.count_rising_entry.ensures.views _ sh.seen)))
-    (ap terms m ∙ ap terms k) (ap (λ p. p.steps) m ∙ ap (λ p. p.steps) k) (omega (arith, due))
+    (ap terms m ∙ ap terms k) (ap (λ p. p.steps) m ∙ ap (λ p. p.steps) k) (omega (arith, due, rise))
     (c.retry_task.ensures.tied (terms old) (suc old.steps) (c.count_rising_entry.ensures.tied (terms old) (suc old.steps) (tied_more (terms old) old.steps old c.requires.stands.tied)))

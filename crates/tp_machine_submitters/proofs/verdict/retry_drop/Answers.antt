@@ -1,4 +1,4 @@
-use Rattle.std.proofs.Common.{suc, ◌+◌, not, ◌&&◌, cond, length, Some, None, arith, refl, ap, subst, ◌∙◌}
+use Rattle.std.proofs.Common.{◌≡◌, suc, ◌+◌, not, ◌&&◌, cond, length, Some, None, arith, refl, ap, subst, ◌∙◌}
 use mathlib.Core.Path.{ap₂}
 use Rattle.std.specs.Prelude.{drop, if◌then◌else◌}
 use Rattle.std.proofs.lemmas.Bool.{lt-ltb}
@@ -30,7 +30,9 @@ count_rising_entry-requires g c =
     let old = c.args.parts.now in
     let stands = c.requires.stands in
     let e = rising_here old stands (ask.Verdict c.args.t c.args.verdict) (did.Verdict c.args.t c.args.verdict (ruled.RetryDrop c.args.head)) _ 5 c.requires.accepts (verdict_retry_drop (terms old) stands.history c.args.t c.args.head c.args.verdict stands.legal) in
-    record { few = e.0; rise = e.1 }
+    let more = e.1 in
+    let rise : c.rise.result ≡ 5 = c.rise.ensures.rise in
+    record { few = e.0; rise = omega (arith, more, rise) }
 
 pub finish_task-payload-requires : goal.finish_task-payload-requires
 finish_task-payload-requires g c =
@@ -83,6 +85,7 @@ returns-clause-leads g c =
     let m = c.finish_task-payload.ensures.rest in
     let r = c.retry_task.ensures.rest in
     let due = ap (λ p. p.due) r ∙ ap (λ p. p.due) m ∙ ap (λ p. p.due) q ∙ ap (λ p. p.due) k in
+    let rise : c.rise.result ≡ 5 = c.rise.ensures.rise in
     leads_by old c.retry_task.new.self (ask.Verdict t c.args.verdict) (did.Verdict t c.args.verdict (ruled.RetryDrop u)) 0 5 fits
     (λ h rs legal given sh.
     let s = mark rs (state (terms old) h) in
@@ -97,6 +100,6 @@ returns-clause-leads g c =
       subst {A = TaskRow} (λ x. Views c.retry_task.new.self (record v { tasks = put t.0 (record x { place = at.Looking; retries = suc x.retries }) v.tasks }))
           (put_other u.0 _ (task_at s) t.0 (places_apart h t.0 u.0 at.Refused at.Queued given.0 given.1.3 (λ e. let n : ⊥ = cc in n))) seen,
     ))
-    (ap terms r ∙ ap terms m ∙ ap terms q ∙ ap terms k) (ap (λ p. p.steps) r ∙ ap (λ p. p.steps) m ∙ ap (λ p. p.steps) q ∙ ap (λ p. p.steps) k) (omega (arith, due))
+    (ap terms r ∙ ap terms m ∙ ap terms q ∙ ap terms k) (ap (λ p. p.steps) r ∙ ap (λ p. p.steps) m ∙ ap (λ p. p.steps) q ∙ ap (λ p. p.steps) k) (omega (arith, due, rise))
     (c.retry_task.ensures.tied (terms old) (suc old.steps) (c.finish_task-payload.ensures.tied (terms old) (suc old.steps) (c.dequeue.ensures.tied (terms old) (suc old.steps)
     (c.count_rising_entry.ensures.tied (terms old) (suc old.steps) (tied_more (terms old) old.steps old c.requires.stands.tied)))))

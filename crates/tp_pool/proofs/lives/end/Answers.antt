@@ -2,7 +2,7 @@ use Rattle.std.proofs.Common.{ap, ◌∙◌, subst, sym}
 use Rattle.tp_record.specs.Fields.{rank}
 use Rattle.tp_pool_holds.specs.Closing.{KeepsOpen}
 use Rattle.tp_pool_holds.specs.declared.tasks.Task.{Task}
-use Rattle.tp_pool_threads.specs.Closing.{Closes}
+use Rattle.tp_pool_holds.specs.Reports.{Closes}
 use Rattle.tp_pool.specs.Lives.{IsCut}
 use Rattle.tp_pool.proofs.Cuts.{cut}
 use Rattle.tp_pool.proofs.lives.end.Goals as goal

@@ -1,5 +1,4 @@
 use Rattle.std.proofs.Common.{◌≤◌, length, arith, refl, sym, ap, subst, ◌∙◌}
-use Rattle.std.proofs.lemmas.List.{length-reverse}
 use Rattle.tp_types.specs.declared.states.Counts.{Counts}
 use Rattle.tp_record.specs.State.{counts}
 use Rattle.tp_book.specs.BookView.{config, state_of}
@@ -18,4 +17,4 @@ returns-clause-told g c =
     let same = sym c.self.view_is in
     subst (λ b. g.R.Reporter.told (config b) b.history c.report.result) c.self.view_is
     (c.report.ensures c.self.inside.seat.entries c.self.inside.seat.released held.stands
-    (c.steps-steps.ensures ∙ length-reverse c.args.self.history ∙ ap (λ b. length b.history) same) (c.counts-counts.ensures ∙ ap (λ b. counts (state_of b)) same))
+    (c.steps-steps.ensures ∙ ap (λ b. length b.history) same) (c.counts-counts.ensures ∙ ap (λ b. counts (state_of b)) same))

@@ -1,7 +1,7 @@
 use Rattle.std.proofs.Common.{sym, subst}
 use Rattle.tp_pool.specs.Submissions.{AddsJob}
 use Rattle.tp_pool.proofs.Submissions.{admits_job}
-use Rattle.tp_life_values.specs.declared.tasks.TheConstants.{VOID}
+use Rattle.tp_life.specs.declared.tasks.TheConstants.{VOID}
 use Rattle.tp_life.proofs.calls.Calls.ticket.Goals as goal
 
 pub returns-in-Ok-clause-submitted : goal.returns-in-Ok-clause-submitted

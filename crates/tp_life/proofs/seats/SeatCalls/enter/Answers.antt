@@ -1,6 +1,6 @@
 use Rattle.std.proofs.Common.{sym, subst}
 use Rattle.tp_pool.specs.Admissions.{IsTurnedAway}
-use Rattle.tp_life_values.specs.declared.tasks.TheConstants.{VOID}
+use Rattle.tp_life.specs.declared.tasks.TheConstants.{VOID}
 use Rattle.tp_life.proofs.seats.SeatCalls.enter.Goals as goal
 
 pub returns-in-Err-execute_by-clause-refused : goal.returns-in-Err-execute_by-clause-refused

@@ -1,7 +1,7 @@
 use Rattle.std.proofs.Common.{ap, subst, sym, ◌∙◌}
 use Rattle.tp_pool_holds.specs.Closing.{KeepsOpen}
 use Rattle.tp_pool_holds.specs.declared.tasks.Task.{Task}
-use Rattle.tp_pool_threads.specs.Closing.{Closes}
+use Rattle.tp_pool_holds.specs.Reports.{Closes}
 use Rattle.tp_pool.proofs.pool.PoolOf.close.Goals as goal
 
 pub returns-in-Ok-close-clause-report : goal.returns-in-Ok-close-clause-report

@@ -2,7 +2,7 @@ use Rattle.std.proofs.Common.{◌≡◌, [], ◌∷◌, length, inr, ap, sym, �
 use Rattle.std.specs.Prelude.{get_or}
 use Rattle.tp_pool_holds.specs.Closing.{KeepsOpen}
 use Rattle.tp_pool_holds.specs.declared.tasks.Task.{Task}
-use Rattle.tp_pool_threads.specs.Closing.{Closes}
+use Rattle.tp_pool_holds.specs.Reports.{Closes}
 use Rattle.tp_pool.proofs.pool.PoolOf.close_one.Goals as goal
 
 pub of_one-requires : goal.of_one-requires

@@ -3,7 +3,7 @@ use Rattle.tp_pool_holds.specs.Passes.{Adds, LooksOnly, tidied}
 use Rattle.tp_pool_holds.proofs.Receipts.{later_looks, later_none, looks_adds, looks_behind, step_behind}
 use Rattle.tp_record.specs.declared.entries.Ask.TheVariants as ask
 use Rattle.tp_record.specs.declared.entries.Did.TheVariants as did
-use Rattle.tp_pool_threads.proofs.Ends.{end_steps, end_refused}
+use Rattle.tp_pool_holds.proofs.Ends.{end_steps, end_refused}
 use Rattle.tp_pool.proofs.Got.{never_late}
 use Rattle.tp_pool.proofs.pool.PoolOf.end_in_time.Goals as goal
 

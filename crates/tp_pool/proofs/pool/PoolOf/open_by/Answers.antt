@@ -3,7 +3,7 @@ use Rattle.std.proofs.lemmas.Result.{IfErr-weaker}
 use Rattle.tp_machine_state.specs.Payloads.{Keeps}
 use Rattle.tp_pool_holds.specs.Passes.{opening}
 use Rattle.tp_pool_holds.proofs.Adding.{added}
-use Rattle.tp_pool_threads.proofs.Handed.{looked, opening_refused}
+use Rattle.tp_pool_holds.proofs.Handed.{looked, opening_refused}
 use Rattle.tp_pool.proofs.pool.PoolOf.open_by.Goals as goal
 
 pub returns-clause-step : goal.returns-clause-step

@@ -6,7 +6,7 @@ use Rattle.tp_record.specs.declared.entries.Ask.TheVariants as ask
 use Rattle.tp_record.specs.declared.entries.Did.TheVariants as did
 use Rattle.tp_pool_holds.specs.Passes.{AddsStep}
 use Rattle.tp_pool_holds.proofs.Receipts.{reserved}
-use Rattle.tp_pool_threads.proofs.Ends.{reached, step_and_end}
+use Rattle.tp_pool_holds.proofs.Ends.{reached, step_and_end}
 use Rattle.tp_pool.proofs.pool.PoolOf.shutdown_by.Goals as goal
 
 pub returns-in-Ok-clause-steps : goal.returns-in-Ok-clause-steps

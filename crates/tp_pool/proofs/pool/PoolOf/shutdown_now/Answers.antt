@@ -4,7 +4,7 @@ use Rattle.tp_record.specs.declared.entries.Ask.TheVariants as ask
 use Rattle.tp_record.specs.declared.entries.Did.TheVariants as did
 use Rattle.tp_pool_holds.specs.Steps.{Stops}
 use Rattle.tp_pool_holds.proofs.Receipts.{leads_front, reserved}
-use Rattle.tp_pool_threads.proofs.Ends.{reached, step_and_end}
+use Rattle.tp_pool_holds.proofs.Ends.{reached, step_and_end}
 use Rattle.tp_pool.proofs.pool.PoolOf.shutdown_now.Goals as goal
 
 pub returns-in-Ok-clause-handed : goal.returns-in-Ok-clause-handed

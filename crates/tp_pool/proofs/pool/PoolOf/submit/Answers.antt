@@ -7,7 +7,7 @@ use Rattle.tp_record.specs.declared.entries.Did.TheVariants as did
 use Rattle.tp_record.specs.declared.entries.Looked.{Looked}
 use Rattle.tp_record.specs.declared.entries.Ruled.TheVariants as ruled
 use Rattle.tp_protocols.specs.Fronts.{admission_of, follow_of}
-use Rattle.tp_pool_threads.proofs.Returned.{unrejected}
+use Rattle.tp_pool_holds.proofs.Returned.{unrejected}
 use Rattle.tp_pool.proofs.Walks.{Walk, begun, walked, taken_on, admits_at, rejects_at, torn_off}
 use Rattle.tp_pool.proofs.pool.PoolOf.submit.Goals as goal
 

@@ -2,7 +2,7 @@ use Rattle.std.specs.Prelude.{◌≡◌}
 use Rattle.tp_machine.specs.Answers.{ComesBack}
 use Rattle.tp_record.specs.Paths.{Ends, Rejected}
 use Rattle.tp_protocols.specs.Fronts.{follow_of}
-use Rattle.tp_pool_threads.specs.Submitting.{TakesOut}
+use Rattle.tp_pool_holds.specs.Submitting.{TakesOut}
 use Rattle.tp_pool.proofs.Walks.{Walk}
 use Rattle.tp_pool.proofs.pool.PoolOf.submit.Given as goal
 

@@ -1,7 +1,7 @@
 use Rattle.std.proofs.Common.{ap, subst}
 use Rattle.tp_pool_holds.specs.Readings.{IsFound}
 use Rattle.tp_pool_holds.proofs.Moments.{book_at_some}
-use Rattle.tp_pool_holds.proofs.Waits.{found}
+use Rattle.tp_pool_holds.proofs.Waiting.{found}
 use Rattle.tp_pool_holds.proofs.locked.Core.await_result.Goals as goal
 
 pub returns-then-matches-clause-some : goal.returns-then-matches-clause-some

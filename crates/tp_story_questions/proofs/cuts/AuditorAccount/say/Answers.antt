@@ -1,6 +1,6 @@
 use Rattle.std.proofs.Common.{◌≡◌, true, ◌∙◌, rules, ap, sym, subst, length}
 use Rattle.tp_audit.specs.Audited.{settings}
-use Rattle.tp_story_now.proofs.Cutting.{counted}
+use Rattle.tp_story.proofs.Cutting.{counted}
 use Rattle.tp_story_questions.specs.Saying.{SaysCut, cut_text}
 use Rattle.tp_story_questions.proofs.cuts.AuditorAccount.say.Goals.{in-Words+in_ok-text-in-Words, in-Json+in_ok-text-in-Json}
 use Rattle.tp_story_questions.proofs.cuts.AuditorAccount.say.Goals as goal

@@ -1,0 +1,7 @@
+use Rattle.tp_pool_holds.specs.Readings.{IsResult}
+use Rattle.tp_pool_holds.proofs.Moments.{book_at_some}
+use Rattle.tp_pool.proofs.pool.PoolOf.result.Goals as goal
+
+pub returns : goal.returns
+returns g c =
+    book_at_some c.book.result.now (g.K.Recorder.terms g.G.PoolNaming.config) c.book.ensures.stands (λ b. IsResult b c.args.t.0 g.K.Recorder.RECEIPTS c.result.result) (c.result.ensures.value, c.result.ensures.promised)

@@ -1,0 +1,23 @@
+use Rattle.std.proofs.lemmas.Result.{IfErr-weaker}
+use Rattle.tp_pool_holds.proofs.Left.{left_at, shown_after}
+use Rattle.tp_pool_holds.proofs.Certain.{certain}
+use Rattle.tp_pool_holds.proofs.Returned.{knows}
+use Rattle.tp_pool_holds.proofs.shared.Shared.ask_left.Goals as goal
+
+pub returns-clause-remains : goal.returns-clause-remains
+returns-clause-remains g c =
+    let hold = c.ask-answer in
+    left_at {J = g.row.J.Denot} (g.K.Recorder.terms g.G.PoolNaming.config) c.deref.result.now hold.new.self hold.new.pass.front c.left_in-remains.result c.deref.ensures
+    (shown_after {J = g.row.J.Denot} g.K.Recorder.RECEIPTS (g.S.Step.ask c.args.step) c.deref_mut.result.now hold.new.self hold.new.pass.front hold.result hold.ensures.front hold.ensures.denies) c.left_in-remains.ensures
+
+pub returns-clause-known : goal.returns-clause-known
+returns-clause-known g c =
+    let hold = c.ask-answer in
+    knows {J = g.row.J.Denot} g.K.Recorder.RECEIPTS c.deref_mut.result.now hold.new.self c.args.pass.now hold.new.pass (g.S.Step.ask c.args.step) (λ x. g.S.Step.did c.args.step x) (λ x. g.S.Step.moves c.args.step tt x)
+    (λ x. g.S.Step.says c.args.step x (g.K.Recorder.terms g.G.PoolNaming.config)) hold.result hold.ensures.holds hold.ensures.says hold.ensures.front
+
+pub returns-clause-refused : goal.returns-clause-refused
+returns-clause-refused g c =
+    let hold = c.ask-answer in
+    IfErr-weaker hold.result _ _
+    (λ e is. λ none. certain g.K.Recorder.RECEIPTS (g.K.Recorder.terms g.G.PoolNaming.config) hold.new.pass (g.S.Step.ask c.args.step) e (is none)) hold.ensures.refused

@@ -1,0 +1,91 @@
+//! Waits: for a pool's end, for done tasks of a group, and for the workers' threads. A waiter begins to wait with the
+//! guard of the hold in which its look failed, so no step falls between.
+ghost use Rattle.std.specs.Prelude.{true, ◌≡◌, ◌⊎◌, ◌<◌, ◌≤◌, [], ◌∷◌, IfOk, IfErr, OnOk, OnErr};
+ghost use Rattle.tp_record.specs.Fields.{rank};
+ghost use Rattle.tp_pool_holds.specs.Moments.{AtFront};
+ghost use Rattle.tp_pool_holds.specs.Passes.{Adds, AddsStep, LooksOnly, tidied, ended};
+ghost use Rattle.tp_pool_holds.specs.Readings.{has_come, IsUndoneAt};
+ghost use Rattle.tp_pool_holds.specs.Endings.{IsBarred};
+
+use crate::edges::Edge;
+use crate::locked::Look;
+use crate::names::PoolNaming;
+use crate::shared::Shared;
+use std::sync::Wait;
+use tp_book::passes::Pass;
+use tp_machine::machine::releases::Keeper;
+use tp_record::entries::{Ask, Did};
+use tp_types::ids::TaskId;
+use tp_types::refusals::PoolError;
+
+impl<G: PoolNaming, J: Drop, E: Edge, K: Keeper> Shared<G, J, E, K> {
+    /// Waits until the pool is terminated, or now has reached the deadline, if there is one, and ends the pool
+    /// where it can end.
+    pub fn await_end<R: Wait>(
+        &self,
+        rt: &R,
+        deadline: Option<u64>,
+        pass: &mut Pass<G>,
+    ) -> Result<(), PoolError>
+        requires room { 2 ≤ pass.old.room }
+        ensures steps { OnOk result (Adds (K.terms G.config) pass.old [] pass.new ⊎ Adds (K.terms G.config) pass.old (tidied pass.old.number ∷ ended pass.old.number ∷ []) pass.new) }
+        ensures seen { OnOk result (rank pass.new.front ≡ 4) }
+        ensures late { IfErr result (λ e. e ≡ PoolError.TimedOut → AtFront (K.terms G.config) pass.new.front (λ s. (has_come deadline s.now ≡ true) × ¬ (s.rank ≡ 4))) }
+        ensures refused { IfErr result (λ e. ((e ≡ PoolError.TimedOut) × Adds (K.terms G.config) pass.old [] pass.new) ⊎ ((e ≡ PoolError.TornRecord) × IsBarred (K.terms G.config) pass.new.front Ask.Ended × Adds (K.terms G.config) pass.old (tidied pass.old.number ∷ []) pass.new)) }
+    {
+        let mut core = self.hold(rt);
+        for _ in rt.forever() {
+            match core.look(deadline, &self.around.glance, pass) {
+                Look::Terminated => return Ok(()),
+                Look::Late => return Err(PoolError::TimedOut),
+                Look::Tidied => {
+                    self.release(core);
+                    return self.terminate(rt, pass);
+                }
+                Look::Waits => core = self.around.conditions.end.wait(rt, core),
+            }
+        }
+        unreachable!()
+    }
+
+    /// Takes the task of this group that was done first, or waits while none is done and one is open, with a pass that has
+    /// room for the receipt.
+    pub fn await_done<R: Wait>(
+        &self,
+        rt: &R,
+        group: u32,
+        pass: &mut Pass<G>,
+    ) -> Result<TaskId, PoolError>
+        requires room { 0 < pass.old.room }
+        ensures step { IfOk result (λ t. AddsStep (K.terms G.config) pass.old (Ask.TakeDone group) (Did.TakeDone group t) pass.new) }
+        ensures refused { IfErr result (λ e. AtFront (K.terms G.config) pass.new.front (λ s. IsUndoneAt (K.terms G.config) s group e)) }
+        ensures unchanged { OnErr result (LooksOnly (K.terms G.config) pass.old pass.new) }
+    {
+        let mut core = self.hold(rt);
+        for _ in rt.forever() {
+            match core.await_done(group, &self.around.glance, pass) {
+                Ok(Some(t)) => {
+                    self.release(core);
+                    return Ok(t);
+                }
+                Ok(None) => core = self.around.conditions.results.wait(rt, core),
+                Err(error) => {
+                    self.release(core);
+                    return Err(error);
+                }
+            }
+        }
+        unreachable!()
+    }
+
+    /// Waits until all threads of workers have handed in their passes.
+    pub fn await_workers<R: Wait>(&self, rt: &R) {
+        let mut core = self.hold(rt);
+        for _ in rt.forever() {
+            if core.running() == 0 {
+                return;
+            }
+            core = self.around.conditions.gone.wait(rt, core);
+        }
+    }
+}

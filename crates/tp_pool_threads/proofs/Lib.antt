@@ -1,6 +1,0 @@
-pub mod Asked
-pub mod Ends
-pub mod Handed
-pub mod Left
-pub mod Refusals
-pub mod Returned

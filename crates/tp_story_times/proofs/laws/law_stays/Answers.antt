@@ -1,5 +1,0 @@
-use Rattle.tp_story_times.proofs.Staying.{stays}
-use Rattle.tp_story_times.proofs.laws.law_stays.Goals as goal
-
-pub returns : goal.returns
-returns c = λ f h t s legal is there n after within. stays f h t s n legal is there after within

@@ -1,6 +1,0 @@
-use Rattle.std.proofs.Common.{rules}
-use Rattle.tp_story_times.proofs.Slots.{slots_listed}
-use Rattle.tp_story_times.proofs.times.Times.slots.Goals as goal
-
-pub returns-clause-slots : goal.returns-clause-slots
-returns-clause-slots c = λ f h legal timed w. slots_listed f h c.args.self.now c.sort.new.self.items legal timed (search rules) w
