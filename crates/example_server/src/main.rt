@@ -1,8 +1,7 @@
 //! `example_server`: a server with three callers, one worker and a queue of two places. Who finds the queue full runs the request itself.
-//! It prints what became of each request. With a path, it writes its journal there while it serves.
+//! It prints what became of each request.
 #![tactic(auto)]
 
-use std::env;
 use tp_life::prelude::*;
 
 /// A request for six less a number. There is none for a greater number.
@@ -48,21 +47,20 @@ impl Life for Serving {
 
 fn main(rt: HostRuntime) -> anyhow::Result<()> {
     let alloc = rt.alloc();
-    let path = env::args(&rt)?.nth(1);
-    let wish = wish_at(&rt, path.as_ref())?;
     let queue = QueueKind::Bounded(2);
     let settings = Config::fixed(1).queue(queue).policy(Policy::CallerRuns);
-    let (served, _, end) = with_journal(&rt, alloc, settings, Defaults, 3, &Serving(rt), wish)?;
-    for (who, answers) in served.into_iter().enumerate() {
-        for answer in &answers? {
+    let (served, _) = with_pool(&rt, alloc, settings, Defaults, 3, &Serving(rt))?;
+    for (who, answers) in served.iter().enumerate() {
+        let answers = match answers {
+            Ok(answers) => answers,
+            Err(error) => return Err((*error).into()),
+        };
+        for answer in answers {
             match answer {
                 Ok(value) => println!(&rt; "caller {who}: {value}")?,
                 Err(error) => println!(&rt; "caller {who}: {}", Reason(*error))?,
             }
         }
-    }
-    if let Some(Ended::Cut(_) | Ended::Left) = end {
-        println!(&rt; "the journal is cut off")?;
     }
     Ok(())
 }

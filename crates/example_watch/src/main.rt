@@ -1,6 +1,8 @@
-//! `example_watch`: one caller hands in four guests, who wait at a door; another caller looks at the pool meanwhile.
+//! `example_watch`: one caller hands in four guests, who wait at a door; another caller looks at the pool meanwhile. With a path, the
+//! pool's journal is written there while it runs.
 #![tactic(auto)]
 
+use std::env;
 use std::sync::Arc;
 use std::sync::atomic::{AtomicBool, Ordering};
 use tp_life::prelude::*;
@@ -85,14 +87,20 @@ impl Life for House {
 }
 
 fn main(rt: HostRuntime) -> anyhow::Result<()> {
+    let path = env::args(&rt)?.nth(1);
+    let wish = wish_at(&rt, path.as_ref())?;
     let house = House {
         host: rt,
         door: Arc::new(rt.alloc(), AtomicBool::new(false))?,
         seen: AtomicBool::new(false),
     };
-    let (outs, report) = with_pool(&rt, rt.alloc(), Config::fixed(2), Defaults, 2, &house)?;
+    let settings = Config::fixed(2);
+    let (outs, report, end) = with_journal(&rt, rt.alloc(), settings, Defaults, 2, &house, wish)?;
     for out in outs {
         out?;
+    }
+    if let Some(Ended::Cut(_) | Ended::Left) = end {
+        println!(&rt; "the journal is cut off")?;
     }
     Ok(println!(&rt; "{} run", report.counts.run)?)
 }
