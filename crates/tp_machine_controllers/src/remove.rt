@@ -1,8 +1,8 @@
 //! A queued task is removed, as `ThreadPoolExecutor.remove`.
 
-ghost use Rattle.std.specs.Prelude.{◌≡◌, true, false, None, IfOk, IfErr};
+ghost use Rattle.std.specs.Prelude.{◌≡◌, true, false, None};
 ghost use Rattle.tp_machine_state.specs.Payloads.{Keeps, HandsOut};
-ghost use Rattle.tp_machine_state.specs.Steps.{Stands, Fits, Accepts, Refuses, Leads};
+ghost use Rattle.tp_machine_state.specs.Steps.{Stands, Accepts, Leads};
 
 use tp_machine_state::parts::Parts;
 use tp_machine_state::step::Step;
@@ -12,14 +12,6 @@ use tp_rules::controllers::remove;
 use tp_types::ids::TaskId;
 use tp_types::refusals::PoolError;
 use tp_types::tasks::Fate;
-
-/// Whether the task is in the queue, before the room is looked at.
-fn is_queued<P>(parts: &Parts<P>, t: TaskId) -> Result<bool, PoolError>
-    ensures fits { IfOk result (λ b. Fits parts.now (Ask.Remove t) (Did.Remove t b)) }
-    ensures refuses { IfErr result (λ e. Refuses parts.now (Ask.Remove t) e) }
-{
-    remove(parts, t)
-}
 
 /// The task leaves the queue and is gone, with the fate removed unless it was cancelled. Its payload is handed out, if it was
 /// not cancelled.
@@ -79,8 +71,10 @@ impl<P> Step<P> for Remove {
 
     // UnknownTask (6) or BookFull (5).
     fn answer(self, parts: &Parts<P>) -> Result<bool, PoolError> {
-        let queued = is_queued(parts, self.0)?;
-        parts.in_room(Ok(queued), QUEUED * u64::from(queued), 0)
+        match remove(parts, self.0) {
+            Ok(queued) => parts.in_room(Ok(queued), QUEUED * u64::from(queued), 0),
+            Err(error) => Err(error),
+        }
     }
 
     fn apply(self, parts: &mut Parts<P>, queued: bool) -> Option<P> {

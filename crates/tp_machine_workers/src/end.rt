@@ -1,6 +1,6 @@
 //! A worker has run its task, as where the task's `run` returns in `runWorker`, and `afterExecute` ran.
 
-ghost use Rattle.std.specs.Prelude.{◌≡◌, ◌↔◌, refl, true, false, IfSome, IfOk, IfErr, IsSome, IsTrue};
+ghost use Rattle.std.specs.Prelude.{◌≡◌, ◌↔◌, refl, true, false, IfSome, IsSome, IsTrue};
 ghost use Rattle.tp_types.specs.Promise.{FitsPromise};
 ghost use Rattle.tp_record.specs.Effects.{Outcome, is_plain_fault};
 ghost use Rattle.tp_record.specs.State.{State, task_at};
@@ -8,7 +8,7 @@ ghost use Rattle.tp_tasks.specs.Tasks.{promise_of, row_of};
 ghost use Rattle.tp_machine_state.specs.Outcomes.{FitsThere};
 ghost use Rattle.tp_machine_state.specs.Payloads.{Keeps};
 ghost use Rattle.tp_machine_state.specs.Shows.{Shows};
-ghost use Rattle.tp_machine_state.specs.Steps.{Stands, Fits, Leads, Refuses};
+ghost use Rattle.tp_machine_state.specs.Steps.{Stands, Fits, Leads};
 
 use crate::owed::owed_at_take;
 use tp_machine_state::parts::Parts;
@@ -53,10 +53,12 @@ impl<P> Step<P> for End {
         Did::End(self.0, *answer, self.1)
     }
 
+    // UnknownSlot (7) where there is no such slot, NotThere (8) where its worker runs no task, TornRecord (22) where the outcome is
+    // not as the task promised.
     #[inline(always)]
     fn answer(self, parts: &Parts<P>) -> Result<TaskId, PoolError> {
         if fits_there(parts, self.0, &self.1) {
-            running_in(parts, self.0)
+            end(parts, self.0)
         } else {
             Err(PoolError::TornRecord)
         }
@@ -71,16 +73,6 @@ impl<P> Step<P> for End {
             works(parts, self.0, t, self.1);
         }
     }
-}
-
-/// Which task the worker ends, whatever its outcome. UnknownSlot (7) where there is no such slot, NotThere (8) where its worker
-/// runs no task.
-#[inline(always)]
-fn running_in<P>(parts: &Parts<P>, w: SlotId) -> Result<TaskId, PoolError>
-    ensures fits { (o : Outcome) → IfOk result (λ t. Fits parts.now (Ask.End w o) (Did.End w t o)) }
-    ensures refuses { (o : Outcome) → IfErr result (λ e. Refuses parts.now (Ask.End w o) e) }
-{
-    end(parts, w)
 }
 
 /// Whether the outcome is as the task promised that runs in this slot, where one does. The `end` of a task that is only held or

@@ -11,7 +11,7 @@ use Rattle.tp_machine_state.proofs.Answering.{refuses_fitting}
 use Rattle.tp_machine_state.proofs.Few.{few_queued}
 use Rattle.tp_machine_state.proofs.Rules.{accepts_given, refuses_given}
 use Rattle.std.specs.Prelude.{length}
-use Rattle.tp_machine_controllers.proofs.Stopping.{moves, queued_read}
+use Rattle.tp_machine_controllers.proofs.Stopping.{stop_moves, queued_read}
 use Rattle.tp_machine_controllers.proofs.stop.answer.Goals as goal
 
 module _ {P : Type 0} (p : Parts P) where
@@ -26,10 +26,10 @@ returns-clause-refuses g c =
     let p = c.args.parts.now in
     let n = c.len-count.result in
     refuses_given p ask.Stop (λ k. did.Stop k) c.fall.result 0 n
-    (λ full. refuses_fitting p ask.Stop (did.Stop n) c.fall.result 0 false full refl (fits p n c.len-count.ensures) (λ s w. refl) (moves p n c.fall.result c.fall.ensures)) c.in_room.result c.in_room.ensures
+    (λ full. refuses_fitting p ask.Stop (did.Stop n) c.fall.result 0 false full refl (fits p n c.len-count.ensures) (λ s w. refl) (stop_moves p n c.fall.result c.fall.ensures)) c.in_room.result c.in_room.ensures
 
 pub returns-clause-accepts : goal.returns-clause-accepts
 returns-clause-accepts g c =
     let p = c.args.parts.now in
     let n = c.len-count.result in
-    accepts_given p ask.Stop (λ k. did.Stop k) c.fall.result 0 n (fits p n c.len-count.ensures) (moves p n c.fall.result c.fall.ensures) c.in_room.result c.in_room.ensures
+    accepts_given p ask.Stop (λ k. did.Stop k) c.fall.result 0 n (fits p n c.len-count.ensures) (stop_moves p n c.fall.result c.fall.ensures) c.in_room.result c.in_room.ensures
