@@ -2,4 +2,5 @@
 #![tactic(auto)]
 
 pub mod choices;
+pub mod commands;
 pub mod completions;

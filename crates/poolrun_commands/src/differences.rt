@@ -150,26 +150,22 @@ impl<R: Read> Beside<'_, '_, R> {
     }
 }
 
-/// Tells where two records of one pool part.
-fn parting_told<R: Read, S: Read, E: Write>(
+/// What is told of two records of one pool that go on so. Where one is cut off, and why an entry is a flaw, goes to `errors`.
+fn told_at<R: Read, S: Read, E: Write>(
     alloc: Global,
     config: &Config,
-    first: &mut Beside<'_, '_, R>,
-    second: &mut Beside<'_, '_, S>,
+    front: &Front,
+    meeting: Meeting,
+    first: &Beside<'_, '_, R>,
+    second: &Beside<'_, '_, S>,
     form: Form,
     errors: &mut E,
-) -> Result<Told, Refused>
-    requires { IsConfig config.now }
-{
-    let no_memory = (Side::First, PoolError::NoMemory);
-    let Ok(mut front) = Front::new(alloc, config, None) else {
-        return Err(no_memory);
-    };
+) -> Result<Told, PoolError> {
     let mut told = Told {
         text: Vec::new(alloc),
         is_same: false,
     };
-    match follow(&mut front, &mut first.text, &mut second.text)? {
+    match meeting {
         Meeting::Same => {
             first.tell_cut(errors);
             second.tell_cut(errors);
@@ -187,10 +183,31 @@ fn parting_told<R: Read, S: Read, E: Write>(
             if other.is_none() {
                 second.tell_cut(errors);
             }
-            told.text = parting_text(alloc, &front, one, other, form).map_err(|_| no_memory)?;
+            told.text = parting_text(alloc, front, one, other, form)?;
         }
     }
     Ok(told)
+}
+
+/// Tells where two records of one pool part.
+fn parting_told<R: Read, S: Read, E: Write>(
+    alloc: Global,
+    config: &Config,
+    first: &mut Beside<'_, '_, R>,
+    second: &mut Beside<'_, '_, S>,
+    form: Form,
+    errors: &mut E,
+) -> Result<Told, Refused>
+    requires { IsConfig config.now }
+{
+    let Ok(mut front) = Front::new(alloc, config, None) else {
+        return Err((Side::First, PoolError::NoMemory));
+    };
+    let meeting = follow(&mut front, &mut first.text, &mut second.text)?;
+    told_at(alloc, config, &front, meeting, first, second, form, errors).map_err(|refusal| (
+        Side::First,
+        refusal,
+    ))
 }
 
 /// Tells where two records part; pools of other settings have no entry in common.

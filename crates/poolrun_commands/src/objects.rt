@@ -28,6 +28,7 @@ use tp_text_record::reading::{Ending, Taker, read_stream};
 use tp_text_record::versions::Version;
 use tp_types::configs::Config;
 use tp_types::refusals::PoolError;
+use tp_types::tasks::Fate;
 
 /// Writes the object of an entry, by the tables before it, as `{"number":1,"by":0,"did":"tidy"}`.
 pub(crate) fn write_object(
@@ -53,16 +54,21 @@ fn write_refusal(text: &mut String, refusal: &Refusal) -> Result<(), AllocError>
     )
 }
 
-/// Writes an object for each task, with its fate where it has one, and one for the run state and the counters.
+/// Writes the object of a task, with its fate where it has one, as `{"task":0,"fate":"run"}`.
+fn write_task(text: &mut String, t: usize, fate: Option<Fate>) -> Result<(), AllocError> {
+    match fate {
+        Some(fate) => {
+            let fate = fate.name();
+            write!(text, "{{\"task\":{t},\"fate\":\"{fate}\"}}\n")
+        }
+        None => write!(text, "{{\"task\":{t},\"fate\":null}}\n"),
+    }
+}
+
+/// Writes an object for each task, and one for the run state and the counters.
 fn write_end(text: &mut String, summary: &Summary) -> Result<(), AllocError> {
     for (t, fate) in summary.fates.iter().enumerate() {
-        match fate {
-            Some(fate) => {
-                let fate = fate.name();
-                write!(text, "{{\"task\":{t},\"fate\":\"{fate}\"}}\n")?;
-            }
-            None => write!(text, "{{\"task\":{t},\"fate\":null}}\n")?,
-        }
+        write_task(text, t, *fate)?;
     }
     let state = summary.state.name();
     let counts = CountMembers(&summary.counts);
