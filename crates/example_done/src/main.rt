@@ -37,10 +37,7 @@ fn main(rt: HostRuntime) -> anyhow::Result<()> {
     let (outs, _) = with_pool(&rt, rt.alloc(), single(), Defaults, 1, &Client(rt.alloc()))?;
     for out in outs {
         for told in &out? {
-            match told {
-                Ok(value) => println!(&rt; "{value}")?,
-                Err(error) => println!(&rt; "{}", Reason(*error))?,
-            }
+            println!(&rt; "{}", InWords(told))?;
         }
     }
     Ok(())

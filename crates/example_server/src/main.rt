@@ -56,10 +56,7 @@ fn main(rt: HostRuntime) -> anyhow::Result<()> {
             Err(error) => return Err((*error).into()),
         };
         for answer in answers {
-            match answer {
-                Ok(value) => println!(&rt; "caller {who}: {value}")?,
-                Err(error) => println!(&rt; "caller {who}: {}", Reason(*error))?,
-            }
+            println!(&rt; "caller {who}: {}", InWords(answer))?;
         }
     }
     Ok(())

@@ -6,6 +6,7 @@ use std::env;
 use std::sync::Arc;
 use std::sync::atomic::{AtomicBool, Ordering};
 use tp_life::prelude::*;
+use tp_life_journal::prelude::*;
 
 // Waits until this is so, for ten seconds at most.
 fn wait_for(host: &HostRuntime, sign: &AtomicBool) {

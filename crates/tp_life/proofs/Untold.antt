@@ -9,7 +9,7 @@ use Rattle.tp_book.specs.BookView.{AreAll, AreOwn}
 use Rattle.tp_book.specs.PassView.{PassView}
 use Rattle.tp_pool_holds.specs.Closing.{KeepsOpen}
 use Rattle.tp_pool_holds.specs.Moments.{AtSome}
-use Rattle.tp_journal.proofs.Reports.{last_is}
+use Rattle.tp_pool.proofs.Lasts.{last_is}
 use Rattle.tp_life.specs.Lived.{IsUntold}
 
 -- the last pass has seen the pool terminated

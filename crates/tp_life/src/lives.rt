@@ -130,17 +130,19 @@ fn opened<
     }
 }
 
-// What a life wants beside its pool: lists with room for what comes of its callers and for all passes, and the desk. The memory for it
-// is taken before the pool is made.
+/// What a life wants beside its pool: lists with room for what comes of its callers and for all passes, and the desk. The memory for it
+/// is taken before the pool is made. For `tp_life_journal`, as are the calls below.
 #[derive(Drop)]
-pub(crate) struct Rooms<G: PoolNaming, O> {
-    pub(crate) outs: Vec<O>,
-    pub(crate) passes: Vec<Pass<G>>,
+pub struct Rooms<G: PoolNaming, O> {
+    /// What came of the callers.
+    pub outs: Vec<O>,
+    /// The passes of all.
+    pub passes: Vec<Pass<G>>,
     desk: Arc<Desk>,
 }
 
-// The rooms for so many callers. NoMemory (4).
-pub(crate) fn make_rooms<G: PoolNaming, O: Drop>(
+/// The rooms for so many callers. NoMemory (4).
+pub fn make_rooms<G: PoolNaming, O: Drop>(
     alloc: Global,
     callers: u32,
 ) -> Result<Rooms<G, O>, PoolError>
@@ -164,8 +166,8 @@ struct Caller<G: PoolNaming, W: Task, H, E, K: Keeper, O> {
     out: Option<O>,
 }
 
-// The lives with a new pool, which is then ended.
-pub(crate) fn lived<
+/// The lives with a new pool, which is then ended.
+pub fn lived<
     G: PoolNaming + Send + Sync + 'static,
     V: Send + Drop + 'static,
     W: Task<Output = V> + Send + 'static,
@@ -205,9 +207,9 @@ pub(crate) fn lived<
     }
 }
 
-// The pool and its first pass behind the lives with it, what came of them, and their passes, which are split from the first one. That has
-// room then for all receipts of the pool's end. NoMemory (4) or BookFull (5), where nobody has lived, and the pool is let go.
-pub(crate) fn all_lives<
+/// The pool and its first pass behind the lives with it, what came of them, and their passes, which are split from the first one. That has
+/// room then for all receipts of the pool's end. NoMemory (4) or BookFull (5), where nobody has lived, and the pool is let go.
+pub fn all_lives<
     G: PoolNaming + Send + Sync + 'static,
     V: Send + Drop + 'static,
     W: Task<Output = V> + Send + 'static,
@@ -413,8 +415,8 @@ fn parted<G: PoolNaming, W: Task, H: Wait + Copy, E: Edge, K: Keeper, O: Drop>(
     (outs, passes)
 }
 
-// Shuts the pool down with this pass, where no caller did so, and waits until it is terminated. TornRecord (22).
-pub(crate) fn shut<
+/// Shuts the pool down with this pass, where no caller did so, and waits until it is terminated. TornRecord (22).
+pub fn shut<
     G: PoolNaming + Send + Sync + 'static,
     J: Job + 'static,
     E: Edge + Send + Sync + 'static,
@@ -433,8 +435,8 @@ pub(crate) fn shut<
     }
 }
 
-// Closes a terminated pool with the callers' passes and this one, for which their list has room.
-pub(crate) fn close<
+/// Closes a terminated pool with the callers' passes and this one, for which their list has room.
+pub fn close<
     G: PoolNaming + Send + Sync + 'static,
     J: Job + 'static,
     E: Edge + Send + Sync + 'static,

@@ -8,3 +8,4 @@ pub mod Submissions
 pub mod Turned
 pub mod Walks
 pub mod Watched
+pub mod Lasts

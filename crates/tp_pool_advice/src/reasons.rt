@@ -24,6 +24,19 @@ impl fmt::Display for Reason {
     }
 }
 
+/// What became of a task, in words: its value, or the refusal as `Reason` tells it.
+#[derive(Clone, Copy)]
+pub struct InWords<'a, T>(pub &'a Result<T, PoolError>);
+
+impl<T: fmt::Display> fmt::Display for InWords<'_, T> {
+    fn fmt<W: fmt::Write>(&self, f: &mut fmt::Formatter<W>) -> fmt::Result {
+        match self.0 {
+            Ok(value) => write!(f, "{value}"),
+            Err(error) => write!(f, "{}", Reason(*error)),
+        }
+    }
+}
+
 // A fate in words.
 fn fate_in_words(fate: Fate) -> &'static str {
     match fate {

@@ -1,4 +1,4 @@
-use Rattle.tp_life.proofs.recorded.with_journal.Given as goal
+use Rattle.tp_life_journal.proofs.recorded.with_journal.Given as goal
 
 abbrev pub ghosts-opened-G-Ledger : goal.ghosts-opened-G-Ledger
 ghosts-opened-G-Ledger g a = record { name = a.unopened.ledger; parts = a.unopened.parts }

@@ -3,7 +3,7 @@ use Rattle.std.specs.Prelude.{IfSome, IsSomeAnd}
 use Rattle.tp_text_record.specs.declared.versions.Version.TheVariants as version
 use Rattle.tp_text_record.specs.RecordText.{record_text}
 use Rattle.tp_journal.specs.Endings.{IsWhole}
-use Rattle.tp_life.proofs.recorded.opened.Goals as goal
+use Rattle.tp_life_journal.proofs.recorded.opened.Goals as goal
 
 pub returns-in-Ok-recorded-clause-whole : goal.returns-in-Ok-recorded-clause-whole
 returns-in-Ok-recorded-clause-whole g c =

@@ -5,7 +5,7 @@ use Rattle.tp_text_record.specs.RecordText.{record_text}
 use Rattle.tp_journal.specs.Endings.{IsWhole}
 use Rattle.tp_life.proofs.Looked.{still_ended}
 use Rattle.tp_journal.proofs.Reports.{front_of_report}
-use Rattle.tp_life.proofs.recorded.recorded.Goals as goal
+use Rattle.tp_life_journal.proofs.recorded.recorded.Goals as goal
 
 pub close-requires-clause-seen : goal.close-requires-clause-seen
 close-requires-clause-seen g c κs bounds = (still_ended g.G.PoolNaming.config c.shut.new.last c.stop_in-stopped.new.pass c.in_default.ensures.seen c.in_default.ensures.legal c.stop_in-stopped.ensures.looks).0
