@@ -2,7 +2,6 @@
 use Rattle.std.proofs.Common.{◌≡◌, ℕ, ◌+◌, ◌*◌, ◌-◌, length, arith, ap, sym, ◌∙◌}
 use Rattle.std.specs.Prelude.{◌==◌, count_by, if◌then◌else◌}
 use Rattle.std.proofs.lemmas.List.{length-map}
-use Rattle.tp_types.specs.RunState.{state_rank}
 use Rattle.tp_record.specs.declared.entries.Did.TheVariants as did
 use Rattle.tp_record.specs.Left.{mark}
 use Rattle.tp_record.specs.State.{State, state}
@@ -11,17 +10,18 @@ use Rattle.tp_slots.specs.Table.{is_at_take}
 use Rattle.tp_laws.proofs.Effects.Controllers.Shutdown.{shutdown as shutdown_effect}
 use Rattle.tp_laws.proofs.Effects.Controllers.Stop.{stop as stop_effect}
 use Rattle.tp_machine_state.specs.declared.parts.Parts.{Parts}
+use Rattle.tp_machine_state.specs.Owing.{owed_until}
 use Rattle.tp_machine_state.specs.Shows.{Shows}
 use Rattle.tp_machine_state.specs.Terms.{terms}
 use Rattle.tp_machine_state.proofs.Answering.{Moves}
 use Rattle.tp_machine_state.proofs.Falls.{owed_read, effect_by}
 
 module _ {P : Type 0} (p : Parts P) where
-  pub shutdown_moves : (n : ℕ) → n ≡ (if state_rank p.state == 0 then count_by is_at_take p.slots.slots else 0) + (1 - state_rank p.state) → Moves p n 0 did.Shutdown
+  abbrev pub shutdown_moves : (n : ℕ) → n ≡ owed_until p 1 → Moves p n 0 did.Shutdown
   shutdown_moves n is = λ h rs legal sh given. (_, effect_by (state (terms p) h) did.Shutdown _ _ n 0 (owed_read p (mark rs (state (terms p) h)) 1 sh ∙ sym is) (shutdown_effect (terms p) h legal given))
 
   abbrev pub fall_of : ℕ → ℕ
-  fall_of n = 6 * n + ((if state_rank p.state == 0 then count_by is_at_take p.slots.slots else 0) + (2 - state_rank p.state))
+  fall_of n = 6 * n + owed_until p 2
 
   pub stop_read : (n fall : ℕ) → fall ≡ fall_of n → (s : State) → Shows p s → 6 * n + (if s.rank == 0 then count_by is_at_take s.slots else 0) + (2 - s.rank) ≡ fall
   stop_read n fall is s sh = let e = owed_read p s 2 sh in omega (arith, e, is)

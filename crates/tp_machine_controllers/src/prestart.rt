@@ -1,15 +1,13 @@
 //! A worker is started ahead of tasks, as `prestartCoreThread` does.
 
-ghost use Rattle.std.specs.Prelude.{◌≡◌, Some, None};
-ghost use Rattle.tp_machine_state.specs.Payloads.{Keeps};
-ghost use Rattle.tp_machine_state.specs.Steps.{Stands, Accepts, Leads};
+ghost use Rattle.tp_machine_state.specs.Steps.{Accepts};
 
 use tp_machine_state::parts::Parts;
 use tp_machine_state::step::Step;
 use tp_record::entries::{Ask, Did};
 use tp_record::owed::RESERVED;
 use tp_record::rows::Stage;
-use tp_rules::controllers::lacks_core_worker;
+use tp_rules::controllers::prestart;
 use tp_types::ids::SlotId;
 use tp_types::refusals::PoolError;
 
@@ -45,40 +43,18 @@ impl<P> Step<P> for Prestart {
 
     // BookFull (5).
     fn answer(self, parts: &Parts<P>) -> Result<Option<SlotId>, PoolError> {
-        if lacks_core_worker(parts) {
-            parts.in_room(Ok(Some(parts.slots.next_number())), 0, RESERVED)
-        } else {
-            parts.in_room(Ok(None), 0, 0)
-        }
+        let slot = prestart(parts, parts.slots.next_number());
+        parts.in_room(Ok(slot), 0, RESERVED * u64::from(slot.is_some()))
     }
 
+    // The next slot is reserved, for a worker without a first task, where one is to be.
     fn apply(self, parts: &mut Parts<P>, slot: Option<SlotId>) {
         match slot {
-            None => nothing(parts),
-            Some(w) => reserve(parts, w),
+            None => parts.count_entry(0),
+            Some(_) => {
+                parts.count_rising_entry(RESERVED);
+                parts.reserve(Stage::ReservedBare, None);
+            }
         }
     }
-}
-
-/// No slot is reserved.
-fn nothing<P>(parts: &mut Parts<P>)
-    requires stands { Stands parts.old }
-    requires accepts { Accepts parts.old Ask.Prestart (Did.Prestart None) }
-    ensures leads { Leads parts.old (Did.Prestart None) parts.new }
-    ensures payloads { Keeps parts.old.tasks parts.new.tasks }
-{
-    parts.count_entry(0);
-}
-
-/// The next slot is reserved, for a worker without a first task.
-fn reserve<P>(parts: &mut Parts<P>, w: SlotId)
-    requires stands { Stands parts.old }
-    requires accepts { Accepts parts.old Ask.Prestart (Did.Prestart (Some w)) }
-    requires next { w.0 ≡ parts.old.slots.next }
-    ensures leads { Leads parts.old (Did.Prestart (Some w)) parts.new }
-    ensures payloads { Keeps parts.old.tasks parts.new.tasks }
-{
-    let _ = w;
-    parts.count_rising_entry(RESERVED);
-    parts.reserve(Stage::ReservedBare, None);
 }

@@ -71,10 +71,8 @@ impl<P> Step<P> for Remove {
 
     // UnknownTask (6) or BookFull (5).
     fn answer(self, parts: &Parts<P>) -> Result<bool, PoolError> {
-        match remove(parts, self.0) {
-            Ok(queued) => parts.in_room(Ok(queued), QUEUED * u64::from(queued), 0),
-            Err(error) => Err(error),
-        }
+        let queued = remove(parts, self.0);
+        parts.in_room(queued, QUEUED * u64::from(queued.unwrap_or(false)), 0)
     }
 
     fn apply(self, parts: &mut Parts<P>, queued: bool) -> Option<P> {

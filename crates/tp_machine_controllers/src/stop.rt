@@ -1,10 +1,9 @@
 //! The pool is stopped, as `shutdownNow` does: the queued tasks are handed back, and workers leave once their tasks have ended.
 
-ghost use Rattle.std.specs.Prelude.{◌≡◌, ◌+◌, ◌*◌, ◌-◌, ◌^◌, ◌<◌, ◌≤◌, ◌==◌, ◌++◌, [], length, count_by, vec_len, vec_capacity, IfOk, IfErr, IsOk, IsOkUnless, if◌then◌else◌};
-ghost use Rattle.tp_types.specs.RunState.{state_rank};
+ghost use Rattle.std.specs.Prelude.{◌≡◌, ◌+◌, ◌*◌, ◌≤◌, ◌++◌, [], length, vec_len, vec_capacity, IfOk, IfErr, IsOk, IsOkUnless};
 ghost use Rattle.tp_queue.specs.Queues.{waiting_of};
-ghost use Rattle.tp_slots.specs.Table.{is_at_take};
 ghost use Rattle.tp_machine_state.specs.Drained.{handed_back, HandsOutAll};
+ghost use Rattle.tp_machine_state.specs.Owing.{owed_until};
 ghost use Rattle.tp_machine_state.specs.Shows.{numbers};
 ghost use Rattle.tp_machine_state.specs.Steps.{Stands, Accepts, Refuses, Leads};
 
@@ -31,7 +30,7 @@ pub fn answer<P>(parts: &Parts<P>) -> Result<u32, PoolError>
 /// By how many entries fewer are owed after a stop that hands back so many tasks.
 fn fall<P>(parts: &Parts<P>, count: u32) -> u64
     requires stands { Stands parts.now }
-    ensures { result ≡ 6 * count + ((if state_rank parts.now.state == 0 then count_by is_at_take parts.now.slots.slots else 0) + (2 - state_rank parts.now.state)) }
+    ensures { result ≡ 6 * count + owed_until parts.now 2 }
 {
     QUEUED * u64::from(count) + parts.owed_until(RunState::Stop)
 }

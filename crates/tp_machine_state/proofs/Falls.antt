@@ -8,6 +8,7 @@ use Rattle.tp_record.specs.State.{State}
 use Rattle.tp_slots.specs.Table.{is_at_take}
 use Rattle.tp_machine_state.specs.declared.parts.Parts.{Parts}
 use Rattle.tp_laws.specs.View.{View, Effect}
+use Rattle.tp_machine_state.specs.Owing.{owed_until}
 use Rattle.tp_machine_state.specs.Shows.{Shows}
 use Rattle.tp_machine_state.proofs.Sums.{sums_agree}
 
@@ -17,7 +18,7 @@ taking_read p s sh = sums_agree (λ o. cond (is_at_take o) 1 0) s.slots p.slots.
 
 -- so what is owed falls by as much until the rank n
 pub owed_read : {P : Type 0} (p : Parts P) (s : State) (n : ℕ) → Shows p s →
-    (if s.rank == 0 then count_by is_at_take s.slots else 0) + (n - s.rank) ≡ (if state_rank p.state == 0 then count_by is_at_take p.slots.slots else 0) + (n - state_rank p.state)
+    (if s.rank == 0 then count_by is_at_take s.slots else 0) + (n - s.rank) ≡ owed_until p n
 owed_read p s n sh =
     ap (λ k. (if s.rank == 0 then k else 0) + (n - s.rank)) (taking_read p s sh)
     ∙ ap (λ r. (if r == 0 then count_by is_at_take p.slots.slots else 0) + (n - r)) sh.seen.rank
@@ -28,7 +29,7 @@ alone n k r up = grind (arith, nat_tests)
 
 -- so what is owed falls then until the rank n
 pub owed_after : {P : Type 0} (p : Parts P) (s : State) (n : ℕ) → Shows p s → 1 ≤ s.rank →
-    n - s.rank ≡ (if state_rank p.state == 0 then count_by is_at_take p.slots.slots else 0) + (n - state_rank p.state)
+    n - s.rank ≡ owed_until p n
 owed_after p s n sh up = alone n (count_by is_at_take s.slots) s.rank up ∙ owed_read p s n sh
 
 -- the same effect, by numbers that are the same

@@ -68,19 +68,22 @@ module _ {P X : Type 0} (p : Parts P) (a : Ask) (f : X → Did) where
     pub denies : FitsOutcome p a → (r : Result X PoolError) → Answers (Reads p) a f r → IfErr r (λ e. Denies p a e)
     denies = denies_by no_settings same
 
-    -- where the room is looked at, which falls and rises by so much whatever is answered
-    module _ (fall rise : ℕ) (none : (x : X) → reserves (f x) ≡ None) (moves : (x : X) → Moves p fall rise (f x)) where
-      pub accepts_in : (q r : Result X PoolError) → IsInRoom p fall rise q r → Answers (Reads p) a f q → IfOk r (λ x. Accepts p a (f x))
-      accepts_in (Err e) r is answers = subst (λ (y : Result X PoolError). IfOk y (λ x. Accepts p a (f x))) (sym is) tt
-      accepts_in (Ok x) r is answers = accepts_given p a f fall rise x (fits none (Ok x) answers) (moves x) r is
+    -- where the room is looked at, which falls and rises by so much for what is answered
+    module _ (fall rise : ℕ) (none : (x : X) → reserves (f x) ≡ None) where
+      pub accepts_in : (q : Result X PoolError) → ((x : X) → q ≡ Ok x → Moves p fall rise (f x)) → (r : Result X PoolError) → IsInRoom p fall rise q r → Answers (Reads p) a f q →
+          IfOk r (λ x. Accepts p a (f x))
+      accepts_in (Err e) moves r is answers = subst (λ (y : Result X PoolError). IfOk y (λ x. Accepts p a (f x))) (sym is) tt
+      accepts_in (Ok x) moves r is answers = accepts_given p a f fall rise x (fits none (Ok x) answers) (moves x refl) r is
 
-      pub refuses_in : (q r : Result X PoolError) → IsInRoom p fall rise q r → Answers (Reads p) a f q → IfErr r (λ e. Refuses p a e)
-      refuses_in (Err e) r is answers = subst (λ (y : Result X PoolError). IfErr y (λ d. Refuses p a d)) (sym is) (refuses (Err e) answers)
-      refuses_in (Ok x) r is answers =
-          refuses_given p a f fall rise x (λ full. refuses_fitting p a (f x) fall rise false full refl (fits none (Ok x) answers) (λ s w. sym (same w s) ∙ same (unwrap_or (reserves (f x)) 0) s) (moves x)) r is
+      pub refuses_in : (q : Result X PoolError) → ((x : X) → q ≡ Ok x → Moves p fall rise (f x)) → (r : Result X PoolError) → IsInRoom p fall rise q r → Answers (Reads p) a f q →
+          IfErr r (λ e. Refuses p a e)
+      refuses_in (Err e) moves r is answers = subst (λ (y : Result X PoolError). IfErr y (λ d. Refuses p a d)) (sym is) (refuses (Err e) answers)
+      refuses_in (Ok x) moves r is answers =
+          refuses_given p a f fall rise x (λ full. refuses_fitting p a (f x) fall rise false full refl (fits none (Ok x) answers) (λ s w. sym (same w s) ∙ same (unwrap_or (reserves (f x)) 0) s) (moves x refl)) r is
 
-      pub denies_in : FitsOutcome p a → (q r : Result X PoolError) → IsInRoom p fall rise q r → Answers (Reads p) a f q → IfErr r (λ e. Denies p a e)
-      denies_in outcome q r is answers = IfErr-weaker r _ _ (λ e refused. inr (outcome, refused)) (refuses_in q r is answers)
+      pub denies_in : FitsOutcome p a → (q : Result X PoolError) → ((x : X) → q ≡ Ok x → Moves p fall rise (f x)) → (r : Result X PoolError) → IsInRoom p fall rise q r → Answers (Reads p) a f q →
+          IfErr r (λ e. Denies p a e)
+      denies_in outcome q moves r is answers = IfErr-weaker r _ _ (λ e refused. inr (outcome, refused)) (refuses_in q moves r is answers)
 
   -- by one that may reserve the slot n
   module _ (n : ℕ) (same : (w : ℕ) (s : State) → fitting no_settings s w a ≡ fitting (terms p) s w a) where

@@ -1,8 +1,8 @@
 //! By how much what is owed falls at a shutdown.
 
-ghost use Rattle.std.specs.Prelude.{◌≡◌, ◌+◌, ◌-◌, ◌^◌, ◌<◌, ◌==◌, count_by, if◌then◌else◌};
+ghost use Rattle.std.specs.Prelude.{◌≡◌, ◌^◌, ◌<◌};
 ghost use Rattle.tp_types.specs.RunState.{state_rank};
-ghost use Rattle.tp_slots.specs.Table.{is_at_take};
+ghost use Rattle.tp_machine_state.specs.Owing.{owed_until};
 ghost use Rattle.tp_machine_state.specs.Steps.{Stands};
 
 use crate::parts::Parts;
@@ -14,7 +14,7 @@ impl<P> Parts<P> {
     /// here, and no count of them is kept.
     pub fn owed_until(&self, state: RunState) -> u64
         requires stands { Stands self.now }
-        ensures falls { result ≡ (if state_rank self.now.state == 0 then count_by is_at_take self.now.slots.slots else 0) + (state_rank state - state_rank self.now.state) }
+        ensures falls { result ≡ owed_until self.now (state_rank state) }
         ensures few { result < 2 ^ 32 }
     {
         let workers = if self.state == RunState::Running {

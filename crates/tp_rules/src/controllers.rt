@@ -1,6 +1,6 @@
 //! The rules of controllers' steps.
 
-ghost use Rattle.std.specs.Prelude.{◌≡◌, ◌&&◌, nat_lt, Ok};
+ghost use Rattle.std.specs.Prelude.{◌≡◌, ◌&&◌, nat_lt, Ok, IfSome};
 ghost use Rattle.tp_record.specs.State.{State};
 ghost use Rattle.tp_record.specs.Step as steps;
 ghost use Rattle.tp_rules.specs.Answers.{Answers};
@@ -119,15 +119,16 @@ pub fn tick<S: Readings>(state: &S, moment: u64) -> Result<(), PoolError>
 }
 
 /// Whether a core worker is missing that the pool wants.
-pub fn lacks_core_worker<S: Readings>(state: &S) -> bool
+fn lacks_core_worker<S: Readings>(state: &S) -> bool
     ensures { (s : State) → S.shows state.now s → result ≡ (nat_lt (steps.slot_count s) s.core && steps.wants_worker s) }
 {
     state.slot_count() < state.core() as usize && wants_worker(state)
 }
 
-/// The bare slot that a prestart reserves, `w`, where a core worker is missing.
+/// The bare slot that a prestart reserves, `w`, where a core worker is missing that the pool wants.
 pub fn prestart<S: Readings>(state: &S, w: SlotId) -> Option<SlotId>
-    ensures { (s : State) → S.shows state.now s → steps.prestart_answer s w.0 ≡ Ok (Did.Prestart result) }
+    ensures answers { (s : State) → S.shows state.now s → steps.prestart_answer s w.0 ≡ Ok (Did.Prestart result) }
+    ensures next { IfSome result (λ v. v ≡ w) }
 {
     if lacks_core_worker(state) {
         Some(w)

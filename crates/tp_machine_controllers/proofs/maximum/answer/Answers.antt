@@ -10,10 +10,10 @@ pub returns-clause-accepts : goal.returns-clause-accepts
 returns-clause-accepts g c =
     let p = c.args.parts.now in
     let n = c.args.maximum in
-    accepts_in p (ask.Maximum n) (λ x. did.Maximum n) (λ w s. refl) 0 0 (λ x. refl) (λ x h rs legal sh given. (_, maximum_effect (terms p) h n legal given)) c.maximum.result c.in_room.result c.in_room.ensures c.maximum.ensures
+    accepts_in p (ask.Maximum n) (λ x. did.Maximum n) (λ w s. refl) 0 0 (λ x. refl) c.maximum.result (λ x is h rs legal sh given. (_, maximum_effect (terms p) h n legal given)) c.in_room.result c.in_room.ensures c.maximum.ensures
 
 pub returns-clause-refuses : goal.returns-clause-refuses
 returns-clause-refuses g c =
     let p = c.args.parts.now in
     let n = c.args.maximum in
-    refuses_in p (ask.Maximum n) (λ x. did.Maximum n) (λ w s. refl) 0 0 (λ x. refl) (λ x h rs legal sh given. (_, maximum_effect (terms p) h n legal given)) c.maximum.result c.in_room.result c.in_room.ensures c.maximum.ensures
+    refuses_in p (ask.Maximum n) (λ x. did.Maximum n) (λ w s. refl) 0 0 (λ x. refl) c.maximum.result (λ x is h rs legal sh given. (_, maximum_effect (terms p) h n legal given)) c.in_room.result c.in_room.ensures c.maximum.ensures

@@ -8,9 +8,9 @@ use Rattle.tp_machine_controllers.proofs.cancel.CancelStep.answer.Goals as goal
 pub returns-clause-fits : goal.returns-clause-fits
 returns-clause-fits g c =
     let p = c.args.parts.now in
-    accepts_in p (ask.Cancel c.args.self.0 c.args.self.1) (did.Cancel c.args.self.0 c.args.self.1) (λ w s. refl) 0 0 (λ x. refl) (cancel_moves p c.args.self.0 c.args.self.1) c.cancel.result c.in_room.result c.in_room.ensures c.cancel.ensures
+    accepts_in p (ask.Cancel c.args.self.0 c.args.self.1) (did.Cancel c.args.self.0 c.args.self.1) (λ w s. refl) 0 0 (λ x. refl) c.cancel.result (λ x is. cancel_moves p c.args.self.0 c.args.self.1 x) c.in_room.result c.in_room.ensures c.cancel.ensures
 
 pub returns-clause-denies : goal.returns-clause-denies
 returns-clause-denies g c =
     let p = c.args.parts.now in
-    denies_in p (ask.Cancel c.args.self.0 c.args.self.1) (did.Cancel c.args.self.0 c.args.self.1) (λ w s. refl) 0 0 (λ x. refl) (cancel_moves p c.args.self.0 c.args.self.1) tt c.cancel.result c.in_room.result c.in_room.ensures c.cancel.ensures
+    denies_in p (ask.Cancel c.args.self.0 c.args.self.1) (did.Cancel c.args.self.0 c.args.self.1) (λ w s. refl) 0 0 (λ x. refl) tt c.cancel.result (λ x is. cancel_moves p c.args.self.0 c.args.self.1 x) c.in_room.result c.in_room.ensures c.cancel.ensures

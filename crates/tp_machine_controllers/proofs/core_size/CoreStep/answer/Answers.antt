@@ -9,9 +9,9 @@ use Rattle.tp_machine_controllers.proofs.core_size.CoreStep.answer.Goals as goal
 pub returns-clause-fits : goal.returns-clause-fits
 returns-clause-fits g c =
     let p = c.args.parts.now in
-    accepts_in p (ask.Core c.args.self.0) (did.Core c.args.self.0) (λ w s. refl) 0 0 (λ x. refl) (λ n h rs legal sh given. (_, core_effect (terms p) h c.args.self.0 n legal given)) c.core.result c.in_room.result c.in_room.ensures c.core.ensures
+    accepts_in p (ask.Core c.args.self.0) (did.Core c.args.self.0) (λ w s. refl) 0 0 (λ x. refl) c.core.result (λ n is h rs legal sh given. (_, core_effect (terms p) h c.args.self.0 n legal given)) c.in_room.result c.in_room.ensures c.core.ensures
 
 pub returns-clause-denies : goal.returns-clause-denies
 returns-clause-denies g c =
     let p = c.args.parts.now in
-    denies_in p (ask.Core c.args.self.0) (did.Core c.args.self.0) (λ w s. refl) 0 0 (λ x. refl) (λ n h rs legal sh given. (_, core_effect (terms p) h c.args.self.0 n legal given)) tt c.core.result c.in_room.result c.in_room.ensures c.core.ensures
+    denies_in p (ask.Core c.args.self.0) (did.Core c.args.self.0) (λ w s. refl) 0 0 (λ x. refl) tt c.core.result (λ n is h rs legal sh given. (_, core_effect (terms p) h c.args.self.0 n legal given)) c.in_room.result c.in_room.ensures c.core.ensures

@@ -9,9 +9,9 @@ use Rattle.tp_machine_controllers.proofs.core_timeout.CoreTimeoutStep.answer.Goa
 pub returns-clause-fits : goal.returns-clause-fits
 returns-clause-fits g c =
     let p = c.args.parts.now in
-    accepts_in p (ask.CoreTimeout c.args.self.0) (λ x. did.CoreTimeout c.args.self.0) (λ w s. refl) 0 0 (λ x. refl) (λ x h rs legal sh given. (_, core_timeout_effect (terms p) h c.args.self.0 legal given)) c.core_timeout.result c.in_room.result c.in_room.ensures c.core_timeout.ensures
+    accepts_in p (ask.CoreTimeout c.args.self.0) (λ x. did.CoreTimeout c.args.self.0) (λ w s. refl) 0 0 (λ x. refl) c.core_timeout.result (λ x is h rs legal sh given. (_, core_timeout_effect (terms p) h c.args.self.0 legal given)) c.in_room.result c.in_room.ensures c.core_timeout.ensures
 
 pub returns-clause-denies : goal.returns-clause-denies
 returns-clause-denies g c =
     let p = c.args.parts.now in
-    denies_in p (ask.CoreTimeout c.args.self.0) (λ x. did.CoreTimeout c.args.self.0) (λ w s. refl) 0 0 (λ x. refl) (λ x h rs legal sh given. (_, core_timeout_effect (terms p) h c.args.self.0 legal given)) tt c.core_timeout.result c.in_room.result c.in_room.ensures c.core_timeout.ensures
+    denies_in p (ask.CoreTimeout c.args.self.0) (λ x. did.CoreTimeout c.args.self.0) (λ w s. refl) 0 0 (λ x. refl) tt c.core_timeout.result (λ x is h rs legal sh given. (_, core_timeout_effect (terms p) h c.args.self.0 legal given)) c.in_room.result c.in_room.ensures c.core_timeout.ensures

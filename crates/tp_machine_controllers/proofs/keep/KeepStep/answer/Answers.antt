@@ -9,9 +9,9 @@ use Rattle.tp_machine_controllers.proofs.keep.KeepStep.answer.Goals as goal
 pub returns-clause-fits : goal.returns-clause-fits
 returns-clause-fits g c =
     let p = c.args.parts.now in
-    accepts_in p (ask.Keep c.args.self.0) (λ x. did.Keep c.args.self.0) (λ w s. refl) 0 0 (λ x. refl) (λ x h rs legal sh given. (_, keep_effect (terms p) h c.args.self.0 legal given)) c.keep.result c.in_room.result c.in_room.ensures c.keep.ensures
+    accepts_in p (ask.Keep c.args.self.0) (λ x. did.Keep c.args.self.0) (λ w s. refl) 0 0 (λ x. refl) c.keep.result (λ x is h rs legal sh given. (_, keep_effect (terms p) h c.args.self.0 legal given)) c.in_room.result c.in_room.ensures c.keep.ensures
 
 pub returns-clause-denies : goal.returns-clause-denies
 returns-clause-denies g c =
     let p = c.args.parts.now in
-    denies_in p (ask.Keep c.args.self.0) (λ x. did.Keep c.args.self.0) (λ w s. refl) 0 0 (λ x. refl) (λ x h rs legal sh given. (_, keep_effect (terms p) h c.args.self.0 legal given)) tt c.keep.result c.in_room.result c.in_room.ensures c.keep.ensures
+    denies_in p (ask.Keep c.args.self.0) (λ x. did.Keep c.args.self.0) (λ w s. refl) 0 0 (λ x. refl) tt c.keep.result (λ x is h rs legal sh given. (_, keep_effect (terms p) h c.args.self.0 legal given)) c.in_room.result c.in_room.ensures c.keep.ensures

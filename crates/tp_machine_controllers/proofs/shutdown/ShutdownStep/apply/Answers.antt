@@ -1,23 +1,19 @@
-use Rattle.std.proofs.Common.{suc, arith, sym, ◌∙◌, ap}
+use Rattle.std.proofs.Common.{suc, arith, ◌∙◌, ap}
 use Rattle.tp_record.specs.declared.entries.Ask.TheVariants as ask
 use Rattle.tp_record.specs.declared.entries.Did.TheVariants as did
-use Rattle.tp_record.specs.Left.{mark}
-use Rattle.tp_record.specs.State.{state}
-use Rattle.tp_laws.proofs.Effects.Controllers.Shutdown.{shutdown as shutdown_effect}
 use Rattle.tp_machine_state.proofs.Standing.{fits_accepted, falling_here}
 use Rattle.tp_machine_state.proofs.Leading.{leads_from}
-use Rattle.tp_machine_state.proofs.Falls.{owed_read, effect_by}
 use Rattle.tp_machine_state.specs.Terms.{terms}
+use Rattle.tp_machine_controllers.proofs.Stopping.{shutdown_moves}
 use Rattle.tp_machine_controllers.proofs.shutdown.ShutdownStep.apply.Goals as goal
 
 pub count_entry-requires : goal.count_entry-requires
 count_entry-requires g c =
     let old = c.args.parts.now in
     let stands = c.requires.stands in
-    let s = state (terms old) stands.history in
     let n = c.owed_until.result in
-    let falls = owed_read old (mark stands.released s) 1 stands.shows ∙ sym c.owed_until.ensures.falls in
-    let e = falling_here old stands ask.Shutdown did.Shutdown _ n 0 n c.requires.fits (λ given. effect_by s did.Shutdown _ _ n 0 falls (shutdown_effect (terms old) stands.history stands.legal given)) (omega arith) in
+    let moves = shutdown_moves old n c.owed_until.ensures.falls stands.history stands.released stands.legal stands.shows in
+    let e = falling_here old stands ask.Shutdown did.Shutdown _ n 0 n c.requires.fits (λ given. (moves given).1) (omega arith) in
     record { few = e.0; fall = e.1 }
 
 pub returns-clause-leads : goal.returns-clause-leads
@@ -32,7 +28,7 @@ returns-clause-leads g c =
     leads_from old c.wake_all.new.self ask.Shutdown did.Shutdown n 0 n stands fits
     (λ h rs legal given sh. (
       _,
-      effect_by (state (terms old) h) did.Shutdown _ _ n 0 (owed_read old (mark rs (state (terms old) h)) 1 sh ∙ sym c.owed_until.ensures.falls) (shutdown_effect (terms old) h legal given),
+      (shutdown_moves old n c.owed_until.ensures.falls h rs legal sh given).1,
       c.wake_all.ensures.views _ (c.reach.ensures.views _ (c.count_entry.ensures.views _ sh.seen)),
     ))
     (omega arith) (ap terms r ∙ ap terms m ∙ ap terms k) (cc) (cc)

@@ -9,9 +9,9 @@ use Rattle.tp_machine_controllers.proofs.tick.TickStep.answer.Goals as goal
 pub returns-clause-fits : goal.returns-clause-fits
 returns-clause-fits g c =
     let p = c.args.parts.now in
-    accepts_in p (ask.Tick c.args.self.0) (λ x. did.Tick c.args.self.0) (λ w s. refl) 0 0 (λ x. refl) (λ x h rs legal sh given. (_, tick_effect (terms p) h c.args.self.0 legal given)) c.tick.result c.in_room.result c.in_room.ensures c.tick.ensures
+    accepts_in p (ask.Tick c.args.self.0) (λ x. did.Tick c.args.self.0) (λ w s. refl) 0 0 (λ x. refl) c.tick.result (λ x is h rs legal sh given. (_, tick_effect (terms p) h c.args.self.0 legal given)) c.in_room.result c.in_room.ensures c.tick.ensures
 
 pub returns-clause-denies : goal.returns-clause-denies
 returns-clause-denies g c =
     let p = c.args.parts.now in
-    denies_in p (ask.Tick c.args.self.0) (λ x. did.Tick c.args.self.0) (λ w s. refl) 0 0 (λ x. refl) (λ x h rs legal sh given. (_, tick_effect (terms p) h c.args.self.0 legal given)) tt c.tick.result c.in_room.result c.in_room.ensures c.tick.ensures
+    denies_in p (ask.Tick c.args.self.0) (λ x. did.Tick c.args.self.0) (λ w s. refl) 0 0 (λ x. refl) tt c.tick.result (λ x is h rs legal sh given. (_, tick_effect (terms p) h c.args.self.0 legal given)) c.in_room.result c.in_room.ensures c.tick.ensures
