@@ -31,6 +31,12 @@ enum Given {
 /// An argument: its name, how it is given, and what the help tells of it.
 type Argument = (&'static str, Given, &'static str);
 
+/// Some arguments of a command, and the others that they may not go with, or must go with.
+type Rule = (&'static [&'static str], &'static [&'static str]);
+
+/// A rule for no argument.
+const NO_RULE: Rule = (&[], &[]);
+
 /// A command of the program.
 #[derive(Clone, Copy)]
 struct Subcommand {
@@ -40,10 +46,10 @@ struct Subcommand {
     about: &'static str,
     /// Its arguments, as the help lists them.
     arguments: &'static [Argument],
-    /// Its arguments that do not go with others, and the others.
-    excludes: &'static [(&'static str, &'static [&'static str])],
-    /// Its arguments that do not go without others, and the others.
-    needs: &'static [(&'static str, &'static [&'static str])],
+    /// Its arguments that do not go with others.
+    excludes: Rule,
+    /// Its arguments that do not go without others.
+    needs: Rule,
 }
 
 /// The file of a command that reads a record.
@@ -87,8 +93,8 @@ const COMMANDS: [Subcommand; 11] = [
             ),
             JSON,
         ],
-        excludes: &[("json", &["record"])],
-        needs: &[],
+        excludes: (&["json"], &["record"]),
+        needs: NO_RULE,
     },
     Subcommand {
         name: "threads",
@@ -121,8 +127,8 @@ const COMMANDS: [Subcommand; 11] = [
             ),
             JSON,
         ],
-        excludes: &[("tally", &["record", "journal", "json"])],
-        needs: &[],
+        excludes: (&["tally"], &["record", "journal", "json"]),
+        needs: NO_RULE,
     },
     Subcommand {
         name: "audit",
@@ -146,8 +152,8 @@ const COMMANDS: [Subcommand; 11] = [
             ),
             JSON,
         ],
-        excludes: &[("explain", &["any-length", "cut"])],
-        needs: &[("json", &["cut"])],
+        excludes: (&["explain"], &["any-length", "cut"]),
+        needs: (&["json"], &["cut"]),
     },
     Subcommand {
         name: "explore",
@@ -190,15 +196,8 @@ const COMMANDS: [Subcommand; 11] = [
                 "Keeps N states at most, 1000000 where it is left out; status 1 where there are more",
             ),
         ],
-        excludes: &[
-            ("witness", &WISHES),
-            ("record", &WISHES),
-            ("find", &WISHES),
-            ("never", &WISHES),
-            ("json", &WISHES),
-            ("dot", &WISHES),
-        ],
-        needs: &[],
+        excludes: (&WISHES, &WISHES),
+        needs: NO_RULE,
     },
     Subcommand {
         name: "why",
@@ -212,8 +211,8 @@ const COMMANDS: [Subcommand; 11] = [
                 "a task as t4, or a worker's slot as w0",
             ),
         ],
-        excludes: &[],
-        needs: &[],
+        excludes: NO_RULE,
+        needs: NO_RULE,
     },
     Subcommand {
         name: "now",
@@ -227,8 +226,8 @@ const COMMANDS: [Subcommand; 11] = [
                 "Stands after entry N, and not after the last",
             ),
         ],
-        excludes: &[],
-        needs: &[],
+        excludes: NO_RULE,
+        needs: NO_RULE,
     },
     Subcommand {
         name: "stats",
@@ -242,8 +241,8 @@ const COMMANDS: [Subcommand; 11] = [
                 "Names the N tasks that waited longest",
             ),
         ],
-        excludes: &[],
-        needs: &[],
+        excludes: NO_RULE,
+        needs: NO_RULE,
     },
     Subcommand {
         name: "check",
@@ -257,8 +256,8 @@ const COMMANDS: [Subcommand; 11] = [
                 "what is to hold, as 'rejected = 0', 'wait <= 100' or 'state = terminated'",
             ),
         ],
-        excludes: &[],
-        needs: &[],
+        excludes: NO_RULE,
+        needs: NO_RULE,
     },
     Subcommand {
         name: "diff",
@@ -273,8 +272,8 @@ const COMMANDS: [Subcommand; 11] = [
                 "Tells the tasks that ended otherwise",
             ),
         ],
-        excludes: &[],
-        needs: &[],
+        excludes: NO_RULE,
+        needs: NO_RULE,
     },
     Subcommand {
         name: "draw",
@@ -294,15 +293,15 @@ const COMMANDS: [Subcommand; 11] = [
                 "Says by what time runs to the right; by entries without this flag",
             ),
         ],
-        excludes: &[],
-        needs: &[],
+        excludes: NO_RULE,
+        needs: NO_RULE,
     },
     Subcommand {
         name: "completions",
         about: "Prints the script by which a shell completes commands and flags",
         arguments: &[("SHELL", Given::PlaceOf(&SHELLS), "the shell that completes")],
-        excludes: &[],
-        needs: &[],
+        excludes: NO_RULE,
+        needs: NO_RULE,
     },
 ];
 
@@ -345,19 +344,13 @@ fn among<'a>(
 ) -> Result<Arg<'a>, AllocError> {
     let name = argument.0;
     let mut arg = arg_of(alloc, argument);
-    for (subject, others) in command.excludes {
-        if *subject == name {
-            for other in *others {
-                if *other != name {
-                    arg = arg.conflicts_with(*other)?;
-                }
-            }
-        }
+    let (subjects, others) = command.excludes;
+    if subjects.contains(&name) {
+        arg = arg.conflicts_with_all(others)?;
     }
-    for (subject, others) in command.needs {
-        if *subject == name {
-            arg = arg.requires_all(*others)?;
-        }
+    let (subjects, others) = command.needs;
+    if subjects.contains(&name) {
+        arg = arg.requires_all(others)?;
     }
     Ok(arg)
 }
