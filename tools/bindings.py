@@ -14,9 +14,8 @@ elsewhere. A STEP is one of these; with none, all are made:
     futures    CPython's own tests of ThreadPoolExecutor, where they are there: the folder that PYTHON_TESTS names, which holds
                test_concurrent_futures.py of the python3 that runs (Debian: libpython3.11-testsuite)
 
-The rows are those of bindings/rows, and the worked ones of test_model, test_program and test_stories, taken from their sources where
-bindings/rows has no such text. With --rate the Rust pool's rate is printed beside that of a textbook's pool. The exit status is 0
-where nothing failed.
+The rows are those of bindings/rows, and those of test_model and test_program, taken from their texts where bindings/rows has no such
+text. With --rate the Rust pool's rate is printed beside that of a textbook's pool. The exit status is 0 where nothing failed.
 """
 
 import argparse
@@ -54,25 +53,42 @@ CONSTANT = re.compile(r'(?:const|static) (\w+): &(?:\[u8\]|str) =\s*b?"((?:[^"\\
 ESCAPE = re.compile(r"\\(\n\s*|.)", re.S)
 
 
-def constants(folder):
-    """The constant texts of the sources in a crate's folder, by name."""
+def constants(sources):
+    """The constant texts of a crate's sources, by name."""
     plain = lambda text: ESCAPE.sub(lambda found: {"n": "\n", '"': '"', "\\": "\\"}.get(found[1], ""), text)
-    paths = sorted(glob.glob(os.path.join(ROOT, "crates", folder, "**", "*.rt"), recursive=True))
+    paths = sorted(glob.glob(os.path.join(ROOT, "crates", sources), recursive=True))
     return {name: plain(text) for path in paths for name, text in CONSTANT.findall(open(path).read())}
+
+
+def titled_rows():
+    """The scenarios and records of test_model, each with its title or its constant's name. A play of the machine has no empty line."""
+    for path in sorted(glob.glob(os.path.join(ROOT, "crates", "test_model", "data", "*.txt"))):
+        for row in open(path).read().split("\n== ")[1:]:
+            yield row.split("\n", 1)
+    yield from constants("test_model/src/known.rt").items()
+
+
+def transcripts(name):
+    """The calls of a file of transcripts of test_program: the row's text, the command line, and the output."""
+    for row in open(os.path.join(ROOT, "crates", "test_program", "data", name)).read().split("\n== ")[1:]:
+        texts, *calls = re.split(r"\n\$ ", row)
+        marked = lambda lines, mark: "".join(line[len(mark) + 1:] + "\n" for line in lines.split("\n") if line.startswith(f"{mark} "))
+        for call in calls:
+            yield marked(texts, "<"), call.split("\n", 1)[0], marked(call, ">")
 
 
 def worked_rows():
     """The worked rows of the crates of tests: a file's name for each, its text, and what is answered."""
-    for name, row in constants("test_model/src/rows").items():
+    for title, row in titled_rows():
         text, _, answer = row.partition("\n\n")
-        yield f"{'steps' if text.startswith('pool') else 'audit'}-{name.lower().replace('_', '-')}", f"{text}\n", answer
-    callers = open(os.path.join(ROOT, "crates", "test_program", "src", "interleavings", "rows.rt")).read()
-    for number, (text, ends) in enumerate(re.findall(r'callers: "([^"]*)",\s*ends: "([^"]*)"', callers)):
-        yield f"explore-{number}", text, ends
-    records = constants("test_stories/src")
-    told = open(os.path.join(ROOT, "crates", "test_stories", "src", "texts.rt")).read()
-    for name, entry, seen in re.findall(r'\(\s*(\w+),\s*(\d+),\s*"(after entry [^"]*)"', told):
-        yield f"now-{entry}-{name.lower()}", records[name], seen
+        if answer:
+            name = re.sub(r"\W+|_", "-", title.lower())[:48].strip("-")
+            yield f"{'steps' if text.startswith('pool') else 'audit'}-{name}", f"{text}\n", answer
+    for number, (text, line, given) in enumerate(transcripts("interleavings.txt")):
+        yield f"explore-{number}", text, given.removeprefix("..., ")
+    for number, (text, line, given) in enumerate(transcripts("told.txt")):
+        if (at := re.match(r"now --at (\d+) ", line)) and given and "..." not in given:
+            yield f"now-{at[1]}-{number}", text, given
 
 
 class Steps:

@@ -2,11 +2,11 @@
 
 use crate::compare::same;
 use crate::judged::{LONE, plain_counts};
+use crate::scenarios::run_of;
 use std::alloc::Global;
 use tp_audit_plain::summary::Flaw;
-use tp_machine::runs::{Run, run_asks};
+use tp_machine::runs::Run;
 use tp_record::entries::{Ask, Did, Entry, Looked, Opened, Started, Took};
-use tp_types::configs::Config;
 use tp_types::ids::{SlotId, TaskId};
 use tp_types::refusals::PoolError;
 use tp_types::tasks::Kind;
@@ -32,11 +32,6 @@ const SHORTEST_ANSWERS: [Result<Did, PoolError>; 6] = [
     Ok(Did::Begin(SLOT, Started::Run(TASK))),
     Ok(Did::End(SLOT, TASK, Ok(5))),
 ];
-
-/// What comes of a list of asks. No clause speaks of the run here, so a test is proved without its long contract.
-pub fn run_of(alloc: Global, config: Config, asks: &[(u32, Ask)]) -> Result<Run, PoolError> {
-    run_asks(alloc, config, asks)
-}
 
 /// Whether the shortest life is answered so, and the plain auditor counts its task as run.
 fn is_lived(alloc: Global) -> Result<bool, PoolError> {

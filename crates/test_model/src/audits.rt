@@ -2,26 +2,17 @@
 
 use crate::compare::same;
 use crate::forms::{changed, refusal_of, refuses_a_text};
-use crate::rows::audited::{LEGAL, ROW_35, ROWS};
+use crate::known::{LEGAL, RANKED, ROW_35, SECOND_FORM};
+use crate::records::{judges, outcome_from};
 use crate::rows::parts;
 use crate::streams::{FailsOnce, Full, Long, last_line};
 use std::alloc::Global;
 use std::io::{self, Read};
 use std::process::Abort;
-use tp_text::ends::refusal_line;
 use tp_text::watched::{WatchedReader, WatchedWriter};
 use tp_text_record::audits::audit_text;
 use tp_types::limits::MAX_TEXT_BYTES;
 use tp_types::refusals::PoolError;
-
-/// What is written of what a reader gives, and whether it is legal.
-fn outcome_from<R: Read>(alloc: Global, reader: &mut R) -> (Vec<u8>, Result<bool, PoolError>) {
-    let mut written = Vec::new(alloc);
-    let mut reader = WatchedReader::new(reader);
-    let mut writer = WatchedWriter::new(&mut written);
-    let answer = audit_text(alloc, &mut reader, &mut writer);
-    (written, answer)
-}
 
 /// What a reader gives is refused so, and nothing is written.
 fn refuses<R: Read>(
@@ -35,107 +26,31 @@ fn refuses<R: Read>(
     same(rt, line, &(written.len(), given), &(0, Err(refusal)));
 }
 
-/// Whether this is told of a text: the judgment that is written, or the line of the refusal.
-fn is_told(alloc: Global, text: &[u8], output: &str) -> bool {
-    let mut reader = text;
-    let (written, given) = outcome_from(alloc, &mut reader);
-    match given {
-        Ok(legal) => {
-            written.as_slice() == output.as_bytes() && legal == output.starts_with("legal")
-        }
-        Err(refusal) => written.is_empty() && refusal_line(refusal).as_str() == output,
-    }
-}
+/// Records that tests know by their names.
+const ROWS: [&str; 4] = [LEGAL, SECOND_FORM, RANKED, ROW_35];
 
 #[test]
-fn judges_worked_rows(rt: HostRuntime) {
-    for (at, row) in ROWS.iter().enumerate() {
-        let (text, output) = parts(row);
-        same(&rt, at, &is_told(rt.alloc(), text, output), &true);
+fn judges_worked_rows(rt: HostRuntime) -> anyhow::Result<()> {
+    for row in &ROWS {
+        judges(&rt, rt.alloc(), "", row)?;
     }
+    Ok(())
 }
 
-/// What else is no record's text, with the number of its first wrong line; and pools that are refused. A refused
-/// configuration comes before the lines behind it, and behind a wrong header.
-static REFUSED: [(&[u8], PoolError); 20] = [
-    (b"", PoolError::BadEntry(1)),
-    (
-        b"tprecord 3\npool 1 1 unbounded keep 0 abort\nend 0\n",
-        PoolError::BadEntry(1),
-    ),
+/// Bytes that no record's text has, with the number of the first wrong line.
+static REFUSED: [(&[u8], PoolError); 2] = [
     (
         b"tprecord 1\r\npool 1 1 unbounded keep 0 abort\nend 0\n",
-        PoolError::BadEntry(1),
-    ),
-    (
-        b"# a record\ntprecord 1\npool 1 1 unbounded keep 0 abort\nend 0\n",
         PoolError::BadEntry(1),
     ),
     (
         b"\xEF\xBB\xBFtprecord 1\npool 1 1 unbounded keep 0 abort\nend 0\n",
         PoolError::BadEntry(1),
     ),
-    (b"tprecord 1\n", PoolError::BadEntry(2)),
-    (
-        b"tprecord 1\npool 1 1 unbounded keep 0 abort limit 4096\nend 0\n",
-        PoolError::BadEntry(2),
-    ),
-    (
-        b"tprecord 1\npool 1 1 unbounded keep 00 abort\nend 0\n",
-        PoolError::BadEntry(2),
-    ),
-    (
-        b"tprecord 1\npool 1 1 unbounded keep 0 abort\n\nend 0\n",
-        PoolError::BadEntry(3),
-    ),
-    (
-        b"tprecord 1\npool 1 1 unbounded keep 0 abort\n# nothing\nend 0\n",
-        PoolError::BadEntry(3),
-    ),
-    (
-        b"tprecord 1\npool 1 1 unbounded keep 0 abort\nend 1\n",
-        PoolError::BadEntry(3),
-    ),
-    (
-        b"tprecord 1\npool 1 1 unbounded keep 0 abort\n1  tick 5\nend 1\n",
-        PoolError::BadEntry(3),
-    ),
-    (
-        b"tprecord 1\npool 1 1 unbounded keep 0 abort\nend 0\nend 0\n",
-        PoolError::BadEntry(4),
-    ),
-    (
-        b"tprecord 1\npool 1 1 unbounded keep 0 abort\nend 0\n ",
-        PoolError::BadEntry(4),
-    ),
-    (
-        b"tprecord 1\npool 3 2 unbounded keep 0 abort\nnonsense\n",
-        PoolError::BadSizes,
-    ),
-    (
-        b"tprecord 1\npool 1 1 bounded 0 keep 0 abort\n",
-        PoolError::BadCapacity,
-    ),
-    (
-        b"tprecord 1\npool 1 1 unbounded keep 0 abort limit 63\nend 0",
-        PoolError::BadLimit,
-    ),
-    (
-        b"tprecord 1\npool 1 1 unbounded keep 0 abort coretimeout\nend 0\n",
-        PoolError::KeepZero,
-    ),
-    (
-        b"tprecord 3\npool 3 2 unbounded keep 0 abort\nend 0\n",
-        PoolError::BadEntry(1),
-    ),
-    (
-        b"tprecord 1\npool 3 2 unbounded keep 0 abort",
-        PoolError::BadEntry(2),
-    ),
 ];
 
 #[test]
-fn tells_the_first_wrong_line_or_refuses_the_pool(rt: HostRuntime) {
+fn tells_the_first_wrong_line(rt: HostRuntime) {
     for (at, (text, refusal)) in REFUSED.iter().enumerate() {
         let mut reader = *text;
         refuses(&rt, at, rt.alloc(), &mut reader, *refusal);

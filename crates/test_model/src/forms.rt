@@ -2,7 +2,7 @@
 //! their type.
 
 use crate::compare::same;
-use crate::rows::audited::{LEGAL, RANKED, SECOND_FORM};
+use crate::known::{LEGAL, RANKED, SECOND_FORM};
 use crate::rows::parts;
 use crate::streams::last_line;
 use std::alloc::{AllocError, Global};

@@ -1,13 +1,11 @@
 //! Records judged by both auditors, with answers from the worked rows or told by hand.
-ghost use Rattle.std.specs.Prelude.{IsTrue};
-ghost use Rattle.tp_types.specs.Config.{IsConfig};
 
+use crate::auditors::judged;
 use crate::compare::same;
 use crate::rows::entries_of;
 use std::alloc::{AllocError, Global};
-use tp_audit::audits::audit;
 use tp_audit_plain::plain::audit_plain;
-use tp_audit_plain::summary::{Flaw, Summary};
+use tp_audit_plain::summary::Flaw;
 use tp_record::entries::{Ask, Entry};
 use tp_types::configs::{Config, Policy, QueueKind};
 use tp_types::ids::SlotId;
@@ -39,38 +37,6 @@ fn life_in(alloc: Global, slot: usize) -> Result<Vec<Entry>, AllocError> {
 "
     )?;
     entries_of(alloc, life.as_str())
-}
-
-/// Whether a pool can have these settings.
-fn is_config(config: &Config) -> bool
-    ensures { IsTrue result → IsConfig config.now }
-{
-    config.check().is_ok()
-}
-
-/// The judgment of both auditors; none where they differ.
-fn judgment_of_both(
-    alloc: Global,
-    config: &Config,
-    entries: &[Entry],
-) -> Option<Result<Summary, Flaw>>
-    requires { IsConfig config.now }
-{
-    let judgment = audit(alloc, config, entries);
-    if judgment == audit_plain(alloc, config, entries) {
-        Some(judgment)
-    } else {
-        None
-    }
-}
-
-/// The judgment of both auditors; none where they differ, or where a pool can't have these settings.
-pub fn judged(alloc: Global, config: &Config, entries: &[Entry]) -> Option<Result<Summary, Flaw>> {
-    if is_config(config) {
-        judgment_of_both(alloc, config, entries)
-    } else {
-        None
-    }
 }
 
 /// Whether both auditors judge a record so: its pool runs on with these counts and fates, or this is its first flaw.
@@ -107,11 +73,6 @@ pub const NONE: Counts = Counts {
     largest: 0,
 };
 
-const SUBMITTED: Counts = Counts {
-    submitted: 2,
-    ..NONE
-};
-
 const LIVED: Counts = Counts {
     submitted: 1,
     run: 1,
@@ -139,80 +100,10 @@ fn judges_the_shortest_life(rt: HostRuntime) {
     }
 }
 
-const TWO: Config = Config {
-    core: 2,
-    maximum: 2,
-    ..LONE
-};
-
-/// A configuration, a record, and how it is judged.
-type Judged = (
-    Config,
-    &'static str,
-    Result<(Counts, &'static [Option<Fate>]), Flaw>,
-);
-
 const FIRST_ENTRIES: &str = "\
 1 submit t0 plain reserve w0
 2 p3 open w0 live
 ";
-
-/// Nothing at all, submissions that reserve slots of two numbers, and of one; and records with a flaw: row 21, whose worker takes
-/// before it is opened, a record without its submission, and one with a slot that is opened three times.
-static RECORDS: [Judged; 6] = [
-    (LONE, "", Ok((NONE, &[]))),
-    (
-        TWO,
-        "\
-1 submit t0 plain reserve w4
-2 submit t1 plain reserve w0
-",
-        Ok((SUBMITTED, &[None, None])),
-    ),
-    (
-        TWO,
-        "\
-1 submit t0 plain reserve w4
-2 submit t1 plain reserve w4
-",
-        Err(Flaw::At(2)),
-    ),
-    (
-        LONE,
-        "\
-1 submit t0 plain reserve w0
-2 p1 take w0 held t0
-",
-        Err(Flaw::At(2)),
-    ),
-    (
-        LONE,
-        "\
-1 p3 open w0 live
-2 p1 take w0 held t0
-3 p1 begin w0 t0
-4 p1 end w0 t0 value 5
-",
-        Err(Flaw::At(1)),
-    ),
-    (
-        LONE,
-        "\
-1 submit t0 plain reserve w0
-2 p3 open w0 live
-3 p3 open w0 live
-4 p3 open w0 live
-",
-        Err(Flaw::At(3)),
-    ),
-];
-
-/// Whether both auditors judge this record so.
-fn is_text_judged_so(alloc: Global, row: &Judged) -> Result<bool, AllocError> {
-    let (config, text, told) = row;
-    let entries = entries_of(alloc, text)?;
-    Ok(is_judged_so(alloc, config, &entries, *told))
-}
 
 /// Whether an answer to another ask than the entry's is a flaw, which no text can say.
 fn is_other_ask_told(alloc: Global) -> Result<bool, AllocError> {
@@ -224,11 +115,8 @@ fn is_other_ask_told(alloc: Global) -> Result<bool, AllocError> {
 }
 
 #[test]
-fn judges_records_and_tells_the_first_flaw(rt: HostRuntime) {
-    for (at, row) in RECORDS.iter().enumerate() {
-        same(&rt, at, &is_text_judged_so(rt.alloc(), row), &Ok(true));
-    }
-    same(&rt, 6, &is_other_ask_told(rt.alloc()), &Ok(true));
+fn judges_an_answer_to_another_ask(rt: HostRuntime) {
+    same(&rt, 0, &is_other_ask_told(rt.alloc()), &Ok(true));
 }
 
 /// The counters of a record of one worker, as the plain auditor tells them.

@@ -4,9 +4,7 @@ ghost use Rattle.std.specs.Prelude.{◌≤◌, length};
 
 use crate::compare::same;
 use crate::judged::NONE;
-use crate::rows::growing::ROW_04;
-use crate::rows::record_of;
-use crate::rows::refusing::ROW_12;
+use crate::known::{ROW_04, ROW_12, record_of};
 use std::alloc::Global;
 use tp_record::entries::{Ask, Did, Entry};
 use tp_record::rows::{SlotRow, Stage};

@@ -1,13 +1,4 @@
-//! Worked rows, a text each: a scenario or a record, an empty line, and what is written of it. Where that is refused, the line of the
-//! refusal stands last. `tools/bindings.py` takes rows from here.
-
-pub mod audited;
-pub mod cancelling;
-pub mod ending;
-pub mod growing;
-pub mod refusing;
-pub mod starting;
-pub mod working;
+//! What is read of a worked row: a scenario or a record, an empty line, and what is written of it.
 
 use std::alloc::{AllocError, Global};
 use tp_record::entries::Entry;
@@ -15,16 +6,6 @@ use tp_text::pools::pool_of;
 use tp_text_record::entries::read_entry;
 use tp_text_record::versions::Version;
 use tp_types::configs::Config;
-use tp_types::refusals::PoolError;
-
-/// The scenarios that are played to their ends.
-pub static PLAYED: [&[&str]; 5] = [
-    &growing::ROWS,
-    &refusing::ROWS,
-    &working::ROWS,
-    &ending::ROWS,
-    &cancelling::ROWS,
-];
 
 /// The text of a row, and what is written of it: nothing where it has no empty line.
 pub fn parts(row: &str) -> (&[u8], &str) {
@@ -47,13 +28,4 @@ pub fn entries_of(alloc: Global, output: &str) -> Result<Vec<Entry>, AllocError>
         }
     }
     Ok(entries)
-}
-
-/// The configuration of a row's pool, and the entries among the lines that are written of it.
-pub fn record_of(alloc: Global, row: &str) -> Result<(Config, Vec<Entry>), PoolError> {
-    let (text, output) = row.split_once("\n\n").unwrap_or((row, ""));
-    match config_of(text) {
-        Some(config) => Ok((config, entries_of(alloc, output)?)),
-        None => Err(PoolError::TornRecord),
-    }
 }

@@ -1,4 +1,4 @@
-//! Worked rows from bytes to bytes, files of jobs, and readers and writers that fail.
+//! Runs of scenarios from bytes to bytes, files of jobs, and readers and writers that fail.
 
 mod hostile;
 mod jobs;
@@ -6,33 +6,17 @@ mod judging;
 mod long;
 
 use crate::compare::same;
-use crate::rows::starting::{self, GROWING, ROW_01, ROW_18};
-use crate::rows::{PLAYED, parts};
+use crate::known::{GROWING, PLAYED, ROW_01, ROW_18};
+use crate::rows::parts;
+use crate::scenarios::{outcome_from, plays, tells};
 use crate::streams::{FailsOnce, Full, Long, kind_of};
 use std::alloc::Global;
 use std::io::{self, Read, Write};
 use std::process::Abort;
 use tp_scenario::run::run;
-use tp_text::ends::refusal_line;
 use tp_text::watched::{WatchedReader, WatchedWriter};
 use tp_types::limits::MAX_TEXT_BYTES;
 use tp_types::refusals::PoolError;
-
-/// What is written of what a reader gives, and how the run ends.
-fn outcome_from<R: Read>(alloc: Global, reader: &mut R) -> (Vec<u8>, Result<(), PoolError>) {
-    let mut written = Vec::new(alloc);
-    let mut reader = WatchedReader::new(reader);
-    let mut writer = WatchedWriter::new(&mut written);
-    let answer = run(alloc, &mut reader, &mut writer);
-    (written, answer)
-}
-
-/// How the run of a text ends.
-fn ending_of(alloc: Global, text: &[u8]) -> Result<(), PoolError> {
-    let mut reader = text;
-    let (_, ending) = outcome_from(alloc, &mut reader);
-    ending
-}
 
 /// This is written of what a reader gives, and the run ends so.
 fn runs<R: Read>(
@@ -48,41 +32,18 @@ fn runs<R: Read>(
     same(rt, line, &(is_output, given), &(true, ending));
 }
 
-/// Whether this is written of a text, and behind it the line of the refusal that the run ends in.
-fn is_told(alloc: Global, text: &[u8], output: &str) -> bool {
-    let mut reader = text;
-    let (written, ending) = outcome_from(alloc, &mut reader);
-    let Ok(front) = str::from_utf8(written.as_slice()) else {
-        return false;
-    };
-    match (output.strip_prefix(front), ending) {
-        (Some(rest), Ok(())) => rest.is_empty(),
-        (Some(rest), Err(refusal)) => rest == refusal_line(refusal).as_str(),
-        (None, _) => false,
-    }
-}
-
-/// Each of these rows is told so.
-fn tells_each(rt: &impl Abort, alloc: Global, rows: &[&str]) {
-    for (at, row) in rows.iter().enumerate() {
-        let (text, output) = parts(row);
-        same(rt, at, &is_told(alloc, text, output), &true);
-    }
-}
-
 /// Row 18, and no text at all.
 static ENDED: [(&str, &str); 2] = [ROW_18, ("", "refused 23 BadLine 1\n")];
 
 #[test]
-fn plays_worked_rows(rt: HostRuntime) {
-    tells_each(&rt, rt.alloc(), &starting::ROWS);
-    for rows in &PLAYED {
-        tells_each(&rt, rt.alloc(), rows);
+fn plays_worked_rows(rt: HostRuntime) -> anyhow::Result<()> {
+    for row in &PLAYED {
+        plays(&rt, rt.alloc(), "", row)?;
     }
-    for (at, (text, output)) in ENDED.iter().enumerate() {
-        let is_told = is_told(rt.alloc(), text.as_bytes(), output);
-        same(&rt, at, &is_told, &true);
+    for (text, output) in &ENDED {
+        tells(&rt, rt.alloc(), "", text.as_bytes(), output)?;
     }
+    Ok(())
 }
 
 /// A pool in which nothing happened.

@@ -1,9 +1,8 @@
 //! Thousands of tasks through a bounded queue and four workers: what the pool counts is what its callers count. Beside them a refused
 //! task that is tried again and again.
 
-use super::plays::{Handed, NONE, Pool, ask, asks, does, plays};
-use crate::compare::same;
-use std::process::Abort;
+use super::plays::{Handed, NONE, Pool, ask, asks, does};
+use crate::compare::is_same;
 use tp_record::entries::{Ask, Did, Grown, Looked, Offered, Ruled, Started};
 use tp_types::configs::Verdict;
 use tp_types::ids::{SlotId, TaskId};
@@ -43,33 +42,34 @@ fn kind_of(number: u32) -> Kind {
 }
 
 /// Submits a task, and goes with it until it has its place or its end.
-fn execute(rt: &impl Abort, pool: &mut Pool, tally: &mut Tally, number: u32) {
+fn execute(rt: &impl Print, pool: &mut Pool, tally: &mut Tally, number: u32) -> anyhow::Result<()> {
     let t = TaskId(number);
-    let (submitted, _) = ask(rt, pool, Ask::Submit(kind_of(number), 0));
+    let (submitted, _) = ask(rt, pool, Ask::Submit(kind_of(number), 0))?;
     if let Ok(Did::Submit(_, _, _, Looked::Reserve(_))) = submitted {
-        return;
+        return Ok(());
     }
-    if let (Ok(Did::Offer(_, Offered::Queued)), _) = ask(rt, pool, Ask::Offer(t)) {
+    if let (Ok(Did::Offer(_, Offered::Queued)), _) = ask(rt, pool, Ask::Offer(t))? {
         return does(rt, pool, Ask::Second(t));
     }
-    if let (Ok(Did::Grow(_, Grown::Reserve(_))), _) = ask(rt, pool, Ask::Grow(t)) {
-        return;
+    if let (Ok(Did::Grow(_, Grown::Reserve(_))), _) = ask(rt, pool, Ask::Grow(t))? {
+        return Ok(());
     }
     let verdict = Verdict::CallerRuns;
     let ruled = Did::Verdict(t, verdict, Ruled::Caller);
-    asks(rt, pool, Ask::Verdict(t, verdict), Ok(ruled), pays(t));
-    does(rt, pool, Ask::CallerEnd(t, Ok(1)));
+    asks(rt, pool, Ask::Verdict(t, verdict), Ok(ruled), pays(t))?;
+    does(rt, pool, Ask::CallerEnd(t, Ok(1)))?;
     tally.caller = tally.caller.saturating_add(1);
+    Ok(())
 }
 
 /// Whether the worker of this slot opens it, takes a task or leaves.
-fn moves(rt: &impl Abort, pool: &mut Pool, w: SlotId) -> bool {
+fn moves(rt: &impl Print, pool: &mut Pool, w: SlotId) -> anyhow::Result<bool> {
     for asked in [Ask::Open(w), Ask::Take(w), Ask::Leave(w)] {
-        if let (Ok(_), _) = ask(rt, pool, asked) {
-            return true;
+        if let (Ok(_), _) = ask(rt, pool, asked)? {
+            return Ok(true);
         }
     }
-    false
+    Ok(false)
 }
 
 /// The task in this slot.
@@ -83,93 +83,112 @@ fn has_fate(pool: &Pool, t: TaskId) -> bool {
 }
 
 /// The worker of this slot begins or ends its task, if it has one. Each seventh task faults.
-fn run(rt: &impl Abort, pool: &mut Pool, tally: &mut Tally, w: SlotId) {
-    let Some(t) = task_in(pool, w) else { return };
-    match ask(rt, pool, Ask::Begin(w)) {
+fn run(rt: &impl Print, pool: &mut Pool, tally: &mut Tally, w: SlotId) -> anyhow::Result<()> {
+    let Some(t) = task_in(pool, w) else {
+        return Ok(());
+    };
+    match ask(rt, pool, Ask::Begin(w))? {
         (Ok(Did::Begin(_, Started::Run(_))), handed) => {
-            return same(rt, 0, &(t, handed), &(t, pays(t)));
+            return is_same(rt, 0, &(t, handed), &(t, pays(t)));
         }
         (Ok(_), _) => {
             tally.completed = tally.completed.saturating_add(1);
-            return;
+            return Ok(());
         }
         (Err(_), _) => {}
     }
     let outcome = if t.0 % 7 == 0 { Err(2) } else { Ok(1) };
     let cancelled = has_fate(pool, t);
-    if let (Ok(_), _) = ask(rt, pool, Ask::End(w, outcome)) {
+    if let (Ok(_), _) = ask(rt, pool, Ask::End(w, outcome))? {
         tally.completed = tally.completed.saturating_add(1);
         if !cancelled {
             tally.run = tally.run.saturating_add(1);
         }
     }
+    Ok(())
 }
 
 /// The worker of this slot takes the one step that it can, if any.
-fn work(rt: &impl Abort, pool: &mut Pool, tally: &mut Tally, w: SlotId) {
-    if !moves(rt, pool, w) {
-        run(rt, pool, tally, w);
+fn work(rt: &impl Print, pool: &mut Pool, tally: &mut Tally, w: SlotId) -> anyhow::Result<()> {
+    if !moves(rt, pool, w)? {
+        run(rt, pool, tally, w)?;
     }
+    Ok(())
 }
 
 /// Cancels a task, where that is a future without a fate.
-fn cancel(rt: &impl Abort, pool: &mut Pool, tally: &mut Tally, t: TaskId) {
-    if let (Ok(Did::Cancel(_, _, true)), _) = ask(rt, pool, Ask::Cancel(t, true)) {
+fn cancel(rt: &impl Print, pool: &mut Pool, tally: &mut Tally, t: TaskId) -> anyhow::Result<()> {
+    if let (Ok(Did::Cancel(_, _, true)), _) = ask(rt, pool, Ask::Cancel(t, true))? {
         tally.cancelled = tally.cancelled.saturating_add(1);
     }
+    Ok(())
+}
+
+/// Submits a task, and has two or three workers take a step. The answer is the next number without an evident order.
+fn submit_next(
+    rt: &impl Print,
+    pool: &mut Pool,
+    tally: &mut Tally,
+    number: u32,
+    seed: u32,
+) -> anyhow::Result<u32> {
+    let mut seed = seed;
+    execute(rt, pool, tally, number)?;
+    let steps = if number % 2 == 0 { 2 } else { 3 };
+    for _ in 0..steps {
+        seed = after(seed);
+        work(rt, pool, tally, SlotId((seed >> 16) as usize % WORKERS))?;
+    }
+    if seed % 16 == 3 {
+        cancel(rt, pool, tally, TaskId(number))?;
+    }
+    if seed % 32 == 5 {
+        does(rt, pool, Ask::Tick(u64::from(number)))?;
+    }
+    Ok(seed)
 }
 
 /// Submits the tasks. After each of them two or three workers take a step, which are too few for all of them.
-fn submit_all(rt: &impl Abort, pool: &mut Pool, tally: &mut Tally) {
+fn submit_all(rt: &impl Print, pool: &mut Pool, tally: &mut Tally) -> anyhow::Result<()> {
     let mut seed = 1u32;
     for number in 0..TASKS {
-        execute(rt, pool, tally, number);
-        let steps = if number % 2 == 0 { 2 } else { 3 };
-        for _ in 0..steps {
-            seed = after(seed);
-            work(rt, pool, tally, SlotId((seed >> 16) as usize % WORKERS));
-        }
-        if seed % 16 == 3 {
-            cancel(rt, pool, tally, TaskId(number));
-        }
-        if seed % 32 == 5 {
-            does(rt, pool, Ask::Tick(u64::from(number)));
-        }
+        seed = submit_next(rt, pool, tally, number, seed)?;
     }
+    Ok(())
 }
 
 /// The pool is shut down, and its workers go on until it is terminated.
-fn terminate(rt: &impl Abort, pool: &mut Pool, tally: &mut Tally) {
-    does(rt, pool, Ask::Shutdown);
+fn terminate(rt: &impl Print, pool: &mut Pool, tally: &mut Tally) -> anyhow::Result<()> {
+    does(rt, pool, Ask::Shutdown)?;
     for _ in 0..200 {
         for w in 0..WORKERS {
-            work(rt, pool, tally, SlotId(w));
+            work(rt, pool, tally, SlotId(w))?;
         }
     }
-    does(rt, pool, Ask::Tidy);
-    does(rt, pool, Ask::Ended);
+    does(rt, pool, Ask::Tidy)?;
+    does(rt, pool, Ask::Ended)
 }
 
 /// How many tasks of this group are done, each taken once.
-fn take_done(rt: &impl Abort, pool: &mut Pool, group: u32) -> u32 {
+fn take_done(rt: &impl Print, pool: &mut Pool, group: u32) -> anyhow::Result<u32> {
     for taken in 0..TASKS {
-        if let (Err(_), _) = ask(rt, pool, Ask::TakeDone(group)) {
-            return taken;
+        if let (Err(_), _) = ask(rt, pool, Ask::TakeDone(group))? {
+            return Ok(taken);
         }
     }
-    TASKS
+    Ok(TASKS)
 }
 
 /// Each task had its end, and each way to an end was gone often.
-fn adds_up(rt: &impl Abort, tally: &Tally) {
+fn adds_up(rt: &impl Print, tally: &Tally) -> anyhow::Result<()> {
     let run = tally.run.wrapping_add(tally.caller);
-    same(rt, 0, &run.wrapping_add(tally.cancelled), &TASKS);
+    is_same(rt, 0, &run.wrapping_add(tally.cancelled), &TASKS)?;
     let often = tally.run > 1000 && tally.caller > 100 && tally.cancelled > 10;
-    same(rt, 1, &often, &true);
+    is_same(rt, 1, &often, &true)
 }
 
 /// The pool counts what its callers saw.
-fn counts_the_same(rt: &impl Abort, pool: &Pool, tally: &Tally) {
+fn counts_the_same(rt: &impl Print, pool: &Pool, tally: &Tally) -> anyhow::Result<()> {
     let seen = Counts {
         submitted: TASKS,
         run: tally.run,
@@ -179,51 +198,47 @@ fn counts_the_same(rt: &impl Abort, pool: &Pool, tally: &Tally) {
         largest: 4,
         ..Counts::default()
     };
-    same(rt, 0, &pool.counts(), &seen);
+    is_same(rt, 0, &pool.counts(), &seen)
 }
 
 /// The tasks of each of the three groups are handed out, and there are no others.
-fn hands_out(rt: &impl Abort, pool: &mut Pool) {
+fn hands_out(rt: &impl Print, pool: &mut Pool) -> anyhow::Result<()> {
     for group in 0..4 {
         let tasks = if group < 3 { 600 } else { 0 };
-        let done = take_done(rt, pool, group);
-        same(rt, 0, &(group, done), &(group, tasks));
+        let done = take_done(rt, pool, group)?;
+        is_same(rt, 0, &(group, done), &(group, tasks))?;
     }
+    Ok(())
 }
 
 /// Thousands of tasks go through the pool until it is terminated: what it counts is what its callers count.
-pub fn counts_what_is_done(rt: &impl Abort, pool: &mut Pool) {
+pub fn counts_what_is_done(rt: &impl Print, pool: &mut Pool) -> anyhow::Result<()> {
     let mut tally = Tally::default();
-    submit_all(rt, pool, &mut tally);
-    terminate(rt, pool, &mut tally);
-    adds_up(rt, &tally);
-    counts_the_same(rt, pool, &tally);
-    hands_out(rt, pool);
-}
-
-#[test]
-fn works_for_thousands_of_tasks(rt: HostRuntime) {
-    let text = "pool 2 4 bounded 8 keep 3 callerruns limit 65536\ncount thousands\n";
-    plays(&rt, rt.alloc(), text);
+    submit_all(rt, pool, &mut tally)?;
+    terminate(rt, pool, &mut tally)?;
+    adds_up(rt, &tally)?;
+    counts_the_same(rt, pool, &tally)?;
+    hands_out(rt, pool)
 }
 
 /// The verdict that tries the refused task 1 again, which is refused once more.
-fn retry(rt: &impl Abort, pool: &mut Pool) {
+fn retry(rt: &impl Print, pool: &mut Pool) -> anyhow::Result<()> {
     let t = TaskId(1);
     let verdict = Verdict::DiscardOldest;
     let ruled = Did::Verdict(t, verdict, Ruled::Retry);
-    asks(rt, pool, Ask::Verdict(t, verdict), Ok(ruled), NONE);
+    asks(rt, pool, Ask::Verdict(t, verdict), Ok(ruled), NONE)?;
     let looked = Did::Look(t, Looked::Queue);
-    asks(rt, pool, Ask::Look(t), Ok(looked), NONE);
+    asks(rt, pool, Ask::Look(t), Ok(looked), NONE)?;
     let offered = Did::Offer(t, Offered::Full);
-    asks(rt, pool, Ask::Offer(t), Ok(offered), NONE);
+    asks(rt, pool, Ask::Offer(t), Ok(offered), NONE)?;
     let grown = Did::Grow(t, Grown::Refuse);
-    asks(rt, pool, Ask::Grow(t), Ok(grown), NONE);
+    asks(rt, pool, Ask::Grow(t), Ok(grown), NONE)
 }
 
 /// The refused task 1 is tried again so often.
-pub fn retry_often(rt: &impl Abort, pool: &mut Pool, times: u32) {
+pub fn retry_often(rt: &impl Print, pool: &mut Pool, times: u32) -> anyhow::Result<()> {
     for _ in 0..times {
-        retry(rt, pool);
+        retry(rt, pool)?;
     }
+    Ok(())
 }

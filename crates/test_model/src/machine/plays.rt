@@ -1,5 +1,5 @@
-//! A play of the machine is a text: a pool line, and then the entries of its record, with what is refused and what is read between
-//! them. No function here says anything of the machine, so that a test is proved without the machine's own contracts: it is compared
+//! A play of the machine is a text: the lines of pools, and then the entries that each of them records, with what is refused and what is
+//! read between them. No function here says anything of the machine, so that a test is proved without the machine's own contracts: it is compared
 //! when it runs.
 //!
 //! | Line | Means |
@@ -19,9 +19,8 @@ ghost use Rattle.tp_machine.specs.Stepped.{IsPaid, FitsOutcome};
 
 use super::long::{counts_what_is_done, retry_often};
 use super::memory::{keeps_all, stop_all, submit_all};
-use crate::compare::same;
+use crate::compare::is_same;
 use std::alloc::{AllocError, Global};
-use std::process::Abort;
 use tp_machine::answers::Begun;
 use tp_machine::machine::Machine;
 use tp_machine::steps::Stepped;
@@ -77,12 +76,12 @@ pub fn read(pool: &Pool) -> Reading {
 }
 
 /// A new pool. A want of memory is tried once more.
-fn pool(rt: &impl Abort, alloc: Global, config: Config) -> Pool {
+fn pool(rt: &impl Print, alloc: Global, config: Config) -> anyhow::Result<Pool> {
     match Machine::new(alloc, config) {
-        Ok(pool) => pool,
+        Ok(pool) => Ok(pool),
         Err(error) => {
-            same(rt, 0, &error, &PoolError::NoMemory);
-            Machine::new(alloc, config).expect(rt, "memory at the second try")
+            is_same(rt, 0, &error, &PoolError::NoMemory)?;
+            Ok(Machine::new(alloc, config)?)
         }
     }
 }
@@ -113,6 +112,9 @@ fn handed(stepped: &Stepped<u32>) -> Handed {
         _ => NONE,
     }
 }
+
+/// What an ask is answered with, and the payloads that it hands out.
+pub type Played = (Result<Did, PoolError>, Handed);
 
 /// What a step did, and the payloads that it handed out; or its refusal, and the payload that came back.
 type Answer = Result<(Did, Handed), (PoolError, Option<u32>)>;
@@ -148,7 +150,7 @@ fn answer(pool: &mut Pool, by: u32, ask: Ask, payload: u32) -> Answer {
 }
 
 /// The answer to an ask. A step adds the one entry that the answer is of, and a refusal changes nothing and gives the payload back.
-fn ask_once(rt: &impl Abort, pool: &mut Pool, ask: Ask) -> (Result<Did, PoolError>, Handed) {
+fn ask_once(rt: &impl Print, pool: &mut Pool, ask: Ask) -> anyhow::Result<Played> {
     let before = read(pool);
     let by = before.counts.submitted;
     let payload = by.wrapping_add(10);
@@ -157,8 +159,8 @@ fn ask_once(rt: &impl Abort, pool: &mut Pool, ask: Ask) -> (Result<Did, PoolErro
             let after = read(pool);
             let entries = before.entries.wrapping_add(1);
             let wanted = (entries, Some(Entry { by, ask, did }));
-            same(rt, entries, &(after.entries, after.last), &wanted);
-            (Ok(did), handed)
+            is_same(rt, entries, &(after.entries, after.last), &wanted)?;
+            Ok((Ok(did), handed))
         }
         Err((error, returned)) => {
             let paid = match ask {
@@ -166,8 +168,8 @@ fn ask_once(rt: &impl Abort, pool: &mut Pool, ask: Ask) -> (Result<Did, PoolErro
                 _ => None,
             };
             let after = read(pool);
-            same(rt, before.entries, &(returned, after), &(paid, before));
-            (Err(error), NONE)
+            is_same(rt, before.entries, &(returned, after), &(paid, before))?;
+            Ok((Err(error), NONE))
         }
     }
 }
@@ -181,32 +183,32 @@ fn takes_memory(ask: Ask) -> bool {
 }
 
 /// The answer to an ask. A want of memory is tried once more.
-pub fn ask(rt: &impl Abort, pool: &mut Pool, ask: Ask) -> (Result<Did, PoolError>, Handed) {
-    match ask_once(rt, pool, ask) {
+pub fn ask(rt: &impl Print, pool: &mut Pool, ask: Ask) -> anyhow::Result<Played> {
+    match ask_once(rt, pool, ask)? {
         (Err(PoolError::NoMemory), _) => {
-            same(rt, 0, &(ask, takes_memory(ask)), &(ask, true));
+            is_same(rt, 0, &(ask, takes_memory(ask)), &(ask, true))?;
             ask_once(rt, pool, ask)
         }
-        answer => answer,
+        answer => Ok(answer),
     }
 }
 
 /// This is asked, and answered so, with these payloads.
 pub fn asks(
-    rt: &impl Abort,
+    rt: &impl Print,
     pool: &mut Pool,
     asked: Ask,
     answer: Result<Did, PoolError>,
     paid: Handed,
-) {
-    let played = ask(rt, pool, asked);
-    same(rt, 0, &(asked, played), &(asked, (answer, paid)));
+) -> anyhow::Result<()> {
+    let played = ask(rt, pool, asked)?;
+    is_same(rt, 0, &(asked, played), &(asked, (answer, paid)))
 }
 
 /// This is asked, and done.
-pub fn does(rt: &impl Abort, pool: &mut Pool, asked: Ask) {
-    let (answer, _) = ask(rt, pool, asked);
-    same(rt, 0, &(asked, answer.is_ok()), &(asked, true));
+pub fn does(rt: &impl Print, pool: &mut Pool, asked: Ask) -> anyhow::Result<()> {
+    let (answer, _) = ask(rt, pool, asked)?;
+    is_same(rt, 0, &(asked, answer.is_ok()), &(asked, true))
 }
 
 /// The payloads that a line says, the first three.
@@ -219,8 +221,15 @@ fn paid(words: &str) -> Handed {
 
 /// Asks for what this entry asks for. The answer is the entry's, or the refusal of the line, and the record is as long as the line's
 /// number says.
-fn play_entry(rt: &impl Abort, pool: &mut Pool, at: usize, line: &str, entry: &Entry, end: &str) {
-    let (answer, handed) = ask(rt, pool, entry.ask);
+fn play_entry(
+    rt: &impl Print,
+    pool: &mut Pool,
+    at: usize,
+    line: &str,
+    entry: &Entry,
+    end: &str,
+) -> anyhow::Result<()> {
+    let (answer, handed) = ask(rt, pool, entry.ask)?;
     let seen = match answer {
         Ok(did) => (Some(did), "", handed),
         Err(error) => (None, error.name(), handed),
@@ -233,36 +242,37 @@ fn play_entry(rt: &impl Abort, pool: &mut Pool, at: usize, line: &str, entry: &E
             paid(end.strip_prefix(" pays ").unwrap_or("")),
         ),
     };
-    same(rt, at, &(line, seen), &(line, wanted));
+    is_same(rt, at, &(line, seen), &(line, wanted))
 }
 
 /// Plays the line of an entry.
-fn play_step(rt: &impl Abort, pool: &mut Pool, at: usize, line: &str) {
+fn play_step(rt: &impl Print, pool: &mut Pool, at: usize, line: &str) -> anyhow::Result<()> {
     let (words, end) = line.split_once(':').unwrap_or((line, ""));
     let next = pool.entries().len().wrapping_add(1);
     match read_entry(Version::Two, words.as_bytes()) {
         Some((place, entry)) => {
-            same(rt, at, &(line, next), &(line, place as usize));
-            play_entry(rt, pool, at, line, &entry, end);
+            is_same(rt, at, &(line, next), &(line, place as usize))?;
+            play_entry(rt, pool, at, line, &entry, end)?;
         }
-        None => same(rt, at, &line, &"the line of an entry"),
+        None => is_same(rt, at, &line, &"the line of an entry")?,
     }
+    Ok(())
 }
 
 /// The refusal of the first tick for which the record has no room; none where it is never full.
-fn refusal_of_ticks(rt: &impl Abort, pool: &mut Pool) -> Option<PoolError> {
+fn refusal_of_ticks(rt: &impl Print, pool: &mut Pool) -> anyhow::Result<Option<PoolError>> {
     for _ in 0..128 {
-        if let (Err(refusal), _) = ask(rt, pool, Ask::Tick(9)) {
-            return Some(refusal);
+        if let (Err(refusal), _) = ask(rt, pool, Ask::Tick(9))? {
+            return Ok(Some(refusal));
         }
     }
-    None
+    Ok(None)
 }
 
 /// Fills the record up to what is owed.
-fn fill(rt: &impl Abort, pool: &mut Pool) {
-    let full = refusal_of_ticks(rt, pool);
-    same(rt, 0, &full, &Some(PoolError::BookFull));
+fn fill(rt: &impl Print, pool: &mut Pool) -> anyhow::Result<()> {
+    let full = refusal_of_ticks(rt, pool)?;
+    is_same(rt, 0, &full, &Some(PoolError::BookFull))
 }
 
 /// Writes what is read of the task of this number.
@@ -315,63 +325,74 @@ fn text_read(alloc: Global, pool: &Pool, line: &str) -> Result<String, AllocErro
 }
 
 /// Whether the line reads something. Then that is as the line says. A want of memory is tried once more.
-fn reads(rt: &impl Abort, alloc: Global, pool: &Pool, at: usize, line: &str) -> bool {
+fn reads(
+    rt: &impl Print,
+    alloc: Global,
+    pool: &Pool,
+    at: usize,
+    line: &str,
+) -> anyhow::Result<bool> {
     let text = match text_read(alloc, pool, line) {
         Ok(text) => text,
-        Err(_) => text_read(alloc, pool, line).expect(rt, "memory at the second try"),
+        Err(_) => text_read(alloc, pool, line)?,
     };
     match text.as_str().lines().next() {
         Some(seen) => {
-            same(rt, at, &seen, &line);
-            true
+            is_same(rt, at, &seen, &line)?;
+            Ok(true)
         }
-        None => false,
+        None => Ok(false),
     }
 }
 
 /// Plays a line.
-fn play_line(rt: &impl Abort, alloc: Global, pool: &mut Pool, at: usize, line: &str) {
+fn play_line(
+    rt: &impl Print,
+    alloc: Global,
+    pool: &mut Pool,
+    at: usize,
+    line: &str,
+) -> anyhow::Result<()> {
     match line {
-        "fill" => fill(rt, pool),
-        "retry 64 times" => retry_often(rt, pool, 64),
-        "count thousands" => counts_what_is_done(rt, pool),
-        "submit forty" => submit_all(rt, pool),
-        "keep forty" => keeps_all(rt, pool),
-        "stop forty" => stop_all(rt, pool),
+        "fill" => fill(rt, pool)?,
+        "retry 64 times" => retry_often(rt, pool, 64)?,
+        "count thousands" => counts_what_is_done(rt, pool)?,
+        "submit forty" => submit_all(rt, pool)?,
+        "keep forty" => keeps_all(rt, pool)?,
+        "stop forty" => stop_all(rt, pool)?,
         _ => {
-            if !reads(rt, alloc, pool, at, line) {
-                play_step(rt, pool, at, line);
+            if !reads(rt, alloc, pool, at, line)? {
+                play_step(rt, pool, at, line)?;
             }
         }
     }
+    Ok(())
 }
 
 /// Plays these lines.
-fn play_lines(rt: &impl Abort, alloc: Global, pool: &mut Pool, lines: &str) {
-    for (at, line) in lines.lines().enumerate() {
-        play_line(rt, alloc, pool, at, line);
+fn play_lines(rt: &impl Print, alloc: Global, pool: &mut Pool, text: &str) -> anyhow::Result<()> {
+    for (at, line) in text.lines().enumerate() {
+        if pool_of(line).is_none() {
+            play_line(rt, alloc, pool, at, line)?;
+        }
     }
+    Ok(())
 }
 
-/// Plays texts one behind the other on a pool with the settings of this line. No other function has a pool of its own: what owns
-/// one is dear to prove.
-pub fn plays_on(rt: &impl Abort, alloc: Global, settings: &str, texts: &[&str]) {
-    let line = pool_of(settings).expect(rt, "the line of a pool");
-    let mut pool = pool(rt, alloc, line.config());
-    for text in texts {
-        play_lines(rt, alloc, &mut pool, text);
-    }
+/// Plays a text on a pool with these settings. No other function has a pool of its own: what owns one is dear to prove.
+fn plays_on(rt: &impl Print, alloc: Global, config: Config, text: &str) -> anyhow::Result<()> {
+    let mut pool = pool(rt, alloc, config)?;
+    play_lines(rt, alloc, &mut pool, text)
 }
 
-/// Plays a text on the pool of its first line.
-pub fn plays(rt: &impl Abort, alloc: Global, text: &str) {
-    let (settings, lines) = text.split_once('\n').unwrap_or((text, ""));
-    plays_on(rt, alloc, settings, &[lines]);
-}
-
-/// Plays each of these texts.
-pub fn plays_each(rt: &impl Abort, alloc: Global, texts: &[&str]) {
-    for text in texts {
-        plays(rt, alloc, text);
+/// Plays a text on each of its pools.
+pub fn plays(rt: &impl Print, alloc: Global, title: &str, text: &str) -> anyhow::Result<()> {
+    let mut played = false;
+    for line in text.lines() {
+        if let Some(pool) = pool_of(line) {
+            plays_on(rt, alloc, pool.config(), text)?;
+            played = true;
+        }
     }
+    is_same(rt, 0, &(title, played), &(title, true))
 }

@@ -1,7 +1,7 @@
 //! Long runs, which end well where nothing fails.
 
-use super::outcome_from;
 use crate::compare::same;
+use crate::scenarios::outcome_from;
 use std::alloc::{AllocError, Global};
 use tp_types::refusals::PoolError;
 
