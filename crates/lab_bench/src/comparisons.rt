@@ -1,14 +1,12 @@
 //! What is printed of the pool beside a textbook's.
 
 use crate::courses::{Course, Crowd, median, nanoseconds};
+use crate::hosts::Host;
 use crate::recorded::recorded;
 use crate::textbooks::textbook;
 use crate::unmeasured::Unmeasured;
 use std::alloc::Global;
 use std::io;
-use std::rt::Clock;
-use std::sync::Wait;
-use std::thread::Threads;
 use std::time::Duration;
 use tp_record::recorders::{Full, Tally};
 
@@ -67,10 +65,7 @@ const FEW: Course = Course::Through(Crowd {
 });
 
 /// Lets both pools run a few tasks, and says so: the same text each time.
-pub fn rehearse_pools<R: Threads + Wait + Clock + Print + Copy + Send + Sync + 'static>(
-    rt: R,
-    alloc: Global,
-) -> io::Result<bool> {
+pub fn rehearse_pools<R: Host + Print>(rt: R, alloc: Global) -> io::Result<bool> {
     if let Err(unmeasured) = medians_of(rt, alloc, FEW, 1) {
         println!(&rt; "{unmeasured}")?;
         return Ok(false);
@@ -81,7 +76,7 @@ pub fn rehearse_pools<R: Threads + Wait + Clock + Print + Copy + Send + Sync + '
 
 /// Compares the pool with the textbook's, by so many runs of each, by turns, in each course or in the one
 /// of this number, from 0; whether all went well.
-pub fn compared<R: Threads + Wait + Clock + Print + Copy + Send + Sync + 'static>(
+pub fn compared<R: Host + Print>(
     rt: R,
     alloc: Global,
     runs: u32,
@@ -167,7 +162,7 @@ struct Medians {
 }
 
 // The median times of so many runs of each, by turns.
-fn medians_of<R: Threads + Wait + Clock + Copy + Send + Sync + 'static>(
+fn medians_of<R: Host>(
     rt: R,
     alloc: Global,
     course: Course,
@@ -189,7 +184,7 @@ fn medians_of<R: Threads + Wait + Clock + Copy + Send + Sync + 'static>(
 }
 
 /// Prints each time of a course, in nanoseconds, behind the name of its pool: of so many runs, by turns; whether all went well.
-pub fn told_raw<R: Threads + Wait + Clock + Print + Copy + Send + Sync + 'static>(
+pub fn told_raw<R: Host + Print>(
     rt: R,
     alloc: Global,
     runs: u32,

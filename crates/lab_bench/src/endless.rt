@@ -1,13 +1,12 @@
 //! A pool that keeps no record and serves on and on, for whoever watches its memory from outside.
 ghost use Rattle.std.specs.Prelude.{◌≡◌};
 
+use crate::hosts::Host;
 use crate::unmeasured::Unmeasured;
 use std::alloc::Global;
 use std::collections::VecDeque;
 use std::marker::Brand;
-use std::rt::Clock;
 use std::sync::Wait;
-use std::thread::Threads;
 use std::time::Instant;
 use std::{io, thread};
 use tp_book::opening::Unopened;
@@ -84,12 +83,7 @@ const SETTINGS: Config = Config {
 };
 
 /// Has a pool run so many tasks, and tells how far it has come.
-pub fn serves<R: Threads + Wait + Clock + Print + Copy + Send + Sync + 'static>(
-    rt: R,
-    alloc: Global,
-    fare: Fare,
-    tasks: u32,
-) -> io::Result<bool> {
+pub fn serves<R: Host + Print>(rt: R, alloc: Global, fare: Fare, tasks: u32) -> io::Result<bool> {
     let served = match Unopened::new(alloc) {
         Ok(unopened) => open::<Brand, R>(rt, alloc, unopened, SETTINGS, fare, tasks),
         Err(error) => Err(Unmeasured::Refused(error)),
@@ -114,10 +108,7 @@ pub fn serves<R: Threads + Wait + Clock + Print + Copy + Send + Sync + 'static>(
 }
 
 // The same under a name of the pool's own.
-fn open<
-    G: PoolNaming + Send + Sync + 'static,
-    R: Threads + Wait + Clock + Print + Copy + Send + Sync + 'static,
->(
+fn open<G: PoolNaming + Send + Sync + 'static, R: Host + Print>(
     rt: R,
     alloc: Global,
     unopened: Unopened,
@@ -142,10 +133,7 @@ fn open<
 }
 
 // Starts all workers, submits so many tasks, and waits for the pool's end.
-fn serve_and_end<
-    G: PoolNaming + Send + Sync + 'static,
-    R: Threads + Wait + Clock + Print + Copy + Send + Sync + 'static,
->(
+fn serve_and_end<G: PoolNaming + Send + Sync + 'static, R: Host + Print>(
     rt: R,
     alloc: Global,
     pool: &Endless<G>,
@@ -161,10 +149,7 @@ fn serve_and_end<
 }
 
 // Submits so many tasks.
-fn serve<
-    G: PoolNaming + Send + Sync + 'static,
-    R: Threads + Wait + Clock + Print + Copy + Send + 'static,
->(
+fn serve<G: PoolNaming + Send + Sync + 'static, R: Host + Print>(
     rt: R,
     alloc: Global,
     pool: &Endless<G>,
@@ -211,7 +196,7 @@ fn fared(fare: Fare, number: u32) -> (Kind, Crumb) {
 }
 
 // Asks one value of four tasks, where the last of them is reached.
-fn ask_any<G: PoolNaming + Send + Sync + 'static, R: Threads + Wait + Copy + Send + 'static>(
+fn ask_any<G: PoolNaming + Send + Sync + 'static, R: Host>(
     rt: R,
     alloc: Global,
     pool: &Endless<G>,
@@ -230,7 +215,7 @@ fn ask_any<G: PoolNaming + Send + Sync + 'static, R: Threads + Wait + Copy + Sen
 }
 
 // Submits one task, and cancels it where that is its turn.
-fn submit<G: PoolNaming + Send + Sync + 'static, R: Threads + Wait + Copy + Send + 'static>(
+fn submit<G: PoolNaming + Send + Sync + 'static, R: Host>(
     rt: R,
     pool: &Endless<G>,
     pass: &mut Pass<G>,

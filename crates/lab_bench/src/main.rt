@@ -17,6 +17,7 @@ mod comparisons;
 mod courses;
 mod endless;
 mod errands;
+mod hosts;
 mod measures;
 mod recorded;
 mod reports;

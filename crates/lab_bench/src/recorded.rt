@@ -3,13 +3,13 @@ ghost use Rattle.std.specs.Prelude.{◌≡◌};
 
 use crate::courses::{Course, Crowd, STARTS, alone, settle};
 use crate::errands::Parcel;
+use crate::hosts::Host;
 use crate::unmeasured::Unmeasured;
 use std::alloc::Global;
 use std::marker::Brand;
-use std::sync::Wait;
 use std::thread;
-use std::thread::{JoinHandle, Threads};
-use std::time::{Clock, Duration, Instant};
+use std::thread::JoinHandle;
+use std::time::{Duration, Instant};
 use tp_book::opening::Unopened;
 use tp_book::passes::Pass;
 use tp_machine::machine::releases::Keeper;
@@ -37,10 +37,11 @@ fn settings_of(workers: u32, record_limit: u32) -> Config {
 }
 
 /// The times of the pool with what keeps its record: one, where nothing else is said.
-pub fn recorded<
-    K: Keeper + Send + 'static,
-    R: Threads + Wait + Clock + Copy + Send + Sync + 'static,
->(rt: R, alloc: Global, course: Course) -> Result<Vec<Duration>, Unmeasured> {
+pub fn recorded<K: Keeper + Send + 'static, R: Host>(
+    rt: R,
+    alloc: Global,
+    course: Course,
+) -> Result<Vec<Duration>, Unmeasured> {
     let settings = match course {
         Course::Through(crowd) | Course::Life(crowd) => {
             settings_of(crowd.workers, MAX_RECORD_LIMIT)
@@ -53,11 +54,7 @@ pub fn recorded<
 }
 
 // Opens a pool under its name.
-fn open<
-    G: PoolNaming + Send + Sync + 'static,
-    K: Keeper + Send + 'static,
-    R: Threads + Wait + Clock + Copy + Send + Sync + 'static,
->(
+fn open<G: PoolNaming + Send + Sync + 'static, K: Keeper + Send + 'static, R: Host>(
     rt: R,
     alloc: Global,
     unopened: Unopened,
@@ -81,11 +78,7 @@ fn open<
 }
 
 // Starts all workers, and measures this course.
-fn measure<
-    G: PoolNaming + Send + Sync + 'static,
-    K: Keeper + Send + 'static,
-    R: Threads + Wait + Clock + Copy + Send + Sync + 'static,
->(
+fn measure<G: PoolNaming + Send + Sync + 'static, K: Keeper + Send + 'static, R: Host>(
     rt: R,
     alloc: Global,
     pool: &Recorded<G, K, R>,
@@ -105,11 +98,7 @@ fn measure<
     }
 }
 
-fn submits<
-    G: PoolNaming + Send + Sync + 'static,
-    K: Keeper + Send + 'static,
-    R: Threads + Wait + Clock + Copy + Send + 'static,
->(
+fn submits<G: PoolNaming + Send + Sync + 'static, K: Keeper + Send + 'static, R: Host>(
     rt: R,
     alloc: Global,
     pool: &Recorded<G, K, R>,
@@ -125,11 +114,7 @@ fn submits<
     Ok(())
 }
 
-fn submits_alone<
-    G: PoolNaming + Send + Sync + 'static,
-    K: Keeper + Send + 'static,
-    R: Threads + Wait + Clock + Copy + Send + 'static,
->(
+fn submits_alone<G: PoolNaming + Send + Sync + 'static, K: Keeper + Send + 'static, R: Host>(
     rt: R,
     alloc: Global,
     pool: Handle<G, Parcel<R>, Defaults, K>,
@@ -140,11 +125,7 @@ fn submits_alone<
     submits(rt, alloc, &pool, &mut pass, crowd)
 }
 
-fn other<
-    G: PoolNaming + Send + Sync + 'static,
-    K: Keeper + Send + 'static,
-    R: Threads + Wait + Clock + Copy + Send + Sync + 'static,
->(
+fn other<G: PoolNaming + Send + Sync + 'static, K: Keeper + Send + 'static, R: Host>(
     rt: R,
     alloc: Global,
     pool: &Recorded<G, K, R>,
@@ -158,11 +139,7 @@ fn other<
     }
 }
 
-fn all_submit<
-    G: PoolNaming + Send + Sync + 'static,
-    K: Keeper + Send + 'static,
-    R: Threads + Wait + Clock + Copy + Send + Sync + 'static,
->(
+fn all_submit<G: PoolNaming + Send + Sync + 'static, K: Keeper + Send + 'static, R: Host>(
     rt: R,
     alloc: Global,
     pool: &Recorded<G, K, R>,
@@ -182,7 +159,7 @@ fn all_submit<
 }
 
 // The passes of the other submitters, with room for their receipts.
-fn passes_of<G: PoolNaming, K: Keeper + Send + 'static, R: Wait + Copy>(
+fn passes_of<G: PoolNaming, K: Keeper + Send + 'static, R: Host>(
     rt: &R,
     alloc: Global,
     pool: &Recorded<G, K, R>,
@@ -199,11 +176,7 @@ fn passes_of<G: PoolNaming, K: Keeper + Send + 'static, R: Wait + Copy>(
 }
 
 // Its own clock starts once receipts are reserved.
-fn through<
-    G: PoolNaming + Send + Sync + 'static,
-    K: Keeper + Send + 'static,
-    R: Threads + Wait + Clock + Copy + Send + Sync + 'static,
->(
+fn through<G: PoolNaming + Send + Sync + 'static, K: Keeper + Send + 'static, R: Host>(
     rt: R,
     alloc: Global,
     pool: &Recorded<G, K, R>,
@@ -229,21 +202,17 @@ fn receipts(tasks: u32) -> usize {
 }
 
 // Shuts the pool down, and waits for its end.
-fn end<
-    G: PoolNaming + Send + Sync + 'static,
-    K: Keeper + Send + 'static,
-    R: Threads + Wait + Clock + Copy + Send + 'static,
->(rt: &R, pool: &Recorded<G, K, R>, pass: &mut Pass<G>) -> Result<(), Unmeasured> {
+fn end<G: PoolNaming + Send + Sync + 'static, K: Keeper + Send + 'static, R: Host>(
+    rt: &R,
+    pool: &Recorded<G, K, R>,
+    pass: &mut Pass<G>,
+) -> Result<(), Unmeasured> {
     pool.shutdown(rt, pass)?;
     pool.await_termination(rt, u64::MAX, pass)?;
     Ok(())
 }
 
-fn start<
-    G: PoolNaming + Send + Sync + 'static,
-    K: Keeper + Send + 'static,
-    R: Threads + Wait + Clock + Copy + Send + Sync + 'static,
->(
+fn start<G: PoolNaming + Send + Sync + 'static, K: Keeper + Send + 'static, R: Host>(
     rt: R,
     alloc: Global,
     pool: &Recorded<G, K, R>,
@@ -261,11 +230,7 @@ fn start<
 }
 
 // From a submission until its body begins.
-fn one_start<
-    G: PoolNaming + Send + Sync + 'static,
-    K: Keeper + Send + 'static,
-    R: Threads + Wait + Clock + Copy + Send + Sync + 'static,
->(
+fn one_start<G: PoolNaming + Send + Sync + 'static, K: Keeper + Send + 'static, R: Host>(
     rt: R,
     alloc: Global,
     pool: &Recorded<G, K, R>,
@@ -279,11 +244,7 @@ fn one_start<
     watch.begun_after(submitted)
 }
 
-fn answers<
-    G: PoolNaming + Send + Sync + 'static,
-    K: Keeper + Send + 'static,
-    R: Threads + Wait + Clock + Copy + Send + Sync + 'static,
->(
+fn answers<G: PoolNaming + Send + Sync + 'static, K: Keeper + Send + 'static, R: Host>(
     rt: R,
     alloc: Global,
     pool: &Recorded<G, K, R>,
@@ -301,11 +262,7 @@ fn answers<
 }
 
 // From a submission until its value is there.
-fn one_answer<
-    G: PoolNaming + Send + Sync + 'static,
-    K: Keeper + Send + 'static,
-    R: Threads + Wait + Clock + Copy + Send + Sync + 'static,
->(
+fn one_answer<G: PoolNaming + Send + Sync + 'static, K: Keeper + Send + 'static, R: Host>(
     rt: R,
     alloc: Global,
     pool: &Recorded<G, K, R>,

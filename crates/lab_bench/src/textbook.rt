@@ -2,12 +2,12 @@
 //! keeps no record.
 
 use crate::errands::Parcel;
+use crate::hosts::Host;
 use std::alloc::{AllocError, Global};
 use std::collections::VecDeque;
-use std::sync::{Arc, Condvar, Mutex, Wait};
+use std::sync::{Arc, Condvar, Mutex};
 use std::thread;
-use std::thread::{JoinHandle, Threads};
-use std::time::Clock;
+use std::thread::JoinHandle;
 use tp_protocols::flags::CancelFlag;
 use tp_protocols::jobs::Job;
 use tp_types::refusals::PoolError;
@@ -26,7 +26,7 @@ pub struct Counter<R> {
     changed: Condvar,
 }
 
-impl<R: Wait + Clock + Copy + Send> Counter<R> {
+impl<R: Host> Counter<R> {
     /// Queues a job.
     pub fn execute(&self, rt: &R, job: Parcel<R>) -> Result<(), AllocError> {
         let mut waiting = self.waiting.lock(rt);
@@ -72,7 +72,7 @@ pub struct Textbook<R> {
     workers: Vec<JoinHandle<u64>>,
 }
 
-fn hire<R: Threads + Wait + Clock + Copy + Send + Sync + 'static>(
+fn hire<R: Host>(
     rt: R,
     counter: &Arc<Counter<R>>,
     flag: CancelFlag,
@@ -86,7 +86,7 @@ fn hire<R: Threads + Wait + Clock + Copy + Send + Sync + 'static>(
     }
 }
 
-impl<R: Threads + Wait + Clock + Copy + Send + Sync + 'static> Textbook<R> {
+impl<R: Host> Textbook<R> {
     /// A pool of so many workers. NoMemory (4), also where a thread is not made.
     pub fn new(rt: R, alloc: Global, workers: u32) -> Result<Textbook<R>, PoolError> {
         let waiting = Waiting {

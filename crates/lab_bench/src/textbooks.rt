@@ -2,16 +2,17 @@
 
 use crate::courses::{Course, Crowd, STARTS, alone, settle};
 use crate::errands::Parcel;
+use crate::hosts::Host;
 use crate::textbook::{Counter, Textbook};
 use crate::unmeasured::Unmeasured;
 use std::alloc::Global;
-use std::sync::{Arc, Wait};
+use std::sync::Arc;
 use std::thread;
-use std::thread::{JoinHandle, Threads};
-use std::time::{Clock, Duration, Instant};
+use std::thread::JoinHandle;
+use std::time::{Duration, Instant};
 
 /// The times of the textbook's pool: one, where nothing else is said.
-pub fn textbook<R: Threads + Wait + Clock + Copy + Send + Sync + 'static>(
+pub fn textbook<R: Host>(
     rt: R,
     alloc: Global,
     course: Course,
@@ -24,7 +25,7 @@ pub fn textbook<R: Threads + Wait + Clock + Copy + Send + Sync + 'static>(
     }
 }
 
-fn submits<R: Wait + Clock + Copy + Send>(
+fn submits<R: Host>(
     rt: &R,
     alloc: Global,
     counter: &Counter<R>,
@@ -37,7 +38,7 @@ fn submits<R: Wait + Clock + Copy + Send>(
     Ok(())
 }
 
-fn submits_alone<R: Wait + Clock + Copy + Send>(
+fn submits_alone<R: Host>(
     rt: R,
     alloc: Global,
     counter: Arc<Counter<R>>,
@@ -46,7 +47,7 @@ fn submits_alone<R: Wait + Clock + Copy + Send>(
     submits(&rt, alloc, &counter, crowd)
 }
 
-fn other<R: Threads + Wait + Clock + Copy + Send + Sync + 'static>(
+fn other<R: Host>(
     rt: R,
     alloc: Global,
     counter: &Arc<Counter<R>>,
@@ -59,7 +60,7 @@ fn other<R: Threads + Wait + Clock + Copy + Send + Sync + 'static>(
     }
 }
 
-fn all_submit<R: Threads + Wait + Clock + Copy + Send + Sync + 'static>(
+fn all_submit<R: Host>(
     rt: R,
     alloc: Global,
     counter: &Arc<Counter<R>>,
@@ -76,11 +77,7 @@ fn all_submit<R: Threads + Wait + Clock + Copy + Send + Sync + 'static>(
     Ok(())
 }
 
-fn through<R: Threads + Wait + Clock + Copy + Send + Sync + 'static>(
-    rt: R,
-    alloc: Global,
-    crowd: Crowd,
-) -> Result<Duration, Unmeasured> {
+fn through<R: Host>(rt: R, alloc: Global, crowd: Crowd) -> Result<Duration, Unmeasured> {
     let pool = Textbook::new(rt, alloc, crowd.workers)?;
     settle(&rt);
     let start = Instant::now(&rt)?;
@@ -88,11 +85,7 @@ fn through<R: Threads + Wait + Clock + Copy + Send + Sync + 'static>(
     Ok(start.elapsed(&rt)?)
 }
 
-fn life<R: Threads + Wait + Clock + Copy + Send + Sync + 'static>(
-    rt: R,
-    alloc: Global,
-    crowd: Crowd,
-) -> Result<Duration, Unmeasured> {
+fn life<R: Host>(rt: R, alloc: Global, crowd: Crowd) -> Result<Duration, Unmeasured> {
     let before = Instant::now(&rt)?;
     let pool = Textbook::new(rt, alloc, crowd.workers)?;
     run(rt, alloc, pool, crowd)?;
@@ -100,12 +93,7 @@ fn life<R: Threads + Wait + Clock + Copy + Send + Sync + 'static>(
 }
 
 // Has the pool run all tasks, and ends it.
-fn run<R: Threads + Wait + Clock + Copy + Send + Sync + 'static>(
-    rt: R,
-    alloc: Global,
-    pool: Textbook<R>,
-    crowd: Crowd,
-) -> Result<(), Unmeasured> {
+fn run<R: Host>(rt: R, alloc: Global, pool: Textbook<R>, crowd: Crowd) -> Result<(), Unmeasured> {
     all_submit(rt, alloc, &pool.counter, crowd)?;
     if pool.join(&rt) == u64::from(crowd.all_tasks()) {
         Ok(())
@@ -114,11 +102,7 @@ fn run<R: Threads + Wait + Clock + Copy + Send + Sync + 'static>(
     }
 }
 
-fn start<R: Threads + Wait + Clock + Copy + Send + Sync + 'static>(
-    rt: R,
-    alloc: Global,
-    workers: u32,
-) -> Result<Vec<Duration>, Unmeasured> {
+fn start<R: Host>(rt: R, alloc: Global, workers: u32) -> Result<Vec<Duration>, Unmeasured> {
     let pool = Textbook::new(rt, alloc, workers)?;
     let mut times = Vec::new(alloc);
     for _ in 0..STARTS {
@@ -130,11 +114,7 @@ fn start<R: Threads + Wait + Clock + Copy + Send + Sync + 'static>(
 }
 
 // From a submission until its body begins.
-fn one_start<R: Wait + Clock + Copy + Send + 'static>(
-    rt: R,
-    alloc: Global,
-    counter: &Counter<R>,
-) -> Result<Duration, Unmeasured> {
+fn one_start<R: Host>(rt: R, alloc: Global, counter: &Counter<R>) -> Result<Duration, Unmeasured> {
     let (job, watch) = Parcel::timed(rt, alloc)?;
     let submitted = watch.time()?;
     counter.execute(&rt, job)?;
