@@ -10,12 +10,7 @@
 //! the standard output fails, the standard error says why.
 #![tactic(auto)]
 
-mod jobs;
-mod journals;
-mod program;
-mod progress;
-
-use program::{Terminal, program, without_memory, without_words};
+use poolrun_program::program::{Terminal, program, without_memory, without_words};
 use std::alloc::Alloc;
 use std::env::{self, Env};
 use std::io::IsTerminal;

@@ -5,8 +5,8 @@ ghost use Rattle.tp_explore.specs.Moves.{Holds};
 ghost use Rattle.tp_explore.specs.Situation.{seen};
 ghost use Rattle.tp_explore_text.specs.Explored.{IsExplored};
 
+use anyhow::anyhow;
 use std::alloc::{AllocError, Global};
-use std::test::Fail;
 use tp_explore::states::{State, first};
 use tp_explore_text::ends::end_text;
 use tp_explore_text::explored::Explored;
@@ -36,7 +36,7 @@ fn count(tallies: &mut Vec<Tally>, text: String) -> Result<(), AllocError> {
 }
 
 /// Goes through all sequences of moves, the last move first, and counts how they end.
-fn count_all(alloc: Global, explored: &Explored) -> Result<Vec<Tally>, Fail>
+fn count_all(alloc: Global, explored: &Explored) -> anyhow::Result<Vec<Tally>>
     requires { IsExplored explored.now }
 {
     let exploration = &explored.named.exploration;
@@ -57,7 +57,7 @@ fn count_all(alloc: Global, explored: &Explored) -> Result<Vec<Tally>, Fail>
         }
         open.append(&mut next)?;
     }
-    Err(Fail::new("too many sequences"))
+    Err(anyhow!("too many sequences"))
 }
 
 /// Whether this end is counted so.
@@ -83,7 +83,7 @@ fn interleavings(explored: &Explored) -> u128 {
 }
 
 /// Whether each end is counted as it is told, where there are few enough interleavings to go through them.
-pub fn same_again(alloc: Global, explored: &Explored) -> Result<bool, Fail>
+pub fn same_again(alloc: Global, explored: &Explored) -> anyhow::Result<bool>
     requires { IsExplored explored.now }
 {
     if interleavings(explored) > MOST {

@@ -3,7 +3,6 @@ ghost use Rattle.std.specs.Prelude.{◌<◌, length};
 ghost use Rattle.tp_explore_text.specs.Explored.{IsExplored};
 
 use std::alloc::Global;
-use std::test::Fail;
 use tp_explore::deeds::Mover;
 use tp_explore::moves::Move;
 use tp_explore_ends::witnesses::witness;
@@ -47,7 +46,7 @@ fn all_go_along(way: &[Move]) -> bool {
 }
 
 /// Whether it is so on the way to this place, at which nobody can move.
-fn is_followed(alloc: Global, explored: &Explored, place: usize) -> Result<bool, Fail>
+fn is_followed(alloc: Global, explored: &Explored, place: usize) -> anyhow::Result<bool>
     requires explored { IsExplored explored.now }
     requires within { place < length explored.now.graph.states.items }
 {
@@ -56,7 +55,7 @@ fn is_followed(alloc: Global, explored: &Explored, place: usize) -> Result<bool,
 }
 
 /// Whether it is so on the way to each state in which nobody can move.
-pub fn same_followed(alloc: Global, explored: &Explored) -> Result<bool, Fail>
+pub fn same_followed(alloc: Global, explored: &Explored) -> anyhow::Result<bool>
     requires { IsExplored explored.now }
 {
     for place in &explored.graph.ends {

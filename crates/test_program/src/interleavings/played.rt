@@ -2,9 +2,9 @@
 ghost use Rattle.std.specs.Prelude.{◌<◌, length};
 ghost use Rattle.tp_explore_text.specs.Explored.{IsExplored};
 
+use anyhow::anyhow;
 use poolrun_commands::records::Recording;
 use std::alloc::Global;
-use std::test::Fail;
 use tp_explore_text::ends::End;
 use tp_explore_text::explored::Explored;
 use tp_explore_text::texts::witness_text;
@@ -36,7 +36,7 @@ fn fated(end: &str, fate: &str) -> usize {
 }
 
 /// The counters of the fates, as the end says them.
-fn counters(alloc: Global, end: &str) -> Result<String, Fail> {
+fn counters(alloc: Global, end: &str) -> anyhow::Result<String> {
     let mut text = String::new(alloc);
     for fate in FATES {
         let count = fated(end, fate);
@@ -46,7 +46,7 @@ fn counters(alloc: Global, end: &str) -> Result<String, Fail> {
 }
 
 /// The run state, as the end says it.
-fn state(alloc: Global, end: &str) -> Result<String, Fail> {
+fn state(alloc: Global, end: &str) -> anyhow::Result<String> {
     let name = match end.rsplit_once("; ") {
         Some((_, name)) => name,
         None => end,
@@ -55,9 +55,9 @@ fn state(alloc: Global, end: &str) -> Result<String, Fail> {
 }
 
 /// The record of a scenario, which has no bad line.
-fn record(alloc: Global, scenario: &[u8]) -> Result<Vec<u8>, Fail> {
+fn record(alloc: Global, scenario: &[u8]) -> anyhow::Result<Vec<u8>> {
     if scenario.len() > 1_048_576 {
-        return Err(Fail::new("a long scenario"));
+        return Err(anyhow!("a long scenario"));
     }
     let mut recording = Recording::new(alloc);
     let played = play(alloc, scenario, &mut recording);
@@ -68,16 +68,16 @@ fn record(alloc: Global, scenario: &[u8]) -> Result<Vec<u8>, Fail> {
 }
 
 /// What is judged of the record of a scenario.
-fn judged(alloc: Global, scenario: &[u8]) -> Result<Judgment, Fail> {
+fn judged(alloc: Global, scenario: &[u8]) -> anyhow::Result<Judgment> {
     let record = record(alloc, scenario)?;
     if record.len() > 1_048_576 {
-        return Err(Fail::new("a long record"));
+        return Err(anyhow!("a long record"));
     }
     Ok(judge_text(alloc, record.as_slice())?)
 }
 
 /// Whether the witness of an end has a legal record, at whose end stand the fates and the run state that are told.
-fn is_played(alloc: Global, explored: &Explored, end: &End) -> Result<bool, Fail>
+fn is_played(alloc: Global, explored: &Explored, end: &End) -> anyhow::Result<bool>
     requires explored { IsExplored explored.now }
     requires within { end.now.place < length explored.now.graph.states.items }
 {
@@ -93,7 +93,7 @@ fn is_played(alloc: Global, explored: &Explored, end: &End) -> Result<bool, Fail
 }
 
 /// Whether this holds of each end.
-pub fn same_played(alloc: Global, explored: &Explored) -> Result<bool, Fail>
+pub fn same_played(alloc: Global, explored: &Explored) -> anyhow::Result<bool>
     requires { IsExplored explored.now }
 {
     for end in &explored.ends {

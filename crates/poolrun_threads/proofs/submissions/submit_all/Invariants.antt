@@ -1,6 +1,0 @@
-use Rattle.std.proofs.Common.{take}
-use Rattle.poolrun_threads.specs.Runs.{AddsSubmissions, asked}
-use Rattle.poolrun_threads.proofs.submissions.submit_all.Given as goal
-
-abbrev pub invariant-loop-job : goal.invariant-loop-job
-invariant-loop-job g l = AddsSubmissions (g.K.Recorder.terms g.G.PoolNaming.config) (take l.job-index (asked l.jobs)) l.fn.pass l.pass

@@ -1,9 +1,0 @@
-//! The one assertion of these tests. An assertion is proved wherever it stands, with all that it prints, so tables are compared here.
-
-use std::fmt::Debug;
-use std::process::Abort;
-
-/// What is seen at this line of a table is what is wanted there.
-pub fn same<T: Debug + PartialEq>(rt: &impl Abort, line: usize, seen: &T, wanted: &T) {
-    assert_eq!(rt; seen, wanted, "line {line}");
-}
