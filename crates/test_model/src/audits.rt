@@ -32,7 +32,7 @@ const ROWS: [&str; 4] = [LEGAL, SECOND_FORM, RANKED, ROW_35];
 #[test]
 fn judges_worked_rows(rt: HostRuntime) -> anyhow::Result<()> {
     for row in &ROWS {
-        judges(&rt, rt.alloc(), "", row)?;
+        judges(&rt, rt.alloc(), row)?;
     }
     Ok(())
 }

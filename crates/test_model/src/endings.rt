@@ -57,21 +57,15 @@ fn behind<'a>(line: Option<&'a str>, word: &str) -> Option<&'a str> {
 
 /// Each line of a row ends its text as the row says: `ends` and how it ends, `behind` and the line that stands first, and then the
 /// lines.
-pub fn end_each(
-    rt: &impl Print,
-    alloc: Global,
-    are_jobs: bool,
-    title: &str,
-    row: &str,
-) -> anyhow::Result<()> {
+pub fn end_each(rt: &impl Print, alloc: Global, are_jobs: bool, row: &str) -> anyhow::Result<()> {
     let mut lines = row.lines();
     let (Some(ends), Some(before)) = (behind(lines.next(), "ends"), behind(lines.next(), "behind"))
     else {
-        return Err(anyhow!("{title}: it does not say how its lines end"));
+        return Err(anyhow!("a row does not say how its lines end"));
     };
-    for line in lines {
+    for (at, line) in lines.enumerate() {
         let seen = seen(alloc, are_jobs, before, line)?;
-        is_same(rt, 0, &(title, line, seen.as_str()), &(title, line, ends))?;
+        is_same(rt, at, &(line, seen.as_str()), &(line, ends))?;
     }
     Ok(())
 }

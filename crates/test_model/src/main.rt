@@ -1,5 +1,5 @@
 //! `test_model`: plays the texts of `data/`, worked scenarios, records and plays of the machine, and prints how many rows each file has.
-//! A row that is not as its text says ends the program, which prints what is seen beside what is wanted.
+//! A row that is not as its text says ends the program, which prints what is seen beside what is wanted, and the row's title.
 //!
 //! The worked rows of `proofs/` are records with what the step gives at each front, computed by the checker: a wrong definition fails
 //! the check at the row that shows it. The rows of the specification stand in `proofs/Worked`. Records of our own, for what no such
@@ -49,8 +49,8 @@ use std::fs;
 enum Form {
     /// Scenarios that are played to their ends.
     Scenario,
-    /// Scenarios that are refused for their pools.
-    Refused,
+    /// Scenarios of which only what is written is compared: those that are refused for their pools, and a long one.
+    Told,
     /// Lines, each of which ends its scenario so.
     Lines,
     /// Lines, each of which ends its file of jobs so.
@@ -62,14 +62,15 @@ enum Form {
 }
 
 /// The files of rows.
-const FILES: [(&str, Form); 15] = [
+const FILES: [(&str, Form); 16] = [
     ("growing.txt", Form::Scenario),
     ("refusing.txt", Form::Scenario),
     ("working.txt", Form::Scenario),
     ("ending.txt", Form::Scenario),
     ("cancelling.txt", Form::Scenario),
     ("documents.txt", Form::Scenario),
-    ("refused.txt", Form::Refused),
+    ("refused.txt", Form::Told),
+    ("retried.txt", Form::Told),
     ("lines.txt", Form::Lines),
     ("job-lines.txt", Form::JobLines),
     ("records.txt", Form::Record),
@@ -80,27 +81,48 @@ const FILES: [(&str, Form); 15] = [
     ("many.txt", Form::Play),
 ];
 
-/// Plays a row: a line with its title, and its text.
-fn play(rt: &impl Print, alloc: Global, form: Form, row: &str) -> anyhow::Result<()> {
-    let (title, text) = row.split_once('\n').unwrap_or((row, ""));
+/// Plays the text of a row.
+fn play(rt: &impl Print, alloc: Global, form: Form, text: &str) -> anyhow::Result<()> {
     match form {
-        Form::Scenario => scenarios::plays(rt, alloc, title, text),
-        Form::Refused => {
+        Form::Scenario => scenarios::plays(rt, alloc, text),
+        Form::Told => {
             let (scenario, output) = rows::parts(text);
-            scenarios::tells(rt, alloc, title, scenario, output)
+            scenarios::tells(rt, alloc, scenario, output)
         }
-        Form::Lines => endings::end_each(rt, alloc, false, title, text),
-        Form::JobLines => endings::end_each(rt, alloc, true, title, text),
-        Form::Record => records::judges(rt, alloc, title, text),
-        Form::Play => machine::plays::plays(rt, alloc, title, text),
+        Form::Lines => endings::end_each(rt, alloc, false, text),
+        Form::JobLines => endings::end_each(rt, alloc, true, text),
+        Form::Record => records::judges(rt, alloc, text),
+        Form::Play => machine::plays::plays(rt, alloc, text),
     }
 }
 
+/// Plays a row: a line with its title, and its text. Where it is not as it says, its file and its title are printed.
+fn play_row(
+    rt: &impl Print,
+    alloc: Global,
+    path: &str,
+    form: Form,
+    row: &str,
+) -> anyhow::Result<()> {
+    let (title, text) = row.split_once('\n').unwrap_or((row, ""));
+    let played = play(rt, alloc, form, text);
+    if played.is_err() {
+        println!(rt; "{path}: {title}")?;
+    }
+    played
+}
+
 /// Plays the rows of a file, and counts them. Each begins behind `== ` at the begin of a line, and an empty line stands before it.
-fn play_all(rt: &impl Print, alloc: Global, form: Form, text: &str) -> anyhow::Result<usize> {
+fn play_all(
+    rt: &impl Print,
+    alloc: Global,
+    path: &str,
+    form: Form,
+    text: &str,
+) -> anyhow::Result<usize> {
     let mut rows = 0usize;
     for row in text.split("\n== ").skip(1) {
-        play(rt, alloc, form, row)?;
+        play_row(rt, alloc, path, form, row)?;
         rows = rows.saturating_add(1);
     }
     Ok(rows)
@@ -109,7 +131,7 @@ fn play_all(rt: &impl Print, alloc: Global, form: Form, text: &str) -> anyhow::R
 fn main(rt: HostRuntime) -> anyhow::Result<()> {
     for (path, form) in &FILES {
         let text = fs::read_to_string(&rt, *path)?;
-        let rows = play_all(&rt, rt.alloc(), *form, text.as_str())?;
+        let rows = play_all(&rt, rt.alloc(), path, *form, text.as_str())?;
         println!(&rt; "{rows:3} {path}")?;
     }
     Ok(())

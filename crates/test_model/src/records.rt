@@ -43,16 +43,11 @@ fn is_judged_alike(alloc: Global, text: &[u8]) -> bool {
 }
 
 /// A record is judged so, and by both auditors alike.
-pub fn judges(rt: &impl Print, alloc: Global, title: &str, row: &str) -> anyhow::Result<()> {
+pub fn judges(rt: &impl Print, alloc: Global, row: &str) -> anyhow::Result<()> {
     let (text, output) = parts(row);
     let told = told(alloc, text);
     let seen = told.as_ref().map(|(written, legal)| (str::from_utf8(written.as_slice()), *legal));
     let wanted = (Ok(output), output.starts_with("legal"));
-    is_same(rt, 0, &(title, seen), &(title, Ok(wanted)))?;
-    is_same(
-        rt,
-        1,
-        &(title, is_judged_alike(alloc, text)),
-        &(title, true),
-    )
+    is_same(rt, 0, &seen, &Ok(wanted))?;
+    is_same(rt, 1, &is_judged_alike(alloc, text), &true)
 }

@@ -38,10 +38,10 @@ static ENDED: [(&str, &str); 2] = [ROW_18, ("", "refused 23 BadLine 1\n")];
 #[test]
 fn plays_worked_rows(rt: HostRuntime) -> anyhow::Result<()> {
     for row in &PLAYED {
-        plays(&rt, rt.alloc(), "", row)?;
+        plays(&rt, rt.alloc(), row)?;
     }
     for (text, output) in &ENDED {
-        tells(&rt, rt.alloc(), "", text.as_bytes(), output)?;
+        tells(&rt, rt.alloc(), text.as_bytes(), output)?;
     }
     Ok(())
 }

@@ -40,16 +40,10 @@ fn told(alloc: Global, text: &[u8]) -> Result<Vec<u8>, AllocError> {
 }
 
 /// This is written of a scenario.
-pub fn tells(
-    rt: &impl Print,
-    alloc: Global,
-    title: &str,
-    text: &[u8],
-    output: &str,
-) -> anyhow::Result<()> {
+pub fn tells(rt: &impl Print, alloc: Global, text: &[u8], output: &str) -> anyhow::Result<()> {
     let told = told(alloc, text);
     let seen = told.as_ref().map(|bytes| str::from_utf8(bytes.as_slice()));
-    is_same(rt, 0, &(title, seen), &(title, Ok(Ok(output))))
+    is_same(rt, 0, &seen, &Ok(Ok(output)))
 }
 
 /// What comes of a list of asks. No clause speaks of the run here, so a test is proved without its long contract.
@@ -138,7 +132,7 @@ fn are_answered(
 }
 
 /// Whether the asks of a row give its answers and its record again.
-pub fn is_asked_again(
+fn is_asked_again(
     alloc: Global,
     config: Config,
     text: &str,
@@ -162,14 +156,9 @@ pub fn is_judged(alloc: Global, text: &str, output: &str) -> Result<bool, PoolEr
 }
 
 /// A worked scenario is written so, and judged alike with its neighbours.
-pub fn plays(rt: &impl Print, alloc: Global, title: &str, row: &str) -> anyhow::Result<()> {
+pub fn plays(rt: &impl Print, alloc: Global, row: &str) -> anyhow::Result<()> {
     let (bytes, output) = parts(row);
-    tells(rt, alloc, title, bytes, output)?;
+    tells(rt, alloc, bytes, output)?;
     let (text, _) = row.split_once("\n\n").unwrap_or((row, ""));
-    is_same(
-        rt,
-        0,
-        &(title, is_judged(alloc, text, output)),
-        &(title, Ok(true)),
-    )
+    is_same(rt, 0, &is_judged(alloc, text, output), &Ok(true))
 }

@@ -386,7 +386,7 @@ fn plays_on(rt: &impl Print, alloc: Global, config: Config, text: &str) -> anyho
 }
 
 /// Plays a text on each of its pools.
-pub fn plays(rt: &impl Print, alloc: Global, title: &str, text: &str) -> anyhow::Result<()> {
+pub fn plays(rt: &impl Print, alloc: Global, text: &str) -> anyhow::Result<()> {
     let mut played = false;
     for line in text.lines() {
         if let Some(pool) = pool_of(line) {
@@ -394,5 +394,5 @@ pub fn plays(rt: &impl Print, alloc: Global, title: &str, text: &str) -> anyhow:
             played = true;
         }
     }
-    is_same(rt, 0, &(title, played), &(title, true))
+    is_same(rt, 0, &played, &true)
 }
