@@ -53,28 +53,36 @@ CONSTANT = re.compile(r'(?:const|static) (\w+): &(?:\[u8\]|str) =\s*b?"((?:[^"\\
 ESCAPE = re.compile(r"\\(\n\s*|.)", re.S)
 
 
+def texts(files):
+    """The texts of some files of the crates."""
+    return [open(path).read() for path in sorted(glob.glob(os.path.join(ROOT, "crates", files), recursive=True))]
+
+
+def rows(files):
+    """The rows of some files of rows, each from its title on."""
+    return [row for text in texts(files) for row in text.split("\n== ")[1:]]
+
+
 def constants(sources):
     """The constant texts of a crate's sources, by name."""
     plain = lambda text: ESCAPE.sub(lambda found: {"n": "\n", '"': '"', "\\": "\\"}.get(found[1], ""), text)
-    paths = sorted(glob.glob(os.path.join(ROOT, "crates", sources), recursive=True))
-    return {name: plain(text) for path in paths for name, text in CONSTANT.findall(open(path).read())}
+    return {name: plain(text) for source in texts(sources) for name, text in CONSTANT.findall(source)}
 
 
 def titled_rows():
     """The scenarios and records of test_model, each with its title or its constant's name. A play of the machine has no empty line."""
-    for path in sorted(glob.glob(os.path.join(ROOT, "crates", "test_model", "data", "*.txt"))):
-        for row in open(path).read().split("\n== ")[1:]:
-            yield row.split("\n", 1)
+    for row in rows("test_model/data/*.txt"):
+        yield row.split("\n", 1)
     yield from constants("test_model/src/known.rt").items()
 
 
 def transcripts(name):
     """The calls of a file of transcripts of test_program: the row's text, the command line, and the output."""
-    for row in open(os.path.join(ROOT, "crates", "test_program", "data", name)).read().split("\n== ")[1:]:
-        texts, *calls = re.split(r"\n\$ ", row)
-        marked = lambda lines, mark: "".join(line[len(mark) + 1:] + "\n" for line in lines.split("\n") if line.startswith(f"{mark} "))
+    marked = lambda lines, mark: "".join(line[len(mark) + 1:] + "\n" for line in lines.split("\n") if line.startswith(f"{mark} "))
+    for row in rows(f"test_program/data/{name}"):
+        head, *calls = re.split(r"\n\$ ", row)
         for call in calls:
-            yield marked(texts, "<"), call.split("\n", 1)[0], marked(call, ">")
+            yield marked(head, "<"), call.split("\n", 1)[0], marked(call, ">")
 
 
 def worked_rows():
