@@ -54,10 +54,7 @@ module _ {P : Type 0} (t : ℕ) (k : P) where
     judged u ruled.Retry payload dropped judges = inl (kept judges.0)
     judged u (ruled.RetryDrop x) payload dropped judges =
         ⊎_elim (λ (stays : Stays). inl stays) (λ (is : (x.0 ≡ t) × (judges.0 ≡ Some k)). inr (inr ((x, judges.0), judges.3, (is.0, is.1)))) (out x.0 judges.0 judges.1)
-    judged u ruled.Rejected payload dropped judges = own u payload dropped judges.0
-    judged u ruled.Discarded payload dropped judges = own u payload dropped judges.0
-    judged u ruled.Skip payload dropped judges = own u payload dropped judges.0
-    judged u ruled.Caller payload dropped judges = own u payload dropped judges.0
+    judged u _ payload dropped judges = own u payload dropped judges.0
 
     begins : (b : Begun P) (a : Ask) → Moves (stepped.Begin b) a None old new → Stays ⊎ HandsOutOf t k (stepped.Begin b) a
     begins (begun.Run u p) a moves = out u.0 (Some p) moves.0
@@ -98,36 +95,16 @@ module _ {P : Type 0} (t : ℕ) (k : P) where
     -- by one step
     step : (a : Ask) (s : Stepped P) (came : Option (Promise × P)) → IsAnswer a s → ¬ (submits (did_of a s) ≡ Some t) → Moves s a came old new → Stays ⊎ HandsOutOf t k s a
     step a (stepped.Submit u d) came answer other moves = inl (submitted u d a came answer.3 other moves)
-    step a (stepped.Look d) came answer other moves = inl (kept moves)
-    step a (stepped.Offer d) came answer other moves = inl (kept moves)
-    step a (stepped.Second d) came answer other moves = inl (kept moves)
-    step a (stepped.Grow d) came answer other moves = inl (kept moves)
     step a (stepped.Verdict j) came answer other moves =
         subst (λ b. Moves (stepped.Verdict j) b came old new → Stays ⊎ HandsOutOf t k (stepped.Verdict j) b) (sym answer.2)
         (λ judges. judged answer.0 (ruled_of j.did) j.payload j.dropped judges) moves
-    step a stepped.CallerEnd came answer other moves = inl (kept moves)
-    step a (stepped.Open d) came answer other moves = inl (kept moves)
-    step a (stepped.Fail d) came answer other moves = inl (kept moves)
-    step a (stepped.Take d) came answer other moves = inl (kept moves)
     step a (stepped.Begin b) came answer other moves = begins b a moves
-    step a (stepped.End d) came answer other moves = inl (kept moves)
-    step a (stepped.Leave d) came answer other moves = inl (kept moves)
-    step a stepped.Shutdown came answer other moves = inl (kept moves)
     step a (stepped.Stop handed) came answer other moves = back handed.items moves
-    step a stepped.Tidy came answer other moves = inl (kept moves)
-    step a stepped.Ended came answer other moves = inl (kept moves)
     step a (stepped.Remove r) came answer other moves =
         subst (λ b. Moves (stepped.Remove r) b came old new → Stays ⊎ HandsOutOf t k (stepped.Remove r) b) (sym answer.1) (λ removal. removed answer.0 r (ask.Remove answer.0) removal) moves
-    step a (stepped.Purge n) came answer other moves = inl (kept moves)
     step a (stepped.Cancel b o) came answer other moves =
         subst (λ x. Moves (stepped.Cancel b o) x came old new → Stays ⊎ HandsOutOf t k (stepped.Cancel b o) x) (sym answer.2) (λ hands. out answer.0.0 o hands) moves
-    step a (stepped.TakeDone u) came answer other moves = inl (kept moves)
-    step a (stepped.Core n) came answer other moves = inl (kept moves)
-    step a stepped.Maximum came answer other moves = inl (kept moves)
-    step a stepped.Keep came answer other moves = inl (kept moves)
-    step a stepped.CoreTimeout came answer other moves = inl (kept moves)
-    step a stepped.Tick came answer other moves = inl (kept moves)
-    step a (stepped.Prestart w) came answer other moves = inl (kept moves)
+    step a _ came answer other moves = inl (kept moves)
 
   -- by any number of steps
   pub lasts : (ms : List (Made P)) (old new : BookView P) → MakesAll ms old new → SubmitNone t ms → payload_of old.machine.parts.tasks t ≡ Some k →

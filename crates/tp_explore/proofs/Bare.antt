@@ -23,9 +23,7 @@ use Rattle.tp_explore.specs.Moves.{along, begun, submitting, after, next_call}
 
 offer_to_bare : (q : QueueKind) (s : states.State) (t : TaskId) → offer_to q (bare s) t ≡ offer_to q s t
 offer_to_bare queues.Handoff s t = refl
-offer_to_bare queues.Unbounded s t = refl
-offer_to_bare (queues.Bounded n) s t = refl
-offer_to_bare queues.Priority s t = refl
+offer_to_bare _ s t = refl
 
 offer_bare : (c : Config) (s : states.State) (t : TaskId) (p : Place) → offer_answer c (bare s) t p ≡ offer_answer c s t p
 offer_bare c s t at.ToOffer = offer_to_bare c.queue s t
@@ -35,34 +33,9 @@ pub step_bare : (c : Config) (s : states.State) (w : ℕ) (a : Ask) → step c (
 step_bare c s w a = by_ask a
   where
     by_ask : (a : Ask) → step c (bare s) w a ≡ step c s w a
-    by_ask (ask.Submit k p) = refl
-    by_ask (ask.Look t) = refl
     by_ask (ask.Offer t) =
         ap (λ x. within_room c s (if is_known s t.0 then x else Err UnknownTask)) (offer_bare c s t (states.task_at s t.0).place)
-    by_ask (ask.Second t) = refl
-    by_ask (ask.Grow t) = refl
-    by_ask (ask.Verdict t v) = refl
-    by_ask (ask.CallerEnd t o) = refl
-    by_ask (ask.Open v) = refl
-    by_ask (ask.Fail v) = refl
-    by_ask (ask.Take v) = refl
-    by_ask (ask.Begin v) = refl
-    by_ask (ask.End v o) = refl
-    by_ask (ask.Leave v) = refl
-    by_ask ask.Shutdown = refl
-    by_ask ask.Stop = refl
-    by_ask ask.Tidy = refl
-    by_ask ask.Ended = refl
-    by_ask (ask.Remove t) = refl
-    by_ask ask.Purge = refl
-    by_ask (ask.Cancel t flag) = refl
-    by_ask (ask.TakeDone g) = refl
-    by_ask (ask.Core n) = refl
-    by_ask (ask.Maximum n) = refl
-    by_ask (ask.Keep n) = refl
-    by_ask (ask.CoreTimeout on) = refl
-    by_ask (ask.Tick n) = refl
-    by_ask ask.Prestart = refl
+    by_ask _ = refl
 
 with_bare : (s : states.State) (p : Place) → is_with_submitter (bare s) p ≡ is_with_submitter s p
 with_bare s (at.Held w) = refl

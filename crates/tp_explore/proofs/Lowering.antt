@@ -72,32 +72,7 @@ gives c s a d = by_ask a
   where
     by_ask : (a : Ask) → step c s (new_slot s a) a ≡ Ok d → Gives c s a d
     by_ask (ask.Leave v) is = answer_at_gives c (Ok d) s v.0 (ask.Leave v) (inr refl) is
-    by_ask (ask.Submit k p) is = gives_at_least c s (ask.Submit k p) d is
-    by_ask (ask.Look t) is = gives_at_least c s (ask.Look t) d is
-    by_ask (ask.Offer t) is = gives_at_least c s (ask.Offer t) d is
-    by_ask (ask.Second t) is = gives_at_least c s (ask.Second t) d is
-    by_ask (ask.Grow t) is = gives_at_least c s (ask.Grow t) d is
-    by_ask (ask.Verdict t v) is = gives_at_least c s (ask.Verdict t v) d is
-    by_ask (ask.CallerEnd t o) is = gives_at_least c s (ask.CallerEnd t o) d is
-    by_ask (ask.Open v) is = gives_at_least c s (ask.Open v) d is
-    by_ask (ask.Fail v) is = gives_at_least c s (ask.Fail v) d is
-    by_ask (ask.Take v) is = gives_at_least c s (ask.Take v) d is
-    by_ask (ask.Begin v) is = gives_at_least c s (ask.Begin v) d is
-    by_ask (ask.End v o) is = gives_at_least c s (ask.End v o) d is
-    by_ask ask.Shutdown is = gives_at_least c s ask.Shutdown d is
-    by_ask ask.Stop is = gives_at_least c s ask.Stop d is
-    by_ask ask.Tidy is = gives_at_least c s ask.Tidy d is
-    by_ask ask.Ended is = gives_at_least c s ask.Ended d is
-    by_ask (ask.Remove t) is = gives_at_least c s (ask.Remove t) d is
-    by_ask ask.Purge is = gives_at_least c s ask.Purge d is
-    by_ask (ask.Cancel t flag) is = gives_at_least c s (ask.Cancel t flag) d is
-    by_ask (ask.TakeDone g) is = gives_at_least c s (ask.TakeDone g) d is
-    by_ask (ask.Core n) is = gives_at_least c s (ask.Core n) d is
-    by_ask (ask.Maximum n) is = gives_at_least c s (ask.Maximum n) d is
-    by_ask (ask.Keep n) is = gives_at_least c s (ask.Keep n) d is
-    by_ask (ask.CoreTimeout on) is = gives_at_least c s (ask.CoreTimeout on) d is
-    by_ask (ask.Tick n) is = gives_at_least c s (ask.Tick n) d is
-    by_ask ask.Prestart is = gives_at_least c s ask.Prestart d is
+    by_ask a is = gives_at_least c s a d is
 
 -- the table of slots grows by at most one
 
@@ -120,32 +95,7 @@ new_slot-le c s a d = by_ask a
 
     by_ask : (a : Ask) → fitting c s (new_slot s a) a ≡ Ok d → new_slot s a ≤ length s.slots
     by_ask (ask.Leave v) is = by_row v (states.slot_at s.slots v.0) refl is
-    by_ask (ask.Submit k p) is = least_free-le s.slots
-    by_ask (ask.Look t) is = least_free-le s.slots
-    by_ask (ask.Offer t) is = least_free-le s.slots
-    by_ask (ask.Second t) is = least_free-le s.slots
-    by_ask (ask.Grow t) is = least_free-le s.slots
-    by_ask (ask.Verdict t v) is = least_free-le s.slots
-    by_ask (ask.CallerEnd t o) is = least_free-le s.slots
-    by_ask (ask.Open v) is = least_free-le s.slots
-    by_ask (ask.Fail v) is = least_free-le s.slots
-    by_ask (ask.Take v) is = least_free-le s.slots
-    by_ask (ask.Begin v) is = least_free-le s.slots
-    by_ask (ask.End v o) is = least_free-le s.slots
-    by_ask ask.Shutdown is = least_free-le s.slots
-    by_ask ask.Stop is = least_free-le s.slots
-    by_ask ask.Tidy is = least_free-le s.slots
-    by_ask ask.Ended is = least_free-le s.slots
-    by_ask (ask.Remove t) is = least_free-le s.slots
-    by_ask ask.Purge is = least_free-le s.slots
-    by_ask (ask.Cancel t flag) is = least_free-le s.slots
-    by_ask (ask.TakeDone g) is = least_free-le s.slots
-    by_ask (ask.Core n) is = least_free-le s.slots
-    by_ask (ask.Maximum n) is = least_free-le s.slots
-    by_ask (ask.Keep n) is = least_free-le s.slots
-    by_ask (ask.CoreTimeout on) is = least_free-le s.slots
-    by_ask (ask.Tick n) is = least_free-le s.slots
-    by_ask ask.Prestart is = least_free-le s.slots
+    by_ask _ is = least_free-le s.slots
 
 length-long_enough : (u : ℕ) (slots : List (Option SlotRow)) → u ≤ length slots → length (long_enough (Some u) None slots) ≤ suc (length slots)
 length-long_enough u slots le =

@@ -157,12 +157,9 @@ fitting_form c s w (ask.Take v) = form_slot (ask.Take v) s v (λ r. take_answer 
 fitting_form c s w (ask.Begin v) = form_slot (ask.Begin v) s v (λ r. begin_answer s v r.stage r.task) (λ r. begin_form s v r.stage r.task)
 fitting_form c s w (ask.End v o) = form_slot (ask.End v o) s v (λ r. end_answer s v o r.stage r.task) (λ r. end_form s v o r.stage r.task)
 fitting_form c s w (ask.Leave v) = form_slot (ask.Leave v) s v (λ r. leave_answer s w v r.stage) (λ r. leave_form s w v r.stage)
-fitting_form c s w ask.Shutdown = refl
-fitting_form c s w ask.Stop = refl
 fitting_form c s w ask.Tidy = form_if ask.Tidy (slot_count s == 0 && (s.rank == 2 || (s.rank == 1 && length s.queue == 0))) _ _ refl tt
 fitting_form c s w ask.Ended = form_if ask.Ended (s.rank == 3) _ _ refl tt
 fitting_form c s w (ask.Remove t) = form_task (ask.Remove t) s t (λ r. Ok (did.Remove t (is_queued_place r.place))) (λ r. refl)
-fitting_form c s w ask.Purge = refl
 fitting_form c s w (ask.Cancel t flag) = form_task (ask.Cancel t flag) s t (cancel_answer t flag) (cancel_form t flag)
 fitting_form c s w (ask.TakeDone g) = first_done_form g (done_of s g)
 fitting_form c s w (ask.Core n) = form_if (ask.Core n) (nat_le n s.maximum) _ _ refl tt
@@ -171,6 +168,7 @@ fitting_form c s w (ask.Keep n) = form_if (ask.Keep n) (n == 0 && s.core_timeout
 fitting_form c s w (ask.CoreTimeout on) = form_if (ask.CoreTimeout on) (on && s.keep == 0) _ _ tt refl
 fitting_form c s w (ask.Tick n) = form_if (ask.Tick n) (nat_le s.now n) _ _ refl tt
 fitting_form c s w ask.Prestart = form_if ask.Prestart (nat_lt (slot_count s) s.core && wants_worker s) _ _ refl refl
+fitting_form c s w _ = refl
 
 abbrev pub IsAsked : Entry → Type 0
 IsAsked e = e.ask ≡ asked e.did

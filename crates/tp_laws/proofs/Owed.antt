@@ -154,10 +154,7 @@ woken_idle : (n m : ℕ) (g : Stage) (o : Option TaskId) → 1 ≤ m → n ≤ m
 woken_idle n m (stages.Idle k) None above later suited = grind (arith, nat_tests)
 woken_idle n m (stages.Idle k) (Some t) above later suited = absurd (false≢true suited)
 woken_idle n m stages.Working o above later suited = later_stage n m (is_some o) stages.Working later
-woken_idle n m stages.ReservedCore o above later suited = omega arith
-woken_idle n m stages.ReservedMaximum o above later suited = omega arith
-woken_idle n m stages.ReservedBare o above later suited = omega arith
-woken_idle n m stages.Dying o above later suited = omega arith
+woken_idle n m _ o above later suited = omega arith
 
 -- no slot owes more after it wakes, or at the rank that an entry reaches
 woken_weight : (d : Did) (n : ℕ) (g : Stage) (o : Option TaskId) → suits g o ≡ true → stage_weight (max (reaches d) n) (is_some o) (woken d g) ≤ stage_weight n (is_some o) g

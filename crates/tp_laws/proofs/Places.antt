@@ -23,16 +23,8 @@ use Rattle.tp_laws.proofs.Slots.{no_slots}
 number_one : (p : Place) (known : Bool) → known ≡ true →
     number_of (is_some (submitter_of p)) (is_queued_place p) (is_some (slot_of p)) (is_caller_place p) (known && is_gone_place p) ≡ 1
 number_one at.Looking true is = refl
-number_one at.ToOffer true is = refl
-number_one at.ToGrow true is = refl
-number_one at.Refused true is = refl
-number_one at.Queued true is = refl
-number_one (at.Held w) true is = refl
-number_one (at.Taken w) true is = refl
-number_one (at.Running w) true is = refl
-number_one at.Caller true is = refl
-number_one at.Gone true is = refl
 number_one p false is = absurd (false≢true is)
+number_one _ true is = refl
 
 -- each submitted task is in just one place
 pub one_place : (c : Config) (h : List Entry) → Told c h → OnePlace h

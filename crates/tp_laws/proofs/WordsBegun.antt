@@ -29,21 +29,7 @@ OutcomeGone known p o = is_some o ≡ true → (known ≡ true) × (p ≡ at.Gon
 gone_step : (d : Did) (t : ℕ) (c known : Bool) (p : Place) (o : Option Outcome) → Fits d t known p → OutcomeGone known p o →
     OutcomeGone (is_it (submitted_by d) t || known) (place_after d t c p) (outcome_after d t o)
 gone_step (did.Submit u k pr l) t c known p o fits before = grind (arith, nat_tests)
-gone_step (did.Look u l) t c known p o fits before = grind (arith, nat_tests)
-gone_step (did.Offer u x) t c known p o fits before = grind (arith, nat_tests)
-gone_step (did.Second u x) t c known p o fits before = grind (arith, nat_tests)
-gone_step (did.Grow u x) t c known p o fits before = grind (arith, nat_tests)
-gone_step (did.Verdict u v x) t c known p o fits before = grind (arith, nat_tests)
-gone_step (did.CallerEnd u x) t c known p o fits before = grind (arith, nat_tests)
-gone_step (did.Open v x) t c known p o fits before = grind (arith, nat_tests)
-gone_step (did.Fail v x) t c known p o fits before = grind (arith, nat_tests)
-gone_step (did.Take v x) t c known p o fits before = grind (arith, nat_tests)
-gone_step (did.Begin v x) t c known p o fits before = grind (arith, nat_tests)
-gone_step (did.End v u x) t c known p o fits before = grind (arith, nat_tests)
-gone_step (did.Stop n) t c known p o fits before = grind (arith, nat_tests)
-gone_step (did.Remove u x) t c known p o fits before = grind (arith, nat_tests)
-gone_step (did.Purge n) t c known p o fits before = grind (arith, nat_tests)
-gone_step _ t c known p o fits before = before
+gone_step _ t c known p o fits before = grind (arith, nat_tests)
 
 -- so it is at each record
 pub outcome_gone : (c : Config) (h : List Entry) → Told c h → (t : ℕ) → OutcomeGone (is_submitted h t) (place h t) (outcome h t)
@@ -59,21 +45,7 @@ tells_begun p o = is_running_place p || is_caller_place p || is_some o
 begun_step : (d : Did) (t : ℕ) (c known : Bool) (p : Place) (o : Option Outcome) → Fits d t known p → (known ≡ false → p ≡ at.Gone) → OutcomeGone known p o →
     (is_it (begun_by d) t || tells_begun p o) ≡ tells_begun (place_after d t c p) (outcome_after d t o)
 begun_step (did.Submit u k pr l) t c known p o fits new gone = grind (arith, nat_tests)
-begun_step (did.Look u l) t c known p o fits new gone = grind (arith, nat_tests)
-begun_step (did.Offer u x) t c known p o fits new gone = grind (arith, nat_tests)
-begun_step (did.Second u x) t c known p o fits new gone = grind (arith, nat_tests)
-begun_step (did.Grow u x) t c known p o fits new gone = grind (arith, nat_tests)
-begun_step (did.Verdict u v x) t c known p o fits new gone = grind (arith, nat_tests)
-begun_step (did.CallerEnd u x) t c known p o fits new gone = grind (arith, nat_tests)
-begun_step (did.Open v x) t c known p o fits new gone = grind (arith, nat_tests)
-begun_step (did.Fail v x) t c known p o fits new gone = grind (arith, nat_tests)
-begun_step (did.Take v x) t c known p o fits new gone = grind (arith, nat_tests)
-begun_step (did.Begin v x) t c known p o fits new gone = grind (arith, nat_tests)
-begun_step (did.End v u x) t c known p o fits new gone = grind (arith, nat_tests)
-begun_step (did.Stop n) t c known p o fits new gone = grind (arith, nat_tests)
-begun_step (did.Remove u x) t c known p o fits new gone = grind (arith, nat_tests)
-begun_step (did.Purge n) t c known p o fits new gone = grind (arith, nat_tests)
-begun_step _ t c known p o fits new gone = refl
+begun_step _ t c known p o fits new gone = grind (arith, nat_tests)
 
 -- a begun task runs, or has its outcome
 pub begun_agrees : (c : Config) (h : List Entry) → Told c h → (t : ℕ) → is_begun h t ≡ tells_begun (place h t) (outcome h t)

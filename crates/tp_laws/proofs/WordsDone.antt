@@ -83,22 +83,7 @@ IsOver was known c f = was ≡ true → (known ≡ true) × ((c || is_some f) �
 over_step : (d : Did) (t : ℕ) (k : Kind) (c known was : Bool) (p : Place) (f : Option Fate) → Fits d t known p → FitsCancel d t known c f → EndsGone known p f → IsOver was known c f →
     IsOver (completes_now d t k c || was) (is_it (submitted_by d) t || known) (unwrap_or (said_of t (cancels d)) c) (ending_after d t p f)
 over_step (did.Submit u j pr l) t k c known was p f fits cancel gone before = grind (arith, nat_tests)
-over_step (did.Look u l) t k c known was p f fits cancel gone before = grind (arith, nat_tests)
-over_step (did.Offer u x) t k c known was p f fits cancel gone before = grind (arith, nat_tests)
-over_step (did.Second u x) t k c known was p f fits cancel gone before = grind (arith, nat_tests)
-over_step (did.Grow u x) t k c known was p f fits cancel gone before = grind (arith, nat_tests)
-over_step (did.Verdict u v x) t k c known was p f fits cancel gone before = grind (arith, nat_tests)
-over_step (did.CallerEnd u x) t k c known was p f fits cancel gone before = grind (arith, nat_tests)
-over_step (did.Open v x) t k c known was p f fits cancel gone before = grind (arith, nat_tests)
-over_step (did.Fail v x) t k c known was p f fits cancel gone before = grind (arith, nat_tests)
-over_step (did.Take v x) t k c known was p f fits cancel gone before = grind (arith, nat_tests)
-over_step (did.Begin v x) t k c known was p f fits cancel gone before = grind (arith, nat_tests)
-over_step (did.End v u x) t k c known was p f fits cancel gone before = grind (arith, nat_tests)
-over_step (did.Stop n) t k c known was p f fits cancel gone before = grind (arith, nat_tests)
-over_step (did.Remove u x) t k c known was p f fits cancel gone before = grind (arith, nat_tests)
-over_step (did.Purge n) t k c known was p f fits cancel gone before = grind (arith, nat_tests)
-over_step (did.Cancel u flag x) t k c known was p f fits cancel gone before = grind (arith, nat_tests)
-over_step _ t k c known was p f fits cancel gone before = before
+over_step _ t k c known was p f fits cancel gone before = grind (arith, nat_tests)
 
 -- so it is at each record
 completed_over : (c : Config) (h : List Entry) → Told c h → (t : ℕ) → IsOver (was_completed h t) (is_submitted h t) (is_cancelled h t) (ending h t)

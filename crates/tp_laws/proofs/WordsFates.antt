@@ -32,21 +32,7 @@ EndsGone known p f = is_some f ≡ true → (known ≡ true) × (p ≡ at.Gone)
 gone_step : (d : Did) (t : ℕ) (c known : Bool) (p : Place) (f : Option Fate) → Fits d t known p → (known ≡ false → p ≡ at.Gone) → EndsGone known p f →
     EndsGone (is_it (submitted_by d) t || known) (place_after d t c p) (ending_after d t p f)
 gone_step (did.Submit u k pr l) t c known p f fits new before = grind (arith, nat_tests)
-gone_step (did.Look u l) t c known p f fits new before = grind (arith, nat_tests)
-gone_step (did.Offer u x) t c known p f fits new before = grind (arith, nat_tests)
-gone_step (did.Second u x) t c known p f fits new before = grind (arith, nat_tests)
-gone_step (did.Grow u x) t c known p f fits new before = grind (arith, nat_tests)
-gone_step (did.Verdict u v x) t c known p f fits new before = grind (arith, nat_tests)
-gone_step (did.CallerEnd u x) t c known p f fits new before = grind (arith, nat_tests)
-gone_step (did.Open v x) t c known p f fits new before = grind (arith, nat_tests)
-gone_step (did.Fail v x) t c known p f fits new before = grind (arith, nat_tests)
-gone_step (did.Take v x) t c known p f fits new before = grind (arith, nat_tests)
-gone_step (did.Begin v x) t c known p f fits new before = grind (arith, nat_tests)
-gone_step (did.End v u x) t c known p f fits new before = grind (arith, nat_tests)
-gone_step (did.Stop n) t c known p f fits new before = grind (arith, nat_tests)
-gone_step (did.Remove u x) t c known p f fits new before = grind (arith, nat_tests)
-gone_step (did.Purge n) t c known p f fits new before = grind (arith, nat_tests)
-gone_step _ t c known p f fits new before = before
+gone_step _ t c known p f fits new before = grind (arith, nat_tests)
 
 -- so it is at each record
 pub ending_gone : (c : Config) (h : List Entry) → Told c h → (t : ℕ) → EndsGone (is_submitted h t) (place h t) (ending h t)
@@ -68,20 +54,6 @@ ended_after f d t queued was = fated_by f d t || was
 ended_step : (d : Did) (f : Fate) (t : ℕ) (known : Bool) (p : Place) (o : Option Fate) → Fits d t known p → EndsGone known p o →
     ended_after f d t (is_queued_place p) (is_fate f o) ≡ is_fate f (ending_after d t p o)
 ended_step (did.Submit u k pr l) f t known p o fits gone = grind (arith, nat_tests)
-ended_step (did.Look u l) f t known p o fits gone = grind (arith, nat_tests)
-ended_step (did.Offer u x) f t known p o fits gone = grind (arith, nat_tests)
-ended_step (did.Second u x) f t known p o fits gone = grind (arith, nat_tests)
-ended_step (did.Grow u x) f t known p o fits gone = grind (arith, nat_tests)
-ended_step (did.Verdict u v x) f t known p o fits gone = grind (arith, nat_tests)
-ended_step (did.CallerEnd u x) f t known p o fits gone = grind (arith, nat_tests)
-ended_step (did.Open v x) f t known p o fits gone = grind (arith, nat_tests)
-ended_step (did.Fail v x) f t known p o fits gone = grind (arith, nat_tests)
-ended_step (did.Take v x) f t known p o fits gone = grind (arith, nat_tests)
-ended_step (did.Begin v x) f t known p o fits gone = grind (arith, nat_tests)
-ended_step (did.End v u x) f t known p o fits gone = grind (arith, nat_tests)
-ended_step (did.Stop n) f t known p o fits gone = grind (arith, nat_tests)
-ended_step (did.Remove u x) f t known p o fits gone = grind (arith, nat_tests)
-ended_step (did.Purge n) f t known p o fits gone = grind (arith, nat_tests)
 ended_step _ f t known p o fits gone = grind (arith, nat_tests)
 
 -- what ended t, after one more entry

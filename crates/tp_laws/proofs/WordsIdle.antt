@@ -29,11 +29,7 @@ order_agrees (e ∷ h) = ap (λ o. at_end o (waits_in_order h)) (from_step e.did
 
 idle_stage : (s : Stage) → (is_live_stage s && is_some (idle_of s)) ≡ is_idle_stage s
 idle_stage (stages.Idle m) = refl
-idle_stage stages.ReservedCore = refl
-idle_stage stages.ReservedMaximum = refl
-idle_stage stages.ReservedBare = refl
-idle_stage stages.Working = refl
-idle_stage stages.Dying = refl
+idle_stage _ = refl
 
 idle_row : (o : Option SlotRow) (live : Bool) (since : Option ℕ) → live ≡ is_live o → ((r : SlotRow) → o ≡ Some r → since ≡ idle_of r.stage) → (live && is_some since) ≡ is_idle_row o
 idle_row None live since lives tells = ap (λ b. b && is_some since) lives

@@ -68,23 +68,6 @@ fits_rank c h _ given = tt
 past_step : (d : Did) (t r : ℕ) (c known was : Bool) (p : Place) → Fits d t known p → FitsRank d r → (known ≡ false → was ≡ false) → (was ≡ true → is_past_queue p r ≡ true) →
     (is_it (queued_by d) t || was) ≡ true → is_past_queue (place_after d t c p) (max (reaches d) r) ≡ true
 past_step (did.Submit u k pr l) t r c known was p fits at_rank new before is = grind (arith, nat_tests)
-past_step (did.Look u l) t r c known was p fits at_rank new before is = grind (arith, nat_tests)
-past_step (did.Offer u o) t r c known was p fits at_rank new before is = grind (arith, nat_tests)
-past_step (did.Second u s) t r c known was p fits at_rank new before is = grind (arith, nat_tests)
-past_step (did.Grow u g) t r c known was p fits at_rank new before is = grind (arith, nat_tests)
-past_step (did.Verdict u v w) t r c known was p fits at_rank new before is = grind (arith, nat_tests)
-past_step (did.CallerEnd u o) t r c known was p fits at_rank new before is = grind (arith, nat_tests)
-past_step (did.Open w o) t r c known was p fits at_rank new before is = grind (arith, nat_tests)
-past_step (did.Fail w f) t r c known was p fits at_rank new before is = grind (arith, nat_tests)
-past_step (did.Take w k) t r c known was p fits at_rank new before is = grind (arith, nat_tests)
-past_step (did.Begin w b) t r c known was p fits at_rank new before is = grind (arith, nat_tests)
-past_step (did.End w u o) t r c known was p fits at_rank new before is = grind (arith, nat_tests)
-past_step did.Shutdown t r c known was p fits at_rank new before is = grind (arith, nat_tests)
-past_step (did.Stop n) t r c known was p fits at_rank new before is = grind (arith, nat_tests)
-past_step did.Tidy t r c known was p fits at_rank new before is = grind (arith, nat_tests)
-past_step did.Ended t r c known was p fits at_rank new before is = grind (arith, nat_tests)
-past_step (did.Remove u b) t r c known was p fits at_rank new before is = grind (arith, nat_tests)
-past_step (did.Purge n) t r c known was p fits at_rank new before is = grind (arith, nat_tests)
 past_step _ t r c known was p fits at_rank new before is = grind (arith, nat_tests)
 
 -- a task that was queued is not offered again

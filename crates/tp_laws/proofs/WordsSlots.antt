@@ -14,8 +14,6 @@ use Rattle.tp_record.specs.declared.entries.Did.{Did}
 use Rattle.tp_record.specs.declared.entries.Did.TheVariants as did
 use Rattle.tp_record.specs.declared.entries.Looked.TheVariants as looked
 use Rattle.tp_record.specs.declared.entries.Offered.TheVariants as offered_as
-use Rattle.tp_record.specs.declared.entries.Seconded.TheVariants as seconded
-use Rattle.tp_record.specs.declared.entries.Grown.TheVariants as grown
 use Rattle.tp_record.specs.declared.entries.Took.TheVariants as took
 use Rattle.tp_record.specs.declared.entries.Started.TheVariants as started
 use Rattle.tp_types.specs.declared.tasks.Kind.{Kind}
@@ -59,15 +57,7 @@ for_after d w o = by_option (of_it (reserved_by d) w) (if lets_go d w then None 
 -- an entry makes and frees slots in words as by the table
 slot_step : (d : Did) (w : ℕ) (o : Option Stage) → is_some (for_after d w o) ≡ unwrap_or (said_of w (holds d)) (is_some o)
 slot_step (did.Submit u k pr l) w o = grind (arith, nat_tests)
-slot_step (did.Look u l) w o = grind (arith, nat_tests)
-slot_step (did.Second u s) w o = grind (arith, nat_tests)
-slot_step (did.Grow u g) w o = grind (arith, nat_tests)
-slot_step (did.Open v x) w o = grind (arith, nat_tests)
-slot_step (did.Fail v f) w o = grind (arith, nat_tests)
-slot_step (did.Take v k) w o = grind (arith, nat_tests)
-slot_step (did.Leave v u) w o = grind (arith, nat_tests)
-slot_step (did.Prestart u) w o = grind (arith, nat_tests)
-slot_step _ w o = refl
+slot_step _ w o = grind (arith, nat_tests)
 
 -- the slots
 pub slot_agrees : (h : List Entry) (w : ℕ) → is_slot_now h w ≡ is_slot h w
@@ -129,20 +119,7 @@ TellsStage o was_opened s = is_some o ≡ true → (was_opened ≡ is_live_stage
 stage_step : (d : Did) (w m : ℕ) (dies : Bool) (o : Option Stage) (was : Bool) (s : Stage) → SlotFits d w s → TellsStage o was s →
     TellsStage (for_after d w o) (opened_after d w was) (stage_after m dies d w s)
 stage_step (did.Submit u k pr l) w m dies o was s fits tells = grind (arith, nat_tests)
-stage_step (did.Look u l) w m dies o was s fits tells = grind (arith, nat_tests)
-stage_step (did.Offer u x) w m dies o was s fits tells = grind (arith, nat_tests)
-stage_step (did.Second u x) w m dies o was s fits tells = grind (arith, nat_tests)
-stage_step (did.Grow u g) w m dies o was s fits tells = grind (arith, nat_tests)
-stage_step (did.Open v x) w m dies o was s fits tells = grind (arith, nat_tests)
-stage_step (did.Fail v f) w m dies o was s fits tells = grind (arith, nat_tests)
-stage_step (did.Take v k) w m dies o was s fits tells = grind (arith, nat_tests)
-stage_step (did.Begin v b) w m dies o was s fits tells = grind (arith, nat_tests)
-stage_step (did.End v u x) w m dies o was s fits tells = grind (arith, nat_tests)
-stage_step (did.Leave v u) w m dies o was s fits tells = grind (arith, nat_tests)
-stage_step did.Shutdown w m dies o was s fits tells = grind (arith, nat_tests)
-stage_step (did.Stop n) w m dies o was s fits tells = grind (arith, nat_tests)
-stage_step (did.Prestart u) w m dies o was s fits tells = grind (arith, nat_tests)
-stage_step _ w m dies o was s fits tells = tells
+stage_step _ w m dies o was s fits tells = grind (arith, nat_tests)
 
 -- so it is at each record
 stage_agrees : (c : Config) (h : List Entry) → Told c h → (w : ℕ) → TellsStage (slot_for h w) (was_opened h w) (stage h w)
@@ -158,20 +135,7 @@ idle_after d w m was = if names_slot d w then (if takes_nothing d then Some m el
 idle_step : (d : Did) (w m : ℕ) (dies : Bool) (o : Option Stage) (was : Option ℕ) (s : Stage) → (is_some o ≡ true → was ≡ idle_of s) →
     is_some (for_after d w o) ≡ true → idle_after d w m was ≡ idle_of (stage_after m dies d w s)
 idle_step (did.Submit u k pr l) w m dies o was s before some = grind (arith, nat_tests)
-idle_step (did.Look u l) w m dies o was s before some = grind (arith, nat_tests)
-idle_step (did.Offer u x) w m dies o was s before some = grind (arith, nat_tests)
-idle_step (did.Second u x) w m dies o was s before some = grind (arith, nat_tests)
-idle_step (did.Grow u g) w m dies o was s before some = grind (arith, nat_tests)
-idle_step (did.Open v x) w m dies o was s before some = grind (arith, nat_tests)
-idle_step (did.Fail v f) w m dies o was s before some = grind (arith, nat_tests)
-idle_step (did.Take v k) w m dies o was s before some = grind (arith, nat_tests)
-idle_step (did.Begin v b) w m dies o was s before some = grind (arith, nat_tests)
-idle_step (did.End v u x) w m dies o was s before some = grind (arith, nat_tests)
-idle_step (did.Leave v u) w m dies o was s before some = grind (arith, nat_tests)
-idle_step did.Shutdown w m dies o was s before some = grind (arith, nat_tests)
-idle_step (did.Stop n) w m dies o was s before some = grind (arith, nat_tests)
-idle_step (did.Prestart u) w m dies o was s before some = grind (arith, nat_tests)
-idle_step _ w m dies o was s before some = before some
+idle_step _ w m dies o was s before some = grind (arith, nat_tests)
 
 -- since when the stage says that a slot is idle
 idle_stage : (h : List Entry) (w : ℕ) → is_some (slot_for h w) ≡ true → idle_since h w ≡ idle_of (stage h w)
@@ -193,23 +157,11 @@ dying_after d w dies was = if names_slot d w then dies else was
 dying_step : (d : Did) (w m : ℕ) (o : Option Stage) (f : ℕ → Kind) (was : Bool) (s : Stage) → (is_some o ≡ true → was ≡ is_dying_stage s) →
     is_some (for_after d w o) ≡ true → dying_after d w (is_plain_fault d f) was ≡ is_dying_stage (stage_after m (is_plain_fault d f) d w s)
 dying_step (did.Submit u k pr l) w m o f was s before some = grind (arith, nat_tests)
-dying_step (did.Look u l) w m o f was s before some = grind (arith, nat_tests)
-dying_step (did.Offer u x) w m o f was s before some = grind (arith, nat_tests)
-dying_step (did.Second u x) w m o f was s before some = grind (arith, nat_tests)
-dying_step (did.Grow u g) w m o f was s before some = grind (arith, nat_tests)
-dying_step (did.Open v x) w m o f was s before some = grind (arith, nat_tests)
-dying_step (did.Fail v x) w m o f was s before some = grind (arith, nat_tests)
-dying_step (did.Take v k) w m o f was s before some = grind (arith, nat_tests)
-dying_step (did.Begin v b) w m o f was s before some = grind (arith, nat_tests)
 dying_step (did.End v u x) w m o f was s before some = of_end (is_plain_fault (did.End v u x) f)
   where
     of_end : (dies : Bool) → dying_after (did.End v u x) w dies was ≡ is_dying_stage (stage_after m dies (did.End v u x) w s)
     of_end dies = grind (arith, nat_tests)
-dying_step (did.Leave v u) w m o f was s before some = grind (arith, nat_tests)
-dying_step did.Shutdown w m o f was s before some = grind (arith, nat_tests)
-dying_step (did.Stop n) w m o f was s before some = grind (arith, nat_tests)
-dying_step (did.Prestart u) w m o f was s before some = grind (arith, nat_tests)
-dying_step _ w m o f was s before some = before some
+dying_step _ w m o f was s before some = grind (arith, nat_tests)
 
 -- whether the stage says that a slot is dying
 dying_stage : (h : List Entry) (w : ℕ) → is_some (slot_for h w) ≡ true → is_dying h w ≡ is_dying_stage (stage h w)
@@ -340,14 +292,7 @@ above (Some p) = suc p.0
 above_reach : (d : Did) → above (reserved_by d) ≡ reach (reserves d)
 unfolding above
 above_reach (did.Submit u k pr (looked.Reserve w)) = refl
-above_reach (did.Look u (looked.Reserve w)) = refl
-above_reach (did.Second u (seconded.StayReserve w)) = refl
-above_reach (did.Grow u (grown.Reserve w)) = refl
-above_reach (did.Leave v (Some w)) = refl
-above_reach (did.Leave v None) = refl
-above_reach (did.Prestart (Some w)) = refl
-above_reach (did.Prestart None) = refl
-above_reach _ = refl
+above_reach _ = grind arith
 
 -- the bounds are the same
 numbers_agree : (h : List Entry) → slot_numbers h ≡ slot_bound h

@@ -112,33 +112,8 @@ Fits d t known p = Unit {0}
 -- the words after an entry are those of the place after it
 words_step : (d : Did) (t : ℕ) (c known : Bool) (p : Place) → (known ≡ false → p ≡ at.Gone) → Fits d t known p →
     words_after d t c (place_words known p) ≡ place_words (is_it (submitted_by d) t || known) (place_after d t c p)
-words_step (did.Submit u k pr l) t c known p new fits = grind (arith, nat_tests)
-words_step (did.Look u l) t c known p new fits = grind (arith, nat_tests)
-words_step (did.Offer u o) t c known p new fits = grind (arith, nat_tests)
-words_step (did.Second u s) t c known p new fits = grind (arith, nat_tests)
-words_step (did.Grow u g) t c known p new fits = grind (arith, nat_tests)
-words_step (did.Verdict u v r) t c known p new fits = grind (arith, nat_tests)
-words_step (did.CallerEnd u o) t c known p new fits = grind (arith, nat_tests)
-words_step (did.Open w o) t c known p new fits = grind (arith, nat_tests)
-words_step (did.Fail w f) t c known p new fits = grind (arith, nat_tests)
-words_step (did.Take w k) t c known p new fits = grind (arith, nat_tests)
-words_step (did.Begin w b) t c known p new fits = grind (arith, nat_tests)
-words_step (did.End w u o) t c known p new fits = grind (arith, nat_tests)
 words_step (did.Leave v o) t c known p new fits = refl
-words_step did.Shutdown t c known p new fits = refl
-words_step (did.Stop n) t c known p new fits = grind (arith, nat_tests)
-words_step did.Tidy t c known p new fits = refl
-words_step did.Ended t c known p new fits = refl
-words_step (did.Remove u b) t c known p new fits = grind (arith, nat_tests)
-words_step (did.Purge n) t c known p new fits = grind (arith, nat_tests)
-words_step (did.Cancel u flag b) t c known p new fits = refl
-words_step (did.TakeDone g u) t c known p new fits = refl
-words_step (did.Core n k) t c known p new fits = refl
-words_step (did.Maximum n) t c known p new fits = refl
-words_step (did.Keep n) t c known p new fits = refl
-words_step (did.CoreTimeout on) t c known p new fits = refl
-words_step (did.Tick n) t c known p new fits = refl
-words_step (did.Prestart o) t c known p new fits = refl
+words_step _ t c known p new fits = grind (arith, nat_tests)
 
 -- the known tasks are those with a number below the count of submissions
 known_step : (c : Config) (h : List Entry) (d : Did) (t : ℕ) → Given c h d → is_submitted h t ≡ nat_lt t (submitted h) →
@@ -190,21 +165,9 @@ fits c h _ t known new given = tt
 new_step : (d : Did) (t : ℕ) (c known : Bool) (p : Place) → Fits d t known p → (known ≡ false → p ≡ at.Gone) →
     (is_it (submitted_by d) t || known) ≡ false → place_after d t c p ≡ at.Gone
 new_step (did.Submit u k pr l) t c known p fits new none = grind (arith, nat_tests)
-new_step (did.Look u l) t c known p fits new none = grind (arith, nat_tests)
-new_step (did.Offer u o) t c known p fits new none = grind (arith, nat_tests)
-new_step (did.Second u s) t c known p fits new none = grind (arith, nat_tests)
-new_step (did.Grow u g) t c known p fits new none = grind (arith, nat_tests)
-new_step (did.Verdict u v r) t c known p fits new none = grind (arith, nat_tests)
-new_step (did.CallerEnd u o) t c known p fits new none = grind (arith, nat_tests)
-new_step (did.Open w o) t c known p fits new none = grind (arith, nat_tests)
-new_step (did.Fail w f) t c known p fits new none = grind (arith, nat_tests)
-new_step (did.Take w k) t c known p fits new none = grind (arith, nat_tests)
-new_step (did.Begin w b) t c known p fits new none = grind (arith, nat_tests)
-new_step (did.End w u o) t c known p fits new none = grind (arith, nat_tests)
-new_step (did.Remove u b) t c known p fits new none = grind (arith, nat_tests)
 new_step (did.Stop n) t c known p fits new none = rw (new none) refl
 new_step (did.Purge n) t c known p fits new none = rw (new none) refl
-new_step _ t c known p fits new none = new none
+new_step _ t c known p fits new none = grind (arith, nat_tests)
 
 -- so it is at each record
 pub place_unsubmitted : (c : Config) (h : List Entry) → Told c h → (t : ℕ) → is_submitted h t ≡ false → place h t ≡ at.Gone
@@ -271,21 +234,7 @@ begun_after d t was = if is_some (of_it (seated_by d) t) then false else (begins
 phase_step : (d : Did) (t : ℕ) (c known : Bool) (p : Place) (taken begun : Bool) → Fits d t known p → TellsPhase p taken begun →
     TellsPhase (place_after d t c p) (taken_after d t taken) (begun_after d t begun)
 phase_step (did.Submit u k pr l) t c known p taken begun fits tells = grind (arith, nat_tests)
-phase_step (did.Look u l) t c known p taken begun fits tells = grind (arith, nat_tests)
-phase_step (did.Offer u o) t c known p taken begun fits tells = grind (arith, nat_tests)
-phase_step (did.Second u s) t c known p taken begun fits tells = grind (arith, nat_tests)
-phase_step (did.Grow u g) t c known p taken begun fits tells = grind (arith, nat_tests)
-phase_step (did.Verdict u v r) t c known p taken begun fits tells = grind (arith, nat_tests)
-phase_step (did.CallerEnd u o) t c known p taken begun fits tells = grind (arith, nat_tests)
-phase_step (did.Open w o) t c known p taken begun fits tells = grind (arith, nat_tests)
-phase_step (did.Fail w f) t c known p taken begun fits tells = grind (arith, nat_tests)
-phase_step (did.Take w k) t c known p taken begun fits tells = grind (arith, nat_tests)
-phase_step (did.Begin w b) t c known p taken begun fits tells = grind (arith, nat_tests)
-phase_step (did.End w u o) t c known p taken begun fits tells = grind (arith, nat_tests)
-phase_step (did.Stop n) t c known p taken begun fits tells = grind (arith, nat_tests)
-phase_step (did.Remove u b) t c known p taken begun fits tells = grind (arith, nat_tests)
-phase_step (did.Purge n) t c known p taken begun fits tells = grind (arith, nat_tests)
-phase_step _ t c known p taken begun fits tells = tells
+phase_step _ t c known p taken begun fits tells = grind (arith, nat_tests)
 
 -- so it is at each record
 phase_agrees : (c : Config) (h : List Entry) → Told c h → (t : ℕ) → TellsPhase (place h t) (was_taken h t) (was_begun_there h t)

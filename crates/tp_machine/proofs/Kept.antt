@@ -74,29 +74,17 @@ module _ (s : State) (v : SlotId) (kept : ((s.rank == 0 && nat_le (slot_count s)
 
   held_keeps : (t : TaskId) (p : Place) → held_answer v t p ≡ Ok (did.Take v took.Leave) → ⊥
   held_keeps t at.Looking e = cc
-  held_keeps t at.ToOffer e = cc
-  held_keeps t at.ToGrow e = cc
-  held_keeps t at.Refused e = cc
-  held_keeps t at.Queued e = cc
-  held_keeps t (at.Held u) e = cc
-  held_keeps t (at.Taken u) e = cc
-  held_keeps t (at.Running u) e = cc
-  held_keeps t at.Caller e = cc
-  held_keeps t at.Gone e = cc
+  held_keeps t _ e = cc
 
   answer_keeps : (stage : Stage) (task : Option TaskId) → take_answer s v stage task ≡ Ok (did.Take v took.Leave) → ⊥
   answer_keeps stages.Working (Some t) e = held_keeps t (task_at s t.0).place e
   answer_keeps stages.Working None e = next_keeps stages.Working e
   answer_keeps (stages.Idle m) None e = next_keeps (stages.Idle m) e
-  answer_keeps (stages.Idle m) (Some t) e = cc
   answer_keeps stages.ReservedCore None e = cc
-  answer_keeps stages.ReservedCore (Some t) e = cc
   answer_keeps stages.ReservedMaximum None e = cc
-  answer_keeps stages.ReservedMaximum (Some t) e = cc
   answer_keeps stages.ReservedBare None e = cc
-  answer_keeps stages.ReservedBare (Some t) e = cc
   answer_keeps stages.Dying None e = cc
-  answer_keeps stages.Dying (Some t) e = cc
+  answer_keeps _ (Some t) e = cc
 
   pub row_keeps : (o : Option SlotRow) → of_row o (λ r. take_answer s v r.stage r.task) ≡ Ok (did.Take v took.Leave) → ⊥
   row_keeps None e = cc

@@ -58,15 +58,9 @@ looks_on t looked.Refuse is = absurd (cc)
 
 -- a deed is awaited, or the submission has ended, or it has left its path
 deeds : (t : ℕ) (n : Next) → Awaits (follow_of t n) ⊎ (((end : Ending) × (n ≡ next.End end)) ⊎ (n ≡ next.Astray))
-deeds t next.Look = inl tt
-deeds t next.Offer = inl tt
-deeds t next.Second = inl tt
-deeds t next.Grow = inl tt
-deeds t next.Judge = inl tt
-deeds t next.RunHere = inl tt
-deeds t (next.Staff w) = inl tt
 deeds t (next.End end) = inr (inl (end, refl))
 deeds t next.Astray = inr (inr refl)
+deeds t _ = inl tt
 
 asks_on : (kind : Kind) (priority : ℕ) (es fs : List Entry) → AsksFor kind priority es → AsksFor kind priority (es ++ fs)
 asks_on kind priority [] fs asks = absurd asks

@@ -87,14 +87,7 @@ only_rejected t _ is = absurd (cc)
 -- where no verdict is asked, none is awaited
 unawaited : (t : ℕ) (n : Next) (u : TaskId) (v : Verdict) → ¬ (n ≡ next.Judge) → is_awaited (follow_of t n) (did.Verdict u v ruled.Rejected) ≡ false
 unawaited t next.Judge u v other = absurd (other refl)
-unawaited t next.Look u v other = refl
-unawaited t next.Offer u v other = refl
-unawaited t next.Second u v other = refl
-unawaited t next.Grow u v other = refl
-unawaited t next.RunHere u v other = refl
-unawaited t (next.Staff w) u v other = refl
-unawaited t (next.End e) u v other = refl
-unawaited t next.Astray u v other = refl
+unawaited t _ u v other = refl
 
 -- so nothing else that a submitter does rejects its task
 pub unjudged : (t : ℕ) (n : Next) (d : Did) → ¬ (n ≡ next.Judge) → ¬ (goes t (follow_of t n) d ≡ Ends Rejected)

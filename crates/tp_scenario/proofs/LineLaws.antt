@@ -48,15 +48,8 @@ is_alone (command.OfPool v) = true
 is_alone _ = false
 
 alone_arguments : (l : ScenarioLine) → is_alone (command_of l) ≡ false → None ≢ arguments l
-alone_arguments (line.Submit k o p) is = λ e. none-some _ e
-alone_arguments (line.OfTask v t) is = λ e. none-some _ e
-alone_arguments (line.Verdict t v) is = λ e. none-some _ e
-alone_arguments (line.OfSlot v w) is = λ e. none-some _ e
 alone_arguments (line.OfPool v) is = cc
-alone_arguments (line.Cancel t flag) is = λ e. none-some _ e
-alone_arguments (line.OfSize v n) is = λ e. none-some _ e
-alone_arguments (line.OfTicks v n) is = λ e. none-some _ e
-alone_arguments (line.CoreTimeout on) is = λ e. none-some _ e
+alone_arguments _ is = λ e. none-some _ e
 
 pub no_line_alone : (c : Command) → is_alone c ≡ false → (l : ScenarioLine) → FitsLine l → command_of l ≡ c → None ≢ arguments l
 no_line_alone c isnt l fits is = alone_arguments l (ap is_alone is ∙ isnt)

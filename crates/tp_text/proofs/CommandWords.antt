@@ -62,28 +62,11 @@ named-word command.Verdict = refl
 named-word command.Cancel = refl
 named-word command.CoreTimeout = refl
 named-word (command.OfTask task.Look) = refl
-named-word (command.OfTask task.Offer) = refl
-named-word (command.OfTask task.Second) = refl
-named-word (command.OfTask task.Grow) = refl
-named-word (command.OfTask task.CallerEnd) = refl
-named-word (command.OfTask task.Remove) = refl
 named-word (command.OfSlot slot.Open) = refl
-named-word (command.OfSlot slot.Fail) = refl
-named-word (command.OfSlot slot.Take) = refl
-named-word (command.OfSlot slot.Begin) = refl
-named-word (command.OfSlot slot.End) = refl
-named-word (command.OfSlot slot.Leave) = refl
 named-word (command.OfPool pool.Shutdown) = refl
-named-word (command.OfPool pool.Stop) = refl
-named-word (command.OfPool pool.Tidy) = refl
-named-word (command.OfPool pool.Ended) = refl
-named-word (command.OfPool pool.Purge) = refl
-named-word (command.OfPool pool.Prestart) = refl
 named-word (command.OfSize size.TakeDone) = refl
-named-word (command.OfSize size.Core) = refl
-named-word (command.OfSize size.Maximum) = refl
 named-word (command.OfTicks ticks.Keep) = refl
-named-word (command.OfTicks ticks.Tick) = refl
+named-word _ = refl
 
 -- no command's word has a space
 lacks_space : (c : Command) → list_all (λ b. not (b == 32)) (command_word c) ≡ true
@@ -92,28 +75,11 @@ lacks_space command.Verdict = refl
 lacks_space command.Cancel = refl
 lacks_space command.CoreTimeout = refl
 lacks_space (command.OfTask task.Look) = refl
-lacks_space (command.OfTask task.Offer) = refl
-lacks_space (command.OfTask task.Second) = refl
-lacks_space (command.OfTask task.Grow) = refl
-lacks_space (command.OfTask task.CallerEnd) = refl
-lacks_space (command.OfTask task.Remove) = refl
 lacks_space (command.OfSlot slot.Open) = refl
-lacks_space (command.OfSlot slot.Fail) = refl
-lacks_space (command.OfSlot slot.Take) = refl
-lacks_space (command.OfSlot slot.Begin) = refl
-lacks_space (command.OfSlot slot.End) = refl
-lacks_space (command.OfSlot slot.Leave) = refl
 lacks_space (command.OfPool pool.Shutdown) = refl
-lacks_space (command.OfPool pool.Stop) = refl
-lacks_space (command.OfPool pool.Tidy) = refl
-lacks_space (command.OfPool pool.Ended) = refl
-lacks_space (command.OfPool pool.Purge) = refl
-lacks_space (command.OfPool pool.Prestart) = refl
 lacks_space (command.OfSize size.TakeDone) = refl
-lacks_space (command.OfSize size.Core) = refl
-lacks_space (command.OfSize size.Maximum) = refl
 lacks_space (command.OfTicks ticks.Keep) = refl
-lacks_space (command.OfTicks ticks.Tick) = refl
+lacks_space _ = refl
 
 -- a command has a word of its own
 pub command_word-injective : (c d : Command) → command_word c ≡ command_word d → c ≡ d

@@ -37,18 +37,6 @@ KeepsOpen c h d t =
 
 keeps_open : (c : Config) (h : List Entry) (d : Did) (t : ℕ) → KeepsOpen c h d t
 keeps_open c h (did.Submit u k p l) t given was there = grind (arith, nat_tests)
-keeps_open c h (did.Look u l) t given was there = grind (arith, nat_tests)
-keeps_open c h (did.Offer u o) t given was there = grind (arith, nat_tests)
-keeps_open c h (did.Second u s) t given was there = grind (arith, nat_tests)
-keeps_open c h (did.Grow u g) t given was there = grind (arith, nat_tests)
-keeps_open c h (did.Verdict u v r) t given was there = grind (arith, nat_tests)
-keeps_open c h (did.CallerEnd u o) t given was there = grind (arith, nat_tests)
-keeps_open c h (did.Open w o) t given was there = grind (arith, nat_tests)
-keeps_open c h (did.Fail w f) t given was there = grind (arith, nat_tests)
-keeps_open c h (did.Take w k) t given was there = grind (arith, nat_tests)
-keeps_open c h (did.Begin w b) t given was there = grind (arith, nat_tests)
-keeps_open c h (did.End w u o) t given was there = grind (arith, nat_tests)
-keeps_open c h (did.Remove u true) t given was there = grind (arith, nat_tests)
 keeps_open c h _ t given was there = grind (arith, nat_tests)
 
 -- a task that is not gone has no ending
@@ -127,18 +115,11 @@ KeepsUnowing c h d t w =
 
 keeps_unowing : (c : Config) (h : List Entry) (d : Did) (t w : ℕ) → KeepsUnowing c h d t w
 keeps_unowing c h (did.Submit u k p l) t w given was placed = let far = placed w in let here = was w in (grind (arith, nat_tests), grind (arith, nat_tests))
-keeps_unowing c h (did.Look u l) t w given was placed = let far = placed w in let here = was w in (grind (arith, nat_tests), grind (arith, nat_tests))
-keeps_unowing c h (did.Offer u o) t w given was placed = let far = placed w in let here = was w in (grind (arith, nat_tests), grind (arith, nat_tests))
-keeps_unowing c h (did.Second u s) t w given was placed = let far = placed w in let here = was w in (grind (arith, nat_tests), grind (arith, nat_tests))
-keeps_unowing c h (did.Grow u g) t w given was placed = let far = placed w in let here = was w in (grind (arith, nat_tests), grind (arith, nat_tests))
-keeps_unowing c h (did.Verdict u v r) t w given was placed = let far = placed w in let here = was w in (grind (arith, nat_tests), grind (arith, nat_tests))
-keeps_unowing c h (did.CallerEnd u o) t w given was placed = let far = placed w in let here = was w in (grind (arith, nat_tests), grind (arith, nat_tests))
 keeps_unowing c h (did.Open v o) t w given was placed = let far = placed w in let there = was v.0 in let here = was w in (grind (arith, nat_tests), grind (arith, nat_tests))
 keeps_unowing c h (did.Fail v f) t w given was placed = let far = placed w in let there = was v.0 in let here = was w in (grind (arith, nat_tests), grind (arith, nat_tests))
 keeps_unowing c h (did.Take v k) t w given was placed = let far = placed w in let there = was v.0 in let here = was w in (grind (arith, nat_tests), grind (arith, nat_tests))
 keeps_unowing c h (did.Begin v b) t w given was placed = let far = placed w in let there = was v.0 in let here = was w in (grind (arith, nat_tests), grind (arith, nat_tests))
 keeps_unowing c h (did.End v u o) t w given was placed = let far = placed w in let there = was v.0 in let here = was w in (grind (arith, nat_tests), grind (arith, nat_tests))
-keeps_unowing c h (did.Remove u true) t w given was placed = let far = placed w in let here = was w in (grind (arith, nat_tests), grind (arith, nat_tests))
 keeps_unowing c h _ t w given was placed = let far = placed w in let here = was w in (grind (arith, nat_tests), grind (arith, nat_tests))
 
 unowing : (c : Config) (h : List Entry) → Told c h → (t w : ℕ) → Unowing h t w

@@ -13,14 +13,8 @@ use Rattle.tp_record.specs.declared.entries.Entry.{Entry}
 use Rattle.tp_record.specs.declared.entries.Did.{Did}
 use Rattle.tp_record.specs.declared.entries.Did.TheVariants as did
 use Rattle.tp_record.specs.declared.entries.Looked.TheVariants as looked
-use Rattle.tp_record.specs.declared.entries.Offered.TheVariants as offered
-use Rattle.tp_record.specs.declared.entries.Seconded.TheVariants as seconded
-use Rattle.tp_record.specs.declared.entries.Grown.TheVariants as grown
 use Rattle.tp_record.specs.declared.entries.Ruled.TheVariants as ruled
 use Rattle.tp_record.specs.declared.entries.Opened.TheVariants as opened
-use Rattle.tp_record.specs.declared.entries.Failed.TheVariants as failed
-use Rattle.tp_record.specs.declared.entries.Took.TheVariants as took
-use Rattle.tp_record.specs.declared.entries.Started.TheVariants as started
 use Rattle.tp_record.specs.declared.rows.TaskRow.{TaskRow}
 use Rattle.tp_record.specs.declared.rows.SlotRow.{SlotRow}
 use Rattle.tp_record.specs.Lists.{is_it}
@@ -67,27 +61,7 @@ tasks_apart c h _ given t one two = grind arith
 seat_named : (c : Config) (h : List Entry) (d : Did) → Given c h d → (w t : ℕ) → (is_it (seats d) w || is_it (replaces d) w) ≡ true → seat_of (slot_row h w) ≡ Some t →
     (is_it (names d) t || is_it (beside h d) t) ≡ true
 seat_named c h (did.Submit x k p (looked.Reserve u)) given w t at seat = grind (arith, nat_tests)
-seat_named c h (did.Look x (looked.Reserve u)) given w t at seat = grind (arith, nat_tests)
-seat_named c h (did.Offer x (offered.Hand u)) given w t at seat = grind (arith, nat_tests)
-seat_named c h (did.Second x (seconded.StayReserve u)) given w t at seat = grind (arith, nat_tests)
-seat_named c h (did.Grow x (grown.Reserve u)) given w t at seat = grind (arith, nat_tests)
-seat_named c h (did.Open u opened.Live) given w t at seat = grind (arith, nat_tests)
-seat_named c h (did.Open u opened.GivenUp) given w t at seat = grind (arith, nat_tests)
-seat_named c h (did.Open u (opened.GivenUpRefuse x)) given w t at seat = grind (arith, nat_tests)
-seat_named c h (did.Fail u failed.Nothing) given w t at seat = grind (arith, nat_tests)
-seat_named c h (did.Fail u (failed.Offer x)) given w t at seat = grind (arith, nat_tests)
-seat_named c h (did.Fail u (failed.Refuse x)) given w t at seat = grind (arith, nat_tests)
-seat_named c h (did.Take u (took.Held x)) given w t at seat = grind (arith, nat_tests)
-seat_named c h (did.Take u (took.Head x)) given w t at seat = grind (arith, nat_tests)
-seat_named c h (did.Take u took.Leave) given w t at seat = grind (arith, nat_tests)
-seat_named c h (did.Take u took.Idle) given w t at seat = grind (arith, nat_tests)
-seat_named c h (did.Begin u (started.Run x)) given w t at seat = grind (arith, nat_tests)
-seat_named c h (did.Begin u (started.Skip x)) given w t at seat = grind (arith, nat_tests)
-seat_named c h (did.End u x o) given w t at seat = grind (arith, nat_tests)
-seat_named c h (did.Leave u None) given w t at seat = grind (arith, nat_tests)
-seat_named c h (did.Leave u (Some v)) given w t at seat = grind (arith, nat_tests)
-seat_named c h (did.Prestart (Some u)) given w t at seat = grind (arith, nat_tests)
-seat_named c h _ given w t at seat = absurd (grind arith)
+seat_named c h _ given w t at seat = grind (arith, nat_tests)
 
 dropped_beside : (h : List Entry) (d : Did) (t : ℕ) → is_it (beside h d) t ≡ false → is_it (drops d) t ≡ false
 dropped_beside h d t other = grind arith

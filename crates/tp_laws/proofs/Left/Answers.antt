@@ -197,12 +197,9 @@ module _ (t : ℕ) where
   fitting_spares c s out w (ask.Begin v) other = spare_row (slot_at s.slots v.0) _ (out.unseated v.0) (λ r seat. spare_begin s v r.stage r.task seat)
   fitting_spares c s out w (ask.End v o) other = spare_row (slot_at s.slots v.0) _ (out.unseated v.0) (λ r seat. spare_end s v o r.stage r.task seat)
   fitting_spares c s out w (ask.Leave v) other = spare_row (slot_at s.slots v.0) _ (out.unseated v.0) (λ r seat. spare_leave s w v r.stage)
-  fitting_spares c s out w ask.Shutdown other = named _ refl refl
-  fitting_spares c s out w ask.Stop other = named _ refl refl
   fitting_spares c s out w ask.Tidy other = spare_if (slot_count s == 0 && (s.rank == 2 || (s.rank == 1 && length s.queue == 0))) _ _ (named _ refl refl) tt
   fitting_spares c s out w ask.Ended other = spare_if (s.rank == 3) _ _ (named _ refl refl) tt
   fitting_spares c s out w (ask.Remove u) other = spare_task s u (λ r. Ok (did.Remove u (is_queued_place r.place))) (λ r. spare_remove u (is_queued_place r.place) other)
-  fitting_spares c s out w ask.Purge other = named _ refl refl
   fitting_spares c s out w (ask.Cancel u flag) other = spare_task s u _ (λ r. spare_cancel u flag r other)
   fitting_spares c s out w (ask.TakeDone g) other = spare_done g (done_of s g)
   fitting_spares c s out w (ask.Core n) other = spare_if (nat_le n s.maximum) _ _ (named _ refl refl) tt
@@ -211,6 +208,7 @@ module _ (t : ℕ) where
   fitting_spares c s out w (ask.CoreTimeout on) other = spare_if (on && s.keep == 0) _ _ tt (named _ refl refl)
   fitting_spares c s out w (ask.Tick n) other = spare_if (nat_le s.now n) _ _ (named _ refl refl) tt
   fitting_spares c s out w ask.Prestart other = spare_if (nat_lt (slot_count s) s.core && wants_worker s) _ _ (named _ refl refl) (named _ refl refl)
+  fitting_spares c s out w _ other = named _ refl refl
 
   -- so it names none of those that are out
   pub answer_spares : (c : Config) (s : State) → IsOut s t → (w : ℕ) (a : Ask) (d : Did) → is_it (asked a) t ≡ false → fitting c s w a ≡ Ok d → Spares d t

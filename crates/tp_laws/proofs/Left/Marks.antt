@@ -42,9 +42,7 @@ module _ (s : State) (rs : List ℕ) where
 
   rule_marked : (c : Config) (u : TaskId) (r : TaskRow) (v : Verdict) → rule c (mark rs s) u r v ≡ rule c (mark [] s) u r v
   rule_marked c u r verdict.Abort = refl
-  rule_marked c u r verdict.Discard = refl
-  rule_marked c u r verdict.CallerRuns = refl
-  rule_marked c u r verdict.DiscardOldest = refl
+  rule_marked c u r _ = refl
 
   pub fitting_marked : (c : Config) (w : ℕ) (a : Ask) → is_one_of (asked a) rs ≡ false → fitting c (mark rs s) w a ≡ fitting c (mark [] s) w a
   fitting_marked c w (ask.Look u) off = task_marked u (λ r. look_answer (mark rs s) w u r.place) (λ r. look_answer (mark [] s) w u r.place) off (λ r. refl)

@@ -231,28 +231,17 @@ module _ (s : State) (t : ℕ) (out : IsOut s t) where
   take_without v stages.Working None off = refl
   take_without v (stages.Idle m) None off = refl
   take_without v (stages.Idle m) (Some u) off = refl
-  take_without v stages.ReservedCore o off = refl
-  take_without v stages.ReservedMaximum o off = refl
-  take_without v stages.ReservedBare o off = refl
-  take_without v stages.Dying o off = refl
+  take_without v _ o off = refl
 
   begin_without : (v : SlotId) (stage : Stage) (o : Option TaskId) → is_it (number_of o) t ≡ false → begin_answer (leave_out t s) v stage o ≡ begin_answer s v stage o
   begin_without v stages.Working (Some u) off = ap (λ r. begin_task v u r.cancelled r.place) (row_else u.0 (is_other t u.0 off))
   begin_without v stages.Working None off = refl
-  begin_without v (stages.Idle m) o off = refl
-  begin_without v stages.ReservedCore o off = refl
-  begin_without v stages.ReservedMaximum o off = refl
-  begin_without v stages.ReservedBare o off = refl
-  begin_without v stages.Dying o off = refl
+  begin_without v _ o off = refl
 
   end_without : (v : SlotId) (result : Outcome) (stage : Stage) (o : Option TaskId) → is_it (number_of o) t ≡ false → end_answer (leave_out t s) v result stage o ≡ end_answer s v result stage o
   end_without v result stages.Working (Some u) off = ap (λ r. end_task v u result r.place) (row_else u.0 (is_other t u.0 off))
   end_without v result stages.Working None off = refl
-  end_without v result (stages.Idle m) o off = refl
-  end_without v result stages.ReservedCore o off = refl
-  end_without v result stages.ReservedMaximum o off = refl
-  end_without v result stages.ReservedBare o off = refl
-  end_without v result stages.Dying o off = refl
+  end_without v result _ o off = refl
 
   -- what fits is the same
   pub fitting_without : (c : Config) (w : ℕ) (a : Ask) → is_it (asked a) t ≡ false → fitting c (leave_out t s) w a ≡ fitting c s w a
@@ -265,28 +254,16 @@ module _ (s : State) (t : ℕ) (out : IsOut s t) where
   fitting_without c w (ask.Verdict u v) off = of_task_same u (verdict_answer c (leave_out t s) u v) (verdict_answer c s u v) off
       (λ r. ap (λ x. if is_refused_place r.place && allows c.policy v then Ok (did.Verdict u v x) else Err NotThere) (rule_without c u r off v))
   fitting_without c w (ask.CallerEnd u o) off = of_task_same u (λ r. caller_end_answer u o r.place) (λ r. caller_end_answer u o r.place) off (λ r. refl)
-  fitting_without c w (ask.Open v) off = refl
-  fitting_without c w (ask.Fail v) off = refl
   fitting_without c w (ask.Take v) off = of_row_same (slot_at s.slots v.0) _ _ (out.unseated v.0) (λ r seat. take_without v r.stage r.task seat)
   fitting_without c w (ask.Begin v) off = of_row_same (slot_at s.slots v.0) _ _ (out.unseated v.0) (λ r seat. begin_without v r.stage r.task seat)
   fitting_without c w (ask.End v o) off = of_row_same (slot_at s.slots v.0) _ _ (out.unseated v.0) (λ r seat. end_without v o r.stage r.task seat)
-  fitting_without c w (ask.Leave v) off = refl
-  fitting_without c w ask.Shutdown off = refl
-  fitting_without c w ask.Stop off = refl
-  fitting_without c w ask.Tidy off = refl
-  fitting_without c w ask.Ended off = refl
   fitting_without c w (ask.Remove u) off = of_task_same u (λ r. Ok (did.Remove u (is_queued_place r.place))) (λ r. Ok (did.Remove u (is_queued_place r.place))) off (λ r. refl)
   fitting_without c w ask.Purge off =
       ap (λ n. Ok (did.Purge n)) (count_but t (λ u. (task_at (leave_out t s) u).cancelled) (λ u. (task_at s u).cancelled) (λ u ne. ap (λ r. r.cancelled) (row_else u ne)) s.queue out.unqueued)
   fitting_without c w (ask.Cancel u flag) off = of_task_same u (cancel_answer u flag) (cancel_answer u flag) off (λ r. refl)
   fitting_without c w (ask.TakeDone g) off =
       ap (first_done g) (filter_but t (λ u. is_of_group g (task_at (leave_out t s) u).kind) (λ u. is_of_group g (task_at s u).kind) (λ u ne. ap (λ r. is_of_group g r.kind) (row_else u ne)) s.done out.unlisted)
-  fitting_without c w (ask.Core n) off = refl
-  fitting_without c w (ask.Maximum n) off = refl
-  fitting_without c w (ask.Keep n) off = refl
-  fitting_without c w (ask.CoreTimeout on) off = refl
-  fitting_without c w (ask.Tick n) off = refl
-  fitting_without c w ask.Prestart off = refl
+  fitting_without c w _ off = refl
 
   -- and so is what the room lets through
   pub step_without : (c : Config) (w : ℕ) (a : Ask) → is_it (asked a) t ≡ false → step c (leave_out t s) w a ≡ step c s w a

@@ -24,22 +24,6 @@ is_lost n t r = nat_lt t n && (is_gone_place r.place && is_none (fate_of r))
 keeps : (c : Config) (h : List Entry) (d : Did) (t : ℕ) → Given c h d → is_lost (submitted h) t (task_row h t) ≡ false →
     is_lost (cond (is_submit d) (suc (submitted h)) (submitted h)) t (row_after d t (task_row h t)) ≡ false
 keeps c h (did.Submit u k p l) t given was = grind (arith, nat_tests)
-keeps c h (did.Look u l) t given was = grind (arith, nat_tests)
-keeps c h (did.Offer u o) t given was = grind (arith, nat_tests)
-keeps c h (did.Second u s) t given was = grind (arith, nat_tests)
-keeps c h (did.Grow u g) t given was = grind (arith, nat_tests)
-keeps c h (did.Verdict u v r) t given was = grind (arith, nat_tests)
-keeps c h (did.CallerEnd u o) t given was = grind (arith, nat_tests)
-keeps c h (did.Open w o) t given was = grind (arith, nat_tests)
-keeps c h (did.Fail w f) t given was = grind (arith, nat_tests)
-keeps c h (did.Take w k) t given was = grind (arith, nat_tests)
-keeps c h (did.Begin w b) t given was = grind (arith, nat_tests)
-keeps c h (did.End w u o) t given was = grind (arith, nat_tests)
-keeps c h (did.Leave w o) t given was = grind (arith, nat_tests)
-keeps c h (did.Stop n) t given was = grind (arith, nat_tests)
-keeps c h (did.Remove u b) t given was = grind (arith, nat_tests)
-keeps c h (did.Purge n) t given was = grind (arith, nat_tests)
-keeps c h (did.Cancel u f b) t given was = grind (arith, nat_tests)
 keeps c h _ t given was = grind (arith, nat_tests)
 
 never_lost : (c : Config) (h : List Entry) → Told c h → (t : ℕ) → is_lost (submitted h) t (task_row h t) ≡ false

@@ -29,13 +29,7 @@ in_slot : (p : Place) (w : SlotId) → slot_of p ≡ Some w.0 → IsIn p w
 in_slot (at.Held u) w is = inl (grind arith)
 in_slot (at.Taken u) w is = inr (inl (grind arith))
 in_slot (at.Running u) w is = inr (inr (grind arith))
-in_slot at.Looking w is = absurd (grind arith)
-in_slot at.ToOffer w is = absurd (grind arith)
-in_slot at.ToGrow w is = absurd (grind arith)
-in_slot at.Refused w is = absurd (grind arith)
-in_slot at.Queued w is = absurd (grind arith)
-in_slot at.Caller w is = absurd (grind arith)
-in_slot at.Gone w is = absurd (grind arith)
+in_slot _ w is = absurd (grind arith)
 
 slot_of_in : (p : Place) (w : SlotId) → IsIn p w → slot_of p ≡ Some w.0
 slot_of_in p w (inl held) = ap slot_of held

@@ -226,11 +226,7 @@ leave_at c h w v row =
 leave_by : (c : Config) (h : List Entry) → IsSound h → (w : ℕ) (v : SlotId) (s : Stage) (o : Option TaskId) → HasRow h v.0 s o → Says c h (leave_answer (state c h) w v s)
 leave_by c h sound w v stages.Dying None row = leave_at c h w v row
 leave_by c h sound w v stages.Dying (Some t) row = absurd (let e = task_suits h sound v.0 stages.Dying (Some t) row in grind arith)
-leave_by c h sound w v stages.Working o row = tt
-leave_by c h sound w v (stages.Idle m) o row = tt
-leave_by c h sound w v stages.ReservedCore o row = tt
-leave_by c h sound w v stages.ReservedMaximum o row = tt
-leave_by c h sound w v stages.ReservedBare o row = tt
+leave_by c h sound w v _ o row = tt
 
 pub leave_says : (c : Config) (h : List Entry) → IsSound h → (w : ℕ) (v : SlotId) (r : SlotRow) → slot_row h v.0 ≡ Some r → Says c h (leave_answer (state c h) w v r.stage)
 leave_says c h sound w v r row = leave_by c h sound w v r.stage r.task row
