@@ -51,26 +51,18 @@ impl<P> Step<P> for Offer {
         offer(parts, parts.config.queue, self.0)
     }
 
+    // A task that the queue takes goes straight there: each frame of this hold is one that does something.
     #[inline(always)]
     fn apply(self, parts: &mut Parts<P>, offered: Offered) {
         match offered {
-            Offered::Queued => queue(parts, self.0),
+            Offered::Queued => {
+                parts.count_entry(TO_OFFER - QUEUED - SECOND_LOOK);
+                parts.enqueue(self.0);
+            }
             Offered::Hand(w) => hand(parts, self.0, w),
             Offered::Full => turn_away(parts, self.0),
         }
     }
-}
-
-/// The task is in the queue.
-#[inline(always)]
-fn queue<P>(parts: &mut Parts<P>, t: TaskId)
-    requires stands { Stands parts.old }
-    requires fits { Fits parts.old (Ask.Offer t) (Did.Offer t Offered.Queued) }
-    ensures leads { Leads parts.old (Did.Offer t Offered.Queued) parts.new }
-    ensures payloads { Keeps parts.old.tasks parts.new.tasks }
-{
-    parts.count_entry(TO_OFFER - QUEUED - SECOND_LOOK);
-    parts.enqueue(t);
 }
 
 /// The worker that was idle longest has the task.

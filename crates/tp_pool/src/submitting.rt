@@ -267,15 +267,27 @@ impl<G: PoolNaming, J: Drop, E: Edge, K: Keeper> PoolOf<G, J, E, K> {
     {
         let shared = self.shared();
         match next {
-            Next::Offer => shared.further(rt, Plain(Offer(t)), pass),
+            Next::Offer => match shared.ask(rt, Plain(Offer(t)), pass) {
+                Ok(answer) => Some(Did::Offer(t, answer)),
+                Err(_) => None,
+            },
             Next::Second => self.second(rt, t, make, pass),
-            Next::Look => shared.further(rt, Plain(Look(t)), pass),
-            Next::Grow => shared.further(rt, Plain(Grow(t)), pass),
+            Next::Look => match shared.ask(rt, Plain(Look(t)), pass) {
+                Ok(answer) => Some(Did::Look(t, answer)),
+                Err(_) => None,
+            },
+            Next::Grow => match shared.ask(rt, Plain(Grow(t)), pass) {
+                Ok(answer) => Some(Did::Grow(t, answer)),
+                Err(_) => None,
+            },
             Next::Judge => self.judge(rt, t, self.verdict(rt, t), make, held, pass),
             Next::RunHere => {
                 let flag = shared.flag_at_caller(rt, t)?;
                 let outcome = run(held.take()?.into_job(), flag);
-                shared.further(rt, Plain(CallerEnd(t, outcome)), pass)
+                match shared.ask(rt, Plain(CallerEnd(t, outcome)), pass) {
+                    Ok(()) => Some(Did::CallerEnd(t, outcome)),
+                    Err(_) => None,
+                }
             }
             Next::Staff(w) => self.open_by(rt, w, staffed_by(make, w), make, pass).ok(),
             Next::End(_) | Next::Astray => None,

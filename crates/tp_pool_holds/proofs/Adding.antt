@@ -1,6 +1,6 @@
 -- What a step in a hold is to the pass that it was made with.
 use Rattle.std.proofs.Common.{◌≡◌, ℕ, Bool, true, ◌+◌, List, [], ◌∷◌, None, inl, inr, refl, ap, sym, ◌∙◌, subst}
-use Rattle.std.specs.Prelude.{Result, Ok, Err, IfOk, IfErr, OnErr}
+use Rattle.std.specs.Prelude.{Result, Ok, Err, IfOk, IfErr, OnOk, OnErr}
 use Rattle.std.proofs.lemmas.List.Elements.{All-nil, All-cons}
 use Rattle.tp_types.specs.declared.configs.Config.{Config}
 use Rattle.tp_types.specs.declared.refusals.PoolError.{PoolError}
@@ -17,6 +17,7 @@ use Rattle.tp_record.specs.State.{state, counts}
 use Rattle.tp_record.specs.Step.{Legal}
 use Rattle.tp_slots.specs.Table.{first_slot}
 use Rattle.tp_machine_state.specs.Steps.{IsFitting}
+use Rattle.tp_glance.specs.Word.{IsFrontOf}
 use Rattle.tp_waking.specs.Heard.{IsHeard}
 use Rattle.tp_tasks.specs.declared.tasks.Tasks.{Tasks}
 use Rattle.tp_machine.specs.Steps.{IsRefusedAt}
@@ -31,7 +32,7 @@ use Rattle.tp_pool_holds.specs.Holds.{Holds, Denies}
 use Rattle.tp_pool_holds.specs.Roused.{IsRoused}
 use Rattle.tp_pool_holds.specs.Rosters.{RosterView}
 use Rattle.tp_pool_holds.specs.Moments.{AtFront, IsBook}
-use Rattle.tp_pool_holds.specs.Passes.{AddsStep, IsRefusal, entry_of}
+use Rattle.tp_pool_holds.specs.Passes.{AddsStep, IsRefusal, LooksOnly, entry_of}
 use Rattle.tp_pool_holds.specs.Steps.{Makes, Refused}
 use Rattle.tp_pool_holds.specs.Waits.{HasNoOutcome}
 use Rattle.tp_pool_holds.specs.declared.tasks.Task.{Task}
@@ -109,6 +110,17 @@ module _ {J : Type 0} (c : Config) where
         IfOk r (λ x. Makes J c old.number old.front a (did x) (moves x) new.front) → IfOk r (λ x. Paid old new a (did x) × X) → IfOk r (λ x. AddsStep c old a (did x) new)
     added X did moves (Ok x) makes paid = adds_step (did x) (moves x) makes paid.0
     added X did moves (Err e) makes paid = tt
+
+-- it leaves room for all but its own receipt
+pub left_room : {A : Type 0} (X : Type 0) (P : A → Type 0) (r : Result A PoolError) → IfOk r (λ x. P x × X) → OnOk r X
+left_room X P (Ok x) paid = paid.1
+left_room X P (Err e) paid = tt
+
+-- a pass whose step is refused looks at the pool
+pub looks : {A : Type 0} (c : Config) (old new : PassView) (h : List Entry) (r : Result A PoolError) → OnErr r (new ≡ record old { front = new.front; released = new.released }) → IsFrontOf old.front h →
+    OnErr r (new.front ≡ h) → Legal c new.front → OnErr r (LooksOnly c old new)
+looks c old new h (Ok x) shown on front legal = tt
+looks c old new h (Err e) shown on front legal = (shown, subst (λ g. IsFrontOf old.front g) (sym front) on, legal)
 
 -- a step that is refused in a hold
 pub denies : {J : Type 0} (keeps : Bool) (old : CoreView J) (book new : BookView (Task J)) (roster : RosterView) (waking : Waking) → record { book = book; roster = roster; waking = waking } ≡ old →

@@ -11,10 +11,10 @@ ghost use Rattle.tp_glance.specs.Word.{IsFrontOf};
 ghost use Rattle.tp_book.specs.BookView.{config, released_of};
 ghost use Rattle.tp_pool_holds.specs.Holds.{Holds, Denies};
 ghost use Rattle.tp_pool_holds.specs.Moments.{IsBook};
-ghost use Rattle.tp_pool_holds.specs.Passes.{AddsStep, IsRefusal, LooksOnly, entry_of};
+ghost use Rattle.tp_pool_holds.specs.Passes.{entry_of};
 ghost use Rattle.tp_pool_holds.specs.Roused.{IsRoused};
 ghost use Rattle.tp_pool_holds.specs.Steps.{Makes, Refused};
-ghost use Rattle.tp_pool_holds.specs.Waits.{waits, HasNoOutcome};
+ghost use Rattle.tp_pool_holds.specs.Waits.{waits};
 ghost use Rattle.tp_pool_holds.specs.declared.tasks.Task.{Task as TaskOf};
 
 use crate::flags::Flags;
@@ -57,7 +57,7 @@ impl<G: PoolNaming, J, R: Keeper> Model for Core<G, J, R> {
     ghost use Rattle.tp_book.specs.BookView.{config};
     ghost use Rattle.tp_pool_holds.specs.Codes.{task_code};
     ghost use Rattle.tp_pool_holds.specs.CoreView.{CoreView};
-    ghost use Rattle.tp_pool_holds.specs.Waits.{waits, HasNoOutcome};
+    ghost use Rattle.tp_pool_holds.specs.Waits.{waits};
 
     ghost Value = { CoreView J };
 
@@ -159,6 +159,8 @@ impl<G: PoolNaming, J: Drop, R: Keeper> Core<G, J, R> {
         ensures goes_on { IsFrontOf (A.front pass.old) self.old.book.history }
         ensures front { (OnOk result (A.front pass.new ≡ self.new.book.history)) × (OnErr result (A.front pass.new ≡ self.old.book.history)) }
         ensures released { A.released pass.new ≡ released_of self.old.book }
+        ensures stands { IsBook (TaskOf J) (R.terms G.config) self.old.book }
+        ensures legal { Legal (R.terms G.config) (A.front pass.new) }
     {
         let Core {
             book,
@@ -175,32 +177,6 @@ impl<G: PoolNaming, J: Drop, R: Keeper> Core<G, J, R> {
         mark_flags(book, flags, step.mark(&answer));
         settle(book, step.gone(&answer), glance);
         Ok(answer)
-    }
-
-    /// As `step`, with a caller's pass that has room for its receipt.
-    #[inline(always)]
-    pub fn ask<S: Marks<J> + Step<Task<J>, Load = ()>>(
-        &mut self,
-        step: S,
-        glance: &Glance<G>,
-        pass: &mut Pass<G>,
-    ) -> Result<S::Answer, PoolError>
-        requires brings { S.brings step tt }
-        requires room { 0 < pass.old.room }
-        ensures answers { IfOk result (λ x. S.answers step x) }
-        ensures holds { IfOk result (λ x. Holds R.RECEIPTS self.old self.new pass.old.number (S.ask step) (S.did step x) (S.moves step tt x)) }
-        ensures makes { IfOk result (λ x. Makes J (R.terms G.config) pass.old.number pass.old.front (S.ask step) (S.did step x) (S.moves step tt x) pass.new.front) }
-        ensures says { IfOk result (λ x. S.says step x (R.terms G.config) self.old.book.history) }
-        ensures step { IfOk result (λ x. AddsStep (R.terms G.config) pass.old (S.ask step) (S.did step x) pass.new) }
-        ensures left { OnOk result (pass.old.room ≤ pass.new.room + 1) }
-        ensures denies { IfErr result (λ e. Denies R.RECEIPTS self.old self.new (S.ask step) e) }
-        ensures refused { IfErr result (λ e. HasNoOutcome (S.ask step) → IsRefusal R.RECEIPTS (R.terms G.config) pass.new (S.ask step) e) }
-        ensures unchanged { OnErr result (LooksOnly (R.terms G.config) pass.old pass.new) }
-        ensures legal { Legal (R.terms G.config) pass.new.front }
-        ensures front { (OnOk result (pass.new.front ≡ self.new.book.history)) × (OnErr result (pass.new.front ≡ self.old.book.history)) }
-    {
-        self.law_is_book();
-        self.step(step, glance, pass)
     }
 
     /// The run state. The pass then knows the whole history, which goes on from what it knew.

@@ -211,7 +211,7 @@ impl<G: PoolNaming, J: Drop, E: Edge, K: Keeper> Shared<G, J, E, K> {
         ensures unchanged { OnErr result (LooksOnly (K.terms G.config) pass.old pass.new) }
     {
         let mut core = self.hold(rt);
-        let answer = core.ask(step, &self.around.glance, pass);
+        let answer = core.step(step, &self.around.glance, pass);
         self.release(core);
         answer
     }
@@ -236,7 +236,7 @@ impl<G: PoolNaming, J: Drop, E: Edge, K: Keeper> Shared<G, J, E, K> {
         ensures remains { IsLeft (state (K.terms G.config) pass.new.front) result.1 }
     {
         let mut core = self.hold(rt);
-        let answer = core.ask(step, &self.around.glance, pass);
+        let answer = core.step(step, &self.around.glance, pass);
         let remains = left_in(&core);
         self.release(core);
         (answer, remains)

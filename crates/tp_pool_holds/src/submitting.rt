@@ -6,21 +6,20 @@ ghost use Rattle.tp_machine_state.specs.Payloads.{PutsIn};
 ghost use Rattle.tp_pool_holds.specs.Left.{IsLeft};
 ghost use Rattle.tp_pool_holds.specs.Passes.{AddsStep, AddsNone, LooksOnly, Refuses};
 ghost use Rattle.tp_pool_holds.specs.Steps.{Makes};
-ghost use Rattle.tp_pool_holds.specs.Waits.{HasNoOutcome};
 ghost use Rattle.tp_pool_holds.specs.declared.tasks.Task.{Task as TaskOf};
 ghost use Rattle.tp_machine.specs.Answers.{ComesBack};
 ghost use Rattle.tp_pool_holds.specs.Submitting.{IsHalted, TakesOut};
 
 use crate::edges::Edge;
-use crate::locked::{Core, Marks};
+use crate::locked::Core;
 use crate::names::PoolNaming;
 use crate::shared::{Shared, left_in};
 use crate::tasks::Task;
 use std::sync::{MutexGuard, Wait};
 use tp_book::passes::Pass;
 use tp_machine::machine::releases::Keeper;
+use tp_machine::typed::Plain;
 use tp_machine::typed::submitters::{Judge, Second, Submit};
-use tp_machine::typed::{Plain, Step};
 use tp_protocols::flags::CancelFlag;
 use tp_protocols::rescues::Remains;
 use tp_record::entries::{Ask, Did, Looked, Seconded};
@@ -97,27 +96,6 @@ impl<G: PoolNaming, J: Drop, E: Edge, K: Keeper> Shared<G, J, E, K> {
         self.release(core);
     }
 
-    /// A further step of a submission: what it did.
-    #[inline(always)]
-    pub fn further<R: Wait, X: Drop, S: Marks<J> + Step<Task<J>, Load = (), Answer = X>>(
-        &self,
-        rt: &R,
-        step: S,
-        pass: &mut Pass<G>,
-    ) -> Option<Did>
-        requires brings { S.brings step tt }
-        requires room { 0 < pass.old.room }
-        ensures step { IfSome result (λ d. AddsStep (K.terms G.config) pass.old (S.ask step) d pass.new) }
-        ensures left { OnSome result (pass.old.room ≤ pass.new.room + 1) }
-        ensures refused { IfNone result (HasNoOutcome (S.ask step) → IsHalted K.RECEIPTS (K.terms G.config) pass.new (S.ask step)) }
-        ensures unchanged { IfNone result (LooksOnly (K.terms G.config) pass.old pass.new) }
-    {
-        match self.ask(rt, step, pass) {
-            Ok(answer) => Some(step.did(&answer)),
-            Err(_) => None,
-        }
-    }
-
     /// The step `second`: what it did, and what is left to do where the task came back.
     #[inline(always)]
     pub fn second<R: Wait>(&self, rt: &R, t: TaskId, pass: &mut Pass<G>) -> (Option<Did>, Remains)
@@ -129,7 +107,7 @@ impl<G: PoolNaming, J: Drop, E: Edge, K: Keeper> Shared<G, J, E, K> {
         ensures remains { result.0 ≡ Some (Did.Second t Seconded.Back) → IsLeft (state (K.terms G.config) pass.new.front) result.1 }
     {
         let mut core = self.hold(rt);
-        let answer = core.ask(Plain(Second(t)), &self.around.glance, pass);
+        let answer = core.step(Plain(Second(t)), &self.around.glance, pass);
         let remains = left_by_second(&core, &answer);
         self.release(core);
         match answer {

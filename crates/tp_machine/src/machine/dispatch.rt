@@ -1,7 +1,7 @@
 //! One call for all asks.
 
 ghost use Rattle.std.specs.Prelude.{◌≡◌, None, IfOk, IfErr, OnErr, option_map};
-ghost use Rattle.tp_machine.specs.Stepped.{IsSubmission, IsOfSubmitter, IsOfWorker, IsOfController, IsSetting};
+ghost use Rattle.tp_machine.specs.Stepped.{IsSubmission, IsOfController, IsSetting};
 ghost use Rattle.tp_machine.specs.Stepped.{IsPaid, FitsOutcome, IsAnswer, did_of, Moves, IsInOrder};
 ghost use Rattle.tp_machine.specs.Steps.{IsStep, Stays, IsRefusedBy};
 
@@ -62,30 +62,6 @@ impl<P, R: Recorder> Machine<P, R> {
     {
         match ask {
             Ask::Submit(..) => unreachable!(),
-            Ask::Look(_) | Ask::Offer(_) | Ask::Second(_) => self.submitters_step(by, ask),
-            Ask::Grow(_) | Ask::Verdict(..) | Ask::CallerEnd(..) => self.submitters_step(by, ask),
-            Ask::Open(_) | Ask::Fail(_) | Ask::Take(_) => self.workers_step(by, ask),
-            Ask::Begin(_) | Ask::End(..) | Ask::Leave(_) => self.workers_step(by, ask),
-            Ask::Shutdown | Ask::Stop | Ask::Tidy | Ask::Ended => self.controllers_step(by, ask),
-            Ask::Remove(_) | Ask::Purge | Ask::Cancel(..) => self.controllers_step(by, ask),
-            Ask::TakeDone(_) => self.controllers_step(by, ask),
-            Ask::Core(_) | Ask::Maximum(_) | Ask::Keep(_) => self.settings_step(by, ask),
-            Ask::CoreTimeout(_) | Ask::Tick(_) | Ask::Prestart => self.settings_step(by, ask),
-        }
-    }
-
-    /// A submitter's step after its submission.
-    fn submitters_step(&mut self, by: u32, ask: Ask) -> Result<Stepped<P>, PoolError>
-        requires wing { IsOfSubmitter ask }
-        requires outcome { FitsOutcome self.old ask }
-        ensures answer { IfOk result (λ s. IsAnswer ask s) }
-        ensures step { IfOk result (λ s. IsStep R.tells self.old self.new by ask (did_of ask s)) }
-        ensures payloads { IfOk result (λ s. Moves s ask None self.old.parts.tasks self.new.parts.tasks) }
-        ensures order { IfOk result (IsInOrder R.tells self.old) }
-        ensures refused { IfErr result (λ e. IsRefusedBy R.tells self.old ask e) }
-        ensures unchanged { OnErr result (self.new ≡ self.old) }
-    {
-        match ask {
             Ask::Look(t) => Ok(Stepped::Look(self.look(by, t)?)),
             Ask::Offer(t) => Ok(Stepped::Offer(self.offer(by, t)?)),
             Ask::Second(t) => Ok(Stepped::Second(self.second(by, t)?)),
@@ -95,29 +71,17 @@ impl<P, R: Recorder> Machine<P, R> {
                 self.caller_end(by, t, outcome)?;
                 Ok(Stepped::CallerEnd)
             }
-            _ => unreachable!(),
-        }
-    }
-
-    /// A worker's step.
-    fn workers_step(&mut self, by: u32, ask: Ask) -> Result<Stepped<P>, PoolError>
-        requires wing { IsOfWorker ask }
-        requires outcome { FitsOutcome self.old ask }
-        ensures answer { IfOk result (λ s. IsAnswer ask s) }
-        ensures step { IfOk result (λ s. IsStep R.tells self.old self.new by ask (did_of ask s)) }
-        ensures payloads { IfOk result (λ s. Moves s ask None self.old.parts.tasks self.new.parts.tasks) }
-        ensures order { IfOk result (IsInOrder R.tells self.old) }
-        ensures refused { IfErr result (λ e. IsRefusedBy R.tells self.old ask e) }
-        ensures unchanged { OnErr result (self.new ≡ self.old) }
-    {
-        match ask {
             Ask::Open(w) => Ok(Stepped::Open(self.open(by, w)?)),
             Ask::Fail(w) => Ok(Stepped::Fail(self.fail(by, w)?)),
             Ask::Take(w) => Ok(Stepped::Take(self.take(by, w)?)),
             Ask::Begin(w) => Ok(Stepped::Begin(self.begin(by, w)?)),
             Ask::End(w, outcome) => Ok(Stepped::End(self.end(by, w, outcome)?)),
             Ask::Leave(w) => Ok(Stepped::Leave(self.leave(by, w)?)),
-            _ => unreachable!(),
+            Ask::Shutdown | Ask::Stop | Ask::Tidy | Ask::Ended => self.controllers_step(by, ask),
+            Ask::Remove(_) | Ask::Purge | Ask::Cancel(..) => self.controllers_step(by, ask),
+            Ask::TakeDone(_) => self.controllers_step(by, ask),
+            Ask::Core(_) | Ask::Maximum(_) | Ask::Keep(_) => self.settings_step(by, ask),
+            Ask::CoreTimeout(_) | Ask::Tick(_) | Ask::Prestart => self.settings_step(by, ask),
         }
     }
 

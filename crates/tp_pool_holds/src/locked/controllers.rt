@@ -98,7 +98,7 @@ impl<G: PoolNaming, J: Drop, R: Keeper> Core<G, J, R> {
             self.show(glance, pass);
             return Err(PoolError::NoMemory);
         };
-        match self.ask(Stop, glance, pass) {
+        match self.step(Stop, glance, pass) {
             Ok(handed) => Ok(listed(handed, drained)),
             Err(error) => Err(error),
         }
@@ -130,7 +130,7 @@ impl<G: PoolNaming, J: Drop, R: Keeper> Core<G, J, R> {
         if has_come(deadline, self.book.now()) {
             return Look::Late;
         }
-        match self.ask(Plain(Tidy), glance, pass) {
+        match self.step(Plain(Tidy), glance, pass) {
             Ok(()) => return Look::Tidied,
             Err(_) => {}
         }

@@ -130,7 +130,7 @@ impl<G: PoolNaming, J: Drop, R: Keeper> Core<G, J, R> {
         ensures front { (OnErr result (pass.new.front ≡ self.old.book.history)) × (IfOk result (λ found. IfNone found (pass.new.front ≡ self.old.book.history))) }
     {
         let open = self.book.group_open(group);
-        let error = match self.ask(Plain(TakeDone(group)), glance, pass) {
+        let error = match self.step(Plain(TakeDone(group)), glance, pass) {
             Ok(t) => return Ok(Some(t)),
             Err(error) => error,
         };

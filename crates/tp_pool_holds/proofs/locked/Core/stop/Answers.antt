@@ -7,20 +7,21 @@ use Rattle.tp_machine.specs.Answers.{HandsBack, IsPaidAt}
 use Rattle.tp_book.specs.BookView.{state_of}
 use Rattle.tp_book.proofs.Settling.{all_history}
 use Rattle.tp_pool_holds.specs.Passes.{AddsStep}
+use Rattle.tp_pool_holds.proofs.Adding.{adds_step, refusal}
 use Rattle.tp_pool_holds.proofs.Moments.{known_at}
 use Rattle.tp_pool_holds.proofs.Receipts.{later_none, shown_later}
 use Rattle.tp_pool_holds.proofs.Stops.{length_listed, made_at}
 use Rattle.tp_pool_holds.proofs.locked.Core.stop.Goals as goal
 
-pub returns-in-Ok-ask-clause-holds : goal.returns-in-Ok-ask-clause-holds
-returns-in-Ok-ask-clause-holds g c = (c.in-Ok-ask.handed.items, c.in-Ok-ask.ensures.holds, c.listed.ensures)
+pub returns-in-Ok-step-clause-holds : goal.returns-in-Ok-step-clause-holds
+returns-in-Ok-step-clause-holds g c = (c.in-Ok-step.handed.items, c.in-Ok-step.ensures.holds, c.listed.ensures)
 
-pub returns-in-Ok-ask-clause-stops : goal.returns-in-Ok-ask-clause-stops
-returns-in-Ok-ask-clause-stops g c =
-    let stop = c.in-Ok-ask.ensures in
-    let handed = c.in-Ok-ask.handed.items in
-    let at = made_at (g.R.Recorder.terms g.G.PoolNaming.config) c.args.pass.now.number c.args.pass.now.front ask.Stop (did.Stop (length handed)) (λ old new. HandsBack old new handed) c.ask.new.pass.front
-    c.args.self.now.book stop.holds.book stop.makes stop.holds.made (stop.front.0 ∙ all_history g.R.Recorder.RECEIPTS stop.holds.book c.ask.new.self.book _ stop.holds.settles) in record {
+pub returns-in-Ok-step-clause-stops : goal.returns-in-Ok-step-clause-stops
+returns-in-Ok-step-clause-stops g c =
+    let stop = c.in-Ok-step.ensures in
+    let handed = c.in-Ok-step.handed.items in
+    let at = made_at (g.R.Recorder.terms g.G.PoolNaming.config) c.args.pass.now.number c.args.pass.now.front ask.Stop (did.Stop (length handed)) (λ old new. HandsBack old new handed) c.step.new.pass.front
+    c.args.self.now.book stop.holds.book stop.makes stop.holds.made (stop.front.0 ∙ all_history g.R.Recorder.RECEIPTS stop.holds.book c.step.new.self.book _ stop.holds.settles) in record {
       handed = handed;
       makes = stop.makes;
       order = stop.says.0 ∙ ap (queue (g.R.Recorder.terms g.G.PoolNaming.config)) at;
@@ -28,13 +29,16 @@ returns-in-Ok-ask-clause-stops g c =
       listed = c.listed.ensures;
     }
 
-pub returns-in-Ok-ask-clause-step : goal.returns-in-Ok-ask-clause-step
-returns-in-Ok-ask-clause-step g c =
-    subst (λ n. AddsStep (g.R.Recorder.terms g.G.PoolNaming.config) c.args.pass.now ask.Stop (did.Stop n) c.ask.new.pass)
-    (sym (length_listed c.in-Ok-ask.handed.items c.listed.result.items c.listed.ensures)) c.in-Ok-ask.ensures.step
+pub returns-in-Ok-step-clause-step : goal.returns-in-Ok-step-clause-step
+returns-in-Ok-step-clause-step g c =
+    subst (λ n. AddsStep (g.R.Recorder.terms g.G.PoolNaming.config) c.args.pass.now ask.Stop (did.Stop n) c.step.new.pass)
+    (sym (length_listed c.in-Ok-step.handed.items c.listed.result.items c.listed.ensures))
+    (adds_step (g.R.Recorder.terms g.G.PoolNaming.config) c.args.pass.now c.step.new.pass ask.Stop (did.Stop (length c.in-Ok-step.handed.items)) (λ old new. HandsBack old new c.in-Ok-step.handed.items) c.in-Ok-step.ensures.makes c.in-Ok-step.ensures.paid.0)
 
 pub returns-in-Err-clause-refused : goal.returns-in-Err-clause-refused
-returns-in-Err-clause-refused g c = inr (c.in-Err.ensures.refused tt)
+returns-in-Err-clause-refused g c =
+    let e = c.in-Err.ensures in
+    inr (refusal (g.R.Recorder.terms g.G.PoolNaming.config) g.R.Recorder.RECEIPTS c.args.self.now.book e.stands c.step.new.pass e.front.1 e.released ask.Stop c.in-Err.error e.denies.denied tt)
 
 pub returns-in-Err-clause-denied : goal.returns-in-Err-clause-denied
 returns-in-Err-clause-denied g c = inr c.in-Err.ensures.denies.denied
