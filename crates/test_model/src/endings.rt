@@ -1,9 +1,9 @@
 //! Lines, each of which ends a text so: behind a line that is said first, or by itself.
 
-use crate::compare::is_same;
 use crate::scenarios::outcome_from;
 use anyhow::anyhow;
 use std::alloc::{AllocError, Global};
+use test_rows::is_same;
 use tp_scenario::read_jobs;
 use tp_text::ends::refusal_line;
 use tp_text::watched::WatchedReader;

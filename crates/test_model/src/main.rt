@@ -15,6 +15,7 @@ mod asked;
 mod auditors;
 #[cfg(test)]
 mod audits;
+#[cfg(test)]
 mod compare;
 mod endings;
 #[cfg(test)]
@@ -43,6 +44,7 @@ mod wanting;
 
 use std::alloc::Global;
 use std::fs;
+use test_rows::play_rows;
 
 /// What the rows of a file are.
 #[derive(Clone, Copy)]
@@ -96,43 +98,12 @@ fn play(rt: &impl Print, alloc: Global, form: Form, text: &str) -> anyhow::Resul
     }
 }
 
-/// Plays a row: a line with its title, and its text. Where it is not as it says, its file and its title are printed.
-fn play_row(
-    rt: &impl Print,
-    alloc: Global,
-    path: &str,
-    form: Form,
-    row: &str,
-) -> anyhow::Result<()> {
-    let (title, text) = row.split_once('\n').unwrap_or((row, ""));
-    let played = play(rt, alloc, form, text);
-    if played.is_err() {
-        println!(rt; "{path}: {title}")?;
-    }
-    played
-}
-
-/// Plays the rows of a file, and counts them. Each begins behind `== ` at the begin of a line, and an empty line stands before it.
-fn play_all(
-    rt: &impl Print,
-    alloc: Global,
-    path: &str,
-    form: Form,
-    text: &str,
-) -> anyhow::Result<usize> {
-    let mut rows = 0usize;
-    for row in text.split("\n== ").skip(1) {
-        play_row(rt, alloc, path, form, row)?;
-        rows = rows.saturating_add(1);
-    }
-    Ok(rows)
-}
-
 fn main(rt: HostRuntime) -> anyhow::Result<()> {
+    let alloc = rt.alloc();
     for (path, form) in &FILES {
         let text = fs::read_to_string(&rt, *path)?;
-        let rows = play_all(&rt, rt.alloc(), path, *form, text.as_str())?;
-        println!(&rt; "{rows:3} {path}")?;
+        let play_row = |_: &str, row: &str| play(&rt, alloc, *form, row);
+        play_rows(&rt, path, text.as_str(), &play_row)?;
     }
     Ok(())
 }

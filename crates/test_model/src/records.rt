@@ -1,10 +1,10 @@
 //! Texts of records: each is judged so from bytes to bytes, or refused.
 
 use crate::auditors::judged;
-use crate::compare::is_same;
 use crate::rows::parts;
 use std::alloc::{AllocError, Global};
 use std::io::Read;
+use test_rows::is_same;
 use tp_text::ends::refusal_line;
 use tp_text::watched::{WatchedReader, WatchedWriter};
 use tp_text_record::audits::audit_text;

@@ -1,11 +1,11 @@
 //! Worked scenarios: each is written so from bytes to bytes, its asks answer what its output says, and both auditors call its record
 //! legal, and answer the same of each that has one entry wrong.
 
-use crate::compare::is_same;
 use crate::neighbours::neighbours_agree;
 use crate::rows::{config_of, entries_of, parts};
 use std::alloc::{AllocError, Global};
 use std::io::Read;
+use test_rows::is_same;
 use tp_machine::runs::{Run, run_asks};
 use tp_record::entries::{Ask, Did, Entry};
 use tp_scenario::forms::LineRead;

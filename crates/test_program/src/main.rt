@@ -1,5 +1,5 @@
 //! `test_program`: plays the transcripts of `data/`, and prints how many rows each file has. They call the program by its command lines,
-//! over real files. A call that gives something else than its row says ends this program, which prints what it gave.
+//! over real files. A call that gives something else than its row says ends this program, which prints what it gave, and the row's title.
 //!
 //! The tests are of what no text says: readers, writers and clocks of their own, bytes that no editor writes, and texts that are long,
 //! cut or changed.
@@ -21,6 +21,7 @@ use anyhow::anyhow;
 use poolrun_program::hosts::Host;
 use std::alloc::Global;
 use std::fs;
+use test_rows::play_rows;
 use transcripts::{plays, transcript_of};
 
 /// The files of rows.
@@ -45,42 +46,25 @@ const FILES: [&str; 15] = [
 /// The file of callers whose interleavings are gone through step by step.
 const INTERLEAVINGS: &str = "interleavings.txt";
 
-/// Plays a row of a file.
-fn play<H: Print + Host>(rt: &H, alloc: Global, path: &str, row: &str) -> anyhow::Result<()> {
-    let title = row.lines().next().unwrap_or("");
-    let transcript = match transcript_of(alloc, row)? {
+/// Plays the text of a row of this file.
+fn play<H: Print + Host>(rt: &H, alloc: Global, path: &str, text: &str) -> anyhow::Result<()> {
+    let transcript = match transcript_of(alloc, text)? {
         Ok(transcript) => transcript,
-        Err(line) => return Err(anyhow!("{title}: this line has no mark: {line}")),
+        Err(line) => return Err(anyhow!("this line has no mark: {line}")),
     };
-    plays(rt, alloc, title, &transcript)?;
-    if path == INTERLEAVINGS {
-        if !interleavings::holds(alloc, transcript.text())? {
-            return Err(anyhow!("{title}: what is told does not hold step by step"));
-        }
+    plays(rt, alloc, &transcript)?;
+    if path == INTERLEAVINGS && !interleavings::holds(alloc, transcript.text())? {
+        return Err(anyhow!("what is told does not hold step by step"));
     }
     Ok(())
 }
 
-/// Plays the rows of a file, and counts them. Each begins behind `== ` at the begin of a line, and an empty line stands before it.
-fn play_all<H: Print + Host>(
-    rt: &H,
-    alloc: Global,
-    path: &str,
-    text: &str,
-) -> anyhow::Result<usize> {
-    let mut rows = 0usize;
-    for row in text.split("\n== ").skip(1) {
-        play(rt, alloc, path, row)?;
-        rows = rows.saturating_add(1);
-    }
-    Ok(rows)
-}
-
 fn main(rt: HostRuntime) -> anyhow::Result<()> {
+    let alloc = rt.alloc();
     for path in FILES {
         let text = fs::read_to_string(&rt, path)?;
-        let rows = play_all(&rt, rt.alloc(), path, text.as_str())?;
-        println!(&rt; "{rows:3} {path}")?;
+        let play_row = |_: &str, row: &str| play(&rt, alloc, path, row);
+        play_rows(&rt, path, text.as_str(), &play_row)?;
     }
     Ok(())
 }

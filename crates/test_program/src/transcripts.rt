@@ -113,14 +113,14 @@ impl Transcript {
     }
 }
 
-/// What a row says behind its title, or the first line that says nothing.
-pub fn transcript_of(alloc: Global, row: &str) -> Result<Result<Transcript, &str>, AllocError> {
+/// What the text of a row says, or its first line that says nothing.
+pub fn transcript_of(alloc: Global, text: &str) -> Result<Result<Transcript, &str>, AllocError> {
     let mut transcript = Transcript {
         first: None,
         second: None,
         calls: Vec::new(alloc),
     };
-    for line in row.lines().skip(1) {
+    for line in text.lines() {
         let (mark, rest) = line.split_once(' ').unwrap_or((line, ""));
         if !transcript.note(alloc, mark, rest)? {
             return Ok(Err(line));
@@ -129,18 +129,24 @@ pub fn transcript_of(alloc: Global, row: &str) -> Result<Result<Transcript, &str
     Ok(Ok(transcript))
 }
 
-/// Whether a line is like another, in which `...` stands for anything.
+/// What stands in a text behind the first place of this piece.
+fn behind<'a>(text: Option<&'a str>, piece: &str) -> Option<&'a str> {
+    let (_, rest) = text?.split_once(piece)?;
+    Some(rest)
+}
+
+/// Whether a line is like another, in which `...` stands for anything: the first piece of the other one is at its begin, the last one is
+/// at its end, and each between them is looked for behind the one before.
 fn is_line_like(line: &str, like: &str) -> bool {
-    let (Some((start, _)), Some((_, end))) = (like.split_once("..."), like.rsplit_once("..."))
-    else {
+    let Some((start, pieces)) = like.split_once("...") else {
         return line == like;
     };
-    for piece in like.split("...") {
-        if !line.contains(piece) {
-            return false;
-        }
+    let (between, end) = pieces.rsplit_once("...").unwrap_or(("", pieces));
+    let mut rest = line.strip_prefix(start);
+    for piece in between.split("...") {
+        rest = behind(rest, piece);
     }
-    line.starts_with(start) && line.ends_with(end)
+    rest.is_some_and(|rest| rest.ends_with(end))
 }
 
 /// Whether a text is like another line by line. There a line `...` stands for any lines.
@@ -178,32 +184,22 @@ fn lay<H: Host>(rt: &H, path: &str, text: Option<&str>) -> io::Result<()> {
 }
 
 /// A call gives what it is to give; else what it gave is printed.
-fn play_call<H: Print + Host>(
-    rt: &H,
-    alloc: Global,
-    title: &str,
-    wanted: &Call,
-) -> anyhow::Result<()> {
+fn play_call<H: Print + Host>(rt: &H, alloc: Global, wanted: &Call) -> anyhow::Result<()> {
     let line = wanted.line.as_str();
     let called = call(rt, alloc, line, wanted.room)?;
     if !wanted.gave(&called) {
-        println!(rt; "{title}: {line}: {called}")?;
+        println!(rt; "{line}: {called}")?;
         return Err(anyhow!("this call gives something else"));
     }
     Ok(fs::write(rt, "out.txt", called.out.as_slice())?)
 }
 
 /// Each call of a row gives what it is to give.
-pub fn plays<H: Print + Host>(
-    rt: &H,
-    alloc: Global,
-    title: &str,
-    row: &Transcript,
-) -> anyhow::Result<()> {
+pub fn plays<H: Print + Host>(rt: &H, alloc: Global, row: &Transcript) -> anyhow::Result<()> {
     lay(rt, "a.txt", row.first.as_deref())?;
     lay(rt, "b.txt", row.second.as_deref())?;
     for wanted in &row.calls {
-        play_call(rt, alloc, title, wanted)?;
+        play_call(rt, alloc, wanted)?;
     }
     Ok(())
 }

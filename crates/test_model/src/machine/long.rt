@@ -2,7 +2,7 @@
 //! task that is tried again and again.
 
 use super::plays::{Handed, NONE, Pool, ask, asks, does};
-use crate::compare::is_same;
+use test_rows::is_same;
 use tp_record::entries::{Ask, Did, Grown, Looked, Offered, Ruled, Started};
 use tp_types::configs::Verdict;
 use tp_types::ids::{SlotId, TaskId};

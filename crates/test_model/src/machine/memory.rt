@@ -2,7 +2,7 @@
 //! the Nth allocation fails, as under `rt try --fail-alloc N`.
 
 use super::plays::{ANY, NONE, Pool, asks, read};
-use crate::compare::is_same;
+use test_rows::is_same;
 use tp_record::entries::{Ask, Did, Looked, Offered, Seconded};
 use tp_types::ids::{SlotId, TaskId};
 use tp_types::refusals::PoolError;

@@ -19,8 +19,8 @@ ghost use Rattle.tp_machine.specs.Stepped.{IsPaid, FitsOutcome};
 
 use super::long::{counts_what_is_done, retry_often};
 use super::memory::{keeps_all, stop_all, submit_all};
-use crate::compare::is_same;
 use std::alloc::{AllocError, Global};
+use test_rows::is_same;
 use tp_machine::answers::Begun;
 use tp_machine::machine::Machine;
 use tp_machine::steps::Stepped;
