@@ -24,17 +24,6 @@ const TIDY: Entry = Entry {
     did: Did::Tidy,
 };
 
-/// What a seat sees.
-fn sees<G: Naming>(
-    rt: &impl Abort,
-    line: usize,
-    glance: &Glance<G>,
-    seat: &mut PassSeat<G>,
-    wanted: RunState,
-) {
-    same(rt, line, &glance.glance(seat), &wanted);
-}
-
 /// Raises the state twice for the owner of a seat, which sees each raise, and notes an entry that raises nothing.
 fn raise_twice<G: Naming>(
     rt: &impl Abort,
@@ -46,11 +35,11 @@ fn raise_twice<G: Naming>(
 {
     let before = glance.raise(book, seat, &SHUTDOWN, RunState::Shutdown);
     same(rt, 1, &before, &RunState::Running);
-    sees(rt, 2, glance, seat, RunState::Shutdown);
+    same(rt, 2, &glance.glance(seat), &RunState::Shutdown);
     let before = glance.raise(book, seat, &TIDY, RunState::Tidying);
     same(rt, 3, &before, &RunState::Shutdown);
     glance.note(book, seat, &SHUTDOWN);
-    sees(rt, 4, glance, seat, RunState::Tidying);
+    same(rt, 4, &glance.glance(seat), &RunState::Tidying);
 }
 
 /// What another seat sees then, and the book's own, also once a task is forgotten.
@@ -60,12 +49,12 @@ fn look_on<G: Naming>(
     book: &mut BookSeat<G>,
     seat: &mut PassSeat<G>,
 ) {
-    sees(rt, 5, glance, seat, RunState::Tidying);
+    same(rt, 5, &glance.glance(seat), &RunState::Tidying);
     glance.show(book, seat);
     glance.law_is_front(book, seat);
     glance.forget(book, TaskId(0));
     same(rt, 6, &glance.published(book), &RunState::Tidying);
-    sees(rt, 7, glance, seat, RunState::Tidying);
+    same(rt, 7, &glance.glance(seat), &RunState::Tidying);
 }
 
 /// What other seats see of a raise, and when.
@@ -75,7 +64,7 @@ fn look_at_raises<G: Naming, R: Abort>(rt: &R, blank: BlankGlance)
     let (glance, mut book) = blank.open::<G>();
     let mut first = glance.split_book(&mut book);
     let mut second = glance.split(&mut first);
-    sees(rt, 0, &glance, &mut first, RunState::Running);
+    same(rt, 0, &glance.glance(&mut first), &RunState::Running);
     raise_twice(rt, &glance, &mut book, &mut first);
     look_on(rt, &glance, &mut book, &mut second);
 }

@@ -2,13 +2,13 @@
 
 ghost use Rattle.std.specs.Prelude.{◌≡◌};
 
-use crate::compare::same;
-use std::alloc::Global;
-use std::process::Abort;
-use std::test::Fail;
+use crate::calls::{Call, Said, Tested};
+use std::alloc::{AllocError, Global};
+use std::mem;
 use tp_record::entries::{Ask, Did, Entry};
 use tp_record::packed::{Packed, unpacked};
 use tp_record::recorders::{Full, Recorder, Tally};
+use tp_text::numbers::long_number;
 
 fn tick(moment: u64) -> Entry
     ensures { result ≡ record { by = 1; ask = Ask.Tick moment; did = Did.Tick moment } }
@@ -21,42 +21,50 @@ fn tick(moment: u64) -> Entry
 }
 
 /// Notes a tick where there is room for it. The answer says whether there was.
-fn note(full: &mut Full, moment: u64) -> bool {
-    if full.room() == 0 {
+fn note<R: Recorder>(recorder: &mut R, moment: u64) -> bool {
+    if recorder.room() == 0 {
         return false;
     }
-    full.note(tick(moment));
+    recorder.note(tick(moment));
     true
 }
 
-/// These are the 64 ticks: so many, and the first and the last of them.
-fn has_ticks(rt: &impl Abort, alloc: Global, packed: &[Packed]) -> Result<(), Fail> {
-    let entries = unpacked(alloc, packed)?;
-    let ends = (entries.len(), entries.first(), entries.last());
-    same(rt, 64, &ends, &(64, Some(&tick(0)), Some(&tick(63))));
-    Ok(())
-}
-
-#[test]
-fn notes_in_order(rt: HostRuntime) -> Result<(), Fail> {
-    let mut record = Full::new(rt.alloc(), 64)?;
-    same(&rt, 0, &record.room(), &64);
-    for moment in 0..64 {
-        same(&rt, moment as usize, &note(&mut record, moment), &true);
+/// Makes a call of any recorder.
+fn answer<R: Recorder>(recorder: &mut R, call: &Call<'_>) -> Said {
+    match call.name {
+        "room" => call.says(&recorder.room()),
+        "len" => call.says(&recorder.len()),
+        "tick" => call.says(&note(recorder, long_number(call.first)?)),
+        _ => None,
     }
-    same(&rt, 64, &(record.len(), record.room()), &(64, 0));
-    has_ticks(&rt, rt.alloc(), record.entries())?;
-    has_ticks(&rt, rt.alloc(), &record.into_entries())
 }
 
-#[test]
-fn counts_alone(rt: HostRuntime) {
-    let mut record = Tally::new();
-    same(&rt, 0, &(record.len(), record.room()), &(0, u64::MAX));
-    for moment in 0..3 {
-        if record.room() > 0 {
-            record.note(tick(moment));
+impl Tested for Tally {
+    fn answer(&mut self, call: &Call<'_>) -> Said {
+        answer(self, call)
+    }
+}
+
+/// A recorder that keeps its entries, and those that it gave at its end.
+#[derive(Drop)]
+pub struct Kept(pub Full, pub Vec<Packed>);
+
+/// The entry at this place.
+fn entry(alloc: Global, packed: &[Packed], at: usize) -> Result<Option<Entry>, AllocError> {
+    Ok(unpacked(alloc, packed)?.get(at).copied())
+}
+
+impl Tested for Kept {
+    fn answer(&mut self, call: &Call<'_>) -> Said {
+        match call.name {
+            "entry" => call.says(&entry(call.alloc, self.0.entries(), call.size()?)),
+            "given" => call.says(&entry(call.alloc, &self.1, call.size()?)),
+            "end" => {
+                let ended = mem::replace(&mut self.0, Full::new(call.alloc, 0).ok()?);
+                self.1 = ended.into_entries();
+                call.says(&self.1.len())
+            }
+            _ => answer(&mut self.0, call),
         }
     }
-    same(&rt, 3, &(record.len(), record.room()), &(3, u64::MAX - 3));
 }

@@ -1,26 +1,25 @@
-//! A worker's turns at a stand-in for its pool, which answers by a script and keeps each deed.
-use crate::compare::same;
+//! A worker's turns at a stand-in for its pool, which answers by a script and keeps each deed; and the path of a task's submission.
+
+use crate::calls::{Call, Said, Tested};
+use anyhow::anyhow;
 use std::alloc::Global;
-use std::process::Abort;
 use std::sync::Wait;
-use std::test::Fail;
 use tp_protocols::deeds::{Deed, Departed, Ended, Taken};
 use tp_protocols::flags::CancelFlag;
 use tp_protocols::gates::Point;
 use tp_protocols::jobs::Job;
-use tp_protocols::turns::{Begun, Closing, Turn, Workplace, one_turn};
+use tp_protocols::paths::{Next, follows};
+use tp_protocols::turns::{Begun, Turn, Workplace, one_turn};
+use tp_text_record::entries::read_entry;
+use tp_text_record::versions::Version;
 use tp_types::ids::{SlotId, TaskId};
-use tp_types::refusals::PoolError;
 use tp_types::tasks::{Outcome, Promise, WIDEST, as_widest};
 
 const TASK: TaskId = TaskId(3);
 
-/// A job that answers its value, or the fault 9.
+/// A job that ends so.
 #[derive(Drop)]
-struct Fixed {
-    value: i64,
-    faults: bool,
-}
+struct Fixed(Outcome);
 
 impl Job for Fixed {
     ghost use Rattle.tp_types.specs.declared.tasks.TheConstants.{WIDEST};
@@ -32,24 +31,29 @@ impl Job for Fixed {
     }
 
     fn call(&mut self, _cancel: &CancelFlag) -> Outcome {
-        as_widest(if self.faults { Err(9) } else { Ok(self.value) })
+        as_widest(self.0)
     }
 }
 
-/// What a turn is to meet.
-#[derive(Clone, Copy)]
-enum Script {
-    Leaves,
-    NoSlot,
-    NoTask,
-    Cancelled,
-    Runs(bool, Ended, Departed),
+/// What a turn is to meet: what its `take` and its `begin` come to, and whether its job faults.
+fn script(name: &str) -> anyhow::Result<(Taken, Deed, bool)> {
+    match name {
+        "leaves" => Ok((Taken::Left, Deed::Unbegun, false)),
+        "noslot" => Ok((Taken::Refused, Deed::Unbegun, false)),
+        "notask" => Ok((Taken::Task, Deed::Unbegun, false)),
+        "cancelled" => Ok((Taken::Task, Deed::Skipped(TASK), false)),
+        "runs" => Ok((Taken::Task, Deed::Began(TASK), false)),
+        "dies" => Ok((Taken::Task, Deed::Began(TASK), true)),
+        _ => Err(anyhow!("no such script")),
+    }
 }
 
 /// A pool by a script, with the deeds so far.
 #[derive(Drop)]
 struct Stage {
-    script: Script,
+    taken: Taken,
+    begun: Deed,
+    faults: bool,
     flag: CancelFlag,
     deeds: Vec<Deed>,
 }
@@ -70,29 +74,16 @@ impl<R: Wait> Workplace<Fixed, R> for Stage {
     }
 
     fn take(&mut self, _rt: &R) -> Taken {
-        let taken = match self.script {
-            Script::Leaves => Taken::Left,
-            Script::NoSlot => Taken::Refused,
-            _ => Taken::Task,
-        };
-        self.note(Deed::Took(taken));
-        taken
+        self.note(Deed::Took(self.taken));
+        self.taken
     }
 
     fn begin(&mut self, _rt: &R) -> Begun<Fixed> {
-        match self.script {
-            Script::Runs(faults, _, _) => {
-                self.note(Deed::Began(TASK));
-                Begun::Run(TASK, Fixed { value: 5, faults })
-            }
-            Script::Cancelled => {
-                self.note(Deed::Skipped(TASK));
-                Begun::Skip(TASK)
-            }
-            _ => {
-                self.note(Deed::Unbegun);
-                Begun::Refused
-            }
+        self.note(self.begun);
+        match self.begun {
+            Deed::Began(t) => Begun::Run(t, Fixed(if self.faults { Err(9) } else { Ok(5) })),
+            Deed::Skipped(t) => Begun::Skip(t),
+            _ => Begun::Refused,
         }
     }
 
@@ -112,19 +103,17 @@ impl<R: Wait> Workplace<Fixed, R> for Stage {
     }
 
     fn end(&mut self, _rt: &R, outcome: Outcome) -> Ended {
-        let ended = match self.script {
-            Script::Runs(_, ended, _) => ended,
-            _ => Ended::Refused,
+        let ended = if self.faults {
+            Ended::Dying
+        } else {
+            Ended::Live
         };
         self.note(Deed::Ended(outcome, ended));
         ended
     }
 
     fn leave(&mut self, _rt: &R) -> Departed {
-        let departed = match self.script {
-            Script::Runs(_, _, departed) => departed,
-            _ => Departed::Refused,
-        };
+        let departed = Departed::Replaced(SlotId(2));
         self.note(Deed::Left(departed));
         departed
     }
@@ -138,94 +127,49 @@ impl<R: Wait> Workplace<Fixed, R> for Stage {
     }
 }
 
-/// The turn of each script, and what it does.
-const RUN: [Deed; 9] = [
-    Deed::Passed(Point::Take),
-    Deed::Took(Taken::Task),
-    Deed::Began(TASK),
-    Deed::Before(TASK),
-    Deed::Passed(Point::Body),
-    Deed::Ran(Ok(5)),
-    Deed::After(TASK, Some(Ok(5))),
-    Deed::Passed(Point::End),
-    Deed::Ended(Ok(5), Ended::Live),
-];
+/// How a turn went, and what was done in it.
+#[derive(Drop)]
+pub struct Turned(Turn, Vec<Deed>);
 
-const DEATH: [Deed; 12] = [
-    Deed::Passed(Point::Take),
-    Deed::Took(Taken::Task),
-    Deed::Began(TASK),
-    Deed::Before(TASK),
-    Deed::Passed(Point::Body),
-    Deed::Ran(Err(9)),
-    Deed::After(TASK, Some(Err(9))),
-    Deed::Passed(Point::End),
-    Deed::Ended(Err(9), Ended::Dying),
-    Deed::Left(Departed::Replaced(SlotId(2))),
-    Deed::Replaced(SlotId(2)),
-    Deed::Tidied,
-];
-
-const SKIP: [Deed; 5] = [
-    Deed::Passed(Point::Take),
-    Deed::Took(Taken::Task),
-    Deed::Skipped(TASK),
-    Deed::Before(TASK),
-    Deed::After(TASK, None),
-];
-
-const LEAVING: [Deed; 3] = [
-    Deed::Passed(Point::Take),
-    Deed::Took(Taken::Left),
-    Deed::Tidied,
-];
-
-const NO_SLOT: [Deed; 2] = [Deed::Passed(Point::Take), Deed::Took(Taken::Refused)];
-
-const NO_TASK: [Deed; 3] = [
-    Deed::Passed(Point::Take),
-    Deed::Took(Taken::Task),
-    Deed::Unbegun,
-];
-
-/// Plays one turn, and compares how it went and what was done.
-fn play<R: Abort + Wait>(
-    rt: &R,
-    alloc: Global,
-    script: Script,
-    turn: Turn,
-    deeds: &[Deed],
-) -> Result<(), PoolError> {
+/// A turn by the script of this name.
+pub fn scripted<R: Wait>(rt: &R, alloc: Global, name: &str) -> anyhow::Result<Turned> {
+    let (taken, begun, faults) = script(name)?;
     let mut stage = Stage {
-        script,
+        taken,
+        begun,
+        faults,
         flag: CancelFlag::new(alloc)?,
         deeds: Vec::new(alloc),
     };
-    let went = one_turn(rt, &mut stage);
-    same(rt, 0, &went, &turn);
-    same(rt, 0, &stage.deeds.as_slice(), &deeds);
-    Ok(())
+    let turn = one_turn(rt, &mut stage);
+    Ok(Turned(turn, stage.deeds))
 }
 
-const RUNS: Script = Script::Runs(false, Ended::Live, Departed::Refused);
-
-const DIES: Script = Script::Runs(true, Ended::Dying, Departed::Replaced(SlotId(2)));
-
-const DIED: Closing = Closing::Died(Departed::Replaced(SlotId(2)));
-
-static TURNS: [(Script, Turn, &[Deed]); 6] = [
-    (Script::Leaves, Turn::Left, &LEAVING),
-    (Script::NoSlot, Turn::Refused, &NO_SLOT),
-    (Script::NoTask, Turn::Unbegun, &NO_TASK),
-    (Script::Cancelled, Turn::Skipped(TASK), &SKIP),
-    (RUNS, Turn::Ran(TASK, Ok(5), Closing::Live), &RUN),
-    (DIES, Turn::Ran(TASK, Err(9), DIED), &DEATH),
-];
-
-#[test]
-fn turns_are_in_order(rt: HostRuntime) -> Result<(), Fail> {
-    for (script, turn, deeds) in &TURNS {
-        play(&rt, rt.alloc(), *script, *turn, deeds)?;
+impl Tested for Turned {
+    fn answer(&mut self, call: &Call<'_>) -> Said {
+        match call.name {
+            "turn" => call.says(&self.0),
+            "deed" => call.says(&self.1.get(call.size()?)),
+            _ => None,
+        }
     }
-    Ok(())
+}
+
+/// The task whose submission is followed.
+const SUBMITTED: TaskId = TaskId(7);
+
+/// The path of its submission: what follows next; none before its first answer.
+#[derive(Drop)]
+pub struct Path(pub Option<Next>);
+
+impl Tested for Path {
+    fn answer(&mut self, call: &Call<'_>) -> Said {
+        let (_, entry) = read_entry(Version::Two, call.line.as_bytes())?;
+        let next = match self.0 {
+            None => follows(SUBMITTED, &entry.did),
+            Some(next) => next.after(SUBMITTED, &entry.did),
+        };
+        self.0 = Some(next);
+        call.says(&next)
+    }
 }
