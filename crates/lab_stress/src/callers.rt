@@ -18,8 +18,8 @@ fn any(luck: &mut Luck, among: u32, now: &mut u64) -> Call {
         5 => Call::Set(Setting::Keep(u64::from(luck.below(4)))),
         6 => Call::Set(Setting::CoreTimeout(luck.once_in(2))),
         7 => Call::Core(luck.below(9)),
-        8 => Call::Prestart(false),
-        9 => Call::PrestartAll,
+        8 => Call::StartOne(false),
+        9 => Call::StartAll,
         10 => Call::Look,
         _ => {
             *now = now.saturating_add(u64::from(luck.below(5)));
@@ -80,7 +80,7 @@ impl Plan {
         if way % 2 == 1 {
             lines.push(Line::Makes(Call::ShutDown))?;
             lines.push(pauses(&mut luck))?;
-            lines.push(Line::Tries(Call::PrestartAll))?;
+            lines.push(Line::Tries(Call::StartAll))?;
         }
         if 2 <= way {
             lines.push(Line::Makes(Call::Stop))?;

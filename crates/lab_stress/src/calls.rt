@@ -19,8 +19,8 @@ pub enum Call {
     Set(Setting),
     /// The core size is set, a core worker is started, who must be or not, or all are. A life's callers can't do that.
     Core(u32),
-    Prestart(bool),
-    PrestartAll,
+    StartOne(bool),
+    StartAll,
     /// The pool is looked at, shut down, or stopped, or its end is waited for, for so many milliseconds at most.
     Look,
     ShutDown,
@@ -119,7 +119,7 @@ pub fn make<P: Calls<Task = Chore>>(
         Call::Purge => drop(pool.purge()?),
         Call::Take(group) => drop(pool.take_for(group, Duration::from_millis(1))?),
         Call::Set(setting) => pool.set(setting)?,
-        Call::Core(_) | Call::Prestart(_) | Call::PrestartAll => {}
+        Call::Core(_) | Call::StartOne(_) | Call::StartAll => {}
         Call::Look => drop(pool.look()),
         Call::ShutDown => pool.shutdown()?,
         Call::Stop => {

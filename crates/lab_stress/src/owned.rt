@@ -65,8 +65,8 @@ fn make<G: PoolName, K: Keeper + Send + 'static, R: Runtime + Clock>(
         Call::Set(Setting::CoreTimeout(on)) => pool.allow_core_timeout(rt, on, pass)?,
         Call::Set(Setting::Tick(now)) => pool.tick(rt, now, pass)?,
         Call::Core(core) => pool.set_core(rt, core, pass)?,
-        Call::Prestart(must) => ensure(pool.prestart_core(rt, pass)? || !must, "no worker came")?,
-        Call::PrestartAll => drop(pool.prestart_all(rt, pass)?),
+        Call::StartOne(must) => ensure(pool.prestart_core(rt, pass)? || !must, "no worker came")?,
+        Call::StartAll => drop(pool.prestart_all(rt, pass)?),
         Call::Look => drop(pool.look(rt, pass)),
         Call::ShutDown => pool.shutdown(rt, pass)?,
         Call::Stop => {

@@ -80,7 +80,7 @@ static GIVES_UP: [Line; 8] = [
 static STARTS_ANEW: [Line; 4] = [
     Line::Until(Sign::Told, 1),
     Line::SubmitsMany(2, 1, Work::Nothing),
-    Line::Makes(Call::Prestart(true)),
+    Line::Makes(Call::StartOne(true)),
     Line::Tells(Sign::Told),
 ];
 
