@@ -20,8 +20,7 @@ fn reserve_and_fill(rt: &impl Abort, tasks: &mut Tasks<Queue>, from: u32, to: u3
     if tasks.reserve(to as usize).is_err() {
         let seen = (tasks.queue.len(), tasks.queue.head());
         same(rt, 0, &seen, &(from as usize, head));
-        let again = tasks.reserve(to as usize);
-        same(rt, 1, &again.is_ok(), &true);
+        same(rt, 1, &tasks.reserve(to as usize).is_ok(), &true);
     }
     for number in from..to {
         let placed = tasks.offer(TaskId(number), 0);
@@ -95,8 +94,7 @@ fn run_thousands(rt: &impl Abort, alloc: Global, table: &mut tasks::Table) {
         run(rt, alloc, table, t);
     }
     for t in 0..4000u32 {
-        let first = table.tasks.take_done(t % 7);
-        same(rt, 7, &first, &Some(TaskId(t)));
+        same(rt, 7, &table.tasks.take_done(t % 7), &Some(TaskId(t)));
     }
 }
 

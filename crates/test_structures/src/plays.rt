@@ -91,13 +91,19 @@ pub fn play<T: Tested>(
     text: &str,
 ) -> anyhow::Result<()> {
     let p = p as u64;
+    let mut is_under = false;
     for (at, line) in text.lines().enumerate() {
-        let filled = Numbers { n: 0, p }.fill(alloc, line)?;
-        if line.starts_with([' ', '#']) || line.starts_with("on ") {
+        if line.starts_with(' ') {
+            is_same(rt, at, &(line, is_under), &(line, true))?;
             continue;
         }
-        let Some((from, to)) = range(filled.as_str()) else {
-            play_line(rt, alloc, &mut tested, at, filled.as_str())?;
+        let filled = Numbers { n: 0, p }.fill(alloc, line)?;
+        let numbers = range(filled.as_str());
+        is_under = numbers.is_some();
+        let Some((from, to)) = numbers else {
+            if !line.starts_with('#') && !line.starts_with("on ") {
+                play_line(rt, alloc, &mut tested, at, filled.as_str())?;
+            }
             continue;
         };
         for n in from..to {
