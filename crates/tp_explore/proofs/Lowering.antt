@@ -148,16 +148,14 @@ starting_left c (suc more) = omega arith
 begun_left : (s : states.State) (c : Caller) (d : Did) → (begun s c d).left ≤ c.left
 begun_left s c (did.Submit t k p l) = along_left s c t
 begun_left s c (did.Core n more) = starting_left c more
-begun_left s c (did.Prestart (Some w)) = omega arith
-begun_left s c _ = omega arith
+begun_left s c _ = grind arith
 
 submitting_left : (s : states.State) (c : Caller) (t : TaskId) (d : Did) → (submitting s c t d).left ≤ c.left
 submitting_left s c t (did.Second u (seconded.StayReserve w)) = omega arith
 submitting_left s c t _ = along_left s c t
 
 started_left : (c : Caller) (more : ℕ) (d : Did) → (started c more d).left ≤ c.left
-started_left c more (did.Prestart (Some w)) = omega arith
-started_left c more _ = omega arith
+started_left c more d = grind arith
 
 staffed_left : (c : Caller) (more : ℕ) (d : Did) → (staffed c more d).left ≤ c.left
 staffed_left c more (did.Open w opened.Live) = starting_left c more

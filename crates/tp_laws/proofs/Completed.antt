@@ -55,10 +55,7 @@ there_before : (c : Config) (h : List Entry) (d : Did) (t : ℕ) → Given c h d
 there_before c h (did.End w u o) t given is =
     let same : u.0 ≡ t = cc in
     subst (λ x. (x < submitted h) × (is_gone_place (place h x) ≡ false)) same (given.1.0, ap is_gone_place given.1.1)
-there_before c h (did.Begin w (started.Skip u)) t given is =
-    let same : u.0 ≡ t = cc in
-    subst (λ x. (x < submitted h) × (is_gone_place (place h x) ≡ false)) same (given.1.0, ap is_gone_place given.1.1)
-there_before c h _ t given is = absurd (let e : ◌≡◌ {A = Option ℕ} None (Some t) = is in cc)
+there_before c h _ t given is = grind (arith, nat_tests)
 
 submitted_more : (e : Entry) (h : List Entry) → submitted h ≤ submitted (e ∷ h)
 submitted_more e h = elim (is_submit e.did) as (λ b. submitted h ≤ cond b (suc (submitted h)) (submitted h)) [ true ↦ omega arith | false ↦ omega arith ]

@@ -1,7 +1,7 @@
 -- How many slots there are, and how an entry changes that.
 use Rattle.std.proofs.Common.{◌≡◌, ℕ, zero, suc, ◌+◌, ◌-◌, ◌<◌, ◌≤◌, Bool, true, false, cond, List, ◌∷◌, ◌++◌, Some, None, Option, refl, arith, sym, ap, ◌∙◌, inl, inr}
 use mathlib.Core.Path.{ap₂}
-use Rattle.std.specs.Prelude.{◌==◌, unwrap_or, is_some, count_by}
+use Rattle.std.specs.Prelude.{unwrap_or, is_some, count_by}
 use Rattle.std.proofs.lemmas.Bool.{false≢true, cases_lt, cases_eq, eq-eqb, ne_eqb}
 use Rattle.std.proofs.lemmas.Bool.Decides.{nat_tests}
 use Rattle.tp_types.specs.declared.configs.Config.{Config}
@@ -9,8 +9,6 @@ use Rattle.tp_record.specs.declared.entries.Entry.{Entry}
 use Rattle.tp_record.specs.declared.entries.Did.{Did}
 use Rattle.tp_record.specs.declared.entries.Did.TheVariants as did
 use Rattle.tp_record.specs.declared.entries.Looked.TheVariants as looked
-use Rattle.tp_record.specs.declared.entries.Seconded.TheVariants as seconded
-use Rattle.tp_record.specs.declared.entries.Grown.TheVariants as grown
 use Rattle.tp_record.specs.declared.entries.Opened.TheVariants as opened
 use Rattle.tp_record.specs.declared.entries.Failed.TheVariants as failed
 use Rattle.tp_record.specs.declared.entries.Took.TheVariants as took
@@ -151,37 +149,12 @@ waits_there h w (inr idle) = slot_there h w (stages.Idle idle.0) None idle.1
 -- the number that an entry frees is a slot
 pub freed_given : (c : Config) (h : List Entry) (d : Did) (w : ℕ) → Given c h d → frees d ≡ Some w → is_slot h w ≡ true
 freed_given c h (did.Open v opened.GivenUp) w given is = let same : v.0 ≡ w = cc in ap (is_slot h) (sym same) ∙ slot_there h v.0 _ _ given.0
-freed_given c h (did.Open v (opened.GivenUpRefuse t)) w given is =
-    let same : v.0 ≡ w = cc in
-    ap (is_slot h) (sym same) ∙ elim given.0 [ inl row ↦ slot_there h v.0 _ _ row | inr row ↦ slot_there h v.0 _ _ row ]
-freed_given c h (did.Fail v failed.Nothing) w given is = let same : v.0 ≡ w = cc in ap (is_slot h) (sym same) ∙ slot_there h v.0 _ _ given
-freed_given c h (did.Fail v (failed.Offer t)) w given is = let same : v.0 ≡ w = cc in ap (is_slot h) (sym same) ∙ slot_there h v.0 _ _ given.0
-freed_given c h (did.Fail v (failed.Refuse t)) w given is =
-    let same : v.0 ≡ w = cc in
-    ap (is_slot h) (sym same) ∙ elim given.0 [ inl row ↦ slot_there h v.0 _ _ row | inr row ↦ slot_there h v.0 _ _ row.0 ]
-freed_given c h (did.Take v took.Leave) w given is = let same : v.0 ≡ w = cc in ap (is_slot h) (sym same) ∙ waits_there h v.0 given.0
-freed_given c h (did.Leave v None) w given is = let same : v.0 ≡ w = cc in ap (is_slot h) (sym same) ∙ slot_there h v.0 _ _ given.0
-freed_given c h (did.Leave v (Some u)) w given is = let same : v.0 ≡ w = cc in ap (is_slot h) (sym same) ∙ slot_there h v.0 _ _ given.0
-freed_given c h _ w given is = absurd (let e : ◌≡◌ {A = Option ℕ} None (Some w) = is in cc)
+freed_given c h _ w given is = grind (arith, nat_tests)
 
 -- the number that an entry reserves is no slot, but for the one that it frees
 pub made_given : (c : Config) (h : List Entry) (d : Did) (w : ℕ) → Given c h d → reserves d ≡ Some w → put (frees d) false (is_slot h) w ≡ false
 made_given c h (did.Submit t k pr (looked.Reserve v)) w given is = let same : v.0 ≡ w = cc in ap (is_slot h) (sym same) ∙ free_number h v.0 given.1.2
-made_given c h (did.Look t (looked.Reserve v)) w given is = let same : v.0 ≡ w = cc in ap (is_slot h) (sym same) ∙ free_number h v.0 given.1.2
-made_given c h (did.Second t (seconded.StayReserve v)) w given is = let same : v.0 ≡ w = cc in ap (is_slot h) (sym same) ∙ free_number h v.0 given.5
-made_given c h (did.Grow t (grown.Reserve v)) w given is = let same : v.0 ≡ w = cc in ap (is_slot h) (sym same) ∙ free_number h v.0 given.3
-made_given c h (did.Leave u (Some v)) w given is =
-    let same : v.0 ≡ w = cc in
-    ap (put (Some u.0) false (is_slot h)) (sym same) ∙ elim given.3 [
-      | inl free ↦ (let none : is_slot h v.0 ≡ false = free_number h v.0 free in rw none (either (v.0 == u.0)))
-      | inr own ↦ rw (eq-eqb v.0 u.0 own) refl
-    ]
-  where
-    either : (b : Bool) → cond b false false ≡ false
-    either true = refl
-    either false = refl
-made_given c h (did.Prestart (Some v)) w given is = let same : v.0 ≡ w = cc in ap (is_slot h) (sym same) ∙ free_number h v.0 given.2
-made_given c h _ w given is = absurd (let e : ◌≡◌ {A = Option ℕ} None (Some w) = is in cc)
+made_given c h _ w given is = let free = free_number h w in grind (arith, nat_tests)
 
 reach_some : (o : Option ℕ) (w : ℕ) → o ≡ Some w → suc w ≤ reach o
 reach_some None w is = absurd cc

@@ -92,31 +92,7 @@ both false b x y = x
 
 pub fits_given : (c : Config) (h : List Entry) (d : Did) (t : ℕ) → Given c h d → fits_place d t (submitted h) (place h t) ≡ true
 fits_given c h (did.Submit u k pr l) t g = eq-eqb _ _ g.0
-fits_given c h (did.Look u l) t g = fits_is h u.0 t at.Looking is_looking_place g.0 refl
-fits_given c h (did.Offer u offered.Queued) t g = fits_is h u.0 t at.ToOffer is_offer_place g.0 refl
-fits_given c h (did.Offer u (offered.Hand w)) t g = fits_is h u.0 t at.ToOffer is_offer_place g.0 refl
-fits_given c h (did.Offer u offered.Full) t g = fits_is h u.0 t at.ToOffer is_offer_place g refl
-fits_given c h (did.Second u seconded.Back) t g = fits_is h u.0 t at.Queued is_queued_place g.0 refl
-fits_given c h (did.Second u seconded.Stay) t g = known_is (submitted h) u.0 t g.0
-fits_given c h (did.Second u (seconded.StayReserve w)) t g = known_is (submitted h) u.0 t g.0
-fits_given c h (did.Grow u (grown.Reserve w)) t g = fits_is h u.0 t at.ToGrow is_grow_place g.0 refl
-fits_given c h (did.Grow u grown.Refuse) t g = fits_is h u.0 t at.ToGrow is_grow_place g refl
-fits_given c h (did.Verdict u v (ruled.RetryDrop x)) t g =
-    both _ _ (fits_is h u.0 t at.Refused is_refused_place g.0 refl) (fits_is h x.0 t at.Queued is_queued_place g.1.3 refl)
-fits_given c h (did.Verdict u v _) t g = fits_is h u.0 t at.Refused is_refused_place g.0 refl
-fits_given c h (did.CallerEnd u o) t g = fits_is h u.0 t at.Caller is_caller_place g refl
-fits_given c h (did.Open w (opened.GivenUpRefuse u)) t g = fits_is h u.0 t (at.Held w) (is_held_place w.0) g.1 (eq-eqb w.0 w.0 refl)
-fits_given c h (did.Fail w (failed.Offer u)) t g = fits_is h u.0 t (at.Held w) (is_held_place w.0) g.1 (eq-eqb w.0 w.0 refl)
-fits_given c h (did.Fail w (failed.Refuse u)) t g = fits_is h u.0 t (at.Held w) (is_held_place w.0) g.1 (eq-eqb w.0 w.0 refl)
-fits_given c h (did.Take w (took.Held u)) t g = fits_is h u.0 t (at.Held w) (is_held_place w.0) g.1 (eq-eqb w.0 w.0 refl)
-fits_given c h (did.Take w (took.Head u)) t g = fits_is h u.0 t at.Queued is_queued_place g.2 refl
-fits_given c h (did.Begin w (started.Run u)) t g = fits_is h u.0 t (at.Taken w) (is_taken_place w.0) g.1 (eq-eqb w.0 w.0 refl)
-fits_given c h (did.Begin w (started.Skip u)) t g = fits_is h u.0 t (at.Taken w) (is_taken_place w.0) g.1 (eq-eqb w.0 w.0 refl)
-fits_given c h (did.End w u o) t g = fits_is h u.0 t (at.Running w) (is_running_place w.0) g.1 (eq-eqb w.0 w.0 refl)
-fits_given c h (did.Remove u true) t g = fits_is h u.0 t at.Queued is_queued_place g refl
-fits_given c h (did.Cancel u flag true) t g = known_is (submitted h) u.0 t g.0
-fits_given c h (did.Cancel u flag false) t g = known_is (submitted h) u.0 t g.0
-fits_given c h _ t g = refl
+fits_given c h _ t g = grind (arith, nat_tests)
 
 abbrev pub fits_looked : Looked → ℕ → Bool
 fits_looked looked.Refuse r = nat_lt 0 r
@@ -143,29 +119,7 @@ fits_rank d r = true
 
 pub rank_given : (c : Config) (h : List Entry) (d : Did) → Given c h d → fits_rank d (rank h) ≡ true
 rank_given c h (did.Submit u k pr (looked.Reserve w)) g = eq-eqb _ _ g.1.0
-rank_given c h (did.Submit u k pr looked.Queue) g = eq-eqb _ _ g.1
-rank_given c h (did.Submit u k pr looked.Refuse) g = lt-ltb _ _ g.1
-rank_given c h (did.Look u (looked.Reserve w)) g = eq-eqb _ _ g.1.0
-rank_given c h (did.Look u looked.Queue) g = eq-eqb _ _ g.1
-rank_given c h (did.Look u looked.Refuse) g = lt-ltb _ _ g.1
-rank_given c h (did.Second u seconded.Back) g = lt-ltb _ _ g.2
-rank_given c h (did.Grow u (grown.Reserve w)) g = eq-eqb _ _ g.1
-rank_given c h (did.Verdict u v ruled.Rejected) g = refl
-rank_given c h (did.Verdict u v ruled.Discarded) g = refl
-rank_given c h (did.Verdict u v ruled.Caller) g = eq-eqb _ _ g.1.0
-rank_given c h (did.Verdict u v ruled.Skip) g = eq-eqb _ _ g.1.0
-rank_given c h (did.Verdict u v ruled.Retry) g = eq-eqb _ _ g.1.0
-rank_given c h (did.Verdict u v (ruled.RetryDrop x)) g = eq-eqb _ _ g.1.0
-rank_given c h (did.Open w opened.Live) (inl bare) = le-leb _ _ bare.1
-rank_given c h (did.Open w opened.Live) (inr held) = let e = held.3 in rw e refl
-rank_given c h (did.Open w opened.GivenUp) g = le-leb _ _ g.1
-rank_given c h (did.Open w (opened.GivenUpRefuse u)) g = le-leb _ _ g.2
-rank_given c h (did.Fail w (failed.Offer u)) g = eq-eqb _ _ g.2
-rank_given c h (did.Take w (took.Head u)) g = le-leb _ _ g.3
-rank_given c h (did.Take w took.Idle) g = eq-eqb _ _ g.2
-rank_given c h did.Tidy g = elim g.1 [ inl two ↦ rw two refl | inr one ↦ rw one.0 refl ]
-rank_given c h did.Ended g = eq-eqb _ _ g
-rank_given c h _ g = refl
+rank_given c h _ g = grind (arith, nat_tests)
 
 -- what is said of each entry is said at each front
 pub told_front : (c : Config) (later h : List Entry) → Told c (later ++ h) → Told c h

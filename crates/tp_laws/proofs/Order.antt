@@ -4,6 +4,7 @@ use Rattle.std.specs.Prelude.{◌==◌, ◌||◌, nat_le, filter, option_to_list
 use Rattle.std.proofs.lemmas.Bool.{false_from_ne_true, false≢true, eq-eqb, eqb-true, leb-true, or_cases}
 use Rattle.std.proofs.lemmas.List.{append-nil}
 use Rattle.std.proofs.lemmas.List.Elements.{filter-append}
+use Rattle.std.proofs.lemmas.Bool.Decides.{nat_tests}
 use Rattle.tp_types.specs.declared.configs.Config.{Config}
 use Rattle.tp_types.specs.Queues.{is_ranked}
 use Rattle.tp_record.specs.declared.entries.Entry.{Entry}
@@ -26,10 +27,7 @@ turn_given : (c : Config) (h : List Entry) (d : Did) (u : ℕ) → Given c h d �
 turn_given c h (did.Take w (took.Head x)) u given is =
     let same : x.0 ≡ u = cc in
     subst (λ y. ((rest : List ℕ) × (queue c h ≡ y ∷ rest)) × (is_queued_place (place h y) ≡ true)) same (given.1, rw given.2.1 refl)
-turn_given c h (did.Verdict t v (ruled.RetryDrop x)) u given is =
-    let same : x.0 ≡ u = cc in
-    subst (λ y. ((rest : List ℕ) × (queue c h ≡ y ∷ rest)) × (is_queued_place (place h y) ≡ true)) same (given.1.2, rw given.1.3.1 refl)
-turn_given c h _ u given is = absurd (let e : ◌≡◌ {A = Option ℕ} None (Some u) = is in cc)
+turn_given c h _ u given is = grind (arith, nat_tests)
 
 pub first_leaves : (c : Config) (e : Entry) (h : List Entry) → Told c (e ∷ h) → FirstLeaves c e h
 first_leaves c e h told u is =

@@ -98,8 +98,7 @@ core_was e h w other is = grind (arith, nat_tests)
 -- the slot that an entry reserves for the core was none
 core_free : (c : Config) (h : List Entry) (d : Did) (w : ℕ) → Given c h d → is_it (makes_core d) w ≡ true → slot_row h w ≡ None
 core_free c h (did.Submit t k p (looked.Reserve u)) w given is = grind (arith, nat_tests)
-core_free c h (did.Look t (looked.Reserve u)) w given is = grind (arith, nat_tests)
-core_free c h _ w given is = absurd (grind arith)
+core_free c h _ w given is = grind (arith, nat_tests)
 
 -- a slot that holds a task is not newly reserved for the core
 core_stays : (c : Config) (e : Entry) (h : List Entry) → Given c h e.did → IsSound h → (t : ℕ) (w : SlotId) → place h t ≡ at.Held w → is_core (e ∷ h) w.0 ≡ true → is_core h w.0 ≡ true
@@ -152,17 +151,12 @@ later_stage n m b g later = grind (arith, nat_tests)
 -- nor one that wakes, which has no task
 woken_idle : (n m : ℕ) (g : Stage) (o : Option TaskId) → 1 ≤ m → n ≤ m → suits g o ≡ true → stage_weight m (is_some o) (woken_stage g) ≤ stage_weight n (is_some o) g
 woken_idle n m (stages.Idle k) None above later suited = grind (arith, nat_tests)
-woken_idle n m (stages.Idle k) (Some t) above later suited = absurd (false≢true suited)
-woken_idle n m stages.Working o above later suited = later_stage n m (is_some o) stages.Working later
-woken_idle n m _ o above later suited = omega arith
+woken_idle n m _ o above later suited = grind (arith, nat_tests)
 
 -- no slot owes more after it wakes, or at the rank that an entry reaches
 woken_weight : (d : Did) (n : ℕ) (g : Stage) (o : Option TaskId) → suits g o ≡ true → stage_weight (max (reaches d) n) (is_some o) (woken d g) ≤ stage_weight n (is_some o) g
 woken_weight did.Shutdown n g o suited = woken_idle n (max 1 n) g o (omega arith) (omega arith) suited
-woken_weight (did.Stop k) n g o suited = woken_idle n (max 2 n) g o (omega arith) (omega arith) suited
-woken_weight did.Tidy n g o suited = later_stage n (max 3 n) (is_some o) g (omega arith)
-woken_weight did.Ended n g o suited = later_stage n (max 4 n) (is_some o) g (omega arith)
-woken_weight _ n g o suited = later_stage n (max 0 n) (is_some o) g (omega arith)
+woken_weight _ n g o suited = grind (arith, nat_tests)
 
 -- a slot that an entry does not name owes no more after it
 pub other_slot : (e : Entry) (h : List Entry) → IsSound h → lowers (rank h) e.did ≡ true → (w : ℕ) → is_it (seats e.did) w ≡ false → is_it (replaces e.did) w ≡ false → slot_due (e ∷ h) w ≤ slot_due h w

@@ -1,4 +1,4 @@
--- A prestart serves tasks that are left to nobody.
+-- Tasks that are left to nobody get a worker.
 use Rattle.std.proofs.Common.{◌≡◌, ℕ, ◌≤◌, true, List, [], ◌∷◌, length, refl, inl, inr, arith, sym, ◌∙◌}
 use Rattle.std.specs.Prelude.{nat_lt, ◌==◌, ◌||◌, ◌&&◌, count_by}
 use Rattle.std.proofs.lemmas.Bool.{false≢true, cases_lt}

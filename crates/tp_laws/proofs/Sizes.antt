@@ -5,6 +5,7 @@ use Rattle.std.specs.Prelude.{nat_le, nat_lt, unwrap_or, is_some, count_by, filt
 use Rattle.std.proofs.lemmas.Bool.{false≢true, cases_lt, le-leb, lt-leb}
 use Rattle.std.proofs.lemmas.List.{length-append}
 use Rattle.std.proofs.lemmas.List.Sums.{sum_by-le-sum_by}
+use Rattle.std.proofs.lemmas.Bool.Decides.{nat_tests}
 use Rattle.tp_types.specs.declared.configs.Config.{Config}
 use Rattle.tp_types.specs.declared.configs.QueueKind.{QueueKind}
 use Rattle.tp_types.specs.declared.configs.QueueKind.TheVariants.{Handoff, Unbounded, Bounded, Priority}
@@ -15,8 +16,6 @@ use Rattle.tp_record.specs.declared.entries.Did.{Did}
 use Rattle.tp_record.specs.declared.entries.Did.TheVariants as did
 use Rattle.tp_record.specs.declared.entries.Looked.TheVariants as looked
 use Rattle.tp_record.specs.declared.entries.Offered.TheVariants as offered
-use Rattle.tp_record.specs.declared.entries.Seconded.TheVariants as seconded
-use Rattle.tp_record.specs.declared.entries.Grown.TheVariants as grown
 use Rattle.tp_record.specs.Lists.{count_from, join_line}
 use Rattle.tp_record.specs.Effects.{reserves, frees, queues, sets_core, sets_maximum}
 use Rattle.tp_record.specs.declared.rows.Stage.{Stage}
@@ -62,12 +61,7 @@ sized_by c sizes = (sizes.greatest_core, sizes.least_maximum)
 reserved_within : (c : Config) (h : List Entry) (d : Did) (m : ℕ) → Given c h d → Sized (state c h).core (state c h).maximum →
     m + one (is_some (frees d)) ≡ slot_count (state c h) → is_some (reserves d) ≡ true → m + 1 ≤ (state c h).maximum
 reserved_within c h (did.Submit t k pr (looked.Reserve w)) m given sizes kept is = let room = given.1.1 in let low = sizes.0 in omega arith
-reserved_within c h (did.Look t (looked.Reserve w)) m given sizes kept is = let room = given.1.1 in let low = sizes.0 in omega arith
-reserved_within c h (did.Second t (seconded.StayReserve w)) m given sizes kept is = let none = given.3 in let low = sizes.1 in omega arith
-reserved_within c h (did.Grow t (grown.Reserve w)) m given sizes kept is = let room = given.2 in omega arith
-reserved_within c h (did.Leave v (Some w)) m given sizes kept is = let room = given.2 in omega arith
-reserved_within c h (did.Prestart (Some w)) m given sizes kept is = let room = given.0 in let low = sizes.0 in omega arith
-reserved_within c h _ m given sizes kept is = absurd (false≢true is)
+reserved_within c h _ m given sizes kept is = grind (arith, nat_tests)
 
 same_maximum : (d : Did) (n : ℕ) → is_some (reserves d) ≡ true → unwrap_or (sets_maximum d) n ≡ n
 same_maximum d n is = grind arith

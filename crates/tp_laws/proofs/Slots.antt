@@ -1,6 +1,6 @@
 -- Slots by number: how many there are, and that none is left after a `tidy`.
-use Rattle.std.proofs.Common.{◌≡◌, ℕ, zero, suc, ◌+◌, ◌<◌, ◌≤◌, max, Bool, true, false, ◌&&◌, cond, List, [], ◌∷◌, ◌++◌, map, Some, None, Option, refl, arith, sym, ap, ◌∙◌, inl, inr}
-use Rattle.std.specs.Prelude.{◌==◌, ◌||◌, unwrap_or, is_some, count_by}
+use Rattle.std.proofs.Common.{◌≡◌, ℕ, zero, suc, ◌+◌, ◌<◌, ◌≤◌, max, Bool, true, false, cond, List, [], ◌∷◌, ◌++◌, map, Some, None, Option, refl, arith, sym, ap, ◌∙◌, inl, inr}
+use Rattle.std.specs.Prelude.{unwrap_or, is_some, count_by}
 use Rattle.std.proofs.lemmas.Bool.{false_from_ne_true, false≢true, cases_lt, cases_eq}
 use Rattle.std.proofs.lemmas.Bool.Decides.{nat_tests}
 use Rattle.std.proofs.lemmas.List.Sums.{sum_by-cons}
@@ -9,8 +9,6 @@ use Rattle.tp_record.specs.declared.entries.Entry.{Entry}
 use Rattle.tp_record.specs.declared.entries.Did.{Did}
 use Rattle.tp_record.specs.declared.entries.Did.TheVariants as did
 use Rattle.tp_record.specs.declared.entries.Looked.TheVariants as looked
-use Rattle.tp_record.specs.declared.entries.Seconded.TheVariants as seconded
-use Rattle.tp_record.specs.declared.entries.Grown.TheVariants as grown
 use Rattle.tp_record.specs.declared.rows.SlotRow.{SlotRow}
 use Rattle.tp_record.specs.Lists.{said_of, count_from}
 use Rattle.tp_record.specs.Effects.{reserves, holds, reaches}
@@ -49,18 +47,10 @@ none_are_slots c h none w =
       | inr past ↦ slot_below h w past
     ]
 
-wants_low : (r : ℕ) (b : Bool) → (r == 0 || (r == 1 && b)) ≡ true → r ≤ 1
-wants_low r b wants = grind (arith, nat_tests)
-
 -- a slot is reserved only in a pool that is running or shut down
 pub reserves_low : (c : Config) (h : List Entry) (d : Did) → Given c h d → is_some (reserves d) ≡ true → rank h ≤ 1
 reserves_low c h (did.Submit t k pr (looked.Reserve w)) given is = let r : rank h ≡ 0 = given.1.0 in omega arith
-reserves_low c h (did.Look t (looked.Reserve w)) given is = let r : rank h ≡ 0 = given.1.0 in omega arith
-reserves_low c h (did.Second t (seconded.StayReserve w)) given is = wants_low (rank h) _ given.4
-reserves_low c h (did.Grow t (grown.Reserve w)) given is = let r : rank h ≡ 0 = given.1 in omega arith
-reserves_low c h (did.Leave v (Some w)) given is = wants_low (rank h) _ given.1
-reserves_low c h (did.Prestart (Some w)) given is = wants_low (rank h) _ given.1
-reserves_low c h _ given is = absurd (false≢true is)
+reserves_low c h _ given is = grind (arith, nat_tests)
 
 still_none : (d : Did) (w : ℕ) (b : Bool) → is_some (reserves d) ≡ false → b ≡ false → unwrap_or (said_of w (holds d)) b ≡ false
 still_none d w b none was = grind (arith, nat_tests)

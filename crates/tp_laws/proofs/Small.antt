@@ -1,7 +1,8 @@
 -- Where the slots of a table have small numbers, so have those that a step names.
-use Rattle.std.proofs.Common.{◌≡◌, ℕ, ◌^◌, ◌<◌, List, ◌∷◌, Option, Some, None, ap, sym, subst, refl, inl, inr}
+use Rattle.std.proofs.Common.{arith, ◌≡◌, ℕ, ◌^◌, ◌<◌, List, ◌∷◌, Option, Some, None, ap, sym, subst, refl, inl, inr}
 use Rattle.std.proofs.lemmas.Bool.{eq-eqb}
 use Rattle.std.specs.Prelude.{is_some, IfSome, IsSome}
+use Rattle.std.proofs.lemmas.Bool.Decides.{nat_tests}
 use Rattle.tp_types.specs.declared.configs.Config.{Config}
 use Rattle.tp_types.specs.declared.ids.SlotId.{SlotId}
 use Rattle.tp_types.specs.declared.ids.TaskId.{TaskId}
@@ -11,8 +12,6 @@ use Rattle.tp_record.specs.declared.entries.Did.TheVariants as did
 use Rattle.tp_record.specs.declared.entries.Looked.{Looked}
 use Rattle.tp_record.specs.declared.entries.Looked.TheVariants as looked
 use Rattle.tp_record.specs.declared.entries.Offered.TheVariants as offered
-use Rattle.tp_record.specs.declared.entries.Seconded.TheVariants as seconded
-use Rattle.tp_record.specs.declared.entries.Grown.TheVariants as grown
 use Rattle.tp_record.specs.declared.entries.Opened.{Opened}
 use Rattle.tp_record.specs.declared.entries.Opened.TheVariants as opened
 use Rattle.tp_record.specs.declared.entries.Failed.{Failed}
@@ -86,23 +85,14 @@ module _ (c : Config) (h : List Entry) (small : AreSmall h) where
   -- an entry that says what it does of the history names such slots, where the one that it reserves is such a one
   pub small_given : (d : Did) → Given c h d → IfSome (reserves d) IsSmall → HasSmallSlots d
   small_given (did.Submit t k p l) given few = small_look l few
-  small_given (did.Look t l) given few = small_look l few
-  small_given (did.Offer t offered.Queued) given few = tt
   small_given (did.Offer t (offered.Hand w)) given few = row_small w.0 _ _ given.3.1
-  small_given (did.Offer t offered.Full) given few = tt
-  small_given (did.Second t seconded.Stay) given few = tt
-  small_given (did.Second t (seconded.StayReserve w)) given few = few
-  small_given (did.Second t seconded.Back) given few = tt
-  small_given (did.Grow t (grown.Reserve w)) given few = few
-  small_given (did.Grow t grown.Refuse) given few = tt
   small_given (did.Open w o) given few = open_small w o given
   small_given (did.Fail w f) given few = fail_small w f given
   small_given (did.Take w k) given few = take_small w k given
   small_given (did.Begin w b) given few = begin_small w b given
   small_given (did.End w t o) given few = row_small w.0 _ _ given.0
   small_given (did.Leave w o) given few = (leave_small w o given, small_reserve o few)
-  small_given (did.Prestart o) given few = small_reserve o few
-  small_given _ given few = tt
+  small_given _ given few = grind (arith, nat_tests)
 
   number_small : (n : ℕ) → IsSmall n → (o : Option ℕ) → IfSome o (λ w. w ≡ n) → IfSome o IsSmall
   number_small n few None is = tt
@@ -112,19 +102,11 @@ module _ (c : Config) (h : List Entry) (small : AreSmall h) where
   own_small w None few is = tt
   own_small w (Some v) few is = subst (λ (x : SlotId). IsSmall x.0) (sym is) few
 
-  next_small : (n : ℕ) (o : Option SlotId) → IsSmall n → IfSome o (λ w. w.0 ≡ n) → IfSome (reserved_option o) IsSmall
-  next_small n None few is = tt
-  next_small n (Some w) few is = subst IsSmall (sym is) few
-
   -- a slot that it reserves has such a number where the next one has
   pub reserved_few : (n : ℕ) → IsSmall n → (d : Did) → Given c h d → TakesNext n d → IfSome (reserves d) IsSmall
   reserved_few n few (did.Leave w o) given is = own_small w o (leave_small w o given) is
-  reserved_few n few (did.Prestart o) given is = next_small n o few is
   reserved_few n few (did.Submit t k p l) given is = number_small n few (reserved_looked l) is
-  reserved_few n few (did.Look t l) given is = number_small n few (reserved_looked l) is
-  reserved_few n few (did.Second t s) given is = number_small n few (reserves (did.Second t s)) is
-  reserved_few n few (did.Grow t g) given is = number_small n few (reserves (did.Grow t g)) is
-  reserved_few n few _ given is = tt
+  reserved_few n few _ given is = grind (arith, nat_tests)
 
 -- a slot that an entry reserves is one after it
 reserved_row : (h : List Entry) (e : Entry) (w : ℕ) → reserves e.did ≡ Some w → IsSome (slot_row (e ∷ h) w)

@@ -247,11 +247,6 @@ seat_any c h told w r row = by_task r.task refl
                   cc)
             ]
 
--- where there is no row there is no slot
-no_row_by : (b : Bool) (r : SlotRow) → ◌≡◌ {A = Option SlotRow} (cond b (Some r) None) None → b ≡ false
-no_row_by true r row = absurd cc
-no_row_by false r row = refl
-
 -- a slot's row names just the task that is in it
 pub seat_agrees : (c : Config) (h : List Entry) → Told c h → (w t : ℕ) → in_slot h t ≡ Some w ↔ seat_of (slot_row h w) ≡ Some t
 seat_agrees c h told w t =

@@ -1,14 +1,12 @@
 -- An answer speaks of the number that a new slot would get only where it reserves it.
-use Rattle.std.proofs.Common.{◌≡◌, ℕ, ◌-◌, ◌^◌, Bool, true, false, not, ◌&&◌, ◌||◌, cond, List, [], ◌∷◌, length, Option, Some, None, Ok, Err, inl, inr, refl, sym, subst, ap, ◌∙◌, ◌⊎◌, eq-eqb}
+use Rattle.std.proofs.Common.{◌≡◌, ℕ, ◌-◌, ◌^◌, Bool, true, false, not, ◌&&◌, ◌||◌, cond, List, [], ◌∷◌, length, Option, Some, None, Ok, Err, inl, inr, refl, sym, subst, ap, ◌∙◌, ◌⊎◌, eq-eqb, arith}
+use Rattle.std.proofs.lemmas.Bool.Decides.{nat_tests}
 use Rattle.std.specs.Prelude.{◌==◌, nat_lt, nat_le, is_none, unwrap_or, IfOk, IfSome, ⊤}
 use Rattle.tp_types.specs.declared.ids.TaskId.{TaskId}
 use Rattle.tp_types.specs.declared.ids.SlotId.{SlotId}
 use Rattle.tp_types.specs.declared.tasks.Place.{Place}
 use Rattle.tp_types.specs.declared.tasks.Place.TheVariants as at
 use Rattle.tp_types.specs.declared.configs.Config.{Config}
-use Rattle.tp_types.specs.declared.configs.QueueKind.{QueueKind}
-use Rattle.tp_types.specs.declared.configs.QueueKind.TheVariants.{Handoff, Unbounded, Bounded, Priority}
-use Rattle.tp_types.specs.declared.configs.Verdict.{Verdict}
 use Rattle.tp_types.specs.declared.refusals.PoolError.{PoolError}
 use Rattle.tp_types.specs.declared.refusals.PoolError.TheVariants.{BookFull}
 use Rattle.tp_record.specs.declared.entries.Ask.{Ask}
@@ -17,13 +15,12 @@ use Rattle.tp_record.specs.declared.entries.Did.{Did}
 use Rattle.tp_record.specs.declared.entries.Did.TheVariants as did
 use Rattle.tp_record.specs.declared.entries.Looked.{Looked}
 use Rattle.tp_record.specs.declared.entries.Looked.TheVariants as looked
-use Rattle.tp_record.specs.declared.entries.Opened.{Opened}
 use Rattle.tp_record.specs.declared.rows.Stage.{Stage}
 use Rattle.tp_record.specs.declared.rows.Stage.TheVariants as stages
 use Rattle.tp_record.specs.declared.rows.TaskRow.{TaskRow}
 use Rattle.tp_record.specs.declared.rows.SlotRow.{SlotRow}
 use Rattle.tp_record.specs.Lists.{is_it}
-use Rattle.tp_record.specs.Effects.{Outcome, frees, reserves, reserved_looked, is_plain}
+use Rattle.tp_record.specs.Effects.{frees, reserves, reserved_looked}
 use Rattle.tp_record.specs.Fields.{is_queued_place, is_idle_stage}
 use Rattle.tp_record.specs.State.{State, slot_at, task_at}
 use Rattle.tp_record.specs.Step as steps
@@ -63,27 +60,9 @@ module _ (c : Config) (s : State) (w : ℕ) where
   look_makes t at.Looking = looks (did.Look t) (λ l. refl)
   look_makes t _ = refused w _ _
 
-  hand_makes : (t : TaskId) (ws : List ℕ) → Makes w (steps.hand_answer t ws) (steps.hand_answer t ws)
-  hand_makes t [] = none w _ refl
-  hand_makes t (v ∷ ws) = none w _ refl
-
-  offer_to_makes : (q : QueueKind) (t : TaskId) → Makes w (steps.offer_to q s t) (steps.offer_to q s t)
-  offer_to_makes Handoff t = hand_makes t s.idling
-  offer_to_makes Unbounded t = none w _ refl
-  offer_to_makes Priority t = none w _ refl
-  offer_to_makes (Bounded n) t = either w (nat_lt (length s.queue) n) _ _ _ _ (none w _ refl) (none w _ refl)
-
-  offer_makes : (t : TaskId) (p : Place) → Makes w (steps.offer_answer c s t p) (steps.offer_answer c s t p)
-  offer_makes t at.ToOffer = offer_to_makes c.queue t
-  offer_makes t _ = refused w _ _
-
   grow_makes : (t : TaskId) (p : Place) → Makes w (steps.grow_answer s w t p) (steps.grow_answer s 0 t p)
   grow_makes t at.ToGrow = either w (s.rank == 0 && nat_lt (steps.slot_count s) s.maximum) _ _ _ _ (some w _ _ refl) (none w _ refl)
   grow_makes t _ = refused w _ _
-
-  caller_end_makes : (t : TaskId) (o : Outcome) (p : Place) → Makes w (steps.caller_end_answer t o p) (steps.caller_end_answer t o p)
-  caller_end_makes t o at.Caller = none w _ refl
-  caller_end_makes t o _ = refused w _ _
 
   held_makes : (v : SlotId) (t : TaskId) (p : Place) → Makes w (steps.held_answer v t p) (steps.held_answer v t p)
   held_makes v t (at.Held u) = none w _ refl
@@ -107,46 +86,16 @@ module _ (c : Config) (s : State) (w : ℕ) where
   take_makes v (stages.Idle m) None = next_makes v (stages.Idle m)
   take_makes v _ _ = refused w _ _
 
-  begin_task_makes : (v : SlotId) (t : TaskId) (b : Bool) (p : Place) → Makes w (steps.begin_task v t b p) (steps.begin_task v t b p)
-  begin_task_makes v t b (at.Taken u) = either w b _ _ _ _ (none w _ refl) (none w _ refl)
-  begin_task_makes v t b _ = refused w _ _
-
-  begin_makes : (v : SlotId) (g : Stage) (o : Option TaskId) → Makes w (steps.begin_answer s v g o) (steps.begin_answer s v g o)
-  begin_makes v stages.Working (Some t) = begin_task_makes v t (task_at s t.0).cancelled (task_at s t.0).place
-  begin_makes v _ _ = refused w _ _
-
-  end_task_makes : (v : SlotId) (t : TaskId) (o : Outcome) (p : Place) → Makes w (steps.end_task v t o p) (steps.end_task v t o p)
-  end_task_makes v t o (at.Running u) = none w _ refl
-  end_task_makes v t o _ = refused w _ _
-
-  end_makes : (v : SlotId) (o : Outcome) (g : Stage) (k : Option TaskId) → Makes w (steps.end_answer s v o g k) (steps.end_answer s v o g k)
-  end_makes v o stages.Working (Some t) = end_task_makes v t o (task_at s t.0).place
-  end_makes v o _ _ = refused w _ _
-
   leave_makes : (v : SlotId) (g : Stage) → Makes w (steps.leave_answer s w v g) (steps.leave_answer s 0 v g)
   leave_makes v stages.Dying =
       either w (steps.wants_worker s && nat_lt (steps.slot_count s - 1) s.maximum) _ _ _ _ (some w _ _ refl) (none w _ refl)
   leave_makes v _ = refused w _ _
-
-  done_makes : (g : ℕ) (ts : List ℕ) → Makes w (steps.first_done g ts) (steps.first_done g ts)
-  done_makes g [] = refused w _ _
-  done_makes g (t ∷ ts) = none w _ refl
 
   second_makes : (t : TaskId) (r : TaskRow) → Makes w (steps.second_answer s w t r) (steps.second_answer s 0 t r)
   second_makes t r =
       either w (not r.second) _ _ _ _ (refused w _ _)
       (either w (nat_lt 0 s.rank && is_queued_place r.place) _ _ _ _ (none w _ refl)
       (either w (steps.slot_count s == 0 && steps.wants_worker s) _ _ _ _ (some w _ _ refl) (none w _ refl)))
-
-  verdict_makes : (t : TaskId) (v : Verdict) (r : TaskRow) → Makes w (steps.verdict_answer c s t v r) (steps.verdict_answer c s t v r)
-  verdict_makes t v r =
-      either w (steps.is_refused_place r.place && steps.allows c.policy v) _ _ _ _ (none w _ refl) (refused w _ _)
-
-  remove_makes : (t : TaskId) (r : TaskRow) → Makes w (Ok (did.Remove t (is_queued_place r.place))) (Ok (did.Remove t (is_queued_place r.place)))
-  remove_makes t r = none w _ refl
-
-  cancel_makes : (t : TaskId) (flag : Bool) (r : TaskRow) → Makes w (steps.cancel_answer t flag r) (steps.cancel_answer t flag r)
-  cancel_makes t flag r = either w (is_plain r.kind) _ _ _ _ (refused w _ _) (none w _ refl)
 
   of_task_makes : (t : TaskId) (f g : TaskRow → Answer) → ((r : TaskRow) → Makes w (f r) (g r)) → Makes w (steps.of_task s t f) (steps.of_task s t g)
   of_task_makes t f g h = either w (steps.is_known s t.0) _ _ _ _ (h (task_at s t.0)) (refused w _ _)
@@ -160,38 +109,12 @@ module _ (c : Config) (s : State) (w : ℕ) where
       either w (nat_lt (length s.tasks) (2 ^ 32 - 1)) _ _ _ _
       (looks (did.Submit (record { 0 = length s.tasks }) k p) (λ l. refl)) (refused w _ _)
   fitting_makes (ask.Look t) = of_task_makes t _ _ (λ r. look_makes t r.place)
-  fitting_makes (ask.Offer t) = of_task_makes t _ _ (λ r. offer_makes t r.place)
   fitting_makes (ask.Second t) = of_task_makes t _ _ (second_makes t)
   fitting_makes (ask.Grow t) = of_task_makes t _ _ (λ r. grow_makes t r.place)
-  fitting_makes (ask.Verdict t v) = of_task_makes t _ _ (verdict_makes t v)
-  fitting_makes (ask.CallerEnd t o) = of_task_makes t _ _ (λ r. caller_end_makes t o r.place)
-  fitting_makes (ask.Open v) = of_slot_makes (slot_at s.slots v.0) _ _ (λ r.
-      either w (not (steps.is_reserved r.stage)) _ _ _ _ (refused w _ _)
-      (either w (s.rank == 0 || (s.rank == 1 && is_none r.task)) _ _ _ _ (none w _ refl) (none w _ (open_none v (steps.given_up r.task)))))
-    where
-      open_none : (v : SlotId) (o : Opened) → reserves (did.Open v o) ≡ None
-      open_none v o = refl
-  fitting_makes (ask.Fail v) = of_slot_makes (slot_at s.slots v.0) _ _ (λ r.
-      either w (steps.is_reserved r.stage) _ _ _ _ (none w _ refl) (refused w _ _))
   fitting_makes (ask.Take v) = of_slot_makes (slot_at s.slots v.0) _ _ (λ r. take_makes v r.stage r.task)
-  fitting_makes (ask.Begin v) = of_slot_makes (slot_at s.slots v.0) _ _ (λ r. begin_makes v r.stage r.task)
-  fitting_makes (ask.End v o) = of_slot_makes (slot_at s.slots v.0) _ _ (λ r. end_makes v o r.stage r.task)
   fitting_makes (ask.Leave v) = of_slot_makes (slot_at s.slots v.0) _ _ (λ r. leave_makes v r.stage)
-  fitting_makes ask.Shutdown = none w _ refl
-  fitting_makes ask.Stop = none w _ refl
-  fitting_makes ask.Tidy =
-      either w (steps.slot_count s == 0 && (s.rank == 2 || (s.rank == 1 && length s.queue == 0))) _ _ _ _ (none w _ refl) (refused w _ _)
-  fitting_makes ask.Ended = either w (s.rank == 3) _ _ _ _ (none w _ refl) (refused w _ _)
-  fitting_makes (ask.Remove t) = of_task_makes t _ _ (remove_makes t)
-  fitting_makes ask.Purge = none w _ refl
-  fitting_makes (ask.Cancel t flag) = of_task_makes t _ _ (cancel_makes t flag)
-  fitting_makes (ask.TakeDone g) = done_makes g (steps.done_of s g)
-  fitting_makes (ask.Core n) = either w (nat_le n s.maximum) _ _ _ _ (none w _ refl) (refused w _ _)
-  fitting_makes (ask.Maximum n) = either w (nat_le 1 n && nat_le n 1024 && nat_le s.core n) _ _ _ _ (none w _ refl) (refused w _ _)
-  fitting_makes (ask.Keep n) = either w (n == 0 && s.core_timeout) _ _ _ _ (refused w _ _) (none w _ refl)
-  fitting_makes (ask.CoreTimeout on) = either w (on && s.keep == 0) _ _ _ _ (refused w _ _) (none w _ refl)
-  fitting_makes (ask.Tick n) = either w (nat_le s.now n) _ _ _ _ (none w _ refl) (refused w _ _)
   fitting_makes ask.Prestart = either w (nat_lt (steps.slot_count s) s.core && steps.wants_worker s) _ _ _ _ (some w _ _ refl) (none w _ refl)
+  fitting_makes _ = record { made = λ d is. inr (grind (arith, nat_tests), is) }
 
 -- the least number that is no slot is none
 slot_at-least_free : (slots : List (Option SlotRow)) → slot_at slots (least_free slots) ≡ None

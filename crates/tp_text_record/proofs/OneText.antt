@@ -36,33 +36,12 @@ use Rattle.tp_text_record.proofs.TellDid.{did_words-injective}
 
 -- the second byte of each command is a letter
 letter : (c : Command) → 57 < get_or (command_word c) 1 0
-letter command.Submit = omega arith
-letter command.Verdict = omega arith
-letter command.Cancel = omega arith
-letter command.CoreTimeout = omega arith
 letter (command.OfTask task.Look) = omega arith
-letter (command.OfTask task.Offer) = omega arith
-letter (command.OfTask task.Second) = omega arith
-letter (command.OfTask task.Grow) = omega arith
-letter (command.OfTask task.CallerEnd) = omega arith
-letter (command.OfTask task.Remove) = omega arith
 letter (command.OfSlot slot.Open) = omega arith
-letter (command.OfSlot slot.Fail) = omega arith
-letter (command.OfSlot slot.Take) = omega arith
-letter (command.OfSlot slot.Begin) = omega arith
-letter (command.OfSlot slot.End) = omega arith
-letter (command.OfSlot slot.Leave) = omega arith
-letter (command.OfPool pool.Shutdown) = omega arith
 letter (command.OfPool pool.Stop) = omega arith
-letter (command.OfPool pool.Tidy) = omega arith
-letter (command.OfPool pool.Ended) = omega arith
-letter (command.OfPool pool.Purge) = omega arith
-letter (command.OfPool pool.Prestart) = omega arith
-letter (command.OfSize size.TakeDone) = omega arith
 letter (command.OfSize size.Core) = omega arith
-letter (command.OfSize size.Maximum) = omega arith
-letter (command.OfTicks ticks.Keep) = omega arith
 letter (command.OfTicks ticks.Tick) = omega arith
+letter _ = omega arith
 
 -- no command is a pass
 no_pass_word : (c : Command) (by : ℕ) → Fits32 by → command_word c ≢ pass_name by

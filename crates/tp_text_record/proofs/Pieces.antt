@@ -216,33 +216,12 @@ started_pieces (started.Run t) fits = (task_piece t fits, tt)
 started_pieces (started.Skip t) fits = (code (codes "skip") refl refl refl, (task_piece t fits, tt))
 
 command_piece : (c : Command) → IsPiece (command_word c)
-command_piece command.Submit = code (codes "submit") refl refl refl
-command_piece command.Verdict = code (codes "verdict") refl refl refl
-command_piece command.Cancel = code (codes "cancel") refl refl refl
-command_piece command.CoreTimeout = code (codes "coretimeout") refl refl refl
 command_piece (command.OfTask task.Look) = code (codes "look") refl refl refl
-command_piece (command.OfTask task.Offer) = code (codes "offer") refl refl refl
-command_piece (command.OfTask task.Second) = code (codes "second") refl refl refl
-command_piece (command.OfTask task.Grow) = code (codes "grow") refl refl refl
-command_piece (command.OfTask task.CallerEnd) = code (codes "callerend") refl refl refl
-command_piece (command.OfTask task.Remove) = code (codes "remove") refl refl refl
 command_piece (command.OfSlot slot.Open) = code (codes "open") refl refl refl
-command_piece (command.OfSlot slot.Fail) = code (codes "fail") refl refl refl
-command_piece (command.OfSlot slot.Take) = code (codes "take") refl refl refl
-command_piece (command.OfSlot slot.Begin) = code (codes "begin") refl refl refl
-command_piece (command.OfSlot slot.End) = code (codes "end") refl refl refl
-command_piece (command.OfSlot slot.Leave) = code (codes "leave") refl refl refl
-command_piece (command.OfPool pool.Shutdown) = code (codes "shutdown") refl refl refl
 command_piece (command.OfPool pool.Stop) = code (codes "stop") refl refl refl
-command_piece (command.OfPool pool.Tidy) = code (codes "tidy") refl refl refl
-command_piece (command.OfPool pool.Ended) = code (codes "ended") refl refl refl
-command_piece (command.OfPool pool.Purge) = code (codes "purge") refl refl refl
-command_piece (command.OfPool pool.Prestart) = code (codes "prestart") refl refl refl
-command_piece (command.OfSize size.TakeDone) = code (codes "takedone") refl refl refl
 command_piece (command.OfSize size.Core) = code (codes "core") refl refl refl
-command_piece (command.OfSize size.Maximum) = code (codes "max") refl refl refl
-command_piece (command.OfTicks ticks.Keep) = code (codes "keep") refl refl refl
 command_piece (command.OfTicks ticks.Tick) = code (codes "tick") refl refl refl
+command_piece _ = code _ refl refl refl
 
 priority_pieces : (p : ℕ) (b : Bool) → (p == 0) ≡ b → Fits32 p → Pieces (priority_words p)
 priority_pieces p true is fits = rw is tt

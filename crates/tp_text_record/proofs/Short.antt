@@ -1,5 +1,6 @@
 -- No line of a record is long.
 use Rattle.std.proofs.Common.{◌≡◌, ℕ, suc, ◌+◌, ◌*◌, ◌<◌, ◌≤◌, ◌^◌, List, [], ◌∷◌, ◌++◌, length, Bool, true, false, ◌==◌, Option, Some, None, Ok, Err, refl, arith, codes, length-append}
+use Rattle.std.proofs.lemmas.Bool.Decides.{nat_tests}
 use Rattle.std.specs.Fmt.{decimal}
 use Rattle.std.specs.List.{AllByRecursion}
 use Rattle.std.proofs.lemmas.Fmt.{length-decimal-le}
@@ -35,7 +36,7 @@ use Rattle.tp_record.specs.declared.entries.Took.{Took}
 use Rattle.tp_record.specs.declared.entries.Took.TheVariants as took
 use Rattle.tp_record.specs.Effects.{Outcome}
 use Rattle.tp_text.specs.declared.pools.PoolLine.{PoolLine}
-use Rattle.tp_text.specs.EntryLine.{words, kind_words, priority_words, outcome_words, looked_words, offered_words, seconded_words, grown_words, ruled_words, opened_words, failed_words, took_words, started_words, reserved_words, prestart_words, flag_words, argument_words, did_words, pass_words, entry_words}
+use Rattle.tp_text.specs.EntryLine.{words, kind_words, priority_words, outcome_words, looked_words, offered_words, seconded_words, grown_words, ruled_words, opened_words, failed_words, took_words, started_words, reserved_words, flag_words, argument_words, did_words, pass_words, entry_words}
 use Rattle.tp_text.specs.Fits.{Fits32}
 use Rattle.tp_text.specs.Pools.{FitsOptions, FitsPool, FitsQueue, Options, keep_text, options_text, policy_text, pool_text, queue_text, said, sizes_text, waiting_text}
 use Rattle.tp_text.specs.Reads.{followed, spaced}
@@ -63,10 +64,6 @@ outcome_count (Err n) = omega arith
 reserved_count : (o : Option SlotId) → length (reserved_words o) ≤ 2
 reserved_count None = omega arith
 reserved_count (Some w) = omega arith
-
-prestart_count : (o : Option SlotId) → length (prestart_words o) ≤ 2
-prestart_count None = omega arith
-prestart_count (Some w) = omega arith
 
 flag_count : (flag effect : Bool) → length (flag_words flag effect) ≤ 2
 flag_count true effect = omega arith
@@ -134,20 +131,8 @@ argument_count (did.Take w o) = omega (arith, took_count o)
 argument_count (did.Begin w o) = omega (arith, started_count o)
 argument_count (did.Leave w o) = omega (arith, reserved_count o)
 argument_count (did.End w t o) = omega (arith, outcome_count o)
-argument_count did.Shutdown = omega arith
-argument_count did.Tidy = omega arith
-argument_count did.Ended = omega arith
-argument_count (did.Stop n) = omega arith
-argument_count (did.Remove t e) = omega arith
-argument_count (did.Purge n) = omega arith
 argument_count (did.Cancel t flag e) = omega (arith, flag_count flag e)
-argument_count (did.TakeDone g t) = omega arith
-argument_count (did.Core n k) = omega arith
-argument_count (did.Maximum n) = omega arith
-argument_count (did.Keep n) = omega arith
-argument_count (did.Tick n) = omega arith
-argument_count (did.CoreTimeout on) = omega arith
-argument_count (did.Prestart o) = omega (arith, prestart_count o)
+argument_count _ = grind (arith, nat_tests)
 
 pass_count : (by : ℕ) (b : Bool) → (by == 0) ≡ b → length (pass_words by) ≤ 1
 pass_count by true is = rw is (omega arith)

@@ -1,6 +1,7 @@
 -- The next state, read row by row: each task's row and each slot's follows the entry's tables.
 use Rattle.std.proofs.Common.{◌≡◌, ℕ, ◌<◌, true, false, List, ◌∷◌, Option, Some, None, arith, sym, ap, subst, ◌∙◌, inl, inr}
 use Rattle.std.proofs.lemmas.Bool.{cases_lt, cases_eq, eq-eqb, ne_eqb}
+use Rattle.std.proofs.lemmas.Bool.Decides.{nat_tests}
 use Rattle.tp_types.specs.declared.configs.Config.{Config}
 use Rattle.tp_record.specs.declared.entries.Entry.{Entry}
 use Rattle.tp_record.specs.declared.entries.Ask.TheVariants as ask
@@ -45,10 +46,7 @@ joins_given c h _ given t is = absurd (grind arith)
 
 pub closes_given : (c : Config) (h : List Entry) (d : Did) → Given c h d → (t : ℕ) → closes d ≡ Some t → t < submitted h
 closes_given c h (did.CallerEnd u o) given t is = let e = given.0 in let same : t ≡ u.0 = grind arith in omega arith
-closes_given c h (did.End w u o) given t is = let e = given.1.0 in let same : t ≡ u.0 = grind arith in omega arith
-closes_given c h (did.Cancel u flag true) given t is = let e = given.0 in let same : t ≡ u.0 = grind arith in omega arith
-closes_given c h (did.Cancel u flag false) given t is = let e = given.0 in let same : t ≡ u.0 = grind arith in omega arith
-closes_given c h _ given t is = absurd (grind arith)
+closes_given c h _ given t is = grind (arith, nat_tests)
 
 slot_working : (h : List Entry) (w : ℕ) → HasRow h w stages.Working None → (is_slot h w ≡ true) × (is_idle h w ≡ false)
 slot_working h w row = (grind arith, ap is_idle_row row)

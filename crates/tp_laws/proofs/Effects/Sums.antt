@@ -54,8 +54,7 @@ tasks_apart c h (did.Verdict x v (ruled.RetryDrop u)) given t one two =
     let b : u.0 ≡ t = grind arith in
     let p : at.Refused ≡ at.Queued = sym given.0.1 ∙ ap (place h) (a ∙ sym b) ∙ given.1.3.1 in
     grind arith
-tasks_apart c h (did.Open w opened.Live) given t one two = grind arith
-tasks_apart c h _ given t one two = grind arith
+tasks_apart c h _ given t one two = grind (arith, nat_tests)
 
 -- the task of a slot that an entry names is named
 seat_named : (c : Config) (h : List Entry) (d : Did) → Given c h d → (w t : ℕ) → (is_it (seats d) w || is_it (replaces d) w) ≡ true → seat_of (slot_row h w) ≡ Some t →

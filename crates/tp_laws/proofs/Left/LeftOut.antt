@@ -3,6 +3,7 @@ use Rattle.std.proofs.Common.{◌≡◌, ℕ, ◌<◌, Bool, true, false, not, �
 use Rattle.std.specs.Prelude.{◌==◌, nat_lt, if◌then◌else◌}
 use Rattle.std.proofs.lemmas.Bool.{and_parts, or_parts, or_cases, ltb-true, lt-ltb, eq-eqb, eqb-true, ne_eqb, cases_eq, true≢false, not-true}
 use Rattle.std.proofs.lemmas.List.{length-set, get_or-set_other}
+use Rattle.std.proofs.lemmas.Bool.Decides.{nat_tests}
 use Rattle.tp_types.specs.declared.configs.Config.{Config}
 use Rattle.tp_types.specs.declared.ids.TaskId.{TaskId}
 use Rattle.tp_types.specs.declared.refusals.PoolError.TheVariants.{UnknownTask}
@@ -135,14 +136,7 @@ unknown_task s u f is = ap (λ b. if not b && nat_lt u.0 (length s.tasks) then f
 
 pub fitting_unknown : (c : Config) (s : State) (w : ℕ) (a : Ask) → is_one_of (asked a) s.left_out ≡ true → fitting c s w a ≡ Err UnknownTask
 fitting_unknown c s w (ask.Look u) is = unknown_task s u (λ r. look_answer s w u r.place) is
-fitting_unknown c s w (ask.Offer u) is = unknown_task s u (λ r. offer_answer c s u r.place) is
-fitting_unknown c s w (ask.Second u) is = unknown_task s u (second_answer s w u) is
-fitting_unknown c s w (ask.Grow u) is = unknown_task s u (λ r. grow_answer s w u r.place) is
-fitting_unknown c s w (ask.Verdict u v) is = unknown_task s u (verdict_answer c s u v) is
-fitting_unknown c s w (ask.CallerEnd u o) is = unknown_task s u (λ r. caller_end_answer u o r.place) is
-fitting_unknown c s w (ask.Remove u) is = unknown_task s u (λ r. Ok (did.Remove u (is_queued_place r.place))) is
-fitting_unknown c s w (ask.Cancel u flag) is = unknown_task s u (cancel_answer u flag) is
-fitting_unknown c s w _ is = absurd (true≢false (sym is))
+fitting_unknown c s w _ is = grind (arith, nat_tests)
 
 pub unknown_to : (c : Config) (s : State) (w : ℕ) (a : Ask) → is_one_of (asked a) s.left_out ≡ true → step c s w a ≡ Err UnknownTask
 unknown_to c s w a is = ap (within_room c s) (fitting_unknown c s w a is)

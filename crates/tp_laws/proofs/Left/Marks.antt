@@ -1,6 +1,7 @@
 -- Where tasks are only marked as left out: what fits is what fits the whole state, unless the ask names one of them.
-use Rattle.std.proofs.Common.{◌≡◌, ℕ, Bool, true, false, not, ◌&&◌, ◌||◌, List, [], ◌∷◌, length, Ok, Err, refl, sym, ap, ap₂, ◌∙◌}
+use Rattle.std.proofs.Common.{arith, ◌≡◌, ℕ, Bool, true, false, not, ◌&&◌, ◌||◌, List, [], ◌∷◌, length, Ok, Err, refl, sym, ap, ap₂, ◌∙◌}
 use Rattle.std.specs.Prelude.{nat_lt, if◌then◌else◌}
+use Rattle.std.proofs.lemmas.Bool.Decides.{nat_tests}
 use Rattle.tp_types.specs.declared.configs.Config.{Config}
 use Rattle.tp_types.specs.declared.configs.QueueKind.{QueueKind}
 use Rattle.tp_types.specs.declared.configs.QueueKind.TheVariants.{Handoff, Unbounded, Bounded, Priority}
@@ -46,18 +47,7 @@ module _ (s : State) (rs : List ℕ) where
 
   pub fitting_marked : (c : Config) (w : ℕ) (a : Ask) → is_one_of (asked a) rs ≡ false → fitting c (mark rs s) w a ≡ fitting c (mark [] s) w a
   fitting_marked c w (ask.Look u) off = task_marked u (λ r. look_answer (mark rs s) w u r.place) (λ r. look_answer (mark [] s) w u r.place) off (λ r. refl)
-  fitting_marked c w (ask.Offer u) off = task_marked u (λ r. offer_answer c (mark rs s) u r.place) (λ r. offer_answer c (mark [] s) u r.place) off (λ r. offer_marked c u r.place)
-  fitting_marked c w (ask.Second u) off = task_marked u (second_answer (mark rs s) w u) (second_answer (mark [] s) w u) off (λ r. refl)
-  fitting_marked c w (ask.Grow u) off = task_marked u (λ r. grow_answer (mark rs s) w u r.place) (λ r. grow_answer (mark [] s) w u r.place) off (λ r. refl)
-  fitting_marked c w (ask.Verdict u v) off = task_marked u (verdict_answer c (mark rs s) u v) (verdict_answer c (mark [] s) u v) off
-      (λ r. ap (λ x. if is_refused_place r.place && allows c.policy v then Ok (did.Verdict u v x) else Err NotThere) (rule_marked c u r v))
-  fitting_marked c w (ask.CallerEnd u o) off = task_marked u (λ r. caller_end_answer u o r.place) (λ r. caller_end_answer u o r.place) off (λ r. refl)
-  fitting_marked c w (ask.Remove u) off = task_marked u (λ r. Ok (did.Remove u (is_queued_place r.place))) (λ r. Ok (did.Remove u (is_queued_place r.place))) off (λ r. refl)
-  fitting_marked c w (ask.Cancel u flag) off = task_marked u (cancel_answer u flag) (cancel_answer u flag) off (λ r. refl)
-  fitting_marked c w (ask.Take v) off = refl
-  fitting_marked c w (ask.Begin v) off = refl
-  fitting_marked c w (ask.End v o) off = refl
-  fitting_marked c w _ off = refl
+  fitting_marked c w _ off = grind (arith, nat_tests)
 
 module _ (c : Config) (h : List Entry) (rs : List ℕ) where
   -- what fits fits the whole state, and its ask names no task that is left out

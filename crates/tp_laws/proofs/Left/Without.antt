@@ -5,6 +5,7 @@ use Rattle.std.proofs.lemmas.Bool.{eq-eqb, ne_eqb, not-true, true≢false}
 use Rattle.std.proofs.lemmas.List.{length-set, get_or-set_other}
 use Rattle.std.proofs.lemmas.List.Elements.{filter_agree}
 use Rattle.std.proofs.lemmas.List.Sums.{sum_by-set}
+use Rattle.std.proofs.lemmas.Bool.Decides.{nat_tests}
 use Rattle.tp_types.specs.declared.configs.Config.{Config}
 use Rattle.tp_types.specs.declared.configs.QueueKind.{QueueKind}
 use Rattle.tp_types.specs.declared.configs.QueueKind.TheVariants.{Handoff, Unbounded, Bounded, Priority}
@@ -228,20 +229,15 @@ module _ (s : State) (t : ℕ) (out : IsOut s t) where
 
   take_without : (v : SlotId) (stage : Stage) (o : Option TaskId) → is_it (number_of o) t ≡ false → take_answer (leave_out t s) v stage o ≡ take_answer s v stage o
   take_without v stages.Working (Some u) off = ap (λ r. held_answer v u r.place) (row_else u.0 (is_other t u.0 off))
-  take_without v stages.Working None off = refl
-  take_without v (stages.Idle m) None off = refl
-  take_without v (stages.Idle m) (Some u) off = refl
-  take_without v _ o off = refl
+  take_without v _ o off = grind (arith, nat_tests)
 
   begin_without : (v : SlotId) (stage : Stage) (o : Option TaskId) → is_it (number_of o) t ≡ false → begin_answer (leave_out t s) v stage o ≡ begin_answer s v stage o
   begin_without v stages.Working (Some u) off = ap (λ r. begin_task v u r.cancelled r.place) (row_else u.0 (is_other t u.0 off))
-  begin_without v stages.Working None off = refl
-  begin_without v _ o off = refl
+  begin_without v _ o off = grind (arith, nat_tests)
 
   end_without : (v : SlotId) (result : Outcome) (stage : Stage) (o : Option TaskId) → is_it (number_of o) t ≡ false → end_answer (leave_out t s) v result stage o ≡ end_answer s v result stage o
   end_without v result stages.Working (Some u) off = ap (λ r. end_task v u result r.place) (row_else u.0 (is_other t u.0 off))
-  end_without v result stages.Working None off = refl
-  end_without v result _ o off = refl
+  end_without v result _ o off = grind (arith, nat_tests)
 
   -- what fits is the same
   pub fitting_without : (c : Config) (w : ℕ) (a : Ask) → is_it (asked a) t ≡ false → fitting c (leave_out t s) w a ≡ fitting c s w a

@@ -485,12 +485,7 @@ renumbered_makes v (Err e) = refl
 -- whether one makes a slot does not depend on the number that it would get
 makes_alike : (c : Config) (s : State) (w v : ℕ) (a : Ask) → makes_slot (fitting c s v a) ≡ makes_slot (fitting c s w a)
 makes_alike c s w v (ask.Submit k p) = ap makes_slot (submit_renumbered c s w v k p) ∙ renumbered_makes v _
-makes_alike c s w v (ask.Look t) = ap makes_slot (look_renumbered c s w v t) ∙ renumbered_makes v _
-makes_alike c s w v (ask.Second t) = ap makes_slot (second_renumbered c s w v t) ∙ renumbered_makes v _
-makes_alike c s w v (ask.Grow t) = ap makes_slot (grow_renumbered c s w v t) ∙ renumbered_makes v _
-makes_alike c s w v (ask.Leave x) = ap makes_slot (leave_renumbered c s w v x) ∙ renumbered_makes v _
-makes_alike c s w v ask.Prestart = ap makes_slot (prestart_renumbered c s w v) ∙ renumbered_makes v _
-makes_alike c s w v _ = refl
+makes_alike c s w v _ = grind (arith, nat_tests)
 
 -- of two answers to one ask both make a slot, or neither does
 pub same_slot : (c : Config) (s : State) (a : Ask) (d d' : Did) → Gives c s a d → Gives c s a d' → is_some (reserves d) ≡ is_some (reserves d')

@@ -1,6 +1,7 @@
 -- What is known of tasks, slots and the queue in each legal record.
 use Rattle.std.proofs.Common.{◌≡◌, ℕ, ◌<◌, ◌≤◌, ◌⊎◌, true, List, ◌∷◌, Option, Some, None, refl, arith, sym, ap, ◌∙◌, inl, inr, Contains}
 use Rattle.std.proofs.lemmas.Bool.{cases_lt}
+use Rattle.std.proofs.lemmas.Bool.Decides.{nat_tests}
 use Rattle.tp_types.specs.declared.configs.Config.{Config}
 use Rattle.tp_types.specs.declared.ids.TaskId.{TaskId}
 use Rattle.tp_types.specs.declared.ids.SlotId.{SlotId}
@@ -27,9 +28,7 @@ IsIn p w = (p ≡ at.Held w) ⊎ ((p ≡ at.Taken w) ⊎ (p ≡ at.Running w))
 
 in_slot : (p : Place) (w : SlotId) → slot_of p ≡ Some w.0 → IsIn p w
 in_slot (at.Held u) w is = inl (grind arith)
-in_slot (at.Taken u) w is = inr (inl (grind arith))
-in_slot (at.Running u) w is = inr (inr (grind arith))
-in_slot _ w is = absurd (grind arith)
+in_slot _ w is = grind (arith, nat_tests)
 
 slot_of_in : (p : Place) (w : SlotId) → IsIn p w → slot_of p ≡ Some w.0
 slot_of_in p w (inl held) = ap slot_of held

@@ -177,12 +177,7 @@ begin_at : (c : Config) (h : List Entry) → IsSound h → (v : SlotId) (s : Sta
 begin_at c h sound v stages.Working (Some t) row =
     let there = seated_at h sound v.0 stages.Working t row in
     subst (λ r. Says c h (begin_task v t r.cancelled r.place)) (sym (row_read h t.0 there.0)) (begins_says c h v t row there.0 (place h t.0) refl there.1)
-begin_at c h sound v stages.Working None row = tt
-begin_at c h sound v (stages.Idle m) o row = tt
-begin_at c h sound v stages.ReservedCore o row = tt
-begin_at c h sound v stages.ReservedMaximum o row = tt
-begin_at c h sound v stages.ReservedBare o row = tt
-begin_at c h sound v stages.Dying o row = tt
+begin_at c h sound v _ o row = grind (arith, nat_tests)
 
 pub begin_says : (c : Config) (h : List Entry) → IsSound h → (v : SlotId) (r : SlotRow) → slot_row h v.0 ≡ Some r → Says c h (begin_answer (state c h) v r.stage r.task)
 begin_says c h sound v r row = begin_at c h sound v r.stage r.task row
@@ -198,12 +193,7 @@ end_at : (c : Config) (h : List Entry) → IsSound h → (v : SlotId) (out : Out
 end_at c h sound v out stages.Working (Some t) row =
     let there = seated_at h sound v.0 stages.Working t row in
     reads_place c h t.0 (end_task v t out) there.0 (ends_says c h v t out row there.0 (place h t.0) refl there.1)
-end_at c h sound v out stages.Working None row = tt
-end_at c h sound v out (stages.Idle m) o row = tt
-end_at c h sound v out stages.ReservedCore o row = tt
-end_at c h sound v out stages.ReservedMaximum o row = tt
-end_at c h sound v out stages.ReservedBare o row = tt
-end_at c h sound v out stages.Dying o row = tt
+end_at c h sound v out _ o row = grind (arith, nat_tests)
 
 pub end_says : (c : Config) (h : List Entry) → IsSound h → (v : SlotId) (out : Outcome) (r : SlotRow) → slot_row h v.0 ≡ Some r → Says c h (end_answer (state c h) v out r.stage r.task)
 end_says c h sound v out r row = end_at c h sound v out r.stage r.task row
