@@ -36,3 +36,4 @@ pub mod Small
 pub mod Serves
 pub mod Rescues
 pub mod AllLaws
+pub mod Same
