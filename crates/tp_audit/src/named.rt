@@ -3,9 +3,8 @@
 ghost use Rattle.std.specs.Prelude.{◌≡◌};
 ghost use Rattle.tp_laws.proofs.Effects.Names as entry;
 
-use tp_record::entries::{
-    Did, Failed, Grown, Looked, Offered, Opened, Ruled, Seconded, Started, Took,
-};
+use tp_record::entries::{Did, Failed, Offered, Opened, Ruled, Started, Took};
+use tp_rules::effects::reserved_by;
 
 /// Whether an entry changes rows that it does not name, or the run state.
 pub fn is_wide(did: Did) -> bool
@@ -50,12 +49,10 @@ pub fn named_slot(did: Did) -> Option<usize>
     ensures { result ≡ entry.seats did }
 {
     match did {
-        Did::Submit(_, _, _, Looked::Reserve(w)) | Did::Look(_, Looked::Reserve(w)) => Some(w.0),
-        Did::Offer(_, Offered::Hand(w)) | Did::Second(_, Seconded::StayReserve(w)) => Some(w.0),
-        Did::Grow(_, Grown::Reserve(w)) | Did::Prestart(Some(w)) => Some(w.0),
+        Did::Offer(_, Offered::Hand(w)) => Some(w.0),
         Did::Open(w, _) | Did::Fail(w, _) | Did::Take(w, _) | Did::Begin(w, _) => Some(w.0),
         Did::End(w, _, _) | Did::Leave(w, _) => Some(w.0),
-        _ => None,
+        _ => reserved_by(did),
     }
 }
 

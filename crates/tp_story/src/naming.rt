@@ -8,48 +8,21 @@ ghost use Rattle.tp_audit.specs.Tables.{shown};
 ghost use Rattle.tp_story.specs.Naming as naming;
 
 use crate::subjects::Subject;
+use tp_audit::named::{dropped_task, named_slot, named_task, replacing_slot};
 use tp_audit::tables::Tables;
-use tp_record::entries::{
-    Did, Failed, Grown, Looked, Offered, Opened, Ruled, Seconded, Started, Took,
-};
+use tp_record::entries::Did;
 use tp_types::ids::{SlotId, TaskId};
 use tp_types::tasks::Place;
 
-/// Whether a verdict drops the task beside the one that it is about.
-fn drops_task(ruled: Ruled, task: TaskId) -> bool
-    ensures { result ≡ naming.drops_task ruled task.0 }
-{
-    match ruled {
-        Ruled::RetryDrop(dropped) => task.0 == dropped.0,
-        _ => false,
-    }
-}
-
-/// Whether an entry names the task.
+/// Whether an entry names the task, be it only to leave it as it is.
 fn names_task(did: Did, task: TaskId) -> bool
     ensures { result ≡ naming.names_task did task.0 }
 {
     match did {
-        Did::Submit(named, _, _, _) | Did::Look(named, _) | Did::Offer(named, _) => {
+        Did::Remove(named, _) | Did::Cancel(named, _, _) | Did::TakeDone(_, named) => {
             task.0 == named.0
         }
-        Did::Second(named, _) | Did::Grow(named, _) | Did::CallerEnd(named, _) => {
-            task.0 == named.0
-        }
-        Did::Verdict(named, _, ruled) => task.0 == named.0 || drops_task(ruled, task),
-        Did::Open(_, Opened::GivenUpRefuse(named)) => task.0 == named.0,
-        Did::Fail(_, Failed::Offer(named)) | Did::Fail(_, Failed::Refuse(named)) => {
-            task.0 == named.0
-        }
-        Did::Take(_, Took::Held(named)) | Did::Take(_, Took::Head(named)) => task.0 == named.0,
-        Did::Begin(_, Started::Run(named)) | Did::Begin(_, Started::Skip(named)) => {
-            task.0 == named.0
-        }
-        Did::End(_, named, _) | Did::Remove(named, _) | Did::Cancel(named, _, _) => {
-            task.0 == named.0
-        }
-        Did::TakeDone(_, named) => task.0 == named.0,
-        _ => false,
+        _ => named_task(did) == Some(task.0) || dropped_task(did) == Some(task.0),
     }
 }
 
@@ -71,21 +44,7 @@ fn sweeps_task(tables: &Tables, did: Did, task: TaskId) -> bool
 fn names_slot(did: Did, slot: SlotId) -> bool
     ensures { result ≡ words.names_slot did slot.0 }
 {
-    match did {
-        Did::Submit(_, _, _, Looked::Reserve(named)) | Did::Look(_, Looked::Reserve(named)) => {
-            slot.0 == named.0
-        }
-        Did::Offer(_, Offered::Hand(named)) => slot.0 == named.0,
-        Did::Second(_, Seconded::StayReserve(named)) => slot.0 == named.0,
-        Did::Grow(_, Grown::Reserve(named)) => slot.0 == named.0,
-        Did::Open(named, _) | Did::Fail(named, _) | Did::Take(named, _) => slot.0 == named.0,
-        Did::Begin(named, _) | Did::End(named, _, _) | Did::Leave(named, None) => {
-            slot.0 == named.0
-        }
-        Did::Leave(named, Some(made)) => slot.0 == named.0 || slot.0 == made.0,
-        Did::Prestart(Some(named)) => slot.0 == named.0,
-        _ => false,
-    }
+    named_slot(did) == Some(slot.0) || replacing_slot(did) == Some(slot.0)
 }
 
 /// Whether an entry wakes all idle workers.

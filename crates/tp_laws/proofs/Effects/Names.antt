@@ -7,10 +7,7 @@ use Rattle.tp_types.specs.declared.tasks.Fate.{Fate}
 use Rattle.tp_record.specs.declared.entries.Entry.{Entry}
 use Rattle.tp_record.specs.declared.entries.Did.{Did}
 use Rattle.tp_record.specs.declared.entries.Did.TheVariants as did
-use Rattle.tp_record.specs.declared.entries.Looked.TheVariants as looked
 use Rattle.tp_record.specs.declared.entries.Offered.TheVariants as offered
-use Rattle.tp_record.specs.declared.entries.Seconded.TheVariants as seconded
-use Rattle.tp_record.specs.declared.entries.Grown.TheVariants as grown
 use Rattle.tp_record.specs.declared.entries.Ruled.TheVariants as ruled
 use Rattle.tp_record.specs.declared.entries.Opened.TheVariants as opened
 use Rattle.tp_record.specs.declared.entries.Failed.TheVariants as failed
@@ -20,7 +17,7 @@ use Rattle.tp_record.specs.declared.rows.Stage.{Stage}
 use Rattle.tp_record.specs.declared.rows.TaskRow.{TaskRow}
 use Rattle.tp_record.specs.declared.rows.SlotRow.{SlotRow}
 use Rattle.tp_record.specs.Lists.{said_of, is_it}
-use Rattle.tp_record.specs.Effects.{kinds_said, priorities_said, moved, seconds, cancels, endings, outcomes, tries, holds, turned, seated, is_plain_fault, reaches}
+use Rattle.tp_record.specs.Effects.{reserves, kinds_said, priorities_said, moved, seconds, cancels, endings, outcomes, tries, holds, turned, seated, is_plain_fault, reaches}
 use Rattle.tp_record.specs.Fields.{swept, handed_back, counted, woken, task_in}
 use Rattle.tp_record.specs.State.{State, row_after, slot_after, seat_after, seat_by, no_seat, task_at}
 use Rattle.tp_laws.specs.Seats.{number_of}
@@ -68,19 +65,14 @@ beside h _ = None
 
 -- the slot that an entry turns, reserves, frees or gives a task
 abbrev pub seats : Did → Option ℕ
-seats (did.Submit t k p (looked.Reserve w)) = Some w.0
-seats (did.Look t (looked.Reserve w)) = Some w.0
 seats (did.Offer t (offered.Hand w)) = Some w.0
-seats (did.Second t (seconded.StayReserve w)) = Some w.0
-seats (did.Grow t (grown.Reserve w)) = Some w.0
 seats (did.Open w o) = Some w.0
 seats (did.Fail w f) = Some w.0
 seats (did.Take w k) = Some w.0
 seats (did.Begin w b) = Some w.0
 seats (did.End w t o) = Some w.0
 seats (did.Leave w o) = Some w.0
-seats (did.Prestart (Some w)) = Some w.0
-seats _ = None
+seats d = reserves d
 
 -- beside it the slot that is reserved in place of one that leaves
 abbrev pub replaces : Did → Option ℕ
