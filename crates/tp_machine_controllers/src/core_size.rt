@@ -16,7 +16,7 @@ impl<P> Step<P> for Core {
     ghost use Rattle.tp_record.specs.declared.entries.Ask.TheVariants as ask;
     ghost use Rattle.tp_record.specs.declared.entries.Did.TheVariants as did;
 
-    /// How many prestarts the core size asks for: as many as it is larger, but no more than there are tasks in the queue.
+    /// For how many workers ahead of tasks the core size asks: as many as it is larger, but no more than there are tasks in the queue.
     type Answer = u32;
 
     type Out = ();

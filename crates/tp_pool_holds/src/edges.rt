@@ -13,12 +13,12 @@ use tp_types::tasks::Outcome;
 ///
 /// Which calls wait for which, where the objects are `Boxes`: each of the factory, the handler and the hooks
 /// answers one ask at a time. A submission asks the factory where it reserves a slot, and the handler where it is
-/// refused under `Policy::Own`. A prestart and `set_core` ask the factory. In a pool that is shut down, a call
+/// refused under `Policy::Own`. A call that starts workers asks the factory. In a pool that is shut down, a call
 /// whose step leaves it to nobody asks the factory or calls the terminated hook.
 ///
-/// So a factory that submits to its own pool or prestarts there may wait for itself. A handler that prestarts, or
-/// whose call does what is left, waits for the factory or the terminated hook; a factory or a hook that submits
-/// may wait for the handler: two such objects may wait for each other for ever. A factory or a hook may shut its
+/// So a factory that submits to its own pool or starts workers there may wait for itself. A handler that starts
+/// workers, or whose call does what is left, waits for the factory or the terminated hook; a factory or a hook that
+/// submits may wait for the handler: two such objects may wait for each other for ever. A factory or a hook may shut its
 /// pool down: nothing is left to do while it answers. None of these objects may wait for the pool's end or for a task: the
 /// slot, the task or the end for which it was asked waits meanwhile. None may keep a handle of its own pool: a close waits
 /// for ever then.

@@ -7,8 +7,8 @@ use tp_types::ids::SlotId;
 /// pool starts the thread itself.
 ///
 /// The thread that reserved the slot asks it, with no lock of the pool held, one ask at a time. It may take
-/// its time, and read the pool. A submission or a prestart of the same pool from within would wait for ever
-/// where it reserves a slot: that asks this factory again while it answers. A wait from within for a task of the
+/// its time, and read the pool. A call of the same pool from within that reserves a slot would wait for ever:
+/// it asks this factory again while the factory answers. A wait from within for a task of the
 /// pool or for its termination may never end: the slot is reserved until the factory has answered.
 pub trait ThreadFactory: Send + Drop {
     /// Whether slot `w` may have a worker. Where it may not, the step `fail` gives the slot back and its
