@@ -1,4 +1,4 @@
-//! Submissions and prestarts, with ample memory and where one allocation fails.
+//! Submissions and starts of workers, with ample memory and where one allocation fails.
 
 use crate::harness::calls::Call;
 use crate::harness::findings::Finding;
@@ -46,7 +46,7 @@ fn ample_memory_succeeds(rt: HostRuntime) -> Result<(), Fail> {
     lives_again(rt, rt.alloc(), &BOTH_RAN)
 }
 
-// The same of prestarts.
+// The same of starts of workers.
 static ONE_RAN: Life = Life {
     settings: Config {
         core: 1,
