@@ -1,6 +1,6 @@
 -- The end of a pool, and what its record says of the caller that made it run.
-use Rattle.std.proofs.Common.{◌≡◌, ◌⊎◌, ℕ, Bool, true, List, [], ◌∷◌, ◌++◌, reverse, refl, sym, ap, subst, ◌∙◌, inl, inr, ⊎_elim, arith}
-use Rattle.std.specs.Prelude.{◌↔◌, IsTrue, All, Some, if◌then◌else◌}
+use Rattle.std.proofs.Common.{◌≡◌, ◌⊎◌, ℕ, true, List, [], ◌∷◌, ◌++◌, reverse, refl, sym, ap, subst, ◌∙◌, inl, inr, ⊎_elim, arith}
+use Rattle.std.specs.Prelude.{All, Some, if◌then◌else◌}
 use Rattle.std.proofs.lemmas.List.{append-nil, reverse-reverse}
 use Rattle.std.proofs.lemmas.List.Elements.{All-nil, All-cons, All-append, All-pop}
 use Rattle.tp_types.specs.Config.{IsConfig}
@@ -15,8 +15,6 @@ use Rattle.tp_record.specs.Step.{Legal}
 use Rattle.tp_book.specs.PassView.{PassView, receipts_with}
 use Rattle.tp_book.specs.Reports.{IsOwn, TellsRecord}
 use Rattle.tp_book.specs.declared.reports.Report.{Report}
-use Rattle.tp_pool_holds.specs.Left.{IsStranded}
-use Rattle.tp_pool_holds.specs.Moments.{AtSome}
 use Rattle.tp_pool_holds.specs.Passes.{Adds, LooksOnly, entry_of, tidied, ended}
 use Rattle.tp_pool_holds.specs.Reports.{Reports}
 use Rattle.tp_pool_holds.specs.Endings.{AddsAndEnds, IsBarred, IsEnding}
@@ -76,10 +74,6 @@ ends_looks c old mid new end looked =
           ),
     ))
     looked
-
--- where a reading says that tasks are stranded, they are so somewhere
-pub stranded_there : (c : Config) (reading : Bool) → IsTrue reading → AtSome c (λ s. IsTrue reading ↔ IsStranded s) → AtSome c IsStranded
-stranded_there c reading says is = record { history = is.history; is = record { legal = is.is.legal; holds = is.is.holds.0 says } }
 
 -- the list of one caller's pass
 pub one_pass : (passes pushed : List PassView) (now : PassView) → passes ≡ [] → pushed ≡ passes ++ now ∷ [] → pushed ≡ now ∷ []

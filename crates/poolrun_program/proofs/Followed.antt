@@ -1,7 +1,7 @@
 -- Submissions one after another, with their receipts.
 use Rattle.std.proofs.Common.{suc, Bool, true, ◌≡◌, ◌≢◌, ◌+◌, ◌<◌, ℕ, List, [], ◌∷◌, ◌++◌, length, get_or, take, drop, drop-cons, refl, sym, ap, subst, ◌∙◌, inl, inr, ⊎_elim, append_assoc, arith}
 use Rattle.std.specs.Prelude.{Some, ⊤}
-use Rattle.std.proofs.lemmas.List.{append-nil, length-map, take_all, take_more, take-append-drop, get_or-map}
+use Rattle.std.proofs.lemmas.List.{append-nil, length-map, take_more, take-append-drop, get_or-map}
 use Rattle.tp_types.specs.declared.configs.Config.{Config}
 use Rattle.tp_types.specs.declared.ids.TaskId.{TaskId}
 use Rattle.tp_types.specs.declared.refusals.PoolError.{PoolError}
@@ -15,16 +15,12 @@ use Rattle.tp_pool_holds.specs.Passes.{AddsNone, Refuses}
 use Rattle.tp_pool_holds.specs.declared.answers.Refused.{Refused}
 use Rattle.tp_scenario.specs.declared.jobs.JobLine.{JobLine}
 use Rattle.tp_types.specs.declared.tasks.Promise.{Promise}
-use Rattle.tp_record.specs.Step.{Legal}
 use Rattle.tp_machine.specs.Answers.{ComesBack}
 use Rattle.tp_pool.specs.Admissions.{AddsPath, AddsFront, GotJob, IsJobOut, IsTurnedAway}
-use Rattle.tp_pool_holds.proofs.Receipts.{adds_both, adds_behind, looks_adds, none_behind, stands_looking}
+use Rattle.tp_pool_holds.proofs.Receipts.{adds_both, adds_behind, none_behind}
 use Rattle.tp_pool.proofs.Submissions.{front_behind}
 use Rattle.poolrun_program.specs.Runs.{Asked, AreSubmissions, AddsSubmissions, IsTorn, BreaksOff, asked_of, asked}
 use Rattle.poolrun_program.proofs.Refusals.{before_first}
-
-pub no_submissions : (c : Config) (p : PassView) → Legal c p.front → AddsSubmissions c [] p p
-no_submissions c p legal = ([], refl, looks_adds c p p (stands_looking c p legal))
 
 -- a path is one, behind room for it
 pub one_submission : (c : Config) (k : Asked) (t : TaskId) (end : Admission) (old mid new : PassView) → AddsNone old mid → AddsPath c k.0 k.1 t end mid new → AddsSubmissions c (k ∷ []) old new
@@ -47,9 +43,6 @@ next_submission c old mid new jobs n d within a b =
     let more : take (n + 1) (asked jobs) ≡ take n (asked jobs) ++ asked_of (get_or jobs n d) ∷ [] =
     take_more (asked jobs) n (asked_of d) (omega (arith, length-map jobs asked_of)) ∙ ap (λ k. take n (asked jobs) ++ k ∷ []) (get_or-map asked_of jobs n d (asked_of d) within) in
     subst (λ ks. AddsSubmissions c ks old new) (sym more) (more_submissions c old mid new (take n (asked jobs)) (asked_of (get_or jobs n d) ∷ []) a b)
-
-pub all_submissions : (c : Config) (old new : PassView) (jobs : List JobLine) (n : ℕ) → n ≡ length jobs → AddsSubmissions c (take n (asked jobs)) old new → AddsSubmissions c (asked jobs) old new
-all_submissions c old new jobs n is a = subst (λ ks. AddsSubmissions c ks old new) (take_all n (asked jobs) (omega (arith, length-map jobs asked_of))) a
 
 module _ {J : Type 0} (keeps : Bool) (c : Config) (kind : Kind) (priority : ℕ) (job : J) (promise : Promise) where
   -- a submission that was turned away by the policy is followed to its end

@@ -1,5 +1,5 @@
 -- Places that are told are those of states.
-use Rattle.std.proofs.Common.{◌≡◌, ◌<◌, ℕ, List, length, map, Some, arith}
+use Rattle.std.proofs.Common.{◌≡◌, ◌<◌, ℕ, length, map, arith}
 use Rattle.std.specs.List.{Contains}
 use Rattle.std.proofs.lemmas.List.{length-map}
 use Rattle.std.proofs.lemmas.List.Elements.{All-contains}
@@ -9,7 +9,7 @@ use Rattle.tp_explore.specs.Situation.{Situation, seen}
 use Rattle.tp_explore_text.specs.declared.ends.End.{End}
 use Rattle.tp_explore_text.specs.declared.explored.Explored.{Explored}
 use Rattle.tp_explore_text.specs.Ends.{IsEnd, end_text, text_of}
-use Rattle.tp_explore_text.specs.Explored.{FindsEnd, IsExplored}
+use Rattle.tp_explore_text.specs.Explored.{IsExplored}
 
 -- where a situation is seen there is a state
 pub seen_within : (e : Explored) (k : ℕ) (z : Situation) → IsAt (map seen e.graph.states.items) k z → k < length e.graph.states.items
@@ -24,7 +24,3 @@ end_within e is end among =
     let placed = All-contains (λ x. (z : Situation) × IsAt (map seen e.graph.states.items) x.place z × IsEnd e.named.exploration.plan z × (end_text e.named.labels.items z ≡ text_of x))
     e.ends.items end is.told.placed among in
     seen_within e end.place placed.0 placed.1
-
--- so is the place of an end that is found
-pub found_within : (e : Explored) (parts : List (List ℕ)) (k : ℕ) → FindsEnd e parts (Some k) → k < length e.graph.states.items
-found_within e parts k f = seen_within e k f.0 f.1

@@ -1,5 +1,5 @@
 -- What stands at the end of a run, line by line.
-use Rattle.std.proofs.Common.{◌≡◌, ℕ, suc, ◌+◌, ◌<◌, List, ◌++◌, length, take, Option, Result, Ok, Err, OnOk, OnErr, refl, sym, ◌∙◌, ap, arith, append_assoc}
+use Rattle.std.proofs.Common.{◌≡◌, ℕ, suc, ◌+◌, ◌<◌, List, ◌++◌, length, take, Option, Result, Ok, Err, OnOk, OnErr, sym, ◌∙◌, ap, arith, append_assoc}
 use Rattle.tp_types.specs.declared.states.Counts.{Counts}
 use Rattle.tp_types.specs.declared.states.RunState.{RunState}
 use Rattle.tp_types.specs.declared.tasks.Fate.{Fate}
@@ -42,10 +42,6 @@ broken_fates old out s n is =
     let end : List ℕ = state_line (state_at s.rank) ++ counts_line (counts s) in
     let later = fate_lines-take 0 n s.tasks in
     (fate_lines 0 (take n s.tasks), is, (later.0 ++ end, ap (λ x. x ++ end) later.1 ∙ append_assoc (fate_lines 0 (take n s.tasks)) later.0 end))
-
--- before the run state
-pub broken_state : (old out : List ℕ) (s : State) → out ≡ old ++ fate_lines 0 s.tasks → Broken old s out
-broken_state old out s is = (fate_lines 0 s.tasks, is, (state_line (state_at s.rank) ++ counts_line (counts s), refl))
 
 -- the line of a run state of this rank
 named : (r : RunState) (n : ℕ) → state_rank r ≡ n → state_line r ≡ state_line (state_at n)

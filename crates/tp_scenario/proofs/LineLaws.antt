@@ -1,5 +1,5 @@
 -- Which texts are those of lines.
-use Rattle.std.proofs.Common.{◌≡◌, ◌≢◌, ℕ, List, Option, Some, None, Bool, true, false, sym, ◌∙◌, ap, subst}
+use Rattle.std.proofs.Common.{◌≡◌, ◌≢◌, ℕ, List, Option, Some, None, Bool, sym, ◌∙◌, ap, subst}
 use Rattle.std.proofs.lemmas.Option.{none-some, same_Some}
 use Rattle.std.specs.Fmt.{decimal}
 use Rattle.tp_types.specs.declared.tasks.Kind.{Kind}
@@ -41,18 +41,6 @@ no_arguments_of (line.CoreTimeout on) text none fits same = none on tt (same_Som
 -- where the text is that of no argument, no line of the command has it
 pub no_line : (c : Command) (text : List ℕ) → NoArguments c text → (l : ScenarioLine) → FitsLine l → command_of l ≡ c → Some text ≢ arguments l
 no_line c text none l fits is = no_arguments_of l text (subst (λ d. NoArguments d text) (sym is) none) fits
-
--- a command other than those that stand alone has arguments
-abbrev pub is_alone : Command → Bool
-is_alone (command.OfPool v) = true
-is_alone _ = false
-
-alone_arguments : (l : ScenarioLine) → is_alone (command_of l) ≡ false → None ≢ arguments l
-alone_arguments (line.OfPool v) is = cc
-alone_arguments _ is = λ e. none-some _ e
-
-pub no_line_alone : (c : Command) → is_alone c ≡ false → (l : ScenarioLine) → FitsLine l → command_of l ≡ c → None ≢ arguments l
-no_line_alone c isnt l fits is = alone_arguments l (ap is_alone is ∙ isnt)
 
 -- the text of a line falls apart into its command and its arguments
 pub line_parts : (bs w : List ℕ) (r : Option (List ℕ)) → FirstWord bs w r → (l : ScenarioLine) → bs ≡ line_text l → (w ≡ command_word (command_of l)) × (r ≡ arguments l)

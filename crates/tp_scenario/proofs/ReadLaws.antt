@@ -128,9 +128,6 @@ module _ {L : Type 0} (text_of : L → List ℕ) (fits : L → Type 0) where
     pub before : List L
     pub reading : Reading first text k rest before
 
-  pub searching_first : (first : ℕ) (text : List ℕ) → Searching first text first text
-  searching_first first text = record { before = []; reading = record { counted = omega arith; on = λ said say. say } }
-
   pub searching_on : (first : ℕ) (text : List ℕ) (k j : ℕ) (rest line behind : List ℕ) (r : LineRead L) → Searching first text k rest → Cut rest line behind → ReadsLine text_of fits line r → r ≢ read.Bad → j ≡ k + 1 → Searching first text j behind
   searching_on first text k j rest line behind read.Skipped so_far cut reads good next = record { before = so_far.before; reading = reading_skip first text k j rest line behind so_far.before so_far.reading cut reads next }
   searching_on first text k j rest line behind (read.Says l) so_far cut reads good next = record { before = so_far.before ++ l ∷ []; reading = reading_line first text k j rest line behind so_far.before l so_far.reading cut reads next }
@@ -147,9 +144,6 @@ module _ {L : Type 0} (text_of : L → List ℕ) (fits : L → Type 0) where
   pub text_bad : (k : ℕ) (text line behind : List ℕ) → Cut text line behind → ReadsPoolLine line head.Bad → TextSaysFrom text_of fits k text (Err k)
   text_bad k text line behind cut reads =
       let more = all_lines behind in (line ∷ more.0, more.1, lines_on text line behind more.1 more.0 cut more.2, (head.Bad, reads, refl))
-
-  pub text_none : (k : ℕ) (text : List ℕ) → HasNoLineFeed text → TextSaysFrom text_of fits k text (Err k)
-  text_none k text none = ([], text, record { whole = refl; each = tt; last = none }, refl)
 
   -- how far a text is read up to its pool line
   pub record Opening (text : List ℕ) (k : ℕ) (rest : List ℕ) : Type 0 where

@@ -96,9 +96,6 @@ module _ (m n : Seen (Unit {0}) Counted) (os : Outcomes) (p : Playing) (is : IsA
 
 -- promises stay, or one more comes
 module _ (m n : Seen (Unit {0}) Counted) (os : Outcomes) (promised : ArePromised m os) where
-  pub promised_on : ((t : ℕ) → promise n t ≡ promise m t) → ArePromised n os
-  promised_on stay t = stay t ∙ promised t
-
   pub promised_more : (h : List Entry) (a : Ask) (d : Did) (t : ℕ) (o : Outcome) → At notes m h [] → IsStep notes m n 0 a d → submits d ≡ Some t → PutsIn m.parts.tasks n.parts.tasks t (promise_of o) tt
       → EachState notes m (λ s. (u : ℕ) → is_some (promise m u) ≡ is_known s u) → ArePromised n (os ++ o ∷ [])
   promised_more h a d t o at step names puts law u =

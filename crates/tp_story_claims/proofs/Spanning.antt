@@ -13,9 +13,6 @@ use Rattle.tp_story_claims.specs.Checks.{longer, most}
 max_assoc : (a b c : ℕ) → max a (max b c) ≡ max (max a b) c
 max_assoc a b c = grind arith
 
-zero_max : (n : ℕ) → max n 0 ≡ n
-zero_max n = grind arith
-
 most_more : (xs : List Span) (s : Span) → most (xs ++ s ∷ []) ≡ max (most xs) s.entries
 most_more [] s = grind arith
 most_more (x ∷ xs) s = ap (max x.entries) (most_more xs s) ∙ max_assoc x.entries (most xs) s.entries

@@ -9,7 +9,7 @@ use Rattle.tp_record.specs.State.{state}
 use Rattle.tp_record.specs.Step.{Legal, Gives}
 use Rattle.tp_audit_plain.specs.Audit.{IsFirstFlaw}
 use Rattle.tp_story_words.specs.declared.forms.Form.{Form}
-use Rattle.tp_story_questions.specs.Asking.{IsToldAll, SaysOfAll}
+use Rattle.tp_story_questions.specs.Asking.{IsToldAll}
 
 -- an entry that is not given is the first flaw of the record that ends with it
 pub flaw_here : (c : Config) (es : List Entry) (n : ℕ) (e : Entry) → Legal c (reverse es) → n ≡ suc (length (reverse es)) → (Gives c (state c (reverse es)) e.ask e.did → ⊥) → IsFirstFlaw c (es ++ e ∷ []) n
@@ -36,11 +36,6 @@ module _ {A : Type 0} (settings : A → Config) (tells : A → List Entry → Ty
     legal = told.legal;
     not_given = told.not_given;
   }
-
-  -- of a record with a flaw nothing is said
-  pub nothing_said : (a : A) (o : Option ℕ) (es : List Entry) (form : Form) (out : List ℕ) (holds : Bool) → is_some o ≡ true → IsToldAll settings tells a o es → out ≡ [] → holds ≡ false → SaysOfAll settings says a o es form out holds
-  nothing_said a None es form out holds some told none fails = absurd (false≢true some)
-  nothing_said a (Some n) es form out holds some told none fails = (told, none, fails)
 
 pub no_flaw : (o : Option ℕ) → is_some o ≡ false → o ≡ None
 no_flaw None none = refl

@@ -15,7 +15,6 @@ use Rattle.tp_text.specs.EntryLine.{words, pass_name, entry_line, did_words, ent
 use Rattle.tp_text.specs.Fits.{Fits32}
 use Rattle.tp_text.specs.Lines.{ended}
 use Rattle.tp_text.specs.Reads.{ReadsAs}
-use Rattle.tp_record.specs.Asked.{asked}
 use Rattle.tp_text_record.specs.EntryFits.{FitsDid, FitsPass, HasLine}
 use Rattle.tp_text_record.specs.Rests.{split_words}
 use Rattle.tp_text_record.proofs.AnswerLaws.{test_false}
@@ -39,19 +38,6 @@ by_zero by is = ap pass_words is
 pub no_entry : (ws : List (List ℕ)) → ((d : Did) → FitsDid d → ws ≢ did_words d) → ((by : ℕ) (vs : List (List ℕ)) → FitsPass by → ws ≢ pass_name by ∷ vs) → (e : Entry) → HasLine e → ws ≢ pass_words e.by ++ did_words e.did
 no_entry ws none other e step same =
     elim (eqb_tells e.by 0) [ inl p ↦ none e.did step.1 (same ∙ ap (λ x. x ++ did_words e.did) (by_zero e.by p.1)) | inr p ↦ other e.by (did_words e.did) (step.0, p.1) (same ∙ ap (λ x. x ++ did_words e.did) (pass_written e.by p.1)) ]
-
-other_pass : (ws rest : List (List ℕ)) (by : ℕ) → ws ≡ pass_name by ∷ rest → ((d : Did) → FitsDid d → rest ≢ did_words d) → (v : ℕ) (d : Did) → FitsDid d → ws ≢ pass_name v ∷ did_words d
-other_pass ws rest by is after v d fits same = let behind : rest ≡ did_words d = cc in after d fits behind
-
-pub no_entry_after : (ws rest : List (List ℕ)) (by : ℕ) → ((d : Did) → FitsDid d → ws ≢ did_words d) → ws ≡ pass_name by ∷ rest → ((d : Did) → FitsDid d → rest ≢ did_words d) → (e : Entry) → HasLine e → ws ≢ pass_words e.by ++ did_words e.did
-no_entry_after ws rest by none is after e step same =
-    elim (eqb_tells e.by 0) [ inl p ↦ none e.did step.1 (same ∙ ap (λ x. x ++ did_words e.did) (by_zero e.by p.1)) | inr p ↦ other_pass ws rest by is after e.by e.did step.1 (same ∙ ap (λ x. x ++ did_words e.did) (pass_written e.by p.1)) ]
-
--- what a pass other than 0 did
-pub entry_after : (ws rest : List (List ℕ)) (by : ℕ) (d : Did) (e : Entry) → FitsPass by → ws ≡ pass_name by ∷ rest → FitsDid d → rest ≡ did_words d → e ≡ record { by = by; ask = asked d; did = d } → HasLine e × (ws ≡ pass_words e.by ++ did_words e.did)
-entry_after ws rest by d e pass is fits behind same =
-    let P : Entry → Type 0 = λ x. HasLine x × (ws ≡ pass_words x.by ++ did_words x.did) in
-    subst P (sym same) ((pass.0, fits, refl), is ∙ ap (λ x. pass_name by ∷ x) behind ∙ ap (λ x. x ++ did_words d) (sym (pass_written by pass.1)))
 
 -- a line is the words of its text and its end
 words_of_line : (bs : List ℕ) (n : ℕ) (e : Entry) → ended bs ≡ entry_line n e → bs ≡ words (entry_words n e)

@@ -330,10 +330,6 @@ long_behind lines left later bytes fine are long =
 
 -- the lines behind which something is wrong
 
--- no header
-pub no_header : (line : List ℕ) → ((v : Version) → line ≢ header v) → Begins (line ∷ []) → ⊥
-no_header line other begins = other begins.version (sym (heads (header begins.version) line _ _ begins.whole))
-
 -- no pool line
 pub no_pool : (v : Version) (line : List ℕ) → ((c : Config) → FitsConfig v c → line ≢ pool_line c) → Begins (header v ∷ line ∷ []) → ⊥
 no_pool v line none begins =

@@ -20,13 +20,12 @@ use Rattle.tp_text_record.specs.declared.reading.Reading.{Reading}
 use Rattle.tp_text_record.specs.declared.reading.Reading.TheVariants as reading
 use Rattle.tp_text_record.specs.declared.reading.Stream.{Stream}
 use Rattle.tp_text_record.specs.declared.records.BodyLine.{BodyLine}
-use Rattle.tp_text_record.specs.declared.records.Record.{Record}
 use Rattle.tp_text_record.specs.declared.versions.Version.{Version}
 use Rattle.tp_text_record.specs.EntryFits.{IsStep}
-use Rattle.tp_text_record.specs.ReadRecord.{Begins, FitsBody, IsRefusedText, IsWrongAt, ReadsRecord, body_text}
+use Rattle.tp_text_record.specs.ReadRecord.{Begins, FitsBody, IsRefusedText, IsWrongAt, body_text}
 use Rattle.tp_text_record.specs.Reading.{AreTooMany, HasRead, HasStreamed, IsRead, IsRefusedBy, IsTaken, OfReader, RefusesLine, StopsAt, lines_to}
 use Rattle.tp_text_record.specs.RecordText.{FitsConfig, HasText, end_line, entry_text, entry_texts, header, pool_line, record_lines, record_text}
-use Rattle.tp_text_record.proofs.FirstWrong.{Cut, fine_read, has_more, length-lines_to, line_on, long_behind, many_lines, missing_behind, no_entry, no_header, no_more, no_pool, not_whole, one_more, pushed, refused_at}
+use Rattle.tp_text_record.proofs.FirstWrong.{Cut, fine_read, has_more, length-lines_to, long_behind, many_lines, missing_behind, no_entry, no_more, not_whole, one_more, refused_at}
 
 -- answers, and what is said of them
 
@@ -63,34 +62,11 @@ parts_on lines more left bytes piece rest whole goes =
     ap (λ x. x ++ piece) whole ∙ append_assoc (flat_map ended lines) left piece ∙ ap (λ x. flat_map ended lines ++ x) goes
     ∙ sym (append_assoc (flat_map ended lines) (flat_map ended more) rest) ∙ ap (λ x. x ++ rest) (sym (flat_map-append ended lines more))
 
--- a header, or another line in its place
-pub wrong_header : (lines : List (List ℕ)) (line : List ℕ) → lines ≡ [] → ((v : Version) → line ≢ header v) → RefusesLine lines line (BadEntry 1)
-wrong_header lines line none other =
-    inr (inr (inr (ap (λ ls. BadEntry (suc (length ls))) (sym none), λ begins. no_header line other (subst (λ ls. Begins (ls ++ line ∷ [])) none begins))))
-
--- a pool line, or another line in its place
-pub wrong_pool : (v : Version) (lines : List (List ℕ)) (line : List ℕ) → lines ≡ header v ∷ [] → ((c : Config) → FitsConfig v c → line ≢ pool_line c) → RefusesLine lines line (BadEntry 2)
-wrong_pool v lines line is other =
-    inr (inr (inr (ap (λ ls. BadEntry (suc (length ls))) (sym is), λ begins. no_pool v line other (subst (λ ls. Begins (ls ++ line ∷ [])) is begins))))
-
 pub refused_pool : (v : Version) (c : Config) (lines : List (List ℕ)) (line : List ℕ) (e : PoolError) → lines ≡ header v ∷ [] → FitsConfig v c → line ≡ pool_line c → (checked c ≡ Err e) ⊎ (e ≡ NoMemory) → RefusesLine lines line e
 refused_pool v c lines line e is fits goes (inl refused) = inr (inr (inl (v, c, is, fits, goes, refused)))
 refused_pool v c lines line e is fits goes (inr memory) = inl memory
 
 module _ {T : Type 0} (about : T → Version → Config → Type 0) (took : T → List Entry → Type 0) where
-  -- behind the pool line nothing was read yet
-  pub none_read : (v : Version) (c : Config) (t : T) → FitsConfig v c → checked c ≡ Ok tt → about t v c → took t [] → HasRead about took (record { version = v; taker = t; entries = 0; is_over = false }) (header v ∷ pool_line c ∷ [])
-  none_read v c t fits ok is none = record {
-    config = c;
-    entries = [];
-    about_pool = is;
-    taken = none;
-    counted = refl;
-    has_text = record { config = fits; count = omega arith; steps = tt };
-    accepted = ok;
-    lines_read = refl;
-  }
-
   pub pool_read : (b : Body T) (v : Version) (c : Config) (lines : List (List ℕ)) (line : List ℕ) → lines ≡ header v ∷ [] → line ≡ pool_line c → HasRead about took b (header v ∷ pool_line c ∷ []) → HasRead about took b (lines ++ line ∷ [])
   pool_read b v c lines line is goes read = subst (HasRead about took b) (ap (λ l. header v ∷ l ∷ []) (sym goes) ∙ ap (λ ls. ls ++ line ∷ []) (sym is)) read
 
@@ -163,15 +139,6 @@ module _ {T : Type 0} (about : T → Version → Config → Type 0) (took : T �
   pub no_lines : (r : Reading T) (text : List ℕ) → TakesLines r r text text
   no_lines r text = record { more = []; parts = refl; each = tt; read = λ lines is. subst (IsRead about took r) (sym (append-nil lines)) is }
 
-  pub takes_on : (old mid new : Reading T) (text rest line behind : List ℕ) → TakesLines old mid text rest → rest ≡ line ++ 10 ∷ behind → HasNoLineFeed line
-      → ((lines : List (List ℕ)) → IsRead about took mid lines → IsRead about took new (lines ++ line ∷ [])) → TakesLines old new text behind
-  takes_on old mid new text rest line behind takes goes single read = record {
-    more = takes.more ++ line ∷ [];
-    parts = line_on text rest line behind takes.more takes.parts goes;
-    each = pushed takes.more line takes.each single;
-    read = λ lines is. subst (IsRead about took new) (append_assoc lines takes.more (line ∷ [])) (read (lines ++ takes.more) (takes.read lines is));
-  }
-
   pub stops_at : (old mid : Reading T) (text rest line behind : List ℕ) (e : PoolError) (lines : List (List ℕ)) → TakesLines old mid text rest → rest ≡ line ++ 10 ∷ behind → HasNoLineFeed line
       → ((ls : List (List ℕ)) → IsRead about took mid ls → RefusesLine ls line e) → IsRead about took old lines → StopsAt lines text rest e
   stops_at old mid text rest line behind e lines takes goes single refuses is =
@@ -186,22 +153,6 @@ module _ {T : Type 0} (about : T → Version → Config → Type 0) (took : T �
         fine = fine_read about took mid (lines ++ takes.more) there;
         refused = refuses (lines ++ takes.more) there;
       }
-
-  -- a text whose lines were read, where nothing is left behind a record that is over
-  pub taken_here : (b : Body T) (text left : List ℕ) (lines : List (List ℕ)) → HasRead about took b lines → IsLines text lines left → (b.is_over ≡ true → left ≡ []) → IsTaken about took b text
-  taken_here b text left lines is are none = record {
-    config = is.config;
-    entries = is.entries;
-    left = left;
-    about_pool = is.about_pool;
-    taken = is.taken;
-    counted = is.counted;
-    has_text = is.has_text;
-    accepted = is.accepted;
-    is_text = are.whole ∙ ap (λ ls. flat_map ended ls ++ left) is.lines_read;
-    is_part = are.last;
-    none_left = none;
-  }
 
   -- the text of a record that is over
   pub whole_text : (b : Body T) (text : List ℕ) (is : IsTaken about took b text) → b.is_over ≡ true → text ≡ record_text b.version is.config is.entries
@@ -250,13 +201,6 @@ module _ {T : Type 0} (about : T → Version → Config → Type 0) (took : T �
     last = on.last;
   }
 
-  -- one more piece
-  pub piece_read : (s : Stream T) (r : Reading T) (bytes piece rest : List ℕ) → HasStreamed about took s bytes
-      → ((lines : List (List ℕ)) → IsRead about took s.reading lines → (more : List (List ℕ)) × IsLines (s.left.items ++ piece) more rest × IsRead about took r (lines ++ more))
-      → (lines : List (List ℕ)) × IsRead about took r lines × IsLines (bytes ++ piece) lines rest
-  piece_read s r bytes piece rest is reads =
-      let on = reads is.lines is.read in (is.lines ++ on.0, on.2, lines_on is.lines on.0 s.left.items bytes piece rest is.parts on.1)
-
   many_bytes : (lines : List (List ℕ)) (bytes rest : List ℕ) → bytes ≡ flat_map ended lines ++ rest → AreTooMany lines → 1048576 < length bytes
   many_bytes lines bytes rest parts many = omega (arith, many, few_lines lines, ap length parts, length-append (flat_map ended lines) rest)
 
@@ -300,15 +244,6 @@ refused_whole text rest e short stops =
     told : ((e ≡ ReadFailed) × AreTooMany stops.more) ⊎ IsRefusedText text e → IsRefusedText text e
     told (inl many) = absurd (omega (arith, short, many.1, few_lines stops.more, ap length stops.parts, length-append (flat_map ended stops.more) rest))
     told (inr refused) = refused
-
--- a record that took its entries
-pub taken_record : (text : List ℕ) (b : Body Record) → IsTaken (λ (r : Record) v c. (r.version ≡ v) × (r.config ≡ c)) (λ (r : Record) es. r.entries.items ≡ es) b text → b.is_over ≡ true → ReadsRecord text (Ok b.taker)
-taken_record text b is over =
-    let r : Record = b.taker in
-    subst (λ v. HasText v r.config r.entries.items × (checked r.config ≡ Ok tt) × (text ≡ record_text v r.config r.entries.items)) (sym is.about_pool.0)
-    (subst (λ c. HasText b.version c r.entries.items × (checked c ≡ Ok tt) × (text ≡ record_text b.version c r.entries.items)) (sym is.about_pool.1)
-    (subst (λ es. HasText b.version is.config es × (checked is.config ≡ Ok tt) × (text ≡ record_text b.version is.config es)) (sym is.taken)
-    (is.has_text, is.accepted, whole_text (λ (r : Record) v c. (r.version ≡ v) × (r.config ≡ c)) (λ (r : Record) es. r.entries.items ≡ es) b text is over)))
 
 -- a stream that a reader gives
 

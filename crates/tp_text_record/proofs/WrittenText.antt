@@ -1,5 +1,5 @@
 -- The text of a record, written line by line.
-use Rattle.std.proofs.Common.{◌≡◌, ℕ, zero, suc, ◌+◌, ◌<◌, ◌≤◌, List, [], ◌∷◌, ◌++◌, length, get_or, take, Option, refl, sym, ◌∙◌, ap, subst, arith, append_assoc, append-nil, length-take}
+use Rattle.std.proofs.Common.{◌≡◌, ℕ, suc, ◌+◌, ◌<◌, List, [], ◌∷◌, ◌++◌, length, get_or, take, Option, sym, ◌∙◌, ap, subst, arith, append_assoc, append-nil, length-take}
 use Rattle.std.specs.Io.KnownBytes.{Appends}
 use Rattle.std.specs.List.{flat_map}
 use Rattle.std.proofs.KnownBytes.{Appends-trans}
@@ -11,7 +11,7 @@ use Rattle.tp_text.specs.EntryLine.{entry_line}
 use Rattle.tp_text.specs.Lines.{ended}
 use Rattle.tp_text_record.specs.declared.versions.Version.TheVariants as version
 use Rattle.tp_text_record.specs.ReadRecord.{head}
-use Rattle.tp_text_record.specs.RecordText.{end_line, entry_text, entry_texts, header, pool_line, record_text}
+use Rattle.tp_text_record.specs.RecordText.{entry_text, entry_texts}
 use Rattle.tp_text_record.proofs.EntryTexts.{entry_line-words}
 use Rattle.tp_text_record.proofs.FirstWrong.{entry_texts-push}
 
@@ -21,14 +21,6 @@ front c es n = head version.Two c ++ flat_map ended (entry_texts 1 (take n es))
 
 pub first_written : (old new : Option (List ℕ)) (c : Config) → Appends old new (head version.Two c) → Appends old new (head version.Two c ++ [])
 first_written old new c appends = subst (Appends old new) (sym (append-nil (head version.Two c))) appends
-
--- the lines of all entries and of the end
-lines_of : (c : Config) (es : List Entry) → (head version.Two c ++ flat_map ended (entry_texts 1 es)) ++ ended (end_line (length es)) ≡ record_text version.Two c es
-lines_of c es =
-    append_assoc (head version.Two c) (flat_map ended (entry_texts 1 es)) (ended (end_line (length es)))
-    ∙ ap (λ x. head version.Two c ++ (flat_map ended (entry_texts 1 es) ++ x)) (sym (append-nil (ended (end_line (length es)))))
-    ∙ ap (λ x. head version.Two c ++ x) (sym (flat_map-append ended (entry_texts 1 es) (end_line (length es) ∷ [])))
-    ∙ append_assoc (ended (header version.Two)) (ended (pool_line c)) (flat_map ended (entry_texts 1 es ++ end_line (length es) ∷ []))
 
 next_texts : (es : List Entry) (n : ℕ) (e : Entry) → take (n + 1) es ≡ take n es ++ e ∷ [] → length (take n es) ≡ n
     → flat_map ended (entry_texts 1 (take n es)) ++ entry_line (n + 1) e ≡ flat_map ended (entry_texts 1 (take (n + 1) es))
@@ -49,16 +41,3 @@ next_written old mid new c es n d so_far within appends =
     (append_assoc (head version.Two c) (flat_map ended (entry_texts 1 (take n es))) (entry_line (n + 1) e)
     ∙ ap (λ x. head version.Two c ++ x) (next_texts es n e more counted))
     (Appends-trans old mid new (front c es n) (entry_line (n + 1) e) so_far appends)
-
-take_whole : (n : ℕ) (es : List Entry) → length es ≤ n → take n es ≡ es
-take_whole zero [] within = refl
-take_whole zero (e ∷ es) within = absurd (omega arith)
-take_whole (suc n) [] within = refl
-take_whole (suc n) (e ∷ es) within = ap (λ x. e ∷ x) (take_whole n es (omega arith))
-
-pub last_written : (old mid new : Option (List ℕ)) (c : Config) (es : List Entry) (n : ℕ) → Appends old mid (front c es n) → length es ≤ n → Appends mid new (ended (end_line (length es))) → Appends old new (record_text version.Two c es)
-last_written old mid new c es n so_far within appends =
-    let all = take_whole n es within in
-    subst (Appends old new)
-    (ap (λ x. (head version.Two c ++ flat_map ended (entry_texts 1 x)) ++ ended (end_line (length es))) all ∙ lines_of c es)
-    (Appends-trans old mid new (front c es n) (ended (end_line (length es))) so_far appends)
