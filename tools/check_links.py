@@ -7,7 +7,7 @@ that is more than two clicks away from README.md.
 Read are Markdown links, with their anchors, and what stands in backticks and looks like a path of the repository:
 it begins with a folder or a file at its top, or it is a crate's name such as `tp_pool`. NAME, `*` and `..` in a
 path stand for anything; `out` is made by a run, and a crate that a page makes by `rt new` by its reader. Code blocks
-are not read. In tables a name in backticks, as `Core::stop` or `law_jobs_have_room`, is a word of the sources, of the bindings or
+are not read. In tables a name in backticks, as `Locked::stop` or `law_jobs_have_room`, is a word of the sources, of the bindings or
 of a file's name. The status is 1 where something is missing, and each line says FILE:LINE and what it names.
 """
 import argparse

@@ -100,7 +100,7 @@ fn main(rt: HostRuntime) -> anyhow::Result<()> {
     for out in outs {
         out?;
     }
-    if let Some(Ended::Cut(_) | Ended::Left) = end {
+    if let Some(JournalEnd::Cut(_) | JournalEnd::Left) = end {
         println!(&rt; "the journal is cut off")?;
     }
     Ok(println!(&rt; "{} run", report.counts.run)?)

@@ -45,7 +45,7 @@ impl Crowd {
 pub const STARTS: u32 = 200;
 
 /// Lets the workers fall asleep.
-pub fn settle<R: Clock>(rt: &R) {
+pub fn fall_asleep<R: Clock>(rt: &R) {
     thread::sleep(rt, Duration::from_micros(300));
 }
 

@@ -1,7 +1,7 @@
 //! The runs of the pool that are timed, with its record and without one.
 ghost use Rattle.std.specs.Prelude.{◌≡◌};
 
-use crate::courses::{Course, Crowd, STARTS, alone, settle};
+use crate::courses::{Course, Crowd, STARTS, alone, fall_asleep};
 use crate::errands::Parcel;
 use crate::hosts::Host;
 use crate::unmeasured::Unmeasured;
@@ -89,7 +89,7 @@ fn measure<G: PoolNaming + Send + Sync + 'static, K: Keeper + Send + 'static, R:
     pool.prestart_all(&rt, &mut pass)?;
     match course {
         Course::Through(crowd) => {
-            settle(&rt);
+            fall_asleep(&rt);
             alone(alloc, through(rt, alloc, pool, pass, crowd)?)
         }
         Course::Life(crowd) => alone(alloc, through(rt, alloc, pool, pass, crowd)?),
@@ -222,7 +222,7 @@ fn start<G: PoolNaming + Send + Sync + 'static, K: Keeper + Send + 'static, R: H
     let mut times = Vec::new(alloc);
     pass.reserve(receipts(STARTS))?;
     for _ in 0..STARTS {
-        settle(&rt);
+        fall_asleep(&rt);
         times.push(one_start(rt, alloc, pool, &mut pass)?)?;
     }
     end(&rt, pool, &mut pass)?;

@@ -1,6 +1,6 @@
 //! The runs of the textbook's pool that are timed.
 
-use crate::courses::{Course, Crowd, STARTS, alone, settle};
+use crate::courses::{Course, Crowd, STARTS, alone, fall_asleep};
 use crate::errands::Parcel;
 use crate::hosts::Host;
 use crate::textbook::{Counter, Textbook};
@@ -79,7 +79,7 @@ fn all_submit<R: Host>(
 
 fn through<R: Host>(rt: R, alloc: Global, crowd: Crowd) -> Result<Duration, Unmeasured> {
     let pool = Textbook::new(rt, alloc, crowd.workers)?;
-    settle(&rt);
+    fall_asleep(&rt);
     let start = Instant::now(&rt)?;
     run(rt, alloc, pool, crowd)?;
     Ok(start.elapsed(&rt)?)
@@ -106,7 +106,7 @@ fn start<R: Host>(rt: R, alloc: Global, workers: u32) -> Result<Vec<Duration>, U
     let pool = Textbook::new(rt, alloc, workers)?;
     let mut times = Vec::new(alloc);
     for _ in 0..STARTS {
-        settle(&rt);
+        fall_asleep(&rt);
         times.push(one_start(rt, alloc, &pool.counter)?)?;
     }
     pool.join(&rt);

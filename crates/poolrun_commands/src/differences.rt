@@ -17,7 +17,7 @@ use std::io::{Read, Write};
 use tp_audit_causes::flaws::flaw_text;
 use tp_messages::messages::Style;
 use tp_story::fronts::Front;
-use tp_story_claims::differences::{Meeting, Refused, Side, follow, parting_text};
+use tp_story_claims::differences::{Meeting, RefusedRecord, Side, follow, parting_text};
 use tp_story_claims::endings::{ended_otherwise, fates_in, otherwise_text};
 use tp_story_claims::sources::RecordText;
 use tp_story_questions::questions::Notes;
@@ -197,7 +197,7 @@ fn parting_told<R: Read, S: Read, E: Write>(
     second: &mut Beside<'_, '_, S>,
     form: Form,
     errors: &mut E,
-) -> Result<Told, Refused>
+) -> Result<Told, RefusedRecord>
     requires { IsConfig config.now }
 {
     let Ok(mut front) = Front::new(alloc, config, None) else {
@@ -217,7 +217,7 @@ fn told_beside<R: Read, S: Read, E: Write>(
     second: &mut Beside<'_, '_, S>,
     form: Form,
     errors: &mut E,
-) -> Result<Told, Refused> {
+) -> Result<Told, RefusedRecord> {
     let config = match first.text.open() {
         Ok(config) => config,
         Err(refusal) => return Err((Side::First, refusal)),

@@ -15,7 +15,7 @@ use std::alloc::Global;
 use std::fs;
 use std::io::{ErrorKind, Read, Write};
 use std::rt::Files;
-use tp_journal::endings::Ended;
+use tp_journal::endings::JournalEnd;
 use tp_messages::messages::Style;
 use tp_messages::mistakes::Kind;
 use tp_messages::scenarios::{count_jobs, in_job_refused, pool_line_of};
@@ -97,7 +97,7 @@ fn run_jobs<H: Host, W: Write, E: Write>(
     text: &[u8],
     out: &mut WatchedWriter<W>,
     errors: &mut E,
-    ended: &mut Option<Ended<JournalFile<H>>>,
+    ended: &mut Option<JournalEnd<JournalFile<H>>>,
     kept: &mut Option<Unfinished>,
 ) -> Result<bool, PoolError>
     requires { length text.now < 4294967295 }

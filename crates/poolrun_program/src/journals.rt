@@ -3,7 +3,7 @@
 use std::alloc::{AllocError, Global};
 use std::fs::{self, File};
 use std::io::{self, Write};
-use tp_journal::endings::{Ended, Wish};
+use tp_journal::endings::{JournalEnd, Wish};
 use tp_journal::writers::Cut;
 
 /// A host whose files any of its threads can make and write. `Files` lets the thread alone that it was handed to.
@@ -90,15 +90,15 @@ fn tell_cut<W: Write, E: Write>(errors: &mut E, path: &str, cut: &Cut<W>) {
 pub fn tell_journal<W: Write, E: Write>(
     errors: &mut E,
     path: Option<&str>,
-    ended: &Option<Ended<W>>,
+    ended: &Option<JournalEnd<W>>,
 ) {
     let (Some(path), Some(ended)) = (path, ended) else {
         return;
     };
     match ended {
-        Ended::Whole(_) => (),
-        Ended::Cut(cut) => tell_cut(errors, path, cut),
-        Ended::Left => {
+        JournalEnd::Whole(_) => (),
+        JournalEnd::Cut(cut) => tell_cut(errors, path, cut),
+        JournalEnd::Left => {
             let _ = writeln!(
                 errors,
                 "poolrun: {path}: the journal waits to be written, and is cut off"

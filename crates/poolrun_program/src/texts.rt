@@ -17,7 +17,7 @@ use std::io::Write;
 use std::sync::Wait;
 use std::thread::Threads;
 use std::time::Clock;
-use tp_journal::endings::{Ended, Stopped, Wish, ended_by, ended_cut};
+use tp_journal::endings::{JournalEnd, Stopped, Wish, ended_by, ended_cut};
 use tp_pool::closing::Report;
 use tp_record::entries::{Did, Entry};
 use tp_record::packed::unpacked;
@@ -64,7 +64,7 @@ fn left_of(alloc: Global, config: &Config, report: Option<Report>) -> Option<Unf
 fn ended_at<V: Write + Drop>(
     journal: Option<Stopped<V>>,
     text: Result<&[u8], PoolError>,
-) -> Option<Ended<V>>
+) -> Option<JournalEnd<V>>
     ensures { IfOk text.entry (λ bytes. (before : Option (List ℕ)) (c : Settings) (known es : List Told) → IfSome journal (λ s. IfThrough s (IsJournalOf V.contents before c known)) → IsFrontOf known (reverse es)
         → bytes.now ≡ text_of Version.Two c es → IfSome result (IsWhole V.contents before bytes.now)) }
 {
@@ -84,7 +84,7 @@ fn refused_run<V: Write + Drop>(
     report: Option<Report>,
     journal: Option<Stopped<V>>,
     error: PoolError,
-) -> (Option<Unfinished>, Option<Ended<V>>) {
+) -> (Option<Unfinished>, Option<JournalEnd<V>>) {
     let left = left_of(alloc, config, report);
     let text = match &left {
         Some(left) => Ok(left.text.as_slice()),
@@ -121,7 +121,7 @@ pub fn run_text<
     text: &[u8],
     writer: &mut WatchedWriter<W>,
     wish: Option<Wish<V>>,
-    ended: &mut Option<Ended<V>>,
+    ended: &mut Option<JournalEnd<V>>,
     kept: &mut Option<Unfinished>,
 ) -> Result<(), PoolError>
     requires { length text.now < 4294967295 }

@@ -9,7 +9,7 @@ use std::alloc::Global;
 use tp_record::entries::{Ask, Did, Entry};
 use tp_record::rows::{SlotRow, Stage};
 use tp_rules::answer::answer;
-use tp_rules::build::snapshot;
+use tp_rules::build::plain_state;
 use tp_rules::counts::{counts, counts_of, owed};
 use tp_rules::next::next;
 use tp_rules::pool::{core, moment, rank};
@@ -295,7 +295,7 @@ fn next_counts_the_same(
     let Some((last, front)) = entries.split_last() else {
         return Ok(true);
     };
-    let before = snapshot(alloc, config, front)?;
+    let before = plain_state(alloc, config, front)?;
     let after = next(alloc, &before, last.did)?;
     Ok(counts_of(&after) == counts(alloc, config, entries)?)
 }

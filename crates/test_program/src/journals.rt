@@ -8,7 +8,7 @@ use std::sync::{Arc, Wait};
 use std::test::Fail;
 use std::thread::{Threads, sleep};
 use std::time::{Clock, Duration};
-use tp_journal::endings::{Ended, Wish};
+use tp_journal::endings::{JournalEnd, Wish};
 use tp_journal::writers::Cut;
 use tp_text::watched::WatchedWriter;
 use tp_types::refusals::PoolError;
@@ -59,7 +59,7 @@ fn run_with<R: Threads + Wait + Clock + Copy + Send + 'static, V: Write + Send +
     alloc: Global,
     writer: V,
     patience: Duration,
-) -> Result<(Vec<u8>, Option<Ended<V>>), Fail> {
+) -> Result<(Vec<u8>, Option<JournalEnd<V>>), Fail> {
     let wish = Some(Wish {
         writer,
         every: Duration::from_millis(1),
@@ -80,10 +80,10 @@ const ROWS: [(usize, Option<usize>); 3] = [
 ];
 
 /// The writer took just so many bytes of this text, and what is told of it says so.
-fn took(ended: Option<Ended<Guarded>>, text: &[u8], count: Option<usize>) -> bool {
+fn took(ended: Option<JournalEnd<Guarded>>, text: &[u8], count: Option<usize>) -> bool {
     match (ended, count) {
-        (Some(Ended::Whole(writer)), None) => writer.taken.as_slice() == text,
-        (Some(Ended::Cut(cut)), Some(count)) => {
+        (Some(JournalEnd::Whole(writer)), None) => writer.taken.as_slice() == text,
+        (Some(JournalEnd::Cut(cut)), Some(count)) => {
             let Cut { error, writer } = cut;
             let has_failed = error == PoolError::WriteFailed && writer.failure().is_some();
             let writer = writer.into_writer();
@@ -121,7 +121,7 @@ fn leaves_a_writer_that_waits(rt: HostRuntime) -> Result<(), Fail> {
         taken: Vec::new(rt.alloc()),
     };
     let (text, ended) = run_with(rt, rt.alloc(), writer, Duration::from_millis(5))?;
-    let is_left = matches!(ended, Some(Ended::Left)) && HEAD < text.len();
+    let is_left = matches!(ended, Some(JournalEnd::Left)) && HEAD < text.len();
     assert!(&rt; is_left, "{} bytes", text.len());
     door.store(true, Ordering::SeqCst);
     Ok(())

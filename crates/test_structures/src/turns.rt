@@ -4,12 +4,12 @@ use crate::calls::{Call, Said, Tested};
 use anyhow::anyhow;
 use std::alloc::Global;
 use std::sync::Wait;
-use tp_protocols::deeds::{Deed, Departed, Ended, Taken};
+use tp_protocols::deeds::{Deed, Departed, EndAnswer, Taken};
 use tp_protocols::flags::CancelFlag;
 use tp_protocols::gates::Point;
 use tp_protocols::jobs::Job;
 use tp_protocols::paths::{Next, follows};
-use tp_protocols::turns::{Begun, Turn, Workplace, one_turn};
+use tp_protocols::turns::{BeginAnswer, Turn, Workplace, one_turn};
 use tp_text_record::entries::read_entry;
 use tp_text_record::versions::Version;
 use tp_types::ids::{SlotId, TaskId};
@@ -78,12 +78,12 @@ impl<R: Wait> Workplace<Fixed, R> for Stage {
         self.taken
     }
 
-    fn begin(&mut self, _rt: &R) -> Begun<Fixed> {
+    fn begin(&mut self, _rt: &R) -> BeginAnswer<Fixed> {
         self.note(self.begun);
         match self.begun {
-            Deed::Began(t) => Begun::Run(t, Fixed(if self.faults { Err(9) } else { Ok(5) })),
-            Deed::Skipped(t) => Begun::Skip(t),
-            _ => Begun::Refused,
+            Deed::Began(t) => BeginAnswer::Run(t, Fixed(if self.faults { Err(9) } else { Ok(5) })),
+            Deed::Skipped(t) => BeginAnswer::Skip(t),
+            _ => BeginAnswer::Refused,
         }
     }
 
@@ -102,11 +102,11 @@ impl<R: Wait> Workplace<Fixed, R> for Stage {
         self.note(Deed::After(t, outcome));
     }
 
-    fn end(&mut self, _rt: &R, outcome: Outcome) -> Ended {
+    fn end(&mut self, _rt: &R, outcome: Outcome) -> EndAnswer {
         let ended = if self.faults {
-            Ended::Dying
+            EndAnswer::Dying
         } else {
-            Ended::Live
+            EndAnswer::Live
         };
         self.note(Deed::Ended(outcome, ended));
         ended

@@ -20,7 +20,7 @@ use Rattle.tp_laws.proofs.Model.NextState.{idle_left}
 use Rattle.tp_laws.proofs.Effects.Names.{is_wide, names, drops, seats, replaces, other_row, other_slot, place_unsaid, not_swept}
 use Rattle.tp_audit.specs.Changed.{change_at, leave_out}
 use Rattle.tp_audit.specs.Named.{unless, turns, if_awake, wakes, take_out}
-use Rattle.tp_audit.specs.Tables.{undone, grown, settled, Suits}
+use Rattle.tp_audit.specs.Tables.{undone, grown, applied, Suits}
 use Rattle.tp_audit.proofs.Tabled.{count_set, count_long}
 use Rattle.tp_audit.proofs.Changing.{change_each-two, filter-two}
 
@@ -162,7 +162,7 @@ filter-join p true f (Some x) xs all =
     (ap₂ (λ us vs. us ++ x ∷ vs) (filter-swap p (λ y. nat_le (f y) (f x)) xs) (filter-swap p (λ y. nat_lt (f x) (f y)) xs))
 
 -- the tables' changes, one after the other, lead to the next state
-pub named_next : (s : State) (d : Did) → is_wide d ≡ false → Suits s d → settled d (wakes d s) (grown d s) ≡ undone (next s d)
+pub named_next : (s : State) (d : Did) → is_wide d ≡ false → Suits s d → applied d (wakes d s) (grown d s) ≡ undone (next s d)
 named_next s d narrow suits =
     let slots = sym (slots_two d s narrow) in
     let queue = filter-join (stays_queued d s.tasks) s.ranked (λ t. (row_at s.tasks t).priority) (queues d) s.queue (λ t is. queued_stays d s.tasks t is) in

@@ -18,7 +18,7 @@ use Rattle.tp_record.specs.Step.{Answer, Legal, Gives, fitting, step, within_roo
 use Rattle.tp_laws.proofs.Model.Weak.{within}
 use Rattle.tp_laws.proofs.Model.NextState.{next_is_state}
 use Rattle.tp_laws.proofs.Model.Told.{sound_legal, given_answer, given_legal}
-use Rattle.tp_rules.specs.Snapshot.{IsAnswer}
+use Rattle.tp_rules.specs.PlainState.{IsAnswer}
 use Rattle.tp_rules.proofs.Numbers.{taken_at}
 use Rattle.tp_rules.proofs.Sizes.{length-task_rows}
 use Rattle.tp_audit_plain.specs.declared.summary.Summary.{Summary}

@@ -7,7 +7,7 @@ use Rattle.indexmap.specs.IndexMap.{IndexMap, get, Updates}
 use Rattle.tp_record.specs.declared.rows.SlotRow.{SlotRow}
 use Rattle.tp_record.specs.Lists.{long_enough}
 use Rattle.tp_record.specs.State.{slot_at}
-use Rattle.tp_audit.specs.Seats.{places_to, slots_to, IsWithin}
+use Rattle.tp_audit.specs.SlotTable.{places_to, slots_to, IsWithin}
 use Rattle.tp_audit.proofs.Tabled.{table, table_read, table_set, table_put, count_put, count_free}
 
 -- no more pass a test of slots than there are slots

@@ -31,7 +31,7 @@ use Rattle.tp_laws.proofs.Effects.Controllers.Shutdown.{shutdown}
 use Rattle.tp_laws.proofs.Effects.Controllers.Stop.{stop}
 use Rattle.tp_laws.proofs.Effects.Controllers.Purge.{purge}
 use Rattle.tp_laws.proofs.Effects.Controllers.Tidy.{tidy, ended}
-use Rattle.tp_audit.specs.Seats as seats_spec
+use Rattle.tp_audit.specs.SlotTable as slot_table
 use Rattle.tp_audit.specs.Tables.{undone}
 use Rattle.tp_audit.specs.Owed.{beside_in, seated_number, core_now, task_now, task_then, slot_now, slot_then, owed_now, owed_then, takers, falls, due_by}
 
@@ -82,11 +82,11 @@ module _ (c : Config) (h : List Entry) (d : Did) (legal : Legal c h) (given : Gi
       λ i. at_named (tasks_later i) (names d) + at_named (tasks_later i) (b i) + (at_named (slots_later i) (seats d) + at_named (slots_later i) (replaces d)) in
       omega (arith, e, before, after)
 
-same_taking : (o : Option SlotRow) → wakes.is_at_take o ≡ seats_spec.is_at_take o
+same_taking : (o : Option SlotRow) → wakes.is_at_take o ≡ slot_table.is_at_take o
 same_taking None = refl
 same_taking (Some r) = by_stage r.stage
   where
-    by_stage : (g : Stage) → wakes.is_at_take (Some (record { stage = g; task = r.task })) ≡ seats_spec.is_at_take (Some (record { stage = g; task = r.task }))
+    by_stage : (g : Stage) → wakes.is_at_take (Some (record { stage = g; task = r.task })) ≡ slot_table.is_at_take (Some (record { stage = g; task = r.task }))
     by_stage stages.Working = refl
     by_stage g = grind arith
 

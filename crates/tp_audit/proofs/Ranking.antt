@@ -16,20 +16,20 @@ use Rattle.tp_laws.proofs.Model.Queues.{among-filter}
 use Rattle.tp_laws.proofs.Effects.Names.{is_wide}
 use Rattle.tp_ring.specs.Line.{ids}
 use Rattle.tp_ring.specs.Ranks.{key, enter}
-use Rattle.tp_audit.specs.declared.queue.Queue.{Queue}
-use Rattle.tp_audit.specs.declared.queue.Queue.TheVariants.{InTurn, ByRank}
+use Rattle.tp_audit.specs.declared.queue.QueueTable.{QueueTable}
+use Rattle.tp_audit.specs.declared.queue.QueueTable.TheVariants.{InTurn, ByRank}
 use Rattle.tp_audit.specs.Orders.{HasPlace}
 use Rattle.tp_audit.specs.Queued.{tasks_of, is_by_rank, HaveRanks, AreRanked, Keeps}
 use Rattle.tp_audit.specs.Ranked.{AreBefore}
 
-pub keeps_same : (q : Queue) → Keeps q q
+pub keeps_same : (q : QueueTable) → Keeps q q
 keeps_same q = record { kind = refl; ranks = λ rank are. are }
 
-pub keeps_both : (p q r : Queue) → Keeps p q → Keeps q r → Keeps p r
+pub keeps_both : (p q r : QueueTable) → Keeps p q → Keeps q r → Keeps p r
 keeps_both p q r first second = record { kind = second.kind ∙ first.kind; ranks = λ rank are. second.ranks rank (first.ranks rank are) }
 
 -- what a push leaves of the ranks, whether or not there was memory
-pub pushed_ranks : {A E : Type 0} (r : Result A E) (t p : ℕ) (old new : Queue) →
+pub pushed_ranks : {A E : Type 0} (r : Result A E) (t p : ℕ) (old new : QueueTable) →
     OnOk r ((ranks : ℕ → ℕ) → ranks t ≡ p → AreRanked ranks old → (tasks_of new ≡ join_line (is_by_rank old) ranks (Some t) (tasks_of old)) × AreRanked ranks new) →
     OnErr r (new ≡ old) → (rank : ℕ → ℕ) → rank t ≡ p → AreRanked rank old → AreRanked rank new
 pushed_ranks (Ok a) t p old new ok err rank has are = (ok rank has are).1
@@ -174,7 +174,7 @@ items-agree : (f g : ℕ → ℕ) (xs : List (ℕ × ℕ)) → ((t : ℕ) → is
 items-agree f g [] same are = tt
 items-agree f g (x ∷ xs) same are = (are.0 ∙ same x.0 (grind arith), items-agree f g xs (λ t there. same t (grind arith)) are.1)
 
-agree : (f g : ℕ → ℕ) (q : Queue) → ((t : ℕ) → is_among t (tasks_of q) ≡ true → f t ≡ g t) → AreRanked f q → AreRanked g q
+agree : (f g : ℕ → ℕ) (q : QueueTable) → ((t : ℕ) → is_among t (tasks_of q) ≡ true → f t ≡ g t) → AreRanked f q → AreRanked g q
 agree f g (InTurn q) same are = tt
 agree f g (ByRank q) same are = items-agree f g q same are
 
@@ -221,7 +221,7 @@ after_priority d rows t none = by (is_submit d)
     by false = each_priority d 0 t rows here
 
 -- the queue after an entry has its tasks' priorities
-pub ranks_after : (d : Did) (rows after : List TaskRow) (old new : Queue) → Keeps old new → tasks_of new ≡ filter (stays_queued d rows) (tasks_of old) → after ≡ tasks_after d rows →
+pub ranks_after : (d : Did) (rows after : List TaskRow) (old new : QueueTable) → Keeps old new → tasks_of new ≡ filter (stays_queued d rows) (tasks_of old) → after ≡ tasks_after d rows →
     AreRanked (λ t. (row_at rows t).priority) old → AreRanked (λ t. (row_at after t).priority) new
 ranks_after d rows after old new keeps left is are =
     agree (λ t. (row_at rows t).priority) (λ t. (row_at after t).priority) new

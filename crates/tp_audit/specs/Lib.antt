@@ -7,5 +7,5 @@ pub mod Owed
 pub mod Queued
 pub mod Ranked
 pub mod Readings
-pub mod Seats
+pub mod SlotTable
 pub mod Tables

@@ -11,7 +11,7 @@ use Rattle.tp_laws.specs.Seats.{number_of}
 use Rattle.tp_laws.proofs.Model.Totals.{at_named}
 use Rattle.tp_laws.proofs.Model.Weights.{weight_of}
 use Rattle.tp_laws.proofs.Effects.Names.{is_wide, names, seats, replaces}
-use Rattle.tp_audit.specs.Seats.{is_at_take}
+use Rattle.tp_audit.specs.SlotTable.{is_at_take}
 
 abbrev pub seated_number : Option SlotRow → Option ℕ
 seated_number None = None

@@ -97,8 +97,8 @@ pub record Suits (s : State) (d : Did) : Type 0 where
 
 -- the state after the entry, of one in which its slot is made and its list is longer (`grown`); `awake` is the slot that
 -- it turns and does not leave idle
-abbrev pub settled : Did → Option ℕ → State → State
-settled d awake s =
+abbrev pub applied : Did → Option ℕ → State → State
+applied d awake s =
     record {
       steps = suc s.steps;
       rank = max (reaches d) s.rank;

@@ -13,8 +13,8 @@ ghost use Rattle.tp_audit.specs.Tables.{shown, HasRanks};
 
 use crate::done::Done;
 use crate::orders::Order;
-use crate::queue::Queue;
-use crate::seats::Seats;
+use crate::queue::QueueTable;
+use crate::slot_table::SlotTable;
 use crate::tables::Tables;
 use std::alloc::Global;
 use std::marker::Model;
@@ -188,7 +188,7 @@ fn no_entries(alloc: Global, config: &Config) -> Result<Tables, PoolError>
     ensures ranks { IfOk result (λ t. HasRanks t) }
     ensures refused { IsOkUnless result PoolError.NoMemory }
 {
-    let Ok(queue) = Queue::new(alloc, config.queue) else {
+    let Ok(queue) = QueueTable::new(alloc, config.queue) else {
         return Err(PoolError::NoMemory);
     };
     let Ok(idling) = Order::new(alloc) else {
@@ -204,7 +204,7 @@ fn no_entries(alloc: Global, config: &Config) -> Result<Tables, PoolError>
         moment: 0,
         tasks: Vec::new(alloc),
         queue,
-        slots: Seats::new(alloc),
+        slots: SlotTable::new(alloc),
         idling,
         done: Done::new(alloc),
         completions: 0,

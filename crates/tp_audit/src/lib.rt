@@ -19,7 +19,7 @@ pub mod queue;
 pub mod ranks;
 pub mod readings;
 pub mod rows;
-pub mod seats;
+pub mod slot_table;
 pub mod slots;
 pub mod tables;
 pub mod tasks;

@@ -8,7 +8,7 @@ ghost use Rattle.tp_record.specs.State as states;
 ghost use Rattle.tp_laws.proofs.Effects.Names as entry;
 ghost use Rattle.tp_audit.specs.Done.{done_in};
 ghost use Rattle.tp_audit.specs.Queued.{Keeps};
-ghost use Rattle.tp_audit.specs.Tables.{shown, undone, grown as grown_by, settled as settled_by, completion as completion_of, with_completion, handed_out, HasRanks, HasSizes, Suits};
+ghost use Rattle.tp_audit.specs.Tables.{shown, undone, grown as grown_by, applied as applied_by, completion as completion_of, with_completion, handed_out, HasRanks, HasSizes, Suits};
 
 use crate::rows::row_at;
 use crate::slots::{reserve_slot, take_out, turn_slot, turned_slot, woken_slot};
@@ -118,7 +118,7 @@ impl Tables {
 
     /// The tables after an entry whose slot is made and whose list is longer; `awake` is the slot that it turns and does
     /// not leave idle. It takes no memory.
-    fn settle(&mut self, did: Did, awake: Option<usize>)
+    fn apply(&mut self, did: Did, awake: Option<usize>)
         requires narrow { entry.is_wide did ≡ false }
         requires apart { (t : ℕ) → is_it (entry.names did) t ≡ true → is_it (entry.drops did) t ≡ false }
         requires steps { self.old.steps < 2 ^ 31 }
@@ -127,7 +127,7 @@ impl Tables {
         requires retries { (t : ℕ) → (states.row_at self.old.tasks.items t).retries < 2 ^ 31 }
         requires few { count_by is_some self.old.slots < 2 ^ 32 }
         requires room { effects.is_submit did ≡ true → vec_len self.old.tasks < vec_capacity self.old.tasks }
-        ensures settled { shown self.new ≡ settled_by did awake (shown self.old) }
+        ensures applied { shown self.new ≡ applied_by did awake (shown self.old) }
         ensures kept { Keeps self.old.queue self.new.queue }
         ensures done { (g : ℕ) → done_in self.new.done g ≡ handed_out did g (done_in self.old.done g) }
         ensures due { self.new.due ≡ self.old.due }
@@ -167,7 +167,7 @@ impl Tables {
         let awake = woken_slot(did, self.moment, &self.tasks, &self.slots);
         make_place(&mut self.tasks, did)?;
         self.grow(did)?;
-        self.settle(did, awake);
+        self.apply(did, awake);
         Ok(())
     }
 }

@@ -13,24 +13,24 @@ use tp_types::configs::QueueKind;
 
 /// The tasks in the work queue, its head first.
 #[derive(Drop)]
-pub enum Queue {
+pub enum QueueTable {
     /// In the order of their offers.
     InTurn(Turns),
     /// The least rank first, and of equal ones the earlier offer.
     ByRank(Ranks),
 }
 
-impl Queue {
+impl QueueTable {
     /// An empty queue of this kind.
-    pub fn new(alloc: Global, kind: QueueKind) -> Result<Queue, AllocError>
+    pub fn new(alloc: Global, kind: QueueKind) -> Result<QueueTable, AllocError>
         ensures empty { IfOk result (λ q. tasks_of q ≡ []) }
         ensures kind { IfOk result (λ q. is_by_rank q ≡ is_ranked kind) }
         ensures ranks { IfOk result (λ q. (rank : ℕ → ℕ) → AreRanked rank q) }
     {
         if kind.is_ranked() {
-            Ok(Queue::ByRank(Ranks::new(alloc)))
+            Ok(QueueTable::ByRank(Ranks::new(alloc)))
         } else {
-            Ok(Queue::InTurn(Turns::new(alloc)?))
+            Ok(QueueTable::InTurn(Turns::new(alloc)?))
         }
     }
 
@@ -39,8 +39,8 @@ impl Queue {
         ensures { result ≡ length (tasks_of self.now) }
     {
         match self {
-            Queue::InTurn(queue) => queue.len(),
-            Queue::ByRank(queue) => queue.len(),
+            QueueTable::InTurn(queue) => queue.len(),
+            QueueTable::ByRank(queue) => queue.len(),
         }
     }
 
@@ -49,8 +49,8 @@ impl Queue {
         ensures { result ≡ slice_get (tasks_of self.now) 0 }
     {
         match self {
-            Queue::InTurn(queue) => queue.first(),
-            Queue::ByRank(queue) => queue.first(),
+            QueueTable::InTurn(queue) => queue.first(),
+            QueueTable::ByRank(queue) => queue.first(),
         }
     }
 
@@ -59,8 +59,8 @@ impl Queue {
         ensures { result ≡ next_of t (tasks_of self.now) }
     {
         match self {
-            Queue::InTurn(queue) => queue.next_after(t),
-            Queue::ByRank(queue) => queue.next_after(t),
+            QueueTable::InTurn(queue) => queue.next_after(t),
+            QueueTable::ByRank(queue) => queue.next_after(t),
         }
     }
 
@@ -75,8 +75,8 @@ impl Queue {
         ensures err { OnErr result (self.new ≡ self.old) }
     {
         match self {
-            Queue::InTurn(queue) => queue.push(t),
-            Queue::ByRank(queue) => queue.push(t, rank),
+            QueueTable::InTurn(queue) => queue.push(t),
+            QueueTable::ByRank(queue) => queue.push(t, rank),
         }
     }
 
@@ -86,8 +86,8 @@ impl Queue {
         ensures kept { Keeps self.old self.new }
     {
         match self {
-            Queue::InTurn(queue) => queue.remove(t),
-            Queue::ByRank(queue) => queue.remove(t),
+            QueueTable::InTurn(queue) => queue.remove(t),
+            QueueTable::ByRank(queue) => queue.remove(t),
         }
     }
 }

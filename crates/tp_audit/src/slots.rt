@@ -11,7 +11,7 @@ ghost use Rattle.tp_audit.specs.Readings.{read};
 use crate::named::named_slot;
 use crate::orders::Order;
 use crate::rows::{made_row, slot_after};
-use crate::seats::Seats;
+use crate::slot_table::SlotTable;
 use std::alloc::AllocError;
 use tp_record::entries::Did;
 use tp_record::rows::TaskRow;
@@ -30,33 +30,33 @@ pub fn turned_slot(did: Did) -> Option<usize>
 
 /// Makes the slot that an entry reserves, if it reserves one. Where memory is refused nothing has changed.
 pub fn reserve_slot(
-    seats: &mut Seats,
+    table: &mut SlotTable,
     did: Did,
     moment: u64,
     tasks: &[TaskRow],
 ) -> Result<(), AllocError>
-    requires few { count_by is_some seats.old < 2 ^ 32 }
-    ensures made { OnOk result (seats.new ≡ change_at (states.slot_after did (read moment tasks.now [])) None (effects.reserves did) (long_enough (effects.reserves did) None seats.old)) }
-    ensures err { OnErr result (seats.new ≡ seats.old) }
+    requires few { count_by is_some table.old < 2 ^ 32 }
+    ensures made { OnOk result (table.new ≡ change_at (states.slot_after did (read moment tasks.now [])) None (effects.reserves did) (long_enough (effects.reserves did) None table.old)) }
+    ensures err { OnErr result (table.new ≡ table.old) }
 {
     match reserved_by(did) {
         None => Ok(()),
-        Some(w) => seats.put(SlotId(w), made_row(did, moment, tasks, SlotId(w))),
+        Some(w) => table.put(SlotId(w), made_row(did, moment, tasks, SlotId(w))),
     }
 }
 
 /// Slot `w` changes as the entry says, if it is one. It takes no memory.
-pub fn turn_slot(seats: &mut Seats, did: Did, moment: u64, tasks: &[TaskRow], w: Option<usize>)
-    requires few { count_by is_some seats.old < 2 ^ 32 }
+pub fn turn_slot(table: &mut SlotTable, did: Did, moment: u64, tasks: &[TaskRow], w: Option<usize>)
+    requires few { count_by is_some table.old < 2 ^ 32 }
     requires old { (v : ℕ) → w ≡ Some v → is_it (effects.reserves did) v ≡ false }
-    ensures turned { seats.new ≡ change_at (states.slot_after did (read moment tasks.now [])) None w seats.old }
-    ensures few { count_by is_some seats.new ≤ count_by is_some seats.old }
+    ensures turned { table.new ≡ change_at (states.slot_after did (read moment tasks.now [])) None w table.old }
+    ensures few { count_by is_some table.new ≤ count_by is_some table.old }
 {
     if let Some(w) = w {
         let w = SlotId(w);
-        match slot_after(did, moment, tasks, w, seats.get(w)) {
-            None => seats.free(w),
-            Some(row) => if seats.put(w, row).is_err() {
+        match slot_after(did, moment, tasks, w, table.get(w)) {
+            None => table.free(w),
+            Some(row) => if table.put(w, row).is_err() {
                 unreachable!()
             },
         }
@@ -64,11 +64,11 @@ pub fn turn_slot(seats: &mut Seats, did: Did, moment: u64, tasks: &[TaskRow], w:
 }
 
 /// The slot that an entry turns or frees and does not leave idle.
-pub fn woken_slot(did: Did, moment: u64, tasks: &[TaskRow], seats: &Seats) -> Option<usize>
-    ensures { result ≡ wakes did (read moment tasks.now seats.now) }
+pub fn woken_slot(did: Did, moment: u64, tasks: &[TaskRow], table: &SlotTable) -> Option<usize>
+    ensures { result ≡ wakes did (read moment tasks.now table.now) }
 {
     let w = turned_slot(did)?;
-    match slot_after(did, moment, tasks, SlotId(w), seats.get(SlotId(w))) {
+    match slot_after(did, moment, tasks, SlotId(w), table.get(SlotId(w))) {
         Some(row) if row.is_idle() => None,
         _ => Some(w),
     }

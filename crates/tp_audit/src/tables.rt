@@ -2,8 +2,8 @@
 
 use crate::done::Done;
 use crate::orders::Order;
-use crate::queue::Queue;
-use crate::seats::Seats;
+use crate::queue::QueueTable;
+use crate::slot_table::SlotTable;
 use tp_record::rows::TaskRow;
 
 /// What the entries so far say of a pool, in tables each of whose changes costs by what changes.
@@ -26,9 +26,9 @@ pub struct Tables {
     /// The submitted tasks by number.
     pub tasks: Vec<TaskRow>,
     /// The tasks in the work queue, its head first.
-    pub queue: Queue,
+    pub queue: QueueTable,
     /// The slots by number.
-    pub slots: Seats,
+    pub slots: SlotTable,
     /// The idle slots, the one that is idle longest first.
     pub idling: Order,
     /// The completed tasks of groups that are not yet handed out.

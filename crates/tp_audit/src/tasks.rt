@@ -9,7 +9,7 @@ ghost use Rattle.tp_audit.specs.Changed.{change_at, leave_out};
 ghost use Rattle.tp_audit.specs.Queued.{tasks_of, Keeps};
 
 use crate::named::{dropped_task, named_task};
-use crate::queue::Queue;
+use crate::queue::QueueTable;
 use crate::rows::row_at;
 use tp_record::entries::Did;
 use tp_record::rows::TaskRow;
@@ -76,7 +76,7 @@ fn stays_queued(did: Did, tasks: &[TaskRow], t: u32) -> bool
 }
 
 /// Task `t` leaves the queue, unless the entry leaves it there. The rows are those before the entry.
-fn leave_queue(queue: &mut Queue, tasks: &[TaskRow], did: Did, t: Option<u32>)
+fn leave_queue(queue: &mut QueueTable, tasks: &[TaskRow], did: Did, t: Option<u32>)
     ensures tasks { tasks_of queue.new ≡ leave_out (states.stays_queued did tasks.now) t (tasks_of queue.old) }
     ensures kept { Keeps queue.old queue.new }
 {
@@ -89,7 +89,7 @@ fn leave_queue(queue: &mut Queue, tasks: &[TaskRow], did: Did, t: Option<u32>)
 
 /// The queue after an entry that changes what it names alone, but for the task that it puts there. The rows are those
 /// before the entry.
-pub fn change_queue(queue: &mut Queue, tasks: &[TaskRow], did: Did)
+pub fn change_queue(queue: &mut QueueTable, tasks: &[TaskRow], did: Did)
     requires narrow { entry.is_wide did ≡ false }
     ensures tasks { tasks_of queue.new ≡ filter (states.stays_queued did tasks.now) (tasks_of queue.old) }
     ensures kept { Keeps queue.old queue.new }

@@ -5,7 +5,7 @@ ghost use Rattle.tp_record.specs.State as states;
 ghost use Rattle.tp_record.specs.Lists.{IsOnce};
 ghost use Rattle.tp_audit.specs.Queued.{tasks_of};
 
-use crate::queue::Queue;
+use crate::queue::QueueTable;
 use crate::tasks::cancelled_at;
 use tp_record::rows::TaskRow;
 
@@ -17,7 +17,7 @@ fn cancelled_in(tasks: &Vec<TaskRow>, t: u32) -> u32
 }
 
 /// How many of the queued tasks are cancelled.
-pub fn count_cancelled(tasks: &Vec<TaskRow>, queue: &Queue) -> u32
+pub fn count_cancelled(tasks: &Vec<TaskRow>, queue: &QueueTable) -> u32
     requires once { IsOnce (tasks_of queue.now) }
     requires few { length (tasks_of queue.now) < 2 ^ 32 }
     ensures { result ≡ count_by (λ t. (states.row_at tasks.now.items t).cancelled) (tasks_of queue.now) }

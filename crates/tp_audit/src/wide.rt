@@ -11,8 +11,8 @@ ghost use Rattle.tp_audit.specs.Readings.{read};
 ghost use Rattle.tp_audit.specs.Tables.{shown, undone, HasRanks, HasSizes, SuitsAll};
 
 use crate::orders::Order;
-use crate::queue::Queue;
-use crate::seats::Seats;
+use crate::queue::QueueTable;
+use crate::slot_table::SlotTable;
 use crate::slots::turn_slot;
 use crate::tables::Tables;
 use crate::tasks::{cancelled_at, change_row};
@@ -20,7 +20,7 @@ use tp_record::entries::Did;
 use tp_record::rows::TaskRow;
 
 /// Each idle slot changes as the entry says, which reserves none and wakes all.
-fn wake_all(slots: &mut Seats, idling: &mut Order, did: Did, moment: u64, tasks: &[TaskRow])
+fn wake_all(slots: &mut SlotTable, idling: &mut Order, did: Did, moment: u64, tasks: &[TaskRow])
     requires few { count_by is_some slots.old < 2 ^ 32 }
     requires made { effects.reserves did ≡ None }
     requires others { (w : ℕ) → is_among w idling.old ≡ false
@@ -35,7 +35,7 @@ fn wake_all(slots: &mut Seats, idling: &mut Order, did: Did, moment: u64, tasks:
 }
 
 /// Each queued task changes as the entry says, and the queue is left empty.
-fn drain(tasks: &mut Vec<TaskRow>, queue: &mut Queue, did: Did)
+fn drain(tasks: &mut Vec<TaskRow>, queue: &mut QueueTable, did: Did)
     requires number { vec_len tasks.old < 2 ^ 32 }
     requires few { (t : ℕ) → (states.row_at tasks.old.items t).retries < 2 ^ 32 - 1 }
     requires tries { effects.tries did ≡ [] }
@@ -52,7 +52,7 @@ fn drain(tasks: &mut Vec<TaskRow>, queue: &mut Queue, did: Did)
 }
 
 /// Task `t` leaves the queue, if it is cancelled.
-fn leave_cancelled(tasks: &Vec<TaskRow>, queue: &mut Queue, t: u32)
+fn leave_cancelled(tasks: &Vec<TaskRow>, queue: &mut QueueTable, t: u32)
     ensures tasks { tasks_of queue.new ≡ leave_out (λ x. not (states.row_at tasks.now.items x).cancelled) (Some t) (tasks_of queue.old) }
     ensures kept { Keeps queue.old queue.new }
 {
@@ -62,7 +62,7 @@ fn leave_cancelled(tasks: &Vec<TaskRow>, queue: &mut Queue, t: u32)
 }
 
 /// Each queued task changes as the entry says, and those that are cancelled leave the queue.
-fn purge(tasks: &mut Vec<TaskRow>, queue: &mut Queue, did: Did)
+fn purge(tasks: &mut Vec<TaskRow>, queue: &mut QueueTable, did: Did)
     requires number { vec_len tasks.old < 2 ^ 32 }
     requires few { (t : ℕ) → (states.row_at tasks.old.items t).retries < 2 ^ 32 - 1 }
     requires tries { effects.tries did ≡ [] }

@@ -10,19 +10,19 @@ ghost use Rattle.tp_record.specs.Effects.{reserves};
 ghost use Rattle.tp_record.specs.State as states;
 ghost use Rattle.tp_record.specs.Step as steps;
 ghost use Rattle.tp_laws.specs.Lawful.{IsLawful};
-ghost use Rattle.tp_rules.specs.Snapshot.{shown, IsSmall};
+ghost use Rattle.tp_rules.specs.PlainState.{shown, IsSmall};
 ghost use Rattle.tp_audit_plain.specs.Audit.{IsSummary, IsFlawOf, OneJudgment};
 
 use crate::summary::{Flaw, Summary};
 use std::alloc::Global;
 use tp_record::entries::{Did, Entry};
 use tp_record::rows::TaskRow;
-use tp_rules::build::snapshot;
+use tp_rules::build::plain_state;
 use tp_rules::counts::counts_of;
 use tp_rules::effects::{freed_by, reserved_by};
 use tp_rules::lists::{push, with_room};
 use tp_rules::next::slot_of;
-use tp_rules::snapshot::Snapshot;
+use tp_rules::plain_state::PlainState;
 use tp_rules::step::step;
 use tp_types::configs::Config;
 use tp_types::ids::SlotId;
@@ -32,7 +32,7 @@ use tp_types::tasks::Fate;
 
 /// Whether the slot that an entry makes, if it makes one, has a number that is no slot before it, or
 /// that of the slot which it frees.
-fn has_free_number(state: &Snapshot, did: Did) -> bool
+fn has_free_number(state: &PlainState, did: Did) -> bool
     ensures { IsTrue result ↔ IfSome (reserves did) (λ w. steps.is_free_for (shown state.now) did w ≡ true) }
 {
     match reserved_by(did) {
@@ -60,7 +60,7 @@ fn is_given(
         ↔ steps.Gives config.now (states.state config.now (reverse before.now)) entry.ask entry.did) }
     ensures refused { IsOkUnless result PoolError.NoMemory }
 {
-    let state = snapshot(alloc, config, before)?;
+    let state = plain_state(alloc, config, before)?;
     let made = SlotId(reserved_by(entry.did).unwrap_or(0));
     match step(alloc, config, &state, made, entry.ask) {
         Ok(did) => {
@@ -92,7 +92,7 @@ fn summary_of(alloc: Global, config: &Config, entries: &[Entry]) -> Result<Summa
     ensures summary { IfOk result (λ s. IsSummary config.now (reverse entries.now) s) }
     ensures refused { IsOkUnless result PoolError.NoMemory }
 {
-    let state = snapshot(alloc, config, entries)?;
+    let state = plain_state(alloc, config, entries)?;
     Ok(Summary {
         counts: counts_of(&state),
         state: RunState::from_rank(state.rank),

@@ -4,7 +4,7 @@ ghost use Rattle.std.specs.Prelude.{◌≡◌, ◌⊎◌, ◌<◌, ◌+◌, [], 
 ghost use Rattle.tp_types.specs.Config.{IsConfig, checked};
 ghost use Rattle.tp_types.specs.RunState.{state_rank};
 ghost use Rattle.tp_record.specs.Step.{Legal};
-ghost use Rattle.tp_book.specs.BookView.{Settles, StandsThere, config, released_of};
+ghost use Rattle.tp_book.specs.BookView.{ForgetsGone, StandsThere, config, released_of};
 ghost use Rattle.tp_record.specs.Fields.{rank};
 ghost use Rattle.tp_glance.specs.Word.{IsFrontOf};
 
@@ -149,13 +149,13 @@ impl<G: Naming, P, R: Keeper> Book<G, P, R> {
     /// A task of this pool may be gone with the step that was made last: where the pool keeps no record, and the task
     /// is plain and nothing is owed to it, it is forgotten. It writes no entry and takes no memory.
     #[inline(always)]
-    pub fn settle(&mut self, t: TaskId, glance: &Glance<G>)
+    pub fn forget(&mut self, t: TaskId, glance: &Glance<G>)
     where
         P: Drop,
-        ensures { Settles R.RECEIPTS self.old self.new t.0 }
+        ensures { ForgetsGone R.RECEIPTS self.old self.new t.0 }
     {
         R::law_forgets_at_will();
-        if !R::settle(&mut self.machine, t) {
+        if !R::forget(&mut self.machine, t) {
             return;
         }
         glance.forget(&mut self.seat, t);

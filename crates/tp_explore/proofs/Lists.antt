@@ -8,28 +8,28 @@ use Rattle.std.proofs.lemmas.List.Elements.{All-append, All-cons, All-nil}
 use Rattle.tp_record.specs.declared.rows.SlotRow.{SlotRow}
 use Rattle.tp_explore.specs.declared.callers.Caller.{Caller}
 use Rattle.tp_explore.specs.declared.deeds.Mover.TheVariants as mover
-use Rattle.tp_explore.specs.declared.deeds.Deed.{Deed}
+use Rattle.tp_explore.specs.declared.deeds.NextAsk.{NextAsk}
 use Rattle.tp_explore.specs.declared.moves.Move.{Move}
 use Rattle.tp_explore.specs.declared.plans.Plan.{Plan}
 use Rattle.tp_explore.specs.Situation.{Situation, calls_of, seen}
-use Rattle.tp_explore.specs.Moves.{IsMove, answer, caller_asks, callers_deeds, deeds, deeds_by, made, settled, slot_asks, slots_deeds}
+use Rattle.tp_explore.specs.Moves.{IsMove, answer, caller_asks, callers_deeds, deeds, deeds_by, made, moved_on, slot_asks, slots_deeds}
 
 -- deeds
 
 callers-push : (plan : Plan) (s : Situation) (k : ℕ) (cs : List Caller) (c : Caller) →
-    callers_deeds plan s k (cs ++ c ∷ []) ≡ callers_deeds plan s k cs ++ deeds_by (mover.Caller (length cs + k)) (caller_asks plan s (calls_of plan (length cs + k)) (settled s (calls_of plan (length cs + k)) c))
+    callers_deeds plan s k (cs ++ c ∷ []) ≡ callers_deeds plan s k cs ++ deeds_by (mover.Caller (length cs + k)) (caller_asks plan s (calls_of plan (length cs + k)) (moved_on s (calls_of plan (length cs + k)) c))
 callers-push plan s k [] c = rw zero-add (append-nil _)
 callers-push plan s k (x ∷ cs) c =
     let n : suc (length cs) + k ≡ length cs + suc k = omega arith in
-    let first = deeds_by (mover.Caller k) (caller_asks plan s (calls_of plan k) (settled s (calls_of plan k) x)) in
+    let first = deeds_by (mover.Caller k) (caller_asks plan s (calls_of plan k) (moved_on s (calls_of plan k) x)) in
     rw n (ap (λ ds. first ++ ds) (callers-push plan s (suc k) cs c) ∙ sym (append_assoc first (callers_deeds plan s (suc k) cs) _))
 
 pub callers_more : (plan : Plan) (s : Situation) (cs : List Caller) (i : ℕ) (d : Caller) → i < length cs →
-    callers_deeds plan s 0 (take (i + 1) cs) ≡ callers_deeds plan s 0 (take i cs) ++ deeds_by (mover.Caller i) (caller_asks plan s (calls_of plan i) (settled s (calls_of plan i) (get_or cs i d)))
+    callers_deeds plan s 0 (take (i + 1) cs) ≡ callers_deeds plan s 0 (take i cs) ++ deeds_by (mover.Caller i) (caller_asks plan s (calls_of plan i) (moved_on s (calls_of plan i) (get_or cs i d)))
 callers_more plan s cs i d lt =
     let n : length (take i cs) + 0 ≡ i = omega (arith, length-take i cs) in
     ap (callers_deeds plan s 0) (take_more cs i d lt) ∙ callers-push plan s 0 (take i cs) (get_or cs i d)
-    ∙ ap (λ n. callers_deeds plan s 0 (take i cs) ++ deeds_by (mover.Caller n) (caller_asks plan s (calls_of plan n) (settled s (calls_of plan n) (get_or cs i d)))) n
+    ∙ ap (λ n. callers_deeds plan s 0 (take i cs) ++ deeds_by (mover.Caller n) (caller_asks plan s (calls_of plan n) (moved_on s (calls_of plan n) (get_or cs i d)))) n
 
 slots-push : (plan : Plan) (s : Situation) (k : ℕ) (os : List (Option SlotRow)) (o : Option SlotRow) →
     slots_deeds plan s k (os ++ o ∷ []) ≡ slots_deeds plan s k os ++ deeds_by mover.Pool (slot_asks plan s (length os + k) o)
@@ -51,7 +51,7 @@ slots_more plan s os w d lt =
 flat_more : {A B : Type 0} (f : A → List B) (xs : List A) (i : ℕ) (d : A) → i < length xs → flat_map f (take (i + 1) xs) ≡ flat_map f (take i xs) ++ f (get_or xs i d)
 flat_more f xs i d lt = ap (flat_map f) (take_more xs i d lt) ∙ flat_map-append f (take i xs) (get_or xs i d ∷ []) ∙ ap (λ ys. flat_map f (take i xs) ++ ys) (append-nil (f (get_or xs i d)))
 
-module _ (plan : Plan) (s : Situation) (ds : List Deed) (i : ℕ) (d : Deed) (lt : i < length ds) (ms : List Move) (so_far : map (λ m. seen m.after) ms ≡ flat_map (made plan s) (take i ds)) where
+module _ (plan : Plan) (s : Situation) (ds : List NextAsk) (i : ℕ) (d : NextAsk) (lt : i < length ds) (ms : List Move) (so_far : map (λ m. seen m.after) ms ≡ flat_map (made plan s) (take i ds)) where
   pub moves_none : [] ≡ made plan s (get_or ds i d) → map (λ m. seen m.after) ms ≡ flat_map (made plan s) (take (i + 1) ds)
   moves_none is = so_far ∙ sym (append-nil _) ∙ ap (λ ys. flat_map (made plan s) (take i ds) ++ ys) is ∙ sym (flat_more (made plan s) ds i d lt)
 
@@ -60,9 +60,9 @@ module _ (plan : Plan) (s : Situation) (ds : List Deed) (i : ℕ) (d : Deed) (lt
       map_push (λ m. seen m.after) ms m ∙ ap (λ ys. ys ++ seen m.after ∷ []) so_far ∙ ap (λ ys. flat_map (made plan s) (take i ds) ++ ys) is
       ∙ sym (flat_more (made plan s) ds i d lt)
 
-pub is_move : (plan : Plan) (s : Situation) (e : Deed) (m : Move) → Contains (deeds plan s) e → seen m.after ∷ [] ≡ made plan s e → (m.deed ≡ e) × (answer plan s e ≡ m.answer) → IsMove plan s m
+pub is_move : (plan : Plan) (s : Situation) (e : NextAsk) (m : Move) → Contains (deeds plan s) e → seen m.after ∷ [] ≡ made plan s e → (m.deed ≡ e) × (answer plan s e ≡ m.answer) → IsMove plan s m
 is_move plan s e m c is h =
-    let P : Deed → Type 0 = λ x. Contains (deeds plan s) x × (answer plan s x ≡ m.answer) × Contains (made plan s x) (seen m.after) in
+    let P : NextAsk → Type 0 = λ x. Contains (deeds plan s) x × (answer plan s x ≡ m.answer) × Contains (made plan s x) (seen m.after) in
     let first : Contains (made plan s e) (seen m.after) = subst (λ ys. Contains ys (seen m.after)) is (0, omega arith, refl) in
     subst P (sym h.0) (c, h.1, first)
 

@@ -24,21 +24,21 @@ use Rattle.tp_record.specs.State as states
 use Rattle.tp_record.specs.Step.{Answer, Gives, fitting, of_row, leave_answer, leaves_room, within_room, step}
 use Rattle.tp_laws.proofs.Model.Functions.{own_asked}
 use Rattle.tp_laws.proofs.Model.NextState.{next_is_state}
-use Rattle.tp_rules.specs.Snapshot.{IsSmall, least_free}
+use Rattle.tp_rules.specs.PlainState.{IsSmall, least_free}
 use Rattle.tp_rules.proofs.Numbers.{gives_at_least, answer_at_gives}
 use Rattle.tp_rules.proofs.Sizes.{rows_retries, length-task_rows, length-queue}
 use Rattle.tp_rules.proofs.Tables.{length-change_each}
 use Rattle.tp_explore.specs.declared.callers.Caller.{Caller}
 use Rattle.tp_explore.specs.declared.callers.Doing.{Doing}
 use Rattle.tp_explore.specs.declared.callers.Doing.TheVariants.{Nothing, Submitting, Starting, Staffing}
-use Rattle.tp_explore.specs.declared.deeds.Deed.{Deed}
+use Rattle.tp_explore.specs.declared.deeds.NextAsk.{NextAsk}
 use Rattle.tp_explore.specs.declared.deeds.Mover.{Mover}
 use Rattle.tp_explore.specs.declared.deeds.Mover.TheVariants as mover
 use Rattle.tp_explore.specs.declared.plans.Call.{Call}
 use Rattle.tp_explore.specs.declared.plans.Plan.{Plan}
 use Rattle.tp_explore.specs.Situation.{Situation, bare, calls_of, goes_on}
 use Rattle.tp_explore.proofs.Bare.{step_bare}
-use Rattle.tp_explore.specs.Moves.{before, next_call, waited, settled, along, starting, begun, submitting, started, staffed, after, caller_asks, call_asks, call_at, first_call, deeds_by, callers_deeds, slots_deeds, slot_asks, deeds, new_slot, settled_at, given_up, refused_in, made_by, made, moves, owes, rank, Holds}
+use Rattle.tp_explore.specs.Moves.{before, next_call, waited, moved_on, along, starting, begun, submitting, started, staffed, after, caller_asks, call_asks, call_at, first_call, deeds_by, callers_deeds, slots_deeds, slot_asks, deeds, new_slot, moved_on_at, given_up, refused_in, made_by, made, moves, owes, rank, Holds}
 
 -- lists
 
@@ -121,10 +121,10 @@ more_slots c s a d is =
 waits_fewer : (s : Situation) (calls : List Call) (n : ℕ) → (waited s calls n).left ≤ n
 waits_fewer s calls n = omega arith
 
-settled_owes : (s : Situation) (calls : List Call) (c : Caller) → owes (settled s calls c) ≤ owes c
-settled_owes s calls c = by_doing c.doing refl
+moved_on_owes : (s : Situation) (calls : List Call) (c : Caller) → owes (moved_on s calls c) ≤ owes c
+moved_on_owes s calls c = by_doing c.doing refl
   where
-    by_doing : (d : Doing) → c.doing ≡ d → owes (settled s calls c) ≤ owes c
+    by_doing : (d : Doing) → c.doing ≡ d → owes (moved_on s calls c) ≤ owes c
     by_doing Nothing e = rw e (let p = waits_fewer s calls c.left in omega arith)
     by_doing (Submitting t) e = rw e (omega arith)
     by_doing (Staffing w more) e = rw e (omega arith)
@@ -214,21 +214,21 @@ sum-less (suc i) x (c ∷ cs) lt less =
 
 -- whom a deed is by
 
-by_of : (m : Mover) (asks : List Ask) (d : Deed) → Contains (deeds_by m asks) d → (d.by ≡ m) × Contains asks d.ask
+by_of : (m : Mover) (asks : List Ask) (d : NextAsk) → Contains (deeds_by m asks) d → (d.by ≡ m) × Contains asks d.ask
 by_of m [] d c = absurd (omega (arith, c.1))
 by_of m (a ∷ asks) d c = elim (Contains-append_cases (record { by = m; ask = a } ∷ []) (deeds_by m asks) d c) as (λ _. (d.by ≡ m) × Contains (a ∷ asks) d.ask) [
   | inl h ↦ let e = one_of _ d h in (ap (λ z. z.by) (sym e), (0, omega arith, ap (λ z. z.ask) e))
   | inr h ↦ let p = by_of m asks d h in (p.0, (suc p.1.0, omega (arith, p.1.1), p.1.2))
 ]
 
-callers_deed : (plan : Plan) (s : Situation) (k : ℕ) (cs : List Caller) (d : Deed) → Contains (callers_deeds plan s k cs) d →
-    (j : ℕ) × (j < length cs) × (d.by ≡ mover.Caller (k + j)) × ((e : Caller) → Contains (caller_asks plan s (calls_of plan (k + j)) (settled s (calls_of plan (k + j)) (get_or cs j e))) d.ask)
+callers_deed : (plan : Plan) (s : Situation) (k : ℕ) (cs : List Caller) (d : NextAsk) → Contains (callers_deeds plan s k cs) d →
+    (j : ℕ) × (j < length cs) × (d.by ≡ mover.Caller (k + j)) × ((e : Caller) → Contains (caller_asks plan s (calls_of plan (k + j)) (moved_on s (calls_of plan (k + j)) (get_or cs j e))) d.ask)
 callers_deed plan s k [] d c = absurd (omega (arith, c.1))
 callers_deed plan s k (x ∷ cs) d c =
-    let asks = caller_asks plan s (calls_of plan k) (settled s (calls_of plan k) x) in
+    let asks = caller_asks plan s (calls_of plan k) (moved_on s (calls_of plan k) x) in
     let zero_more : k + 0 ≡ k = omega arith in
     elim (Contains-append_cases (deeds_by (mover.Caller k) asks) (callers_deeds plan s (suc k) cs) d c)
-    as (λ _. (j : ℕ) × (j < length (x ∷ cs)) × (d.by ≡ mover.Caller (k + j)) × ((e : Caller) → Contains (caller_asks plan s (calls_of plan (k + j)) (settled s (calls_of plan (k + j)) (get_or (x ∷ cs) j e))) d.ask)) [
+    as (λ _. (j : ℕ) × (j < length (x ∷ cs)) × (d.by ≡ mover.Caller (k + j)) × ((e : Caller) → Contains (caller_asks plan s (calls_of plan (k + j)) (moved_on s (calls_of plan (k + j)) (get_or (x ∷ cs) j e))) d.ask)) [
       | inl h ↦ let p = by_of (mover.Caller k) asks d h in (0, omega arith, rw zero_more p.0, λ e. rw zero_more p.1)
       | inr h ↦
           let p = callers_deed plan s (suc k) cs d h in
@@ -236,7 +236,7 @@ callers_deed plan s k (x ∷ cs) d c =
           (suc p.0, omega (arith, p.1), rw n at p.2, rw n at p.3)
     ]
 
-slots_deed : (plan : Plan) (s : Situation) (w : ℕ) (os : List (Option SlotRow)) (d : Deed) → Contains (slots_deeds plan s w os) d → d.by ≡ mover.Pool
+slots_deed : (plan : Plan) (s : Situation) (w : ℕ) (os : List (Option SlotRow)) (d : NextAsk) → Contains (slots_deeds plan s w os) d → d.by ≡ mover.Pool
 slots_deed plan s w [] d c = absurd (omega (arith, c.1))
 slots_deed plan s w (o ∷ os) d c = elim (Contains-append_cases (deeds_by mover.Pool (slot_asks plan s w o)) (slots_deeds plan s (suc w) os) d c) as (λ _. d.by ≡ mover.Pool) [
   | inl h ↦ (by_of mover.Pool (slot_asks plan s w o) d h).0
@@ -244,10 +244,10 @@ slots_deed plan s w (o ∷ os) d c = elim (Contains-append_cases (deeds_by mover
 ]
 
 -- a deed by a caller is one of its asks
-deed_of : (plan : Plan) (s : Situation) (d : Deed) (i : ℕ) → Contains (deeds plan s) d → d.by ≡ mover.Caller i →
-    (i < length s.callers) × Contains (caller_asks plan s (calls_of plan i) (settled_at plan s i)) d.ask
+deed_of : (plan : Plan) (s : Situation) (d : NextAsk) (i : ℕ) → Contains (deeds plan s) d → d.by ≡ mover.Caller i →
+    (i < length s.callers) × Contains (caller_asks plan s (calls_of plan i) (moved_on_at plan s i)) d.ask
 deed_of plan s d i c by = elim (Contains-append_cases (callers_deeds plan s 0 s.callers ++ slots_deeds plan s 0 s.pool.slots) (deeds_by mover.Pool (ask.Tidy ∷ ask.Ended ∷ [])) d c)
-    as (λ _. (i < length s.callers) × Contains (caller_asks plan s (calls_of plan i) (settled_at plan s i)) d.ask) [
+    as (λ _. (i < length s.callers) × Contains (caller_asks plan s (calls_of plan i) (moved_on_at plan s i)) d.ask) [
       | inl h ↦ by_front (Contains-append_cases (callers_deeds plan s 0 s.callers) (slots_deeds plan s 0 s.pool.slots) d h)
       | inr h ↦ absurd (never (by_of mover.Pool (ask.Tidy ∷ ask.Ended ∷ []) d h).0)
     ]
@@ -255,7 +255,7 @@ deed_of plan s d i c by = elim (Contains-append_cases (callers_deeds plan s 0 s.
     never : d.by ≡ mover.Pool → ⊥
     never pool = let e : mover.Pool ≡ mover.Caller i = sym pool ∙ by in cc
 
-    by_front : Contains (callers_deeds plan s 0 s.callers) d ⊎ Contains (slots_deeds plan s 0 s.pool.slots) d → (i < length s.callers) × Contains (caller_asks plan s (calls_of plan i) (settled_at plan s i)) d.ask
+    by_front : Contains (callers_deeds plan s 0 s.callers) d ⊎ Contains (slots_deeds plan s 0 s.pool.slots) d → (i < length s.callers) × Contains (caller_asks plan s (calls_of plan i) (moved_on_at plan s i)) d.ask
     by_front (inl h) =
         let p = callers_deed plan s 0 s.callers d h in
         let n : 0 + p.0 ≡ p.0 = omega arith in
@@ -268,12 +268,12 @@ deed_of plan s d i c by = elim (Contains-append_cases (callers_deeds plan s 0 s.
 no_call : (calls : List Call) (n : ℕ) → length calls ≤ n → slice_get calls n ≡ None
 no_call calls n le = slice_get_past calls n le
 
-given_up_owes : (plan : Plan) (s : Situation) (calls : List Call) (c : Caller) (a : Ask) → Contains (caller_asks plan s calls (settled s calls c)) a → (x : Doing) → (settled s calls c).doing ≡ x →
-    (y : Situation) (i : ℕ) → Contains (refused_in s i (settled s calls c) x) y → (y ≡ given_up s i (settled s calls c)) × (suc (owes (next_call (settled s calls c))) ≤ owes c)
+given_up_owes : (plan : Plan) (s : Situation) (calls : List Call) (c : Caller) (a : Ask) → Contains (caller_asks plan s calls (moved_on s calls c)) a → (x : Doing) → (moved_on s calls c).doing ≡ x →
+    (y : Situation) (i : ℕ) → Contains (refused_in s i (moved_on s calls c) x) y → (y ≡ given_up s i (moved_on s calls c)) × (suc (owes (next_call (moved_on s calls c))) ≤ owes c)
 given_up_owes plan s calls c a asks Nothing e y i r =
-    let z = settled_owes s calls c in
-    let o : owes (settled s calls c) ≡ 2 * (settled s calls c).left = rw e (omega arith) in
-    let some = some_left (settled s calls c).left (rw e at asks) in
+    let z = moved_on_owes s calls c in
+    let o : owes (moved_on s calls c) ≡ 2 * (moved_on s calls c).left = rw e (omega arith) in
+    let some = some_left (moved_on s calls c).left (rw e at asks) in
     (sym (one_of _ y r), omega arith)
   where
     some_left : (n : ℕ) → Contains (first_call (call_at calls n) (call_asks plan s)) a → 0 < n
@@ -282,8 +282,8 @@ given_up_owes plan s calls c a asks Nothing e y i r =
         absurd (let bare = rw none at k in omega (arith, bare.1))
     some_left (suc n) k = omega arith
 given_up_owes plan s calls c a asks (Starting more) e y i r =
-    let z = settled_owes s calls c in
-    let o : owes (settled s calls c) ≡ 2 * (settled s calls c).left + 1 = rw e refl in
+    let z = moved_on_owes s calls c in
+    let o : owes (moved_on s calls c) ≡ 2 * (moved_on s calls c).left + 1 = rw e refl in
     (sym (one_of _ y r), omega arith)
 given_up_owes plan s calls c a asks (Submitting t) e y i r = absurd (omega (arith, r.1))
 given_up_owes plan s calls c a asks (Staffing w more) e y i r = absurd (omega (arith, r.1))
@@ -346,14 +346,14 @@ module _ (plan : Plan) (s : Situation) (h : Holds plan s) where
       subst (λ z. Holds plan z × (rank plan z < rank plan s)) (sym same) (holds, lower)
 
 module _ (plan : Plan) (s : Situation) (h : Holds plan s) (y : Situation) where
-  by_answer : (d : Deed) → Contains (deeds plan s) d → (x : Answer) → step plan.config s.pool (new_slot s.pool d.ask) d.ask ≡ x → (m : Mover) → d.by ≡ m → Contains (made_by plan s m x) y →
+  by_answer : (d : NextAsk) → Contains (deeds plan s) d → (x : Answer) → step plan.config s.pool (new_slot s.pool d.ask) d.ask ≡ x → (m : Mover) → d.by ≡ m → Contains (made_by plan s m x) y →
       Holds plan y × (rank plan y < rank plan s)
   by_answer d c (Ok a) is mover.Pool by r = entered plan s h d.ask a is s.callers s.numbers (omega arith) y (sym (one_of _ y r))
   by_answer d c (Ok a) is (mover.Caller i) by r =
-      let caller = after (states.next s.pool a) (settled_at plan s i) a in
+      let caller = after (states.next s.pool a) (moved_on_at plan s i) a in
       let few : sum_by owes (set s.callers i caller) ≤ 1 + sum_by owes s.callers = sum-set i caller s.callers 1 (λ lt.
-      let p = after_owes (states.next s.pool a) (settled_at plan s i) a in
-      let q = settled_owes s (calls_of plan i) (get_or s.callers i (before 0)) in
+      let p = after_owes (states.next s.pool a) (moved_on_at plan s i) a in
+      let q = moved_on_owes s (calls_of plan i) (get_or s.callers i (before 0)) in
       let same : get_or s.callers i (before 0) ≡ get_or s.callers i caller = get_or_any s.callers i (before 0) caller lt in
       let k = ap owes same in
       omega arith) in
@@ -361,10 +361,10 @@ module _ (plan : Plan) (s : Situation) (h : Holds plan s) (y : Situation) where
   by_answer d c (Err e) is mover.Pool by r = absurd (omega (arith, r.1))
   by_answer d c (Err e) is (mover.Caller i) by r =
       let p = deed_of plan s d i c by in
-      let q = given_up_owes plan s (calls_of plan i) (get_or s.callers i (before 0)) d.ask p.1 (settled_at plan s i).doing refl y i r in
-      let same : get_or s.callers i (before 0) ≡ get_or s.callers i (next_call (settled_at plan s i)) = get_or_any s.callers i (before 0) _ p.0 in
+      let q = given_up_owes plan s (calls_of plan i) (get_or s.callers i (before 0)) d.ask p.1 (moved_on_at plan s i).doing refl y i r in
+      let same : get_or s.callers i (before 0) ≡ get_or s.callers i (next_call (moved_on_at plan s i)) = get_or_any s.callers i (before 0) _ p.0 in
       let k = ap owes same in
-      given_up_to plan s h i (next_call (settled_at plan s i)) p.0 (let l = q.1 in omega arith) y q.0
+      given_up_to plan s h i (next_call (moved_on_at plan s i)) p.0 (let l = q.1 in omega arith) y q.0
 
 both : (plan : Plan) (x y : Situation) → Holds plan x → Contains (moves plan x) y → Holds plan y × (rank plan y < rank plan x)
 both plan x y h c =

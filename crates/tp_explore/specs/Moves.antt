@@ -19,11 +19,11 @@ use Rattle.tp_record.specs.declared.rows.SlotRow.{SlotRow}
 use Rattle.tp_record.specs.State as states
 use Rattle.tp_record.specs.declared.entries.Entry.{Entry}
 use Rattle.tp_record.specs.Step.{Answer, Legal, is_reserved, step}
-use Rattle.tp_rules.specs.Snapshot.{least_free}
+use Rattle.tp_rules.specs.PlainState.{least_free}
 use Rattle.tp_explore.specs.declared.callers.Caller.{Caller}
 use Rattle.tp_explore.specs.declared.callers.Doing.{Doing}
 use Rattle.tp_explore.specs.declared.callers.Doing.TheVariants.{Nothing, Submitting, Starting, Staffing}
-use Rattle.tp_explore.specs.declared.deeds.Deed.{Deed}
+use Rattle.tp_explore.specs.declared.deeds.NextAsk.{NextAsk}
 use Rattle.tp_explore.specs.declared.deeds.Mover.{Mover}
 use Rattle.tp_explore.specs.declared.deeds.Mover.TheVariants as mover
 use Rattle.tp_explore.specs.declared.plans.Call.{Call}
@@ -52,8 +52,8 @@ abbrev pub waited : Situation → List Call → ℕ → Caller
 waited s calls n = before (n - waits_over s (last_calls n calls))
 
 -- what a caller does without a step: it waits no longer where a wait is over, and starts no more workers where no task is queued
-abbrev pub settled : Situation → List Call → Caller → Caller
-settled s calls c = by_doing c.doing
+abbrev pub moved_on : Situation → List Call → Caller → Caller
+moved_on s calls c = by_doing c.doing
   where
     by_doing : Doing → Caller
     by_doing Nothing = waited s calls c.left
@@ -164,7 +164,7 @@ place_asks plan s t _ = []
 abbrev pub task_asks : Plan → Situation → TaskId → List Ask
 task_asks plan s t = if (states.task_at s.pool t.0).second then ask.Second t ∷ [] else place_asks plan s t (states.task_at s.pool t.0).place
 
--- what a caller that is settled may ask
+-- what a caller that has moved on may ask
 abbrev pub caller_asks : Plan → Situation → List Call → Caller → List Ask
 caller_asks plan s calls c = by_doing c.doing
   where
@@ -190,20 +190,20 @@ slot_asks plan s w (Some r) =
     if is_reserved r.stage then (if list_any (staffs s.pool w) s.callers then [] else staff plan.factory (slot_id w))
     else worker_asks plan s (slot_id w) r
 
-abbrev pub deeds_by : Mover → List Ask → List Deed
+abbrev pub deeds_by : Mover → List Ask → List NextAsk
 deeds_by m asks = map (λ a. record { by = m; ask = a }) asks
 
-abbrev pub callers_deeds : Plan → Situation → ℕ → List Caller → List Deed
+abbrev pub callers_deeds : Plan → Situation → ℕ → List Caller → List NextAsk
 callers_deeds plan s i [] = []
 callers_deeds plan s i (c ∷ cs) =
-    deeds_by (mover.Caller i) (caller_asks plan s (calls_of plan i) (settled s (calls_of plan i) c)) ++ callers_deeds plan s (suc i) cs
+    deeds_by (mover.Caller i) (caller_asks plan s (calls_of plan i) (moved_on s (calls_of plan i) c)) ++ callers_deeds plan s (suc i) cs
 
-abbrev pub slots_deeds : Plan → Situation → ℕ → List (Option SlotRow) → List Deed
+abbrev pub slots_deeds : Plan → Situation → ℕ → List (Option SlotRow) → List NextAsk
 slots_deeds plan s w [] = []
 slots_deeds plan s w (o ∷ os) = deeds_by mover.Pool (slot_asks plan s w o) ++ slots_deeds plan s (suc w) os
 
 -- what may be asked next: by each caller, for each slot, and by the house
-abbrev pub deeds : Plan → Situation → List Deed
+abbrev pub deeds : Plan → Situation → List NextAsk
 deeds plan s = callers_deeds plan s 0 s.callers ++ slots_deeds plan s 0 s.pool.slots ++ deeds_by mover.Pool (ask.Tidy ∷ ask.Ended ∷ [])
 
 -- what a deed makes
@@ -214,8 +214,8 @@ new_slot s (ask.Leave v) = v.0
 new_slot s _ = least_free s.slots
 
 -- the caller's place in the plan when it asks
-abbrev pub settled_at : Plan → Situation → ℕ → Caller
-settled_at plan s i = settled s (calls_of plan i) (slice_index_or s.callers i (before 0))
+abbrev pub moved_on_at : Plan → Situation → ℕ → Caller
+moved_on_at plan s i = moved_on s (calls_of plan i) (slice_index_or s.callers i (before 0))
 
 -- the tasks of the submissions after a call: a submission is task t from then on
 abbrev pub numbered : Option Call → TaskId → List (Option TaskId) → List (Option TaskId)
@@ -223,7 +223,7 @@ numbered (Some (call.Submit x)) t os = set os x (Some t)
 numbered _ t os = os
 
 abbrev pub numbers_after : Plan → Situation → ℕ → Did → List (Option TaskId)
-numbers_after plan s i (did.Submit t k p l) = numbered (call_at (calls_of plan i) (settled_at plan s i).left) t s.numbers
+numbers_after plan s i (did.Submit t k p l) = numbered (call_at (calls_of plan i) (moved_on_at plan s i).left) t s.numbers
 numbers_after plan s i d = s.numbers
 
 abbrev pub accepted : Plan → Situation → Mover → Did → Situation
@@ -231,7 +231,7 @@ accepted plan s mover.Pool d = record s { pool = bare (states.next s.pool d) }
 accepted plan s (mover.Caller i) d =
     record {
       pool = bare (states.next s.pool d);
-      callers = set s.callers i (after (states.next s.pool d) (settled_at plan s i) d);
+      callers = set s.callers i (after (states.next s.pool d) (moved_on_at plan s i) d);
       numbers = numbers_after plan s i d;
     }
 
@@ -247,17 +247,17 @@ refused_in s i c _ = []
 -- a call whose first step is refused is over, as is a start that is
 abbrev pub refused : Plan → Situation → Mover → List Situation
 refused plan s mover.Pool = []
-refused plan s (mover.Caller i) = refused_in s i (settled_at plan s i) (settled_at plan s i).doing
+refused plan s (mover.Caller i) = refused_in s i (moved_on_at plan s i) (moved_on_at plan s i).doing
 
 abbrev pub made_by : Plan → Situation → Mover → Answer → List Situation
 made_by plan s m (Ok a) = accepted plan s m a ∷ []
 made_by plan s m (Err e) = refused plan s m
 
 -- the step's answer
-abbrev pub answer : Plan → Situation → Deed → Answer
+abbrev pub answer : Plan → Situation → NextAsk → Answer
 answer plan s d = step plan.config s.pool (new_slot s.pool d.ask) d.ask
 
-abbrev pub made : Plan → Situation → Deed → List Situation
+abbrev pub made : Plan → Situation → NextAsk → List Situation
 made plan s d = made_by plan s d.by (answer plan s d)
 
 -- the situations that one move leads to

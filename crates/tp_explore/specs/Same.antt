@@ -26,7 +26,7 @@ use Rattle.tp_record.specs.declared.rows.TaskRow.{TaskRow}
 use Rattle.tp_record.specs.contracts.rows.TaskRowPartialEq.TheImpl as row_eq
 use Rattle.tp_record.specs.declared.rows.SlotRow.{SlotRow}
 use Rattle.tp_record.specs.contracts.rows.SlotRowPartialEq.TheImpl as seat_eq
-use Rattle.tp_rules.specs.declared.snapshot.Snapshot.{Snapshot}
+use Rattle.tp_rules.specs.declared.plain_state.PlainState.{PlainState}
 use Rattle.tp_explore.specs.declared.callers.Doing.{Doing}
 use Rattle.tp_explore.specs.declared.callers.Doing.TheVariants as doing
 use Rattle.tp_explore.specs.contracts.callers.DoingPartialEq.TheImpl as doing_eq
@@ -268,22 +268,22 @@ abbrev same_numbers : List ℕ → List ℕ → Bool
 same_numbers = pointwise (λ m n. m == n)
 
 -- the comparison of two pools, field by field
-abbrev pub same_settings : Snapshot → Snapshot → Bool
+abbrev pub same_settings : PlainState → PlainState → Bool
 same_settings a b =
     (a.steps == b.steps) && ((a.rank == b.rank) && ((a.core == b.core) && ((a.maximum == b.maximum) && ((a.keep == b.keep) && (beq a.core_timeout b.core_timeout && ((a.moment == b.moment) && (beq a.ranked b.ranked)))))))
 
-abbrev pub same_lists : Snapshot → Snapshot → Bool
+abbrev pub same_lists : PlainState → PlainState → Bool
 same_lists a b =
     pointwise row_eq.ghosts.eq a.tasks.items b.tasks.items && (same_numbers a.queue.items b.queue.items && (pointwise (option_eq seat_eq.ghosts.eq) a.slots.items b.slots.items && (same_numbers a.idling.items b.idling.items && (same_numbers a.done.items b.done.items))))
 
-abbrev pub same_counts : Snapshot → Snapshot → Bool
+abbrev pub same_counts : PlainState → PlainState → Bool
 same_counts a b = (a.completions == b.completions) && (a.largest == b.largest)
 
 abbrev pub same_state : State → State → Bool
 same_state a b =
     pointwise caller_eq.ghosts.eq a.callers.items b.callers.items && (pointwise (option_eq task_eq.ghosts.eq) a.numbers.items b.numbers.items && (same_settings a.pool b.pool && (same_lists a.pool b.pool && (same_counts a.pool b.pool))))
 
-settings_same : (a b : Snapshot) → same_settings a b ≡ true →
+settings_same : (a b : PlainState) → same_settings a b ≡ true →
     (a.steps ≡ b.steps) × (a.rank ≡ b.rank) × (a.core ≡ b.core) × (a.maximum ≡ b.maximum) × (a.keep ≡ b.keep) × (a.core_timeout ≡ b.core_timeout) × (a.moment ≡ b.moment) × (a.ranked ≡ b.ranked)
 settings_same a b h =
     let p1 = both (a.steps == b.steps) _ h in
@@ -303,7 +303,7 @@ settings_same a b h =
       switches.same a.ranked b.ranked p7.1,
     )
 
-lists_same : (a b : Snapshot) → same_lists a b ≡ true →
+lists_same : (a b : PlainState) → same_lists a b ≡ true →
     (a.tasks.items ≡ b.tasks.items) × (a.queue.items ≡ b.queue.items) × (a.slots.items ≡ b.slots.items) × (a.idling.items ≡ b.idling.items) × (a.done.items ≡ b.done.items)
 lists_same a b h =
     let p1 = both (pointwise row_eq.ghosts.eq a.tasks.items b.tasks.items) _ h in

@@ -7,7 +7,7 @@ use Rattle.tp_record.specs.declared.rows.SlotRow.{SlotRow}
 use Rattle.tp_record.specs.Effects.{Outcome}
 use Rattle.tp_record.specs.State as states
 use Rattle.tp_record.specs.Step.{is_reserved}
-use Rattle.tp_rules.specs.Snapshot.{shown}
+use Rattle.tp_rules.specs.PlainState.{shown}
 use Rattle.tp_explore.specs.declared.callers.Caller.{Caller}
 use Rattle.tp_explore.specs.declared.callers.Doing.{Doing}
 use Rattle.tp_explore.specs.declared.callers.Doing.TheVariants.{Submitting, Staffing}

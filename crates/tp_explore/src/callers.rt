@@ -1,13 +1,13 @@
 //! How far a caller is.
 ghost use Rattle.std.specs.Prelude.{◌≡◌};
 ghost use Rattle.tp_record.specs.State as states;
-ghost use Rattle.tp_rules.specs.Snapshot.{shown};
+ghost use Rattle.tp_rules.specs.PlainState.{shown};
 ghost use Rattle.tp_explore.specs.Moves as moves;
 ghost use Rattle.tp_explore.specs.Situation as situation;
 
 use tp_record::entries::{Did, Opened, Seconded};
 use tp_rules::next::{slot_of, task_at};
-use tp_rules::snapshot::Snapshot;
+use tp_rules::plain_state::PlainState;
 use tp_types::ids::{SlotId, TaskId};
 use tp_types::tasks::Place;
 
@@ -34,7 +34,7 @@ pub struct Caller {
 }
 
 // Whether a slot is reserved.
-fn is_reserved(pool: &Snapshot, w: SlotId) -> bool
+fn is_reserved(pool: &PlainState, w: SlotId) -> bool
     ensures { result ≡ situation.is_reserved_row (states.slot_at pool.now.slots.items w.0) }
 {
     match slot_of(pool, w) {
@@ -44,7 +44,7 @@ fn is_reserved(pool: &Snapshot, w: SlotId) -> bool
 }
 
 // Whether a task in this place is with its submitter.
-fn is_with_submitter(pool: &Snapshot, place: Place) -> bool
+fn is_with_submitter(pool: &PlainState, place: Place) -> bool
     ensures { result ≡ situation.is_with_submitter (shown pool.now) place }
 {
     match place {
@@ -55,7 +55,7 @@ fn is_with_submitter(pool: &Snapshot, place: Place) -> bool
 }
 
 // Whether a submitter has more to do for its task.
-fn goes_on(pool: &Snapshot, t: TaskId) -> bool
+fn goes_on(pool: &PlainState, t: TaskId) -> bool
     ensures { result ≡ situation.goes_on (shown pool.now) t.0 }
 {
     let row = task_at(pool, t);
@@ -91,7 +91,7 @@ impl Caller {
     }
 
     // After an answer on the path of task `t`.
-    fn along(self, after: &Snapshot, t: TaskId) -> Caller
+    fn along(self, after: &PlainState, t: TaskId) -> Caller
         ensures { result ≡ moves.along (shown after.now) self t }
     {
         if goes_on(after, t) {
@@ -113,7 +113,7 @@ impl Caller {
     }
 
     // After the first answer of a call.
-    fn begun(self, after: &Snapshot, did: Did) -> Caller
+    fn begun(self, after: &PlainState, did: Did) -> Caller
         ensures { result ≡ moves.begun (shown after.now) self did }
     {
         match did {
@@ -125,7 +125,7 @@ impl Caller {
     }
 
     // After an answer on the path of task `t`, which may have reserved a slot without a task.
-    fn submitted(self, after: &Snapshot, t: TaskId, did: Did) -> Caller
+    fn submitted(self, after: &PlainState, t: TaskId, did: Did) -> Caller
         ensures { result ≡ moves.submitting (shown after.now) self t did }
     {
         match did {
@@ -155,7 +155,7 @@ impl Caller {
     }
 
     /// After an answer to what it asked; `after` is the pool then.
-    pub fn after(self, after: &Snapshot, did: Did) -> Caller
+    pub fn after(self, after: &PlainState, did: Did) -> Caller
         ensures { result ≡ moves.after (shown after.now) self did }
     {
         match self.doing {
@@ -167,7 +167,7 @@ impl Caller {
     }
 
     /// Whether it has this slot's worker made.
-    pub fn staffs(self, pool: &Snapshot, w: SlotId) -> bool
+    pub fn staffs(self, pool: &PlainState, w: SlotId) -> bool
         ensures { result ≡ situation.staffs (shown pool.now) w.0 self }
     {
         match self.doing {

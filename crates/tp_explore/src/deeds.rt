@@ -27,7 +27,7 @@ pub enum Mover {
 
 /// An ask that may come next.
 #[derive(Clone, Copy, Debug, PartialEq, Eq)]
-pub struct Deed {
+pub struct NextAsk {
     /// Who asks.
     pub by: Mover,
     /// What is asked.
@@ -78,8 +78,8 @@ fn waited(state: &State, calls: &[Call], left: usize) -> Caller
 
 /// The caller after what it does without a step: it waits no longer where a wait is over, and starts no more workers where no task is
 /// queued.
-pub fn settled(state: &State, calls: &[Call], caller: Caller) -> Caller
-    ensures { result ≡ moves.settled (seen state.now) calls.now caller }
+pub fn moved_on(state: &State, calls: &[Call], caller: Caller) -> Caller
+    ensures { result ≡ moves.moved_on (seen state.now) calls.now caller }
 {
     match caller.doing {
         Doing::Nothing => waited(state, calls, caller.left),
@@ -208,7 +208,7 @@ fn next_ask(plan: &Plan, state: &State, calls: &[Call], left: usize) -> Option<A
     first_ask(plan, state, call)
 }
 
-/// What a caller that is settled may ask.
+/// What a caller that has moved on may ask.
 pub fn caller_asks(
     alloc: Global,
     plan: &Plan,
@@ -279,11 +279,11 @@ fn slot_asks(
 }
 
 // Adds asks of one mover.
-fn add(deeds: &mut Vec<Deed>, by: Mover, asks: &[Ask]) -> Result<(), AllocError>
+fn add(deeds: &mut Vec<NextAsk>, by: Mover, asks: &[Ask]) -> Result<(), AllocError>
     ensures { OnOk result (deeds.new.items ≡ deeds.old.items ++ moves.deeds_by by asks.now) }
 {
     for ask in asks {
-        deeds.push(Deed { by, ask: *ask })?;
+        deeds.push(NextAsk { by, ask: *ask })?;
     }
     Ok(())
 }
@@ -303,13 +303,13 @@ fn add_callers(
     alloc: Global,
     plan: &Plan,
     state: &State,
-    deeds: &mut Vec<Deed>,
+    deeds: &mut Vec<NextAsk>,
 ) -> Result<(), AllocError>
     ensures { OnOk result (deeds.new.items ≡ deeds.old.items ++ moves.callers_deeds plan.now (seen state.now) 0 state.now.callers.items) }
 {
     for (i, caller) in state.callers.iter().enumerate() {
         let calls = calls_of(plan, i);
-        let asks = caller_asks(alloc, plan, state, calls, settled(state, calls, *caller))?;
+        let asks = caller_asks(alloc, plan, state, calls, moved_on(state, calls, *caller))?;
         add(deeds, Mover::Caller(i), asks.as_slice())?;
     }
     Ok(())
@@ -320,7 +320,7 @@ fn add_slots(
     alloc: Global,
     plan: &Plan,
     state: &State,
-    deeds: &mut Vec<Deed>,
+    deeds: &mut Vec<NextAsk>,
 ) -> Result<(), AllocError>
     ensures { OnOk result (deeds.new.items ≡ deeds.old.items ++ moves.slots_deeds plan.now (seen state.now) 0 state.now.pool.slots.items) }
 {
@@ -332,7 +332,7 @@ fn add_slots(
 }
 
 /// All asks that may come next: each caller's, each worker's, and the house's. AllocError where there is no memory for them.
-pub fn deeds(alloc: Global, plan: &Plan, state: &State) -> Result<Vec<Deed>, AllocError>
+pub fn deeds(alloc: Global, plan: &Plan, state: &State) -> Result<Vec<NextAsk>, AllocError>
     ensures { IfOk result (λ v. v.items ≡ moves.deeds plan.now (seen state.now)) }
 {
     let mut deeds = Vec::new(alloc);

@@ -2,12 +2,12 @@
 ghost use Rattle.std.specs.Prelude.{◌≡◌, IfOk, IfSome, IsOkUnless, map, set};
 ghost use Rattle.std.specs.List.{All};
 ghost use Rattle.tp_record.specs.State as states;
-ghost use Rattle.tp_rules.specs.Snapshot.{shown, IsSmall};
+ghost use Rattle.tp_rules.specs.PlainState.{shown, IsSmall};
 ghost use Rattle.tp_explore.specs.Moves as spec;
 ghost use Rattle.tp_explore.specs.Situation.{bare, calls_of as situation_calls, seen as seen_state};
 
 use crate::callers::{Caller, Doing};
-use crate::deeds::{Deed, Mover, calls_of, deeds, settled};
+use crate::deeds::{Mover, NextAsk, calls_of, deeds, moved_on};
 use crate::plans::{Call, Plan};
 use crate::states::State;
 use std::alloc::Global;
@@ -15,7 +15,7 @@ use tp_record::entries::{Ask, Did};
 use tp_rules::answer::free_slot;
 use tp_rules::lists::copy_of;
 use tp_rules::next::next;
-use tp_rules::snapshot::Snapshot;
+use tp_rules::plain_state::PlainState;
 use tp_rules::step::step;
 use tp_types::ids::{SlotId, TaskId};
 use tp_types::refusals::PoolError;
@@ -24,7 +24,7 @@ use tp_types::refusals::PoolError;
 #[derive(Debug, Drop)]
 pub struct Move {
     /// What was asked, and by whom.
-    pub deed: Deed,
+    pub deed: NextAsk,
     /// What was done, or the refusal.
     pub answer: Result<Did, PoolError>,
     /// The state that it leads to.
@@ -34,7 +34,7 @@ pub struct Move {
 /// The number that a slot gets which the ask makes: that of the worker that leaves, else the least one that is no slot. The model lets
 /// a new slot have any free number, and with the least one more states are the same. The pool gives the number that was freed last, so
 /// a way that is told for it is renumbered.
-pub fn new_slot(pool: &Snapshot, ask: Ask) -> SlotId
+pub fn new_slot(pool: &PlainState, ask: Ask) -> SlotId
     ensures { result.0 ≡ spec.new_slot (shown pool.now) ask }
 {
     match ask {
@@ -44,7 +44,7 @@ pub fn new_slot(pool: &Snapshot, ask: Ask) -> SlotId
 }
 
 // The pool after an entry, without what no step asks for.
-fn pool_after(alloc: Global, pool: &Snapshot, did: Did) -> Result<Snapshot, PoolError>
+fn pool_after(alloc: Global, pool: &PlainState, did: Did) -> Result<PlainState, PoolError>
     requires { IsSmall 1048576 (shown pool.now) }
     ensures after { IfOk result (λ p. shown p ≡ bare (states.next (shown pool.now) did)) }
     ensures refused { IsOkUnless result PoolError.NoMemory }
@@ -56,11 +56,11 @@ fn pool_after(alloc: Global, pool: &Snapshot, did: Did) -> Result<Snapshot, Pool
 }
 
 // The same pool.
-fn copy_pool(alloc: Global, pool: &Snapshot) -> Result<Snapshot, PoolError>
+fn copy_pool(alloc: Global, pool: &PlainState) -> Result<PlainState, PoolError>
     ensures same { IfOk result (λ p. shown p ≡ shown pool.now) }
     ensures refused { IsOkUnless result PoolError.NoMemory }
 {
-    Ok(Snapshot {
+    Ok(PlainState {
         steps: pool.steps,
         rank: pool.rank,
         core: pool.core,
@@ -92,14 +92,14 @@ fn with_at<T: Copy + Drop>(alloc: Global, list: &[T], i: usize, x: T) -> Result<
 }
 
 // Caller `i` when it asks.
-fn settled_at(plan: &Plan, state: &State, i: usize) -> Caller
-    ensures { result ≡ spec.settled_at plan.now (seen_state state.now) i }
+fn moved_on_at(plan: &Plan, state: &State, i: usize) -> Caller
+    ensures { result ≡ spec.moved_on_at plan.now (seen_state state.now) i }
 {
     let caller = match state.callers.get(i) {
         None => Caller::before(0),
         Some(caller) => *caller,
     };
-    settled(state, calls_of(plan, i), caller)
+    moved_on(state, calls_of(plan, i), caller)
 }
 
 // The call that caller `i` makes when it asks.
@@ -124,7 +124,7 @@ fn numbers_after(
     let Did::Submit(t, _, _, _) = did else {
         return copy_of(alloc, &state.numbers);
     };
-    match call_of(plan, i, settled_at(plan, state, i)) {
+    match call_of(plan, i, moved_on_at(plan, state, i)) {
         Some(Call::Submit(submission)) => with_at(alloc, &state.numbers, submission, Some(t)),
         _ => copy_of(alloc, &state.numbers),
     }
@@ -143,7 +143,7 @@ fn caller_moved(
     ensures refused { IsOkUnless result PoolError.NoMemory }
 {
     let pool = pool_after(alloc, &state.pool, did)?;
-    let caller = settled_at(plan, state, i).after(&pool, did);
+    let caller = moved_on_at(plan, state, i).after(&pool, did);
     let numbers = numbers_after(alloc, plan, state, i, did)?;
     let callers = with_at(alloc, &state.callers, i, caller)?;
     Ok(State {
@@ -204,7 +204,7 @@ fn refused(alloc: Global, plan: &Plan, state: &State, by: Mover) -> Result<Optio
     let Mover::Caller(i) = by else {
         return Ok(None);
     };
-    let caller = settled_at(plan, state, i);
+    let caller = moved_on_at(plan, state, i);
     match caller.doing {
         Doing::Nothing | Doing::Starting(_) => {
             Ok(Some(given_up(alloc, state, i, caller.next_call())?))
@@ -218,7 +218,7 @@ pub fn made(
     alloc: Global,
     plan: &Plan,
     state: &State,
-    deed: Deed,
+    deed: NextAsk,
 ) -> Result<Option<Move>, PoolError>
     requires { IsSmall 1048576 (shown state.now.pool) }
     ensures after { IfOk result (λ o. spec.moved o ≡ spec.made plan.now (seen_state state.now) deed) }

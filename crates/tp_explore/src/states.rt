@@ -11,8 +11,8 @@ use crate::plans::Plan;
 use std::alloc::Global;
 use std::hash::{Hash, Hasher};
 use tp_record::rows::TaskRow;
-use tp_rules::build::snapshot;
-use tp_rules::snapshot::Snapshot;
+use tp_rules::build::plain_state;
+use tp_rules::plain_state::PlainState;
 use tp_types::ids::TaskId;
 use tp_types::refusals::PoolError;
 use tp_types::tasks::Place;
@@ -23,7 +23,7 @@ pub struct State {
     /// The pool. What no step asks for is 0: the greatest number of workers, and how many tasks were completed. So states that part in
     /// these alone are one. The number of entries is kept: the record's room rests on it, and each entry lowers the rank that ends the
     /// walk. So two orders that come to the same by more or by fewer entries are two states.
-    pub pool: Snapshot,
+    pub pool: PlainState,
     /// How far each caller is.
     pub callers: Vec<Caller>,
     /// The task that each submission of the plan is, once it was made.
@@ -31,7 +31,7 @@ pub struct State {
 }
 
 // Whether two pools have the same run state, settings and moment.
-fn same_settings(a: &Snapshot, b: &Snapshot) -> bool
+fn same_settings(a: &PlainState, b: &PlainState) -> bool
     ensures { result ≡ same.same_settings a.now b.now }
 {
     a.steps == b.steps
@@ -45,7 +45,7 @@ fn same_settings(a: &Snapshot, b: &Snapshot) -> bool
 }
 
 // Whether two pools have the same tasks and slots, in the same order.
-fn same_lists(a: &Snapshot, b: &Snapshot) -> bool
+fn same_lists(a: &PlainState, b: &PlainState) -> bool
     ensures { result ≡ same.same_lists a.now b.now }
 {
     a.tasks == b.tasks
@@ -56,7 +56,7 @@ fn same_lists(a: &Snapshot, b: &Snapshot) -> bool
 }
 
 // Whether two pools have counted the same.
-fn same_counts(a: &Snapshot, b: &Snapshot) -> bool
+fn same_counts(a: &PlainState, b: &PlainState) -> bool
     ensures { result ≡ same.same_counts a.now b.now }
 {
     a.completions == b.completions && a.largest == b.largest
@@ -154,7 +154,7 @@ pub fn first(alloc: Global, plan: &Plan) -> Result<State, PoolError>
         callers.push(Caller::before(calls.len()))?;
     }
     Ok(State {
-        pool: snapshot(alloc, &plan.config, &[])?,
+        pool: plain_state(alloc, &plan.config, &[])?,
         callers,
         numbers: vec![in alloc; None; plan.submissions.len()]?,
     })

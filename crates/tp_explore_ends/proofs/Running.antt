@@ -11,11 +11,11 @@ use Rattle.tp_record.specs.State as states
 use Rattle.tp_record.specs.Step.{Answer, Gives, IsFreeTo, Legal, Refuses, RunFrom, step}
 use Rattle.tp_laws.proofs.Model.Functions.{refused_legal}
 use Rattle.tp_laws.proofs.Model.NextState.{next_is_state}
-use Rattle.tp_rules.specs.Snapshot.{least_free}
+use Rattle.tp_rules.specs.PlainState.{least_free}
 use Rattle.tp_explore.specs.declared.callers.Caller.{Caller}
 use Rattle.tp_explore.specs.declared.callers.Doing.{Doing}
 use Rattle.tp_explore.specs.declared.callers.Doing.TheVariants.{Nothing, Submitting, Starting, Staffing}
-use Rattle.tp_explore.specs.declared.deeds.Deed.{Deed}
+use Rattle.tp_explore.specs.declared.deeds.NextAsk.{NextAsk}
 use Rattle.tp_explore.specs.declared.deeds.Mover.{Mover}
 use Rattle.tp_explore.specs.declared.deeds.Mover.TheVariants as mover
 use Rattle.tp_explore.specs.declared.moves.Move.{Move}
@@ -61,7 +61,7 @@ module _ (plan : Plan) where
   abbrev pub IsPoolOf : List Entry → Situation → Type 0
   IsPoolOf h s = s.pool ≡ bare (states.state plan.config h)
 
-  answered_there : (h : List Entry) (s : Situation) (d : Deed) → IsPoolOf h s → spec.answer plan s d ≡ step plan.config (states.state plan.config h) (spec.new_slot (states.state plan.config h) d.ask) d.ask
+  answered_there : (h : List Entry) (s : Situation) (d : NextAsk) → IsPoolOf h s → spec.answer plan s d ≡ step plan.config (states.state plan.config h) (spec.new_slot (states.state plan.config h) d.ask) d.ask
   answered_there h s d stands =
       ap (λ p. step plan.config p (spec.new_slot p d.ask) d.ask) stands
       ∙ same (states.state plan.config h) d.ask
@@ -88,7 +88,7 @@ module _ (plan : Plan) where
 
       stays : (b : Mover) (e : PoolError) → Contains (spec.made_by plan s b (Err e)) (seen m.after) → (seen m.after).pool ≡ s.pool
       stays mover.Pool e c = absurd (omega (arith, c.1))
-      stays (mover.Caller i) e c = refused_pool s i (spec.settled_at plan s i) (spec.settled_at plan s i).doing (seen m.after) c
+      stays (mover.Caller i) e c = refused_pool s i (spec.moved_on_at plan s i) (spec.moved_on_at plan s i).doing (seen m.after) c
 
       by_answer : ((k : List Entry) → Legal plan.config k → IsPoolOf k (seen m.after) → Runs ms z k) → (x : Answer) → m.answer ≡ x →
           step plan.config (states.state plan.config h) (spec.new_slot (states.state plan.config h) m.deed.ask) m.deed.ask ≡ x → Runs (m ∷ ms) z h

@@ -1,5 +1,5 @@
 -- What a journal writes is the text of its record.
-use Rattle.std.proofs.Common.{◌≡◌, ℕ, suc, ◌+◌, ◌-◌, ◌<◌, ◌≤◌, List, [], ◌∷◌, ◌++◌, length, get_or, take, drop, reverse, codes, Option, sym, ◌∙◌, ap, subst, arith, append_assoc, append-nil, length-append, length-take}
+use Rattle.std.proofs.Common.{◌≡◌, ℕ, suc, ◌+◌, ◌-◌, ◌<◌, List, [], ◌∷◌, ◌++◌, length, get_or, take, drop, reverse, codes, Option, sym, ◌∙◌, ap, subst, arith, append_assoc, append-nil, length-append, length-take}
 use Rattle.std.proofs.Math.Seq.{drop-append_seam, take-append_seam}
 use Rattle.std.proofs.lemmas.Fmt.{decimal_digit}
 use Rattle.std.proofs.KnownBytes.{Appends-trans}
@@ -32,9 +32,6 @@ cut_head c text is =
     let whole = is ∙ no_entries c in
     let short : length text - 6 ≡ length (head version.Two c) = omega (arith, ap length whole, length-append (head version.Two c) (codes "end 0\n")) in
     ap (λ n. take n text) short ∙ ap (λ x. take (length (head version.Two c)) x) whole ∙ take-append_seam (head version.Two c) (codes "end 0\n")
-
-pub has_last : (c : Config) (text : List ℕ) → text ≡ record_text version.Two c [] → 6 ≤ length text
-has_last c text is = omega (arith, ap length (is ∙ no_entries c), length-append (head version.Two c) (codes "end 0\n"))
 
 -- one line more
 pub next_line : (old new : List ℕ) (before : ℕ) (es : List Entry) (n : ℕ) (d : Entry) → old ≡ flat_map ended (entry_texts (suc before) (take n es)) → n < length es

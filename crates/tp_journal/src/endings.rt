@@ -72,7 +72,7 @@ pub enum Stopped<W> {
 
 /// What became of the journal of a pool.
 #[derive(Drop)]
-pub enum Ended<W> {
+pub enum JournalEnd<W> {
     /// It has the whole text of the record. This is its writer.
     Whole(W),
     /// It is cut off.
@@ -112,39 +112,39 @@ pub fn ended_whole<W: Write + Drop>(
     alloc: Global,
     stopped: Stopped<W>,
     entries: &[Packed],
-) -> Ended<W>
+) -> JournalEnd<W>
     ensures { (before : Option (List ℕ)) (c : Settings) (known : List Told) → IfThrough stopped (IsJournalOf W.contents before c known) → IsFrontOf known (reverse entries.now)
         → IsWhole W.contents before (record_text Version.Two c entries.now) result }
 {
     let Stopped::Through(writer) = stopped else {
-        return Ended::Left;
+        return JournalEnd::Left;
     };
     match writer.finish(alloc, entries) {
-        Ok(writer) => Ended::Whole(writer),
-        Err(cut) => Ended::Cut(cut),
+        Ok(writer) => JournalEnd::Whole(writer),
+        Err(cut) => JournalEnd::Cut(cut),
     }
 }
 
 /// The same, by the text of the record, which is there already.
-pub fn ended_by<W: Write + Drop>(stopped: Stopped<W>, text: &[u8]) -> Ended<W>
+pub fn ended_by<W: Write + Drop>(stopped: Stopped<W>, text: &[u8]) -> JournalEnd<W>
     ensures { (before : Option (List ℕ)) (c : Settings) (known es : List Told) → IfThrough stopped (IsJournalOf W.contents before c known) → IsFrontOf known (reverse es)
         → text.now ≡ record_text Version.Two c es → IsWhole W.contents before text.now result }
 {
     let Stopped::Through(writer) = stopped else {
-        return Ended::Left;
+        return JournalEnd::Left;
     };
     match writer.finish_by(text) {
-        Ok(writer) => Ended::Whole(writer),
-        Err(cut) => Ended::Cut(cut),
+        Ok(writer) => JournalEnd::Whole(writer),
+        Err(cut) => JournalEnd::Cut(cut),
     }
 }
 
 /// The end of a journal whose pool's close was refused so, or for whose text there is no memory.
-pub fn ended_cut<W>(stopped: Stopped<W>, error: PoolError) -> Ended<W>
+pub fn ended_cut<W>(stopped: Stopped<W>, error: PoolError) -> JournalEnd<W>
     ensures { IsCut stopped error result }
 {
     match stopped {
-        Stopped::Through(writer) => Ended::Cut(Cut { error, writer }),
-        Stopped::Left => Ended::Left,
+        Stopped::Through(writer) => JournalEnd::Cut(Cut { error, writer }),
+        Stopped::Left => JournalEnd::Left,
     }
 }

@@ -8,7 +8,7 @@ use Rattle.tp_book.specs.PassView.{PassView}
 use Rattle.tp_pool_holds.specs.Moments.{BookOf}
 use Rattle.tp_pool_holds.specs.Passes.{LooksOnly}
 use Rattle.tp_pool_holds.specs.Readings.{got, IsFound}
-use Rattle.tp_pool_holds.specs.declared.tasks.Task.{Task}
+use Rattle.tp_pool_holds.specs.declared.tasks.Payload.{Payload}
 
 -- the pool's own wait may answer so: then a value that a task gave is the answer, or it was taken before; or the same refusal is
 abbrev pub IsAnswer : {W V : Type 0} → (W → V → Type 0) → (Result ℤ PoolError → Type 0) → Result V PoolError → Type 0
@@ -25,5 +25,5 @@ module _ {W V : Type 0} (keeps : Bool) (c : Config) (gives : W → V → Type 0)
   -- of a task that was submitted so, this is told: what its future answers at the pass's new front. A submission that was refused is told
   -- of by its refusal, and the pass is as it was
   abbrev pub IsTaken : Result TaskId PoolError → Result V PoolError → PassView → PassView → Type 0
-  IsTaken (Ok t) told old new = LooksOnly c old new × BookOf (Task W) c new (λ b. IsAnswer gives (λ r. IsFound b t.0 keeps None (got r)) told)
+  IsTaken (Ok t) told old new = LooksOnly c old new × BookOf (Payload W) c new (λ b. IsAnswer gives (λ r. IsFound b t.0 keeps None (got r)) told)
   IsTaken (Err e) told old new = (told ≡ Err e) × (new ≡ old)

@@ -11,7 +11,7 @@ use Rattle.tp_book.specs.PassView.{PassView}
 use Rattle.tp_pool_holds.specs.Moments.{AtFront, BookOf}
 use Rattle.tp_pool_holds.specs.Passes.{AddsNone, AddsStep, LooksOnly}
 use Rattle.tp_pool_holds.specs.Readings.{got, IsFound}
-use Rattle.tp_pool_holds.specs.declared.tasks.Task.{Task}
+use Rattle.tp_pool_holds.specs.declared.tasks.Payload.{Payload}
 use Rattle.tp_life.specs.Futures.{IsAnswer}
 
 -- the group had these tickets, each of a task, and has those
@@ -29,7 +29,7 @@ module _ {X : Type 0} (had has : List X) (task : X → TaskId) where
     -- this is told of a task that was taken, by its ticket; or its ticket is elsewhere
     abbrev pub IsToldOf : TaskId → Result V PoolError → PassView → PassView → Type 0
     IsToldOf t told old new =
-        (((k : X) × IsOut t k) × LooksOnly c old new × BookOf (Task W) c new (λ b. IsAnswer gives (λ r. IsFound b t.0 keeps None (got r)) told))
+        (((k : X) × IsOut t k) × LooksOnly c old new × BookOf (Payload W) c new (λ b. IsAnswer gives (λ r. IsFound b t.0 keeps None (got r)) told))
         ⊎ (HadNone t × (told ≡ Err NotThere) × (new ≡ old))
 
     -- this task was taken, and then this was told of it

@@ -167,7 +167,7 @@ pub trait Calls: Controls {
     ghost use Rattle.tp_pool_holds.specs.Passes.{AddsNone, AddsStep, LooksOnly, Refuses};
     ghost use Rattle.tp_pool_holds.specs.Readings.{got, IsFound, IsUndoneAt};
     ghost use Rattle.tp_pool_holds.specs.Steps.{Removes, Stops};
-    ghost use Rattle.tp_pool_holds.specs.declared.tasks.Task.{Task as TaskOf};
+    ghost use Rattle.tp_pool_holds.specs.declared.tasks.Payload.{Payload as TaskOf};
     ghost use Rattle.tp_pool.specs.Admissions.{Admits, AtPriority, IsAdmitted, IsTurnedAway};
     ghost use Rattle.tp_pool.specs.Submissions.{AddsJob, Submits};
     ghost use Rattle.tp_pool.specs.Timed.{IsFoundInTime, IsUndoneInTime};

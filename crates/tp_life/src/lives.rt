@@ -10,7 +10,7 @@ ghost use Rattle.tp_life.specs.Ran.{Pairwise};
 
 use crate::calls::Life;
 use crate::desk::{Desk, starter};
-use crate::seats::Seat;
+use crate::seats::CallerSeat;
 use crate::tasks::{Held, Task};
 use std::alloc::Global;
 use std::marker::Brand;
@@ -162,7 +162,7 @@ pub fn make_rooms<G: PoolNaming, O: Drop>(
 #[derive(Drop)]
 struct Caller<G: PoolNaming, W: Task, H, E, K: Keeper, O> {
     who: u32,
-    seat: Seat<G, W, H, E, K>,
+    seat: CallerSeat<G, W, H, E, K>,
     out: Option<O>,
 }
 
@@ -283,7 +283,7 @@ where
         let (Ok(theirs), Ok(at)) = (pool.handle(), Arc::try_clone(desk)) else {
             return Err(PoolError::NoMemory);
         };
-        let seat = Seat {
+        let seat = CallerSeat {
             pass,
             pool: theirs,
             desk: at,
@@ -371,7 +371,7 @@ fn live_all<
 // nothing else is known.
 fn live_one<G: PoolNaming, L: Life, E: Edge, K: Keeper, R: Wait + Clock + Copy>(
     life: &L,
-    seat: &mut Seat<G, L::Task, R, E, K>,
+    seat: &mut CallerSeat<G, L::Task, R, E, K>,
     who: u32,
 ) -> L::Out
     ensures { L.leaves life.now (K.terms G.config) who seat.old.pass seat.new.pass result }

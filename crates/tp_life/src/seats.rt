@@ -25,7 +25,7 @@ use tp_types::tasks::{Kind, Outcome};
 /// A caller's pass of a pool, with the pool, the desk where its callers ask for workers, the runtime by which it waits, and
 /// the allocator of the places of its tasks' values.
 #[derive(Drop)]
-pub struct Seat<G: PoolNaming, W: Task, H, E, K: Keeper> {
+pub struct CallerSeat<G: PoolNaming, W: Task, H, E, K: Keeper> {
     /// The pass.
     pub pass: Pass<G>,
     /// The pool.
@@ -56,12 +56,12 @@ fn untaken<W: Task>(refused: Refused<Held<W>>) -> Refused<W>
     Refused { error, job }
 }
 
-impl<G: PoolNaming, W: Task, H: Wait + Copy, E: Edge, K: Keeper> Seat<G, W, H, E, K> {
+impl<G: PoolNaming, W: Task, H: Wait + Copy, E: Edge, K: Keeper> CallerSeat<G, W, H, E, K> {
     /// The pass of a caller that is through.
     pub fn into_pass(self) -> Pass<G>
         ensures { result ≡ self.pass }
     {
-        let Seat {
+        let CallerSeat {
             pass,
             pool: _,
             desk: _,
@@ -73,7 +73,7 @@ impl<G: PoolNaming, W: Task, H: Wait + Copy, E: Edge, K: Keeper> Seat<G, W, H, E
 }
 
 impl<G: PoolNaming, W: Task, H: Wait + Clock + Copy, E: Edge, K: Keeper> Controls
-    for Seat<G, W, H, E, K> {
+    for CallerSeat<G, W, H, E, K> {
     ghost terms = { K.terms G.config };
 
     ghost keeps = { K.RECEIPTS };
@@ -122,7 +122,7 @@ impl<G: PoolNaming, W: Task, H: Wait + Clock + Copy, E: Edge, K: Keeper> Control
 }
 
 impl<G: PoolNaming, W: Task, H: Wait + Clock + Copy, E: Edge, K: Keeper> Calls
-    for Seat<G, W, H, E, K> {
+    for CallerSeat<G, W, H, E, K> {
     type Task = W;
 
     type Host = H;

@@ -8,5 +8,5 @@ pub mod recorded;
 /// What a program with a journal names beside `tp_life::prelude`.
 pub mod prelude {
     pub use crate::recorded::with_journal;
-    pub use tp_journal::endings::{Ended, Wish, wish_at};
+    pub use tp_journal::endings::{JournalEnd, Wish, wish_at};
 }

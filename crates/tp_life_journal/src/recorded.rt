@@ -13,7 +13,7 @@ use std::time::Clock;
 use tp_book::opening::Unopened;
 use tp_book::passes::Pass;
 use tp_book::reports::Report;
-use tp_journal::endings::{Ended, Wish, ended_whole};
+use tp_journal::endings::{JournalEnd, Wish, ended_whole};
 use tp_journal::journals::Journal;
 use tp_life::calls::Life;
 use tp_life::lives::{Rooms, all_lives, close, lived, make_rooms, shut};
@@ -46,7 +46,7 @@ pub fn with_journal<
     callers: u32,
     life: &L,
     wish: Option<Wish<F>>,
-) -> Result<(Vec<O>, Report, Option<Ended<F>>), PoolError>
+) -> Result<(Vec<O>, Report, Option<JournalEnd<F>>), PoolError>
     ensures outs { IfOk result (λ r. vec_len r.0 ≡ callers) }
     ensures lived { IfOk result (λ r. IsLived (L.leaves life.now settings) true TellsRecord settings settings r.0.items r.1) }
     ensures whole { IfOk result (λ r. IfSome wish (λ w. IsSomeAnd r.2 (IsWhole F.contents (F.contents w.writer) (record_text Version.Two settings r.1.entries.items)))) }
@@ -78,7 +78,7 @@ fn opened<
     callers: u32,
     life: &L,
     wish: Option<Wish<F>>,
-) -> Result<(Vec<O>, Report, Option<Ended<F>>), PoolError>
+) -> Result<(Vec<O>, Report, Option<JournalEnd<F>>), PoolError>
     requires named { unopened ≡ record { ledger = G.name; parts = G.parts; table = G.table } }
     requires settings { settings ≡ G.config }
     ensures outs { IfOk result (λ r. vec_len r.0 ≡ callers) }
@@ -128,7 +128,7 @@ fn recorded<
     rooms: Rooms<G, O>,
     life: &L,
     wish: Wish<F>,
-) -> Result<(Vec<O>, Report, Ended<F>), PoolError>
+) -> Result<(Vec<O>, Report, JournalEnd<F>), PoolError>
     requires settings { settings ≡ G.config }
     requires outs { (rooms.outs.items ≡ []) × (callers ≤ vec_capacity rooms.outs) }
     requires passes { (rooms.passes.items ≡ []) × (suc callers ≤ vec_capacity rooms.passes) }

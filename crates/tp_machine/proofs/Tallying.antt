@@ -17,7 +17,7 @@ use Rattle.tp_record.specs.State.{State, state, counts as counts_of}
 use Rattle.tp_record.specs.Step.{Legal}
 use Rattle.tp_laws.proofs.Left.LeftOut.{counts_legal}
 use Rattle.tp_laws.proofs.Left.Marks.{left_else}
-use Rattle.tp_tasks.specs.declared.table.Task.{Task}
+use Rattle.tp_tasks.specs.declared.table.KeptTask.{KeptTask}
 use Rattle.tp_tasks.specs.declared.tasks.Tasks.{Tasks}
 use Rattle.tp_tasks.specs.Table.{promise_of_task}
 use Rattle.tp_tasks.specs.Tasks.{task_of, promise_of, KeepsOthers}
@@ -79,7 +79,7 @@ all_but {P} p old new t gone others all u = elim (cases_eq u t) [
   | inr apart ↦ subst Q (sym (others u (ne_eqb t u (λ b. apart (sym b))))) (all u)
 ]
   where
-    Q : Option (Task P) → Type 0
+    Q : Option (KeptTask P) → Type 0
     Q o = IfSome (promise_of_task o) (λ x. x ≡ p)
 
 -- so far, the asks were answered so, and the machine stands at what they lead to

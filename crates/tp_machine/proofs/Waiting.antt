@@ -12,7 +12,7 @@ use Rattle.tp_record.specs.Left.{left}
 use Rattle.tp_record.specs.State.{State, state, task_at, no_row}
 use Rattle.tp_record.specs.Step.{is_known}
 use Rattle.tp_laws.proofs.Left.LeftOut.{left_out_of}
-use Rattle.tp_tasks.specs.declared.table.Task.{Task}
+use Rattle.tp_tasks.specs.declared.table.KeptTask.{KeptTask}
 use Rattle.tp_tasks.specs.Table.{row_of_task, promise_of_task}
 use Rattle.tp_tasks.specs.Tasks.{task_of, row_of, promise_of}
 use Rattle.tp_machine_state.specs.declared.parts.Parts.{Parts}
@@ -75,7 +75,7 @@ module _ {P : Type 0} (p : Parts P) (s : State) (sh : Shows p s) (blank : (t : �
       Says : TaskRow → Type 0
       Says r = IfSome r.outcome (λ o. IsSomeAnd (promise_of p.tasks t) (λ x. FitsPromise x o))
 
-      promised : (k : Option (Task P)) (r : TaskRow) → row_of_task k ≡ Some r → KeepsPromise (promise_of_task k) (row_of_task k) → IfSome r.outcome (λ o. IsSomeAnd (promise_of_task k) (λ x. FitsPromise x o))
+      promised : (k : Option (KeptTask P)) (r : TaskRow) → row_of_task k ≡ Some r → KeepsPromise (promise_of_task k) (row_of_task k) → IfSome r.outcome (λ o. IsSomeAnd (promise_of_task k) (λ x. FitsPromise x o))
       promised None r is keeps = absurd (none-some r is)
       promised (Some k) r is keeps = subst (λ (y : TaskRow). IfSome y.outcome (FitsPromise k.promise)) (same_Some k.row r is) keeps
 
@@ -99,7 +99,7 @@ module _ {P R : Type 0} (tells : R → List Entry → List ℕ → Type 0) (plac
   promises_known = subst (λ (x : Seen P R). EachState tells x (λ s. (t : ℕ) → is_some (promise x t) ≡ is_known s t)) is
       (λ h rs at t. both (task_of p.tasks t) ∙ known_here p (left rs (state (terms p) h)) at.shows (blank_at h rs) t)
     where
-      both : (k : Option (Task P)) → is_some (promise_of_task k) ≡ is_some (row_of_task k)
+      both : (k : Option (KeptTask P)) → is_some (promise_of_task k) ≡ is_some (row_of_task k)
       both None = refl
       both (Some k) = refl
 

@@ -8,7 +8,7 @@ use Rattle.std.proofs.lemmas.Map.Steps.{length-le_from_distinct_below}
 use Rattle.tp_record.specs.Lists.{is_among, IsOnce, without, count_from}
 use Rattle.tp_laws.proofs.Model.Queues.{among-append, among-filter, once-filter}
 use Rattle.tp_tasks.specs.declared.tasks.Tasks.{Tasks}
-use Rattle.tp_tasks.specs.declared.table.Task.{Task}
+use Rattle.tp_tasks.specs.declared.table.KeptTask.{KeptTask}
 use Rattle.tp_tasks.specs.Table.{row_of_task}
 use Rattle.tp_tasks.specs.Tasks.{row_of, submissions, task_of, AreReleased, KeepsOthers}
 use Rattle.tp_tasks.proofs.Away.{IsDistinct-once, among_any}
@@ -78,7 +78,7 @@ module _ {P : Type 0} where
   pub fewer_but : (old new : Tasks P) (t : ℕ) → KeepsOthers old new t → (is_some (row_of new t) ≡ true → is_some (row_of old t) ≡ true) → (u : ℕ) → is_some (row_of new u) ≡ true → is_some (row_of old u) ≡ true
   fewer_but old new t others this u is = elim (cases_eq u t) [
     | inl same ↦ ap (λ x. is_some (row_of old x)) same ∙ this (ap (λ x. is_some (row_of new x)) (sym same) ∙ is)
-    | inr apart ↦ ap (λ (k : Option (Task P)). is_some (row_of_task k)) (sym (others u (ne_eqb t u (λ b. apart (sym b))))) ∙ is
+    | inr apart ↦ ap (λ (k : Option (KeptTask P)). is_some (row_of_task k)) (sym (others u (ne_eqb t u (λ b. apart (sym b))))) ∙ is
   ]
 
   -- where no other tasks are kept than were
@@ -93,7 +93,7 @@ module _ {P : Type 0} where
   most_new old new t n others most = λ ts once kept.
       let few = most (without t ts) (once-filter (λ y. not (y == t)) ts once) (λ u is.
       let both = and_parts (not (u == t)) (is_among u ts) (sym (among-filter u (λ y. not (y == t)) ts) ∙ is) in
-      ap (λ (k : Option (Task P)). is_some (row_of_task k)) (sym (others u (other u both.0))) ∙ kept u both.1) in
+      ap (λ (k : Option (KeptTask P)). is_some (row_of_task k)) (sym (others u (other u both.0))) ∙ kept u both.1) in
       let short = length_without t ts once in
       omega (arith, few, short)
     where
@@ -132,7 +132,7 @@ module _ {P : Type 0} where
       below : (t : ℕ) → is_among t away ≡ true → t < submissions m
       below t is = let range = (among_from 0 (submissions m) t (and_parts (is_none (row_of m t)) (is_among t (count_from 0 (submissions m))) (sym (among_away t) ∙ is)).1).1 in omega (arith, range)
 
-      row_some : (o : Option (Task P)) → is_some (row_of_task o) ≡ is_some o
+      row_some : (o : Option (KeptTask P)) → is_some (row_of_task o) ≡ is_some o
       row_some None = refl
       row_some (Some x) = refl
 

@@ -17,7 +17,7 @@ use Rattle.tp_ring.specs.Ranks.{enter}
 use Rattle.tp_queue.specs.Queues.{waiting_of}
 use Rattle.tp_queue.specs.Waiting.{place_key}
 use Rattle.tp_tasks.specs.declared.tasks.Tasks.{Tasks}
-use Rattle.tp_tasks.specs.declared.table.Task.{Task}
+use Rattle.tp_tasks.specs.declared.table.KeptTask.{KeptTask}
 use Rattle.tp_tasks.specs.Table.{row_of_task, promise_of_task, payload_of_task}
 use Rattle.tp_tasks.specs.Tasks.{task_of, row_of, promise_of, number_of, payload_of, KeepsOthers}
 use Rattle.tp_machine_state.specs.declared.parts.Parts.{Parts}
@@ -97,7 +97,7 @@ module _ {P : Type 0} (c : Config) (n : ℕ) (old : Parts P) (tied : IsTied c n 
               let Q : Option Promise → Option TaskRow → Type 0 = λ p o. KeepsPromise p o in
               let R : ℕ → Type 0 = λ x. Q (promise_of tasks x) (row_of tasks x) in
               subst R (sym same) (subst (Q (promise_of tasks t.0)) (sym row) (subst (λ p. Q p (row_of old.tasks t.0)) (sym promised) (tied.promises t.0)))
-          | inr apart ↦ let Q : Option (Task P) → Type 0 = λ k. KeepsPromise (promise_of_task k) (row_of_task k) in subst Q (sym (others u (ne_eqb t.0 u (λ b. apart (sym b))))) (tied.promises u)
+          | inr apart ↦ let Q : Option (KeptTask P) → Type 0 = λ k. KeepsPromise (promise_of_task k) (row_of_task k) in subst Q (sym (others u (ne_eqb t.0 u (λ b. apart (sym b))))) (tied.promises u)
         ];
       }
 

@@ -13,7 +13,7 @@ use Rattle.tp_record.specs.declared.rows.TaskRow.{TaskRow}
 use Rattle.tp_record.specs.Lists.{is_among}
 use Rattle.tp_record.specs.State.{is_fate}
 use Rattle.tp_queue.specs.Queues.{waiting_of}
-use Rattle.tp_tasks.specs.declared.table.Task.{Task}
+use Rattle.tp_tasks.specs.declared.table.KeptTask.{KeptTask}
 use Rattle.tp_tasks.specs.declared.tasks.Tasks.{Tasks}
 use Rattle.tp_tasks.specs.Table.{row_of_task, number_of_task, payload_of_task, promise_of_task}
 use Rattle.tp_tasks.specs.Tasks.{task_of, row_of, done_of, fated_of, submissions, KeepsOthers}
@@ -176,13 +176,13 @@ tied_forgets {P = P} c n old tied new t unqueued gone others =
       places = tied.places;
       kind = tied.kind;
       queue_places = λ is.
-          most_fewer old.tasks new _ (fewer_but old.tasks new t.0 others (λ there. absurd (false≢true (sym (ap (λ (k : Option (Task P)). is_some (row_of_task k)) gone) ∙ there)))) (tied.queue_places is);
+          most_fewer old.tasks new _ (fewer_but old.tasks new t.0 others (λ there. absurd (false≢true (sym (ap (λ (k : Option (KeptTask P)). is_some (row_of_task k)) gone) ∙ there)))) (tied.queue_places is);
       offers = tied.offers;
       idlings = tied.idlings;
       keyed = λ u key has. elim (cases_eq u.0 t.0) [
         | inl same ↦ let equal : u ≡ t = grind arith in absurd (unqueued key (let Q : TaskId → Type 0 = λ x. Contains (waiting_of old.queue).items (x, key) in subst Q equal has))
         | inr apart ↦
-            let Q : Option (Task P) → Type 0 = λ k. IsKeyed (waiting_of old.queue) (row_of_task k) (number_of_task k) key in
+            let Q : Option (KeptTask P) → Type 0 = λ k. IsKeyed (waiting_of old.queue) (row_of_task k) (number_of_task k) key in
             subst Q (sym (others u.0 (ne_eqb t.0 u.0 (λ b. apart (sym b))))) (tied.keyed u key has)
       ];
       payloads = λ u. elim (cases_eq u t.0) [
@@ -194,7 +194,7 @@ tied_forgets {P = P} c n old tied new t unqueued gone others =
             ap (λ k. is_some (payload_of_task k)) o ∙ tied.payloads u ∙ ap (λ k. waits (row_of_task k)) (sym o)
       ];
       promises = λ u.
-          let Q : Option (Task P) → Type 0 = λ k. KeepsPromise (promise_of_task k) (row_of_task k) in
+          let Q : Option (KeptTask P) → Type 0 = λ k. KeepsPromise (promise_of_task k) (row_of_task k) in
           elim (cases_eq u t.0) [
             | inl same ↦ subst Q (sym (ap (task_of new) same ∙ gone)) tt
             | inr apart ↦ subst Q (sym (others u (ne_eqb t.0 u (λ b. apart (sym b))))) (tied.promises u)

@@ -15,7 +15,7 @@ use Rattle.tp_queue.specs.declared.queues.Queue.{Queue}
 use Rattle.tp_queue.specs.Queues.{waiting_of}
 use Rattle.tp_queue.specs.Waiting.{Waiting, place_key}
 use Rattle.tp_tasks.specs.declared.tasks.Tasks.{Tasks}
-use Rattle.tp_tasks.specs.declared.table.Task.{Task}
+use Rattle.tp_tasks.specs.declared.table.KeptTask.{KeptTask}
 use Rattle.tp_tasks.specs.Table.{row_of_task, promise_of_task, number_of_task, payload_of_task}
 use Rattle.tp_tasks.specs.Tasks.{row_of, promise_of, number_of, payload_of, KeepsOthers, SetsRow, IsUnchanged}
 use Rattle.tp_machine_state.specs.declared.parts.Parts.{Parts}
@@ -35,7 +35,7 @@ keyed_row w row before place was key ranked same k =
     record { number = k.number; accepted = k.accepted; known = same ∙ k.known; made = k.made ∙ ap (λ r. place_key w.kind r k.number) (sym ranked) }
 
 -- as what is kept of it is the same
-pub keyed_same : {P : Type 0} (w : Waiting) (o before : Option (Task P)) (key : ℕ) → o ≡ before → IsKeyed w (row_of_task before) (number_of_task before) key → IsKeyed w (row_of_task o) (number_of_task o) key
+pub keyed_same : {P : Type 0} (w : Waiting) (o before : Option (KeptTask P)) (key : ℕ) → o ≡ before → IsKeyed w (row_of_task before) (number_of_task before) key → IsKeyed w (row_of_task o) (number_of_task o) key
 keyed_same w o before key same k = keyed_row w (row_of_task o) (row_of_task before) (number_of_task o) (number_of_task before) key (ap (λ x. priority_in (row_of_task x)) same) (ap number_of_task same) k
 
 module _ {P : Type 0} (c : Config) (n : ℕ) (old : Parts P) (tied : IsTied c n old) where
@@ -66,7 +66,7 @@ module _ {P : Type 0} (c : Config) (n : ℕ) (old : Parts P) (tied : IsTied c n 
         ];
         promises = λ u. elim (cases_eq u t) [
           | inl same ↦ let Q : ℕ → Type 0 = λ x. KeepsPromise (promise_of tasks x) (row_of tasks x) in subst Q (sym same) kept
-          | inr apart ↦ let Q : Option (Task P) → Type 0 = λ k. KeepsPromise (promise_of_task k) (row_of_task k) in subst Q (sym (others u (ne_eqb t u (λ b. apart (sym b))))) (tied.promises u)
+          | inr apart ↦ let Q : Option (KeptTask P) → Type 0 = λ k. KeepsPromise (promise_of_task k) (row_of_task k) in subst Q (sym (others u (ne_eqb t u (λ b. apart (sym b))))) (tied.promises u)
         ];
       }
 
@@ -104,7 +104,7 @@ module _ {P : Type 0} (c : Config) (n : ℕ) (old : Parts P) (tied : IsTied c n 
       keeps (Some p) fits = let F : Option Outcome → Type 0 = λ x. IfSome x (FitsPromise p) in subst F (sym ended) fits
 
 -- a task with a place number has a row
-pub row_kept : {P : Type 0} (o : Option (Task P)) (m : ℕ) → number_of_task o ≡ Some m → (r : TaskRow) × (row_of_task o ≡ Some r)
+pub row_kept : {P : Type 0} (o : Option (KeptTask P)) (m : ℕ) → number_of_task o ≡ Some m → (r : TaskRow) × (row_of_task o ≡ Some r)
 row_kept None m is = absurd (none-some m is)
 row_kept (Some k) m is = (k.row, refl)
 
@@ -124,18 +124,18 @@ tied_roomier {P = P} c n p tied tasks kept queue same more =
       places = tied.places;
       kind = ap (λ w. w.kind) same ∙ tied.kind;
       queue_places = λ is.
-          most_more tasks _ _ more (most_fewer p.tasks tasks _ (λ t has. ap (λ (k : Option (Task P)). is_some (row_of_task k)) (sym (kept.tasks t)) ∙ has) (tied.queue_places is));
+          most_more tasks _ _ more (most_fewer p.tasks tasks _ (λ t has. ap (λ (k : Option (KeptTask P)). is_some (row_of_task k)) (sym (kept.tasks t)) ∙ has) (tied.queue_places is));
       offers = omega (arith, made, offers);
       idlings = tied.idlings;
       keyed = λ u k has.
           keyed_by (waiting_of queue) (waiting_of p.queue) _ _ k (ap (λ w. w.kind) same) (omega (arith, made))
           (keyed_same (waiting_of p.queue) _ _ k (kept.tasks u.0) (tied.keyed u k (subst (λ w. Contains w.items (u, k)) same has)));
       payloads = λ u. let o = kept.tasks u in ap (λ k. is_some (payload_of_task k)) o ∙ tied.payloads u ∙ ap (λ k. waits (row_of_task k)) (sym o);
-      promises = λ u. let Q : Option (Task P) → Type 0 = λ k. KeepsPromise (promise_of_task k) (row_of_task k) in subst Q (sym (kept.tasks u)) (tied.promises u);
+      promises = λ u. let Q : Option (KeptTask P) → Type 0 = λ k. KeepsPromise (promise_of_task k) (row_of_task k) in subst Q (sym (kept.tasks u)) (tied.promises u);
     }
 
 -- a task that is not kept was never queued
-pub unqueued : {P : Type 0} (o : Option (Task P)) → is_some o ≡ false → number_of_task o ≡ None
+pub unqueued : {P : Type 0} (o : Option (KeptTask P)) → is_some o ≡ false → number_of_task o ≡ None
 unqueued None is = refl
 unqueued (Some k) is = absurd (false≢true (sym is))
 
@@ -167,7 +167,7 @@ tied_new {P = P} c n p tied tasks t r there waiting none paid new others place =
         let Q : ℕ → Type 0 = λ x. KeepsPromise (promise_of tasks x) (row_of tasks x) in
         let R : Option TaskRow → Type 0 = λ o. KeepsPromise (promise_of tasks t) o in
         subst Q (sym same) (subst R (sym there) (unended (promise_of tasks t) r none))
-    | inr apart ↦ let Q : Option (Task P) → Type 0 = λ k. KeepsPromise (promise_of_task k) (row_of_task k) in subst Q (sym (others u (ne_eqb t u (λ b. apart (sym b))))) (tied.promises u)
+    | inr apart ↦ let Q : Option (KeptTask P) → Type 0 = λ k. KeepsPromise (promise_of_task k) (row_of_task k) in subst Q (sym (others u (ne_eqb t u (λ b. apart (sym b))))) (tied.promises u)
   ];
 }
   where

@@ -78,14 +78,14 @@ impl<P> Parts<P> {
 
     /// A task is not owed its second look any more, and is where it was.
     #[inline(always)]
-    pub fn settle_task(&mut self, t: TaskId)
+    pub fn clear_second(&mut self, t: TaskId)
         requires known { (r : TaskRow) × (row_of self.old.tasks t.0 ≡ Some r) }
         ensures views { (v : View) → Views self.old v → Views self.new (record v { tasks = put t.0 (record (v.tasks t.0) { second = false }) v.tasks }) }
         ensures tied { (c : Config) (n : ℕ) → IsTied c n self.old → IsTied c n self.new }
         ensures rest { self.new ≡ record self.old { tasks = self.new.tasks } }
         ensures payloads { Keeps self.old.tasks self.new.tasks }
     {
-        self.tasks.settle(t);
+        self.tasks.clear_second(t);
     }
 
     /// A task that waits is refused by its second look, which it is not owed any more.

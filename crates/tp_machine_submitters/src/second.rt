@@ -71,7 +71,7 @@ fn stay<P>(parts: &mut Parts<P>, t: TaskId)
     ensures payloads { Keeps parts.old.tasks parts.new.tasks }
 {
     parts.count_entry(SECOND_LOOK);
-    parts.settle_task(t);
+    parts.clear_second(t);
 }
 
 /// The task stays where it is, and a bare slot is reserved.
@@ -84,7 +84,7 @@ fn reserve<P>(parts: &mut Parts<P>, t: TaskId, w: SlotId)
     ensures payloads { Keeps parts.old.tasks parts.new.tasks }
 {
     parts.count_entry(SECOND_LOOK - RESERVED);
-    parts.settle_task(t);
+    parts.clear_second(t);
     parts.reserve(Stage::ReservedBare, None);
 }
 

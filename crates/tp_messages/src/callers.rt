@@ -1,8 +1,8 @@
 //! What is wrong with a line of a file of callers.
 
 use crate::forms::{CALL_FORMS, CALLER_FORMS, NAMED_FORMS};
+use crate::line_kinds::{LineKind, line_kind};
 use crate::lines::Line;
-use crate::looks::{Look, look_of};
 use crate::mistakes::{Finding, Kind, Mistake, of_line, of_word, of_words};
 use crate::places::is_label;
 use crate::wordings::Wording;
@@ -174,11 +174,14 @@ fn in_calls<'a>(text: &'a [u8], line: Line<'a>, calls: &'a str) -> Option<Findin
 
 /// What is wrong with a line that is neither of a caller nor of the factory.
 fn in_other<'a>(line: Line<'a>, words: &'a str) -> Finding<'a> {
-    match look_of(words) {
-        Look::Pool => of_word(line, words, 0, Mistake::SecondPoolLine),
-        Look::Entry => of_line(line, Mistake::OtherKind(Kind::Record)),
+    match line_kind(words) {
+        LineKind::Pool => of_word(line, words, 0, Mistake::SecondPoolLine),
+        LineKind::Entry => of_line(line, Mistake::OtherKind(Kind::Record)),
         _ if is_call(words) => of_line(line, Mistake::CallWithoutCaller),
-        Look::Submit | Look::Step | Look::End => of_line(line, Mistake::OtherKind(Kind::Scenario)),
+        LineKind::Submit | LineKind::Step | LineKind::End => of_line(
+            line,
+            Mistake::OtherKind(Kind::Scenario),
+        ),
         _ => of_words(line, 0, CALLER_FORMS, words),
     }
 }

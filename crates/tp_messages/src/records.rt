@@ -1,8 +1,8 @@
 //! What is wrong with a line of a record text.
 
 use crate::forms::{BODY_FORMS, END_FORMS, ENTRY_FORMS, PASS_FORMS, POOL_FORMS};
+use crate::line_kinds::{LineKind, kind_of_text, line_kind};
 use crate::lines::{Line, line_at};
-use crate::looks::{Look, kind_of_text, look_of};
 use crate::mistakes::{Finding, Kind, Mistake, of_bytes, of_line, of_word, of_words};
 use crate::words::count;
 use tp_text::lines::{clean_text, is_skipped};
@@ -13,10 +13,10 @@ use tp_types::limits::DEFAULT_RECORD_LIMIT;
 
 /// What is wrong with the first line.
 fn in_version<'a>(line: Line<'a>, text: &'a str) -> Finding<'a> {
-    let mistake = match look_of(text) {
-        Look::Pool | Look::Comment => Mistake::PoolFirst,
-        Look::Entry => Mistake::Headless,
-        Look::Version => Mistake::OtherVersion(text),
+    let mistake = match line_kind(text) {
+        LineKind::Pool | LineKind::Comment => Mistake::PoolFirst,
+        LineKind::Entry => Mistake::Headless,
+        LineKind::Version => Mistake::OtherVersion(text),
         _ => Mistake::NoVersion,
     };
     of_line(line, mistake)
@@ -117,11 +117,11 @@ fn in_numbered<'a>(line: Line<'a>, next: u32, text: &'a str) -> Finding<'a> {
 /// What is wrong with a line behind so many entries.
 fn in_body<'a>(line: Line<'a>, entries: u32, text: &'a str) -> Finding<'a> {
     let next = entries.saturating_add(1);
-    match look_of(text) {
-        Look::Entry => in_numbered(line, next, text),
-        Look::Submit | Look::Step => of_word(line, text, 0, Mistake::Unnumbered(next)),
-        Look::End if is_count(text) => of_word(line, text, 1, Mistake::Miscounted(entries)),
-        Look::End => of_words(line, 0, END_FORMS, text),
+    match line_kind(text) {
+        LineKind::Entry => in_numbered(line, next, text),
+        LineKind::Submit | LineKind::Step => of_word(line, text, 0, Mistake::Unnumbered(next)),
+        LineKind::End if is_count(text) => of_word(line, text, 1, Mistake::Miscounted(entries)),
+        LineKind::End => of_words(line, 0, END_FORMS, text),
         _ => of_words(line, 0, BODY_FORMS, text),
     }
 }

@@ -2,8 +2,8 @@
 
 use crate::callers::{has_many_callers, in_caller_line};
 use crate::forms::{JOB_FORMS, POOL_FORMS, STEP_FORMS};
+use crate::line_kinds::{LineKind, has_kind, kind_of_text, line_kind};
 use crate::lines::{Line, line_at};
-use crate::looks::{Look, has_kind, kind_of_text, look_of};
 use crate::mistakes::{Finding, Kind, Mistake, of_bytes, of_line, of_word, of_words};
 use crate::settings::refused_setting;
 use crate::tellings::Room;
@@ -65,33 +65,32 @@ pub fn first_line(text: &[u8]) -> u32 {
 
 /// What is wrong with a line that should be the pool line.
 fn in_pool_line<'a>(line: Line<'a>, text: &'a str) -> Finding<'a> {
-    match look_of(text) {
-        Look::Submit | Look::Execute | Look::Step | Look::End | Look::Caller => {
-            of_word(line, text, 0, Mistake::EarlyLine(first_word(text).0))
-        }
+    match line_kind(text) {
+        LineKind::Submit | LineKind::Execute | LineKind::Step | LineKind::End | LineKind::Caller =>
+            { of_word(line, text, 0, Mistake::EarlyLine(first_word(text).0)) }
         _ => of_words(line, 0, POOL_FORMS, text),
     }
 }
 
 /// What is wrong with a step.
 fn in_step<'a>(line: Line<'a>, text: &'a str) -> Finding<'a> {
-    match look_of(text) {
-        Look::Pool => of_word(line, text, 0, Mistake::SecondPoolLine),
-        Look::Execute => of_line(line, Mistake::OtherKind(Kind::Jobs)),
-        Look::Entry => of_line(line, Mistake::OtherKind(Kind::Record)),
-        Look::Caller => of_line(line, Mistake::OtherKind(Kind::Callers)),
+    match line_kind(text) {
+        LineKind::Pool => of_word(line, text, 0, Mistake::SecondPoolLine),
+        LineKind::Execute => of_line(line, Mistake::OtherKind(Kind::Jobs)),
+        LineKind::Entry => of_line(line, Mistake::OtherKind(Kind::Record)),
+        LineKind::Caller => of_line(line, Mistake::OtherKind(Kind::Callers)),
         _ => of_words(line, 0, STEP_FORMS, text),
     }
 }
 
 /// What is wrong with a job.
 fn in_job<'a>(line: Line<'a>, text: &'a str) -> Finding<'a> {
-    match look_of(text) {
-        Look::Pool => of_word(line, text, 0, Mistake::SecondPoolLine),
-        Look::Step | Look::End => of_line(line, Mistake::OtherKind(Kind::Scenario)),
+    match line_kind(text) {
+        LineKind::Pool => of_word(line, text, 0, Mistake::SecondPoolLine),
+        LineKind::Step | LineKind::End => of_line(line, Mistake::OtherKind(Kind::Scenario)),
         _ if has_kind(text) => of_line(line, Mistake::OtherKind(Kind::Scenario)),
-        Look::Entry => of_line(line, Mistake::OtherKind(Kind::Record)),
-        Look::Caller => of_line(line, Mistake::OtherKind(Kind::Callers)),
+        LineKind::Entry => of_line(line, Mistake::OtherKind(Kind::Record)),
+        LineKind::Caller => of_line(line, Mistake::OtherKind(Kind::Callers)),
         _ => of_words(line, 0, JOB_FORMS, text),
     }
 }
@@ -99,7 +98,7 @@ fn in_job<'a>(line: Line<'a>, text: &'a str) -> Finding<'a> {
 /// Whether the first line of a text that says something is an entry.
 fn begins_with_entry(text: &[u8]) -> bool {
     match clean_text(line_at(text, first_line(text)).bytes) {
-        Some(words) => matches!(look_of(words), Look::Entry),
+        Some(words) => matches!(line_kind(words), LineKind::Entry),
         None => false,
     }
 }

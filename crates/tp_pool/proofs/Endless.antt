@@ -6,18 +6,17 @@ use Rattle.tp_types.specs.declared.configs.Config.{Config}
 use Rattle.tp_types.specs.declared.refusals.PoolError.{PoolError}
 use Rattle.tp_types.specs.declared.refusals.PoolError.TheVariants.{TimedOut, TornRecord}
 use Rattle.tp_record.specs.declared.entries.Ask.TheVariants as ask
-use Rattle.tp_record.specs.declared.entries.Did.TheVariants as did
 use Rattle.tp_record.specs.declared.entries.Ask.{Ask}
 use Rattle.tp_record.specs.declared.entries.Did.{Did}
 use Rattle.tp_record.specs.declared.entries.Entry.{Entry}
 use Rattle.tp_record.specs.Fields.{rank}
 use Rattle.tp_record.specs.Step.{Legal}
 use Rattle.tp_glance.specs.Word.{IsFrontOf}
-use Rattle.tp_glance.proofs.Fronts.{IsFrontOf_refl, IsFrontOf_trans, rank_grows}
+use Rattle.tp_glance.proofs.Fronts.{IsFrontOf_trans, rank_grows}
 use Rattle.tp_book.specs.PassView.{PassView}
 use Rattle.tp_pool_holds.specs.Moments.{AtFront}
 use Rattle.tp_pool_holds.specs.Readings.{has_come}
-use Rattle.tp_pool_holds.specs.Passes.{Adds, AddsNone, AddsStep, IsRefusal, entry_of, tidied, ended}
+use Rattle.tp_pool_holds.specs.Passes.{Adds, AddsNone, AddsStep, entry_of, tidied, ended}
 use Rattle.tp_pool_holds.proofs.Receipts.{leads_front, reserved}
 use Rattle.tp_pool.specs.Lives.{IsShut}
 use Rattle.tp_pool_holds.specs.Endings.{IsBarred}
@@ -43,11 +42,6 @@ module _ (c : Config) (old new : PassView) where
   pub over_legal : (r : Result (Unit {0}) PoolError) → OnOk r (Adds c old [] new ⊎ Adds c old (tidied old.number ∷ ended old.number ∷ []) new) → IfErr r (IsTorn c old new) → Legal c new.front
   over_legal (Ok x) steps refused = ⊎_elim (λ (a : Adds c old [] new). a.legal) (λ (a : Adds c old (tidied old.number ∷ ended old.number ∷ []) new). a.legal) steps
   over_legal (Err e) steps refused = refused.2.legal
-
-  -- a shutdown that was asked for has shut the pool down, or is refused
-  pub shut_by : (r : Result (Unit {0}) PoolError) → IfOk r (λ _. AddsStep c old ask.Shutdown did.Shutdown new) → IfErr r (λ e. IsRefusal true c new ask.Shutdown e) → IsShut c new.front
-  shut_by (Ok x) step refused = inl (reached c old new _ [] step)
-  shut_by (Err e) step refused = inr (new.front, IsFrontOf_refl new.front, (e, refused))
 
 -- and so it is at every later history
 pub shut_still : (c : Config) (f h : List Entry) → IsFrontOf f h → IsShut c f → IsShut c h

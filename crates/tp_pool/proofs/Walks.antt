@@ -30,7 +30,7 @@ use Rattle.tp_pool_holds.specs.Steps.{Makes}
 use Rattle.tp_types.specs.declared.refusals.PoolError.TheVariants as error
 use Rattle.tp_pool_holds.specs.declared.answers.Admitted.{Admitted}
 use Rattle.tp_pool_holds.specs.declared.answers.Refused.{Refused}
-use Rattle.tp_pool_holds.specs.declared.tasks.Task.{Task}
+use Rattle.tp_pool_holds.specs.declared.tasks.Payload.{Payload}
 use Rattle.tp_machine.specs.Answers.{ComesBack}
 use Rattle.tp_pool.specs.Admissions.{task_of, end_of, AddsFront, AsksFor, Awaits, GotJob, IsUndone, IsAdmitted, IsTurnedAway}
 use Rattle.tp_pool_holds.specs.Submitting.{TakesOut}
@@ -108,7 +108,7 @@ module _ {J : Type 0} (c : Config) (kind : Kind) (priority : ℕ) (job : J) (pro
     pub torn : f ≡ Astray → Strays c kind priority t old new
     pub room : 512 ≤ new.room + steps
 
-  pub begun : Begins → (t : TaskId) (look : Looked) (old new : PassView) (task : Task J) → task.job ≡ job →
+  pub begun : Begins → (t : TaskId) (look : Looked) (old new : PassView) (task : Payload J) → task.job ≡ job →
       Makes J c old.number old.front (ask.Submit kind priority) (did.Submit t kind priority look) (λ old new. PutsIn old new t.0 promise task) new.front →
       AddsStep c old (ask.Submit kind priority) (did.Submit t kind priority look) new → 512 ≤ old.room → old.room ≤ new.room + 1 →
       Walk t.0 old (follows t.0 (did.Submit t kind priority look)) 1 new
@@ -142,7 +142,7 @@ module _ {J : Type 0} (c : Config) (kind : Kind) (priority : ℕ) (job : J) (pro
       }
 
   -- what the next step takes out of the book is taken out by the submission's pass, behind its first front
-  pub taken_on : (t : ℕ) (old mid : PassView) (f : Follow) (steps : ℕ) → Walk t old f steps mid → (held : Option (Task J)) (after : List Entry) → TakesOut c mid.number t held mid.front after →
+  pub taken_on : (t : ℕ) (old mid : PassView) (f : Follow) (steps : ℕ) → Walk t old f steps mid → (held : Option (Payload J)) (after : List Entry) → TakesOut c mid.number t held mid.front after →
       TakesOut c old.number t held old.front after
   taken_on t old mid f steps walk held after out =
       subst (λ (by : ℕ). TakesOut c by t held old.front after) walk.adds.number (takes_from c mid.number t held old.front mid.front after (leads_front old.front mid.front walk.front walk.adds.leads) out)
@@ -158,7 +158,7 @@ module _ {J : Type 0} (c : Config) (kind : Kind) (priority : ℕ) (job : J) (pro
   admits_at law t old new f steps end is walk (Err x) same = tt
 
   pub rejects_at : (keeps : Bool) → Closes → (t : TaskId) (old new : PassView) (f : Follow) (steps : ℕ) (end : Ending) → f ≡ Ends (admission_of end) → Walk t.0 old f steps new →
-      (held : Option (Task J)) → (f ≡ Ends Rejected → ComesBack t.0 held new.front × TakesOut c old.number t.0 held old.front new.front) → (r : Result Admitted (Refused J)) → IfErr r (λ x. (x.error ≡ error.Rejected t) × (end ≡ ending.Rejected)) →
+      (held : Option (Payload J)) → (f ≡ Ends Rejected → ComesBack t.0 held new.front × TakesOut c old.number t.0 held old.front new.front) → (r : Result Admitted (Refused J)) → IfErr r (λ x. (x.error ≡ error.Rejected t) × (end ≡ ending.Rejected)) →
       IfErr r (λ x. x.job ≡ option_map (λ k. k.job) held) → IfErr r (IsTurnedAway keeps c kind priority job promise old new)
   rejects_at keeps law t old new f steps end is walk held returned (Ok a) same hands = tt
   rejects_at keeps law t old new f steps end is walk held returned (Err x) same hands =

@@ -26,7 +26,7 @@ use Rattle.tp_pool_holds.specs.Steps.{Makes}
 use Rattle.tp_pool_holds.specs.declared.answers.Admitted.{Admitted}
 use Rattle.tp_pool_holds.specs.declared.answers.Admitted.TheVariants as admitted
 use Rattle.tp_pool_holds.specs.declared.answers.Refused.{Refused}
-use Rattle.tp_pool_holds.specs.declared.tasks.Task.{Task}
+use Rattle.tp_pool_holds.specs.declared.tasks.Payload.{Payload}
 use Rattle.tp_pool_holds.specs.Submitting.{IsHalted, TakesOut}
 
 -- whose submission was admitted, and how it ended
@@ -51,7 +51,7 @@ AtPriority urgency F = (priority : ℕ) × ((priority ≡ 0) ⊎ (priority ≡ u
 
 -- the pool got this job as task t, with this promise: by a step `submit` of the pass, at a history between the two
 pub record GotJob {J : Type 0} (c : Config) (kind : Kind) (priority : ℕ) (job : J) (promise : Promise) (by t : ℕ) (before after : List Entry) : Type 0 where
-  pub task : Task J
+  pub task : Payload J
   pub look : Looked
   pub then_history : List Entry
   pub has_job : task.job ≡ job
@@ -62,7 +62,7 @@ pub record GotJob {J : Type 0} (c : Config) (kind : Kind) (priority : ℕ) (job 
 
 -- so it is with this job, or with none
 abbrev pub IsJobOut : {J : Type 0} → Config → ℕ → ℕ → Option J → List Entry → List Entry → Type 0
-IsJobOut {J} c by t job before after = (payload : Option (Task J)) × (job ≡ option_map (λ k. k.job) payload) × TakesOut c by t payload before after
+IsJobOut {J} c by t job before after = (payload : Option (Payload J)) × (job ≡ option_map (λ k. k.job) payload) × TakesOut c by t payload before after
 
 -- a further step is to follow
 abbrev pub Awaits : Follow → Type 0

@@ -18,7 +18,7 @@ use Rattle.tp_book.specs.declared.reports.TallyReport.{TallyReport}
 use Rattle.tp_pool_holds.specs.Moments.{AtSome, BookOf}
 use Rattle.tp_pool_holds.specs.Passes.{LooksOnly}
 use Rattle.tp_pool_holds.specs.Readings.{got, IsFound}
-use Rattle.tp_pool_holds.specs.declared.tasks.Task.{Task}
+use Rattle.tp_pool_holds.specs.declared.tasks.Payload.{Payload}
 use Rattle.tp_pool_holds.specs.Reports.{Closes}
 use Rattle.tp_pool_holds.specs.Endings.{IsBarred}
 use Rattle.tp_pool.specs.Submissions.{Submits}
@@ -28,7 +28,7 @@ use Rattle.tp_pool.specs.Turns.{ThroughBoth}
 module _ (J : Type 0) (keeps : Bool) (c : Config) where
   -- the pass looks, and is told what became of this task; or the refusal of its submission is the answer
   abbrev pub IsTold : Result TaskId PoolError → Result ℤ PoolError → PassView → PassView → Type 0
-  IsTold (Ok t) answer old new = LooksOnly c old new × BookOf (Task J) c new (λ b. IsFound b t.0 keeps None (got answer))
+  IsTold (Ok t) answer old new = LooksOnly c old new × BookOf (Payload J) c new (λ b. IsFound b t.0 keeps None (got answer))
   IsTold (Err e) answer old new = (new ≡ old) × (answer ≡ Err e)
 
   -- so it is told of each of these, one after another

@@ -8,7 +8,7 @@ use std::sync::Wait;
 use tp_book::passes::Pass;
 use tp_glance::glance::Glance;
 use tp_pool_holds::edges::Edge;
-use tp_pool_holds::locked::Core;
+use tp_pool_holds::locked::Locked;
 use tp_pool_holds::names::PoolNaming;
 use tp_record::recorders::Tally;
 use tp_types::ids::TaskId;
@@ -16,7 +16,7 @@ use tp_types::refusals::PoolError;
 
 // Forgets a task of the value under the lock, where it is gone: false where it is not.
 fn forgets_in<G: PoolNaming, J: Drop>(
-    core: &mut Core<G, J, Tally>,
+    locked: &mut Locked<G, J, Tally>,
     t: TaskId,
     glance: &Glance<G>,
     pass: &mut Pass<G>,
@@ -25,7 +25,7 @@ fn forgets_in<G: PoolNaming, J: Drop>(
     ensures goes_on { IsFrontOf pass.old.front pass.new.front }
     ensures knew { IsFrontOf pass.old.released pass.new.released }
 {
-    core.release_task(t, glance, pass) != Err(PoolError::NotThere)
+    locked.release_task(t, glance, pass) != Err(PoolError::NotThere)
 }
 
 // The pool's bound on jobs is `Drop` alone: an `impl` for any jobs calls these.

@@ -3,9 +3,9 @@ ghost use Rattle.std.specs.Arc.{arc_value};
 ghost use Rattle.std.specs.Prelude.{◌≡◌, IfOk, IfErr};
 ghost use Rattle.tp_pool_holds.specs.Closing.{KeepsOpen};
 ghost use Rattle.tp_pool_holds.specs.Reports.{Closes};
-ghost use Rattle.tp_pool_holds.specs.declared.tasks.Task.{Task as TaskOf};
+ghost use Rattle.tp_pool_holds.specs.declared.tasks.Payload.{Payload as TaskOf};
 
-use crate::pool::{Hold, PoolOf};
+use crate::pool::{Owner, PoolOf};
 use std::sync::{Arc, Wait};
 use std::thread;
 use tp_book::passes::Pass;
@@ -89,10 +89,10 @@ impl<G: PoolNaming, J: Job, E: Edge, K: Keeper> PoolOf<G, J, E, K> {
             });
         }
         shared.await_workers(rt);
-        let PoolOf { hold } = self;
-        let shared = match hold {
-            Hold::Many(shared) => sole(rt, shared),
-            Hold::One(shared) => shared,
+        let PoolOf { owner } = self;
+        let shared = match owner {
+            Owner::Shared(shared) => sole(rt, shared),
+            Owner::Sole(shared) => shared,
         };
         Ok((shared, passes))
     }
@@ -127,10 +127,10 @@ fn handed_back<G: PoolNaming, J, E, K: Keeper>(
         shared,
         passes,
     } = reopened;
-    let hold = Hold::One(shared);
+    let owner = Owner::Sole(shared);
     CloseFault {
         error,
-        pool: PoolOf { hold },
+        pool: PoolOf { owner },
         passes,
     }
 }

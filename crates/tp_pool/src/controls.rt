@@ -16,17 +16,17 @@ use tp_machine::typed::settings::{CoreTimeout, Keep, Maximum, Tick};
 use tp_pool_holds::answers::Removal;
 use tp_pool_holds::edges::Edge;
 use tp_pool_holds::names::PoolNaming;
-use tp_pool_holds::tasks::Task;
+use tp_pool_holds::tasks::Payload;
 use tp_record::entries::{Ask, Did};
 use tp_types::ids::TaskId;
 use tp_types::refusals::PoolError;
 
 // What a remove answers.
-fn removal_from<J>(handed: Option<(TaskId, Option<Task<J>>)>) -> Removal<J>
+fn removal_from<J>(handed: Option<(TaskId, Option<Payload<J>>)>) -> Removal<J>
     ensures { result ≡ removal_of handed }
 {
     match handed {
-        Some((_, task)) => Removal::Yes(task.map(Task::into_job)),
+        Some((_, task)) => Removal::Yes(task.map(Payload::into_job)),
         None => Removal::No,
     }
 }

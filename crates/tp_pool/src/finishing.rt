@@ -106,8 +106,8 @@ impl<G: PoolNaming, J: Drop, E: Drop, K: Keeper> PoolOf<G, J, E, K> {
     /// Lets the pool go, with no report: its workers run what is queued, and then wait. They end with the process. It is not shut down,
     /// since this call takes no pass and waits for nothing. Java's pool is let go so wherever the last reference to it is lost.
     pub fn let_go(self) {
-        let PoolOf { hold } = self;
-        drop(hold);
+        let PoolOf { owner } = self;
+        drop(owner);
     }
 }
 

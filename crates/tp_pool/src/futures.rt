@@ -5,7 +5,7 @@ ghost use Rattle.tp_glance.specs.Word.{IsFrontOf};
 ghost use Rattle.tp_pool_holds.specs.Passes.{AddsStep, AddsNone, LooksOnly, Refuses};
 ghost use Rattle.tp_pool_holds.specs.Moments.{AtFront, BookAtSome, BookOf};
 ghost use Rattle.tp_pool_holds.specs.Readings.{got, IsFound, IsUndoneAt};
-ghost use Rattle.tp_pool_holds.specs.declared.tasks.Task.{Task};
+ghost use Rattle.tp_pool_holds.specs.declared.tasks.Payload.{Payload};
 ghost use Rattle.tp_pool.specs.Admissions.{task_of as task_of_admitted};
 
 use crate::pool::PoolOf;
@@ -43,15 +43,15 @@ impl<G: PoolNaming, J: Drop, E: Edge, K: Keeper> PoolOf<G, J, E, K> {
         t: TaskId,
         deadline: Option<u64>,
     ) -> Result<i64, PoolError>
-        ensures { BookAtSome (Task J) (K.terms G.config) (λ b. IsFound b t.0 K.RECEIPTS deadline (got result)) }
+        ensures { BookAtSome (Payload J) (K.terms G.config) (λ b. IsFound b t.0 K.RECEIPTS deadline (got result)) }
     {
         let shared = self.shared();
-        let mut core = shared.hold(rt);
+        let mut locked = shared.hold(rt);
         for _ in rt.forever() {
-            if let Some(answer) = core.await_result(t, deadline).transpose() {
+            if let Some(answer) = locked.await_result(t, deadline).transpose() {
                 return answer;
             }
-            core = shared.around.conditions.results.wait(rt, core);
+            locked = shared.around.conditions.results.wait(rt, locked);
         }
         unreachable!()
     }
@@ -65,18 +65,18 @@ impl<G: PoolNaming, J: Drop, E: Edge, K: Keeper> PoolOf<G, J, E, K> {
         deadline: Option<u64>,
         pass: &mut Pass<G>,
     ) -> Result<i64, PoolError>
-        ensures reads { BookOf (Task J) (K.terms G.config) pass.new (λ b. IsFound b t.0 K.RECEIPTS deadline (got result)) }
+        ensures reads { BookOf (Payload J) (K.terms G.config) pass.new (λ b. IsFound b t.0 K.RECEIPTS deadline (got result)) }
         ensures looks { LooksOnly (K.terms G.config) pass.old pass.new }
         ensures knew { IsFrontOf pass.old.released pass.new.released }
     {
         let shared = self.shared();
-        let mut core = shared.hold(rt);
+        let mut locked = shared.hold(rt);
         for _ in rt.forever() {
-            let found = core.show_awaited(t, deadline, &shared.around.glance, pass);
+            let found = locked.show_awaited(t, deadline, &shared.around.glance, pass);
             if let Some(answer) = found.transpose() {
                 return answer;
             }
-            core = shared.around.conditions.results.wait(rt, core);
+            locked = shared.around.conditions.results.wait(rt, locked);
         }
         unreachable!()
     }
@@ -120,14 +120,14 @@ impl<G: PoolNaming, J: Drop, E: Edge, K: Keeper> PoolOf<G, J, E, K> {
     /// A caller reads `steps`, looks, and waits with the number that it read: a step that falls after the
     /// reading ends the wait.
     pub fn wait_step<R: Wait>(&self, rt: &R, seen: u64) -> u64
-        ensures { (seen < result) × BookAtSome (Task J) (K.terms G.config) (λ b. result ≡ length b.history) }
+        ensures { (seen < result) × BookAtSome (Payload J) (K.terms G.config) (λ b. result ≡ length b.history) }
     {
         let shared = self.shared();
-        let mut core = shared.hold(rt);
+        let mut locked = shared.hold(rt);
         for _ in rt.forever() {
-            match core.await_step(seen) {
+            match locked.await_step(seen) {
                 Some(steps) => return steps,
-                None => core = shared.around.conditions.steps.wait(rt, core),
+                None => locked = shared.around.conditions.steps.wait(rt, locked),
             }
         }
         unreachable!()

@@ -1,11 +1,11 @@
 //! Handles of a pool, which may be dropped; and its close with one pass.
 ghost use Rattle.std.specs.Prelude.{◌≡◌, ◌⊎◌, [], ◌∷◌, length, IfOk, IfErr};
 ghost use Rattle.tp_pool_holds.specs.Closing.{KeepsOpen};
-ghost use Rattle.tp_pool_holds.specs.declared.tasks.Task.{Task};
+ghost use Rattle.tp_pool_holds.specs.declared.tasks.Payload.{Payload};
 ghost use Rattle.tp_pool_holds.specs.Reports.{Closes};
 
 use crate::closing::{CloseFault, Reporter};
-use crate::pool::{Hold, PoolOf};
+use crate::pool::{Owner, PoolOf};
 use std::ops::Deref;
 use std::sync::{Arc, Wait};
 use tp_book::passes::Pass;
@@ -46,14 +46,14 @@ impl<G: PoolNaming, J: Job, E: Edge, K: Keeper> PoolOf<G, J, E, K> {
     pub fn handle(&self) -> Result<Handle<G, J, E, K>, PoolError>
         ensures refused { IfErr result (λ e. (e ≡ PoolError.NoMemory) ⊎ (e ≡ PoolError.TornRecord)) }
     {
-        let Hold::Many(shared) = &self.hold else {
+        let Owner::Shared(shared) = &self.owner else {
             return Err(PoolError::TornRecord);
         };
         match Arc::try_clone(shared) {
             Ok(shared) => {
-                let hold = Hold::Many(shared);
+                let owner = Owner::Shared(shared);
                 Ok(Handle {
-                    pool: PoolOf { hold },
+                    pool: PoolOf { owner },
                 })
             }
             Err(_) => Err(PoolError::NoMemory),
@@ -114,7 +114,7 @@ impl<G: PoolNaming, J: Job, E: Edge, K: Reporter> PoolOf<G, J, E, K> {
         pass: Pass<G>,
     ) -> Result<K::Report, CloseOneFault<G, J, E, K>>
         ensures report { IfOk result (Closes K.told K.RECEIPTS G.config (K.terms G.config) (pass ∷ [])) }
-        ensures refused { IfErr result (λ f. (f.error ≡ PoolError.NoMemory) ⊎ KeepsOpen (Task J) (K.terms G.config) (pass ∷ []) f.error) }
+        ensures refused { IfErr result (λ f. (f.error ≡ PoolError.NoMemory) ⊎ KeepsOpen (Payload J) (K.terms G.config) (pass ∷ []) f.error) }
         ensures returned { IfErr result (λ f. f.passes ≡ pass) }
     {
         let (pool, passes) = match self.with_one(pass) {

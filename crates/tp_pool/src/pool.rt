@@ -5,7 +5,7 @@ ghost use Rattle.tp_types.specs.RunState.{state_rank};
 ghost use Rattle.tp_record.specs.Fields.{rank};
 ghost use Rattle.tp_glance.specs.Word.{IsFrontOf};
 ghost use Rattle.tp_pool_holds.specs.Moments.{BookAtSome};
-ghost use Rattle.tp_pool_holds.specs.declared.tasks.Task.{Task};
+ghost use Rattle.tp_pool_holds.specs.declared.tasks.Payload.{Payload};
 
 use crate::boxes::{Boxed, Boxes};
 use std::alloc::Global;
@@ -34,7 +34,7 @@ use tp_types::states::RunState;
 /// A pool is not `Drop`: a function that lets one go does not compile (`error[linear-value-let-go]`). Its owner closes it (`close`,
 /// `close_one`), or says that nobody will (`let_go`). Of further owners each has a `Handle`, which may be dropped.
 pub struct PoolOf<G: PoolNaming, J, E, K: Keeper = Full> {
-    pub(crate) hold: Hold<G, J, E, K>,
+    pub(crate) owner: Owner<G, J, E, K>,
 }
 
 /// A pool whose jobs, factory, handler, hooks and gate are boxes of the caller, over `Full` unless `Tally` is named.
@@ -42,17 +42,17 @@ pub type Pool<G, R = Full> = PoolOf<G, Boxed, Boxes, R>;
 
 // The pool's value: shared with its threads, or taken back from them by a close that was then refused.
 #[derive(Drop)]
-pub(crate) enum Hold<G: PoolNaming, J, E, K: Keeper = Full> {
-    Many(Arc<Shared<G, J, E, K>>),
-    One(Shared<G, J, E, K>),
+pub(crate) enum Owner<G: PoolNaming, J, E, K: Keeper = Full> {
+    Shared(Arc<Shared<G, J, E, K>>),
+    Sole(Shared<G, J, E, K>),
 }
 
 impl<G: PoolNaming, J, E, K: Keeper> PoolOf<G, J, E, K> {
     // The value that the pool's threads share.
     pub(crate) fn shared(&self) -> &Shared<G, J, E, K> {
-        match &self.hold {
-            Hold::Many(shared) => &**shared,
-            Hold::One(shared) => shared,
+        match &self.owner {
+            Owner::Shared(shared) => &**shared,
+            Owner::Sole(shared) => shared,
         }
     }
 }
@@ -104,8 +104,8 @@ impl<G: PoolNaming, J: Job, E: Edge, K: Keeper> PoolOf<G, J, E, K> {
     {
         match Shared::over(alloc, unopened, config, edge) {
             Ok((shared, pass)) => {
-                let hold = Hold::Many(shared);
-                Ok((PoolOf { hold }, pass))
+                let owner = Owner::Shared(shared);
+                Ok((PoolOf { owner }, pass))
             }
             Err(error) => Err(error),
         }
@@ -117,8 +117,8 @@ impl<G: PoolNaming, J: Drop, E: Edge, K: Keeper> PoolOf<G, J, E, K> {
     /// Callers' and workers' passes are numbered from 0, in the order in which they are made.
     /// BookFull (5) where the next number would be 4,294,967,295. This caller's pass stays as it is.
     pub fn split_pass<R: Wait>(&self, rt: &R, pass: &mut Pass<G>) -> Result<Pass<G>, PoolError>
-        ensures new { IfOk result (λ p. BookAtSome (Task J) (K.terms G.config) (λ b. p ≡ record { number = b.accounts.made; amount = 0; front = pass.old.front; released = pass.old.released; keeps = K.RECEIPTS; receipts = []; room = p.room })) }
-        ensures refused { IfErr result (λ e. (e ≡ PoolError.BookFull) × BookAtSome (Task J) (K.terms G.config) (λ b. 4294967295 ≤ b.accounts.made)) }
+        ensures new { IfOk result (λ p. BookAtSome (Payload J) (K.terms G.config) (λ b. p ≡ record { number = b.accounts.made; amount = 0; front = pass.old.front; released = pass.old.released; keeps = K.RECEIPTS; receipts = []; room = p.room })) }
+        ensures refused { IfErr result (λ e. (e ≡ PoolError.BookFull) × BookAtSome (Payload J) (K.terms G.config) (λ b. 4294967295 ≤ b.accounts.made)) }
         ensures same { pass.new ≡ pass.old }
     {
         let shared = self.shared();

@@ -12,7 +12,7 @@ ghost use Rattle.tp_book.specs.BookView.{OrReleased, state_of};
 ghost use Rattle.tp_pool_holds.specs.Left.{IsStranded};
 ghost use Rattle.tp_pool_holds.specs.Moments.{AtFront, AtSome, BookAtSome, BookOf};
 ghost use Rattle.tp_pool_holds.specs.Passes.{LooksOnly};
-ghost use Rattle.tp_pool_holds.specs.declared.tasks.Task.{Task};
+ghost use Rattle.tp_pool_holds.specs.declared.tasks.Payload.{Payload};
 
 use crate::pool::PoolOf;
 use std::sync::Wait;
@@ -20,7 +20,7 @@ use tp_book::passes::Pass;
 use tp_book::sights::Sight;
 use tp_machine::machine::releases::Keeper;
 use tp_pool_holds::edges::Edge;
-use tp_pool_holds::locked::Core;
+use tp_pool_holds::locked::Locked;
 use tp_pool_holds::names::PoolNaming;
 use tp_types::ids::{SlotId, TaskId};
 use tp_types::refusals::PoolError;
@@ -41,13 +41,16 @@ pub struct Reading {
 }
 
 // What is read of the value under the lock, which shows this run state.
-fn reading_of<G: PoolNaming, J: Drop, K: Keeper>(core: &Core<G, J, K>, state: RunState) -> Reading
+fn reading_of<G: PoolNaming, J: Drop, K: Keeper>(
+    locked: &Locked<G, J, K>,
+    state: RunState,
+) -> Reading
     ensures state { result.state ≡ state }
-    ensures counts { result.counts ≡ counts_of (state_of core.now.book) }
-    ensures now { result.now ≡ (state_of core.now.book).now }
-    ensures steps { result.steps ≡ length core.now.book.history }
+    ensures counts { result.counts ≡ counts_of (state_of locked.now.book) }
+    ensures now { result.now ≡ (state_of locked.now.book).now }
+    ensures steps { result.steps ≡ length locked.now.book.history }
 {
-    let book = core.book();
+    let book = locked.book();
     Reading {
         state,
         counts: book.counts(),
@@ -65,10 +68,10 @@ impl<G: PoolNaming, J: Drop, E: Edge, K: Keeper> PoolOf<G, J, E, K> {
         ensures looks { LooksOnly (K.terms G.config) pass.old pass.new }
     {
         let shared = self.shared();
-        let mut core = shared.hold(rt);
-        core.law_is_book();
-        let state = core.show(&shared.around.glance, pass);
-        reading_of(&core, state)
+        let mut locked = shared.hold(rt);
+        locked.law_is_book();
+        let state = locked.show(&shared.around.glance, pass);
+        reading_of(&locked, state)
     }
 
     /// As `look`, with a sight in place of a pass: for a thread that looks at the pool and makes no step.
@@ -78,10 +81,10 @@ impl<G: PoolNaming, J: Drop, E: Edge, K: Keeper> PoolOf<G, J, E, K> {
         ensures goes_on { IsFrontOf sight.old sight.new }
     {
         let shared = self.shared();
-        let mut core = shared.hold(rt);
-        core.law_is_book();
-        let state = core.show_sight(&shared.around.glance, sight);
-        reading_of(&core, state)
+        let mut locked = shared.hold(rt);
+        locked.law_is_book();
+        let state = locked.show_sight(&shared.around.glance, sight);
+        reading_of(&locked, state)
     }
 
     /// Lets a sight and a pass know the record as it is now, which goes on from what each of them knew. It makes no step. A pool that is
@@ -92,10 +95,10 @@ impl<G: PoolNaming, J: Drop, E: Edge, K: Keeper> PoolOf<G, J, E, K> {
         ensures looks { LooksOnly (K.terms G.config) pass.old pass.new }
     {
         let shared = self.shared();
-        let mut core = shared.hold(rt);
-        core.law_is_book();
-        core.show_sight(&shared.around.glance, sight);
-        core.show(&shared.around.glance, pass);
+        let mut locked = shared.hold(rt);
+        locked.law_is_book();
+        locked.show_sight(&shared.around.glance, sight);
+        locked.show(&shared.around.glance, pass);
     }
 
     /// A sight, which knows what the pass knows. It is no pass: a close wants none back, and it may be dropped.
@@ -159,7 +162,7 @@ impl<G: PoolNaming, J: Drop, E: Edge, K: Keeper> PoolOf<G, J, E, K> {
 
     /// The promise of the task's job. UnknownTask (6) where no submission got this number.
     pub fn promise<R: Wait>(&self, rt: &R, t: TaskId) -> Result<Promise, PoolError>
-        ensures { BookAtSome (Task J) (K.terms G.config) (λ b. IsPromiseOf b t.0 K.RECEIPTS result) }
+        ensures { BookAtSome (Payload J) (K.terms G.config) (λ b. IsPromiseOf b t.0 K.RECEIPTS result) }
     {
         self.shared().hold(rt).book().promise(t)
     }
@@ -179,7 +182,7 @@ impl<G: PoolNaming, J: Drop, E: Edge, K: Keeper> PoolOf<G, J, E, K> {
     /// `ExecutionException`; Lost (15) with the fate of a task that left without running, at which Java's
     /// `get` waits for ever.
     pub fn result<R: Wait>(&self, rt: &R, t: TaskId) -> Result<Option<i64>, PoolError>
-        ensures { BookAtSome (Task J) (K.terms G.config) (λ b. IsResult b t.0 K.RECEIPTS result) }
+        ensures { BookAtSome (Payload J) (K.terms G.config) (λ b. IsResult b t.0 K.RECEIPTS result) }
     {
         self.shared().hold(rt).book().result(t)
     }
@@ -192,7 +195,7 @@ impl<G: PoolNaming, J: Drop, E: Edge, K: Keeper> PoolOf<G, J, E, K> {
         t: TaskId,
         pass: &mut Pass<G>,
     ) -> Result<Option<i64>, PoolError>
-        ensures reads { BookOf (Task J) (K.terms G.config) pass.new (λ b. IsResult b t.0 K.RECEIPTS result) }
+        ensures reads { BookOf (Payload J) (K.terms G.config) pass.new (λ b. IsResult b t.0 K.RECEIPTS result) }
         ensures looks { LooksOnly (K.terms G.config) pass.old pass.new }
         ensures knew { IsFrontOf pass.old.released pass.new.released }
     {
@@ -202,7 +205,7 @@ impl<G: PoolNaming, J: Drop, E: Edge, K: Keeper> PoolOf<G, J, E, K> {
 
     /// The record's length, in entries.
     pub fn steps<R: Wait>(&self, rt: &R) -> u64
-        ensures { BookAtSome (Task J) (K.terms G.config) (λ b. result ≡ length b.history) }
+        ensures { BookAtSome (Payload J) (K.terms G.config) (λ b. result ≡ length b.history) }
     {
         self.shared().hold(rt).book().steps()
     }

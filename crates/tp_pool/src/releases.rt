@@ -5,14 +5,14 @@ ghost use Rattle.tp_glance.specs.Word.{IsFrontOf};
 ghost use Rattle.tp_book.specs.BookView.{Forgets, left_of, released_of, state_of};
 ghost use Rattle.tp_pool_holds.specs.Moments.{BookAt, BookAtSome, BookOf};
 ghost use Rattle.tp_pool_holds.specs.Readings.{IsRelease};
-ghost use Rattle.tp_pool_holds.specs.declared.tasks.Task.{Task};
+ghost use Rattle.tp_pool_holds.specs.declared.tasks.Payload.{Payload};
 
 use crate::pool::PoolOf;
 use std::sync::Wait;
 use tp_book::passes::Pass;
 use tp_glance::glance::Glance;
 use tp_pool_holds::edges::Edge;
-use tp_pool_holds::locked::Core;
+use tp_pool_holds::locked::Locked;
 use tp_pool_holds::names::PoolNaming;
 use tp_protocols::jobs::Job;
 use tp_record::recorders::{Recorder, Tally};
@@ -23,22 +23,22 @@ use tp_types::refusals::PoolError;
 // clause says that its task was the last one that was released, at this history: other threads may have released tasks
 // meanwhile, and no pass accounts for releases.
 fn release_in<G: PoolNaming, J: Job>(
-    core: &mut Core<G, J, Tally>,
+    locked: &mut Locked<G, J, Tally>,
     t: TaskId,
     glance: &Glance<G>,
     pass: &mut Pass<G>,
 ) -> Result<(), PoolError>
-    ensures released { OnOk result (BookAt (Task J) (⟦<Tally as Recorder>⟧.terms G.config) pass.new.front (λ b. IsRelease b t.0 pass.new.released)) }
-    ensures kept { IfErr result (λ e. BookOf (Task J) (⟦<Tally as Recorder>⟧.terms G.config) pass.new (λ b. IsKept (left_of b) t.0 e)) }
+    ensures released { OnOk result (BookAt (Payload J) (⟦<Tally as Recorder>⟧.terms G.config) pass.new.front (λ b. IsRelease b t.0 pass.new.released)) }
+    ensures kept { IfErr result (λ e. BookOf (Payload J) (⟦<Tally as Recorder>⟧.terms G.config) pass.new (λ b. IsKept (left_of b) t.0 e)) }
     ensures refused { IfErr result (λ e. (e ≡ PoolError.UnknownTask) ⊎ (e ≡ PoolError.NotThere)) }
     ensures shown { pass.new ≡ record pass.old { front = pass.new.front; released = pass.new.released } }
     ensures goes_on { IsFrontOf pass.old.front pass.new.front }
     ensures knew { IsFrontOf pass.old.released pass.new.released }
-    ensures forgets { OnOk result (Forgets core.old.book core.new.book t.0) }
-    ensures unchanged { OnErr result (core.new ≡ core.old) }
+    ensures forgets { OnOk result (Forgets locked.old.book locked.new.book t.0) }
+    ensures unchanged { OnErr result (locked.new ≡ locked.old) }
 {
-    core.law_is_book();
-    core.release_task(t, glance, pass)
+    locked.law_is_book();
+    locked.release_task(t, glance, pass)
 }
 
 impl<G: PoolNaming, J: Job, E: Edge> PoolOf<G, J, E, Tally> {
@@ -49,8 +49,8 @@ impl<G: PoolNaming, J: Job, E: Edge> PoolOf<G, J, E, Tally> {
     /// UnknownTask (6) where no submission got this number, or the task was released before; NotThere (8) where it is not gone,
     /// where its submission is still under way, or where it is of a group and no completion service has taken it.
     pub fn release<R: Wait>(&self, rt: &R, t: TaskId, pass: &mut Pass<G>) -> Result<(), PoolError>
-        ensures released { OnOk result (BookAt (Task J) (⟦<Tally as Recorder>⟧.terms G.config) pass.new.front (λ b. IsRelease b t.0 pass.new.released)) }
-        ensures kept { IfErr result (λ e. BookOf (Task J) (⟦<Tally as Recorder>⟧.terms G.config) pass.new (λ b. IsKept (left_of b) t.0 e)) }
+        ensures released { OnOk result (BookAt (Payload J) (⟦<Tally as Recorder>⟧.terms G.config) pass.new.front (λ b. IsRelease b t.0 pass.new.released)) }
+        ensures kept { IfErr result (λ e. BookOf (Payload J) (⟦<Tally as Recorder>⟧.terms G.config) pass.new (λ b. IsKept (left_of b) t.0 e)) }
         ensures refused { IfErr result (λ e. (e ≡ PoolError.UnknownTask) ⊎ (e ≡ PoolError.NotThere)) }
         ensures shown { pass.new ≡ record pass.old { front = pass.new.front; released = pass.new.released } }
         ensures goes_on { IsFrontOf pass.old.front pass.new.front }
@@ -63,7 +63,7 @@ impl<G: PoolNaming, J: Job, E: Edge> PoolOf<G, J, E, Tally> {
 
     /// How many tasks are kept: those that were submitted and not released.
     pub fn kept<R: Wait>(&self, rt: &R) -> u32
-        ensures { BookAtSome (Task J) (⟦<Tally as Recorder>⟧.terms G.config) (λ b. result + length (released_of b) ≡ length (state_of b).tasks) }
+        ensures { BookAtSome (Payload J) (⟦<Tally as Recorder>⟧.terms G.config) (λ b. result + length (released_of b) ≡ length (state_of b).tasks) }
     {
         self.shared().hold(rt).kept()
     }

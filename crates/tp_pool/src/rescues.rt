@@ -1,7 +1,7 @@
 //! What a call of a pool that is shut down does for it, where the call's steps leave the pool to nobody.
 
 use crate::orders::Order;
-use crate::pool::{Hold, PoolOf};
+use crate::pool::{Owner, PoolOf};
 use std::sync::Wait;
 use std::thread::Threads;
 use tp_machine::machine::releases::Keeper;
@@ -28,7 +28,7 @@ impl<
         if remains == Remains::Nothing {
             return;
         }
-        if let Hold::Many(shared) = &self.hold {
+        if let Owner::Shared(shared) = &self.owner {
             rescue_with_own(rt, shared, remains);
         }
     }

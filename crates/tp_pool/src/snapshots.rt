@@ -5,7 +5,7 @@ ghost use Rattle.tp_record.specs.Step.{Legal};
 ghost use Rattle.tp_glance.specs.Word.{IsFrontOf};
 ghost use Rattle.tp_book.specs.BookView.{state_of};
 ghost use Rattle.tp_pool_holds.specs.Moments.{AtFront, AtSome, BookAtSome};
-ghost use Rattle.tp_pool_holds.specs.declared.tasks.Task.{Task};
+ghost use Rattle.tp_pool_holds.specs.declared.tasks.Payload.{Payload};
 ghost use Rattle.tp_pool.specs.Snapshots.{IsSnapshot};
 
 use crate::pool::PoolOf;
@@ -17,7 +17,7 @@ use tp_glance::glance::Glance;
 use tp_machine::machine::releases::Keeper;
 use tp_pool_holds::edges::Edge;
 pub use tp_pool_holds::locked::Busy;
-use tp_pool_holds::locked::Core;
+use tp_pool_holds::locked::Locked;
 use tp_pool_holds::names::PoolNaming;
 use tp_protocols::jobs::Job;
 use tp_record::entries::Entry;
@@ -65,15 +65,15 @@ impl fmt::Display for Snapshot {
 
 // What is read of the value under the lock.
 fn snapshot_of<G: PoolNaming, J: Job, K: Keeper>(
-    core: &Core<G, J, K>,
+    locked: &Locked<G, J, K>,
     alloc: Global,
 ) -> Result<Snapshot, PoolError>
-    ensures reads { IfOk result (IsSnapshot (state_of core.now.book)) }
+    ensures reads { IfOk result (IsSnapshot (state_of locked.now.book)) }
     ensures refused { IfErr result (λ e. e ≡ PoolError.NoMemory) }
 {
-    match core.busy(alloc) {
+    match locked.busy(alloc) {
         Ok(busy) => {
-            let book = core.book();
+            let book = locked.book();
             Ok(Snapshot {
                 state: book.state(),
                 counts: book.counts(),
@@ -88,7 +88,7 @@ fn snapshot_of<G: PoolNaming, J: Job, K: Keeper>(
 
 // The same, as it is after the record that the sight knows then.
 fn snapshot_shown<G: PoolNaming, J: Job, K: Keeper>(
-    core: &mut Core<G, J, K>,
+    locked: &mut Locked<G, J, K>,
     glance: &Glance<G>,
     sight: &mut Sight<G>,
     alloc: Global,
@@ -97,22 +97,22 @@ fn snapshot_shown<G: PoolNaming, J: Job, K: Keeper>(
     ensures refused { IfErr result (λ e. e ≡ PoolError.NoMemory) }
     ensures goes_on { IsFrontOf sight.old sight.new }
 {
-    core.law_is_book();
-    core.show_sight(glance, sight);
-    snapshot_of(core, alloc)
+    locked.law_is_book();
+    locked.show_sight(glance, sight);
+    snapshot_of(locked, alloc)
 }
 
 // The entries from the n-th on, of the value under the lock.
 fn entries_since<G: PoolNaming, J: Job>(
-    core: &Core<G, J>,
+    locked: &Locked<G, J>,
     alloc: Global,
     n: u64,
 ) -> Result<Vec<Entry>, PoolError>
-    ensures entries { IfOk result (λ v. BookAtSome (Task J) G.config (λ b. v.items ≡ drop n (reverse b.history))) }
+    ensures entries { IfOk result (λ v. BookAtSome (Payload J) G.config (λ b. v.items ≡ drop n (reverse b.history))) }
     ensures refused { IfErr result (λ e. e ≡ PoolError.NoMemory) }
 {
-    core.law_is_book();
-    core.record_since(alloc, n)
+    locked.law_is_book();
+    locked.record_since(alloc, n)
 }
 
 impl<G: PoolNaming, J: Job, E: Edge, K: Keeper> PoolOf<G, J, E, K> {
@@ -121,9 +121,9 @@ impl<G: PoolNaming, J: Job, E: Edge, K: Keeper> PoolOf<G, J, E, K> {
         ensures reads { IfOk result (λ v. AtSome (K.terms G.config) (λ s. IsSnapshot s v)) }
         ensures refused { IfErr result (λ e. e ≡ PoolError.NoMemory) }
     {
-        let core = self.shared().hold(rt);
-        core.law_is_book();
-        snapshot_of(&core, alloc)
+        let locked = self.shared().hold(rt);
+        locked.law_is_book();
+        snapshot_of(&locked, alloc)
     }
 
     /// As `snapshot`, as it is after the record that the sight knows then. That record goes on from the one that
@@ -154,11 +154,11 @@ impl<G: PoolNaming, J: Job, E: Edge> PoolOf<G, J, E> {
         alloc: Global,
         n: u64,
     ) -> Result<Vec<Entry>, PoolError>
-        ensures entries { IfOk result (λ v. BookAtSome (Task J) G.config (λ b. v.items ≡ drop n (reverse b.history))) }
+        ensures entries { IfOk result (λ v. BookAtSome (Payload J) G.config (λ b. v.items ≡ drop n (reverse b.history))) }
         ensures refused { IfErr result (λ e. e ≡ PoolError.NoMemory) }
     {
-        let core = self.shared().hold(rt);
-        entries_since(&core, alloc, n)
+        let locked = self.shared().hold(rt);
+        entries_since(&locked, alloc, n)
     }
 
     /// As `record_since`, of the record that the sight knows then. That record goes on from the one that it knew,

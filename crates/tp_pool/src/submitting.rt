@@ -13,7 +13,7 @@ ghost use Rattle.tp_pool_holds.specs.Submitting.{IsHalted, TakesOut};
 
 use crate::boxes::{Boxed, Boxes};
 use crate::orders::{Order, rescue_by, staffed_by};
-use crate::pool::{Hold, PoolOf};
+use crate::pool::{Owner, PoolOf};
 use std::sync::Wait;
 use std::thread::Threads;
 use tp_book::passes::Pass;
@@ -24,7 +24,7 @@ use tp_pool_holds::answers::{Admitted, Refused};
 use tp_pool_holds::edges::Edge;
 use tp_pool_holds::names::PoolNaming;
 use tp_pool_holds::staffing::staff;
-use tp_pool_holds::tasks::Task;
+use tp_pool_holds::tasks::Payload;
 use tp_protocols::flags::CancelFlag;
 use tp_protocols::jobs::Job;
 use tp_protocols::laws::law_fronts_are_paths;
@@ -60,7 +60,11 @@ fn reserve<G: PoolNaming>(pass: &mut Pass<G>) -> Result<(), PoolError>
 
 // The answer of a submission that has come to this end.
 #[inline(always)]
-fn answer<J: Drop>(t: TaskId, ending: Ending, held: Option<Task<J>>) -> Result<Admitted, Refused<J>>
+fn answer<J: Drop>(
+    t: TaskId,
+    ending: Ending,
+    held: Option<Payload<J>>,
+) -> Result<Admitted, Refused<J>>
     ensures admitted { IfOk result (λ a. (task_of a ≡ t) × (end_of a ≡ admission_of ending)) }
     ensures rejected { IfErr result (λ r. (r.error ≡ PoolError.Rejected t) × (ending ≡ Ending.Rejected)) }
     ensures job { IfErr result (λ r. r.job ≡ option_map (λ k. k.job) held) }
@@ -71,7 +75,7 @@ fn answer<J: Drop>(t: TaskId, ending: Ending, held: Option<Task<J>>) -> Result<A
         Ending::Discarded => Ok(Admitted::Discarded(t)),
         Ending::Rejected => Err(Refused {
             error: PoolError::Rejected(t),
-            job: held.map(Task::into_job),
+            job: held.map(Payload::into_job),
         }),
     }
 }
@@ -165,9 +169,9 @@ impl<
         rt: R,
         w: SlotId,
     ) -> bool {
-        match &self.hold {
-            Hold::Many(shared) => staff(rt, shared, w),
-            Hold::One(_) => false,
+        match &self.owner {
+            Owner::Shared(shared) => staff(rt, shared, w),
+            Owner::Sole(_) => false,
         }
     }
 }
@@ -252,7 +256,7 @@ impl<G: PoolNaming, J: Drop, E: Edge, K: Keeper> PoolOf<G, J, E, K> {
         next: Next,
         make: &F,
         run: &H,
-        held: &mut Option<Task<J>>,
+        held: &mut Option<Payload<J>>,
         pass: &mut Pass<G>,
     ) -> Option<Did>
         requires room { 0 < pass.old.room }
@@ -325,7 +329,7 @@ impl<G: PoolNaming, J: Drop, E: Edge, K: Keeper> PoolOf<G, J, E, K> {
         t: TaskId,
         verdict: Verdict,
         make: &F,
-        held: &mut Option<Task<J>>,
+        held: &mut Option<Payload<J>>,
         pass: &mut Pass<G>,
     ) -> Option<Did>
         requires room { 0 < pass.old.room }

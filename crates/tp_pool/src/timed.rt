@@ -6,7 +6,7 @@ ghost use Rattle.tp_glance.specs.Word.{IsFrontOf};
 ghost use Rattle.tp_pool_holds.specs.Moments.{AtFront, BookOf};
 ghost use Rattle.tp_pool_holds.specs.Passes.{Adds, AddsNone, AddsStep, LooksOnly, tidied, ended};
 ghost use Rattle.tp_pool_holds.specs.Readings.{got};
-ghost use Rattle.tp_pool_holds.specs.declared.tasks.Task.{Task};
+ghost use Rattle.tp_pool_holds.specs.declared.tasks.Payload.{Payload};
 ghost use Rattle.tp_pool_holds.specs.Endings.{IsBarred};
 ghost use Rattle.tp_pool.specs.Timed.{IsFoundInTime, IsUndoneInTime};
 
@@ -16,7 +16,7 @@ use std::time::{Clock, Duration, Instant};
 use tp_book::passes::Pass;
 use tp_machine::machine::releases::Keeper;
 use tp_pool_holds::edges::Edge;
-use tp_pool_holds::locked::Look;
+use tp_pool_holds::locked::EndSeen;
 use tp_pool_holds::names::PoolNaming;
 use tp_record::entries::{Ask, Did};
 use tp_types::ids::TaskId;
@@ -58,26 +58,26 @@ impl<G: PoolNaming, J: Drop, E: Edge, K: Keeper> PoolOf<G, J, E, K> {
         most: Duration,
         pass: &mut Pass<G>,
     ) -> Result<i64, PoolError>
-        ensures reads { BookOf (Task J) (K.terms G.config) pass.new (λ b. IsFoundInTime b t.0 K.RECEIPTS (got result)) }
+        ensures reads { BookOf (Payload J) (K.terms G.config) pass.new (λ b. IsFoundInTime b t.0 K.RECEIPTS (got result)) }
         ensures looks { LooksOnly (K.terms G.config) pass.old pass.new }
         ensures knew { IsFrontOf pass.old.released pass.new.released }
     {
         let timer = Timer::new(rt, most);
         let shared = self.shared();
-        let mut core = shared.hold(rt);
+        let mut locked = shared.hold(rt);
         for _ in rt.forever() {
-            let found = core.show_awaited(t, None, &shared.around.glance, pass);
+            let found = locked.show_awaited(t, None, &shared.around.glance, pass);
             if let Some(answer) = found.transpose() {
                 return answer;
             }
             let Some(left) = timer.left(rt) else {
                 return Err(PoolError::TimedOut);
             };
-            (core, _) = shared
+            (locked, _) = shared
                 .around
                 .conditions
                 .results
-                .wait_timeout(rt, core, left);
+                .wait_timeout(rt, locked, left);
         }
         unreachable!()
     }
@@ -117,25 +117,25 @@ impl<G: PoolNaming, J: Drop, E: Edge, K: Keeper> PoolOf<G, J, E, K> {
         ensures unchanged { OnErr result (LooksOnly (K.terms G.config) pass.old pass.new) }
     {
         let shared = self.shared();
-        let mut core = shared.hold(rt);
+        let mut locked = shared.hold(rt);
         for _ in rt.forever() {
-            match core.await_done(group, &shared.around.glance, pass) {
+            match locked.await_done(group, &shared.around.glance, pass) {
                 Ok(Some(t)) => {
-                    shared.release(core);
+                    shared.release(locked);
                     return Ok(t);
                 }
                 Ok(None) => {
                     let Some(left) = timer.left(rt) else {
                         return Err(PoolError::TimedOut);
                     };
-                    (core, _) = shared
+                    (locked, _) = shared
                         .around
                         .conditions
                         .results
-                        .wait_timeout(rt, core, left);
+                        .wait_timeout(rt, locked, left);
                 }
                 Err(error) => {
-                    shared.release(core);
+                    shared.release(locked);
                     return Err(error);
                 }
             }
@@ -180,21 +180,21 @@ impl<G: PoolNaming, J: Drop, E: Edge, K: Keeper> PoolOf<G, J, E, K> {
         ensures refused { IfErr result (λ e. ((e ≡ PoolError.TimedOut) × Adds (K.terms G.config) pass.old [] pass.new) ⊎ ((e ≡ PoolError.TornRecord) × IsBarred (K.terms G.config) pass.new.front Ask.Ended × Adds (K.terms G.config) pass.old (tidied pass.old.number ∷ []) pass.new)) }
     {
         let shared = self.shared();
-        let mut core = shared.hold(rt);
+        let mut locked = shared.hold(rt);
         for _ in rt.forever() {
             let left = timer.left(rt);
             // Once the time is over it is past tick 0, as at each moment: so the look answers that it is late.
             let deadline = if left.is_none() { Some(0) } else { None };
-            match core.look(deadline, &shared.around.glance, pass) {
-                Look::Terminated => return Ok(()),
-                Look::Late => return Err(PoolError::TimedOut),
-                Look::Tidied => {
-                    shared.release(core);
+            match locked.look(deadline, &shared.around.glance, pass) {
+                EndSeen::Terminated => return Ok(()),
+                EndSeen::Late => return Err(PoolError::TimedOut),
+                EndSeen::Tidied => {
+                    shared.release(locked);
                     return shared.terminate(rt, pass);
                 }
-                Look::Waits => {
+                EndSeen::Waits => {
                     let left = left.unwrap_or(Duration::ZERO);
-                    (core, _) = shared.around.conditions.end.wait_timeout(rt, core, left);
+                    (locked, _) = shared.around.conditions.end.wait_timeout(rt, locked, left);
                 }
             }
         }

@@ -1,7 +1,7 @@
 -- A worker's step in one hold, as one of its pool.
-use Rattle.std.proofs.Common.{◌≡◌, ℕ, Bool, List, [], ◌∷◌, refl, ap, sym, ◌∙◌, subst}
+use Rattle.std.proofs.Common.{◌≡◌, ℕ, Bool, List, [], ◌∷◌, refl, sym, ◌∙◌, subst}
 use Rattle.std.proofs.lemmas.Bool.{false≢true}
-use Rattle.std.specs.Prelude.{Option, Result, Ok, Err, IsTrue, IfOk, IfErr, OnErr, is_ok}
+use Rattle.std.specs.Prelude.{Result, Ok, Err, IsTrue, IfOk, IfErr, OnErr, is_ok}
 use Rattle.tp_types.specs.declared.configs.Config.{Config}
 use Rattle.tp_types.specs.declared.ids.SlotId.{SlotId}
 use Rattle.tp_types.specs.declared.refusals.PoolError.{PoolError}
@@ -15,14 +15,11 @@ use Rattle.tp_tasks.specs.declared.tasks.Tasks.{Tasks}
 use Rattle.tp_machine_state.specs.Payloads.{Keeps}
 use Rattle.tp_glance.specs.Word.{IsFrontOf}
 use Rattle.tp_glance.proofs.Fronts.{IsFrontOf_trans}
-use Rattle.tp_protocols.specs.Turns.{told}
-use Rattle.tp_protocols.specs.declared.turns.Begun.{Begun}
-use Rattle.tp_protocols.specs.declared.turns.Begun.TheVariants as begun
-use Rattle.tp_pool_holds.specs.Steps.{Makes, Refused, Asks, begun_of}
-use Rattle.tp_pool_holds.specs.declared.tasks.Task.{Task}
-use Rattle.tp_pool_holds.specs.Deeds.{BeginsAt, EndsLast, EndsPool, Takes, IsDone, heir_after}
+use Rattle.tp_pool_holds.specs.Steps.{Makes, Refused, Asks}
+use Rattle.tp_pool_holds.specs.declared.tasks.Payload.{Payload}
+use Rattle.tp_pool_holds.specs.Deeds.{EndsLast, EndsPool, Takes}
 
-module _ {J A : Type 0} (keeps : Bool) (c : Config) (by : ℕ) (a : Ask) (did : A → Did) (moves : A → Tasks (Task J) → Tasks (Task J) → Type 0) where
+module _ {J A : Type 0} (keeps : Bool) (c : Config) (by : ℕ) (a : Ask) (did : A → Did) (moves : A → Tasks (Payload J) → Tasks (Payload J) → Type 0) where
   -- the step, or its refusal, as an answer
   pub asked : (before after : List Entry) (r : Result A PoolError) (F : Result A PoolError → Type 0) →
       IfOk r (λ x. Makes J c by before a (did x) (moves x) after) → IfErr r (λ e. Refused J keeps c before a e after) → F r → Asks J keeps c by before a did moves after F
@@ -49,22 +46,6 @@ module _ {J A : Type 0} (keeps : Bool) (c : Config) (by : ℕ) (a : Ask) (did : 
 
   pub asks_go : (f h : List Entry) (F : Result A PoolError → Type 0) → Asks J keeps c by f a did moves h F → IsFrontOf f h
   asks_go f h F is = goes_made f h is.answer is.made is.refused
-
-  pub asks_so : (f h : List Entry) (F E : Result A PoolError → Type 0) → ((r : Result A PoolError) → F r → E r) → Asks J keeps c by f a did moves h F → Asks J keeps c by f a did moves h E
-  asks_so f h F E so is = record { answer = is.answer; made = is.made; refused = is.refused; holds = so is.answer is.holds }
-
-module _ {J : Type 0} (keeps : Bool) (c : Config) (w : SlotId) (by : ℕ) (before after : List Entry) (heir : Option SlotId) where
-  -- the deed of a `begin` is that step
-  pub begun_done : (b : Begun J) → BeginsAt J keeps c by before w after (λ r. b ≡ begun_of r) → IsDone J keeps c w by before after heir (told b).0 (told b).1
-  begun_done (begun.Run t job) is = record { answer = is.answer; made = is.made; refused = is.refused; holds = ap told is.holds }
-  begun_done (begun.Skip t) is = record { answer = is.answer; made = is.made; refused = is.refused; holds = ap told is.holds }
-  begun_done begun.Refused is = record { answer = is.answer; made = is.made; refused = is.refused; holds = ap told is.holds }
-
--- which reserves no slot
-pub heir_of : {J : Type 0} (b : Begun J) (heir : Option SlotId) → heir ≡ heir_after heir (told b).0
-heir_of (begun.Run t job) heir = refl
-heir_of (begun.Skip t) heir = refl
-heir_of begun.Refused heir = refl
 
 -- a `take` after another one of the same worker, as of what its pass knew first
 pub take_again : {J : Type 0} (keeps : Bool) (c : Config) (w v : SlotId) (by n : ℕ) (f g h : List Entry) (F E : Result Took PoolError → Type 0) → v ≡ w → n ≡ by →

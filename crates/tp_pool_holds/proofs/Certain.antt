@@ -1,5 +1,5 @@
 -- Which refusals of a pool are Step's own.
-use Rattle.std.proofs.Common.{◌≡◌, ℕ, Bool, true, false, Option, Some, None, inl, inr, refl}
+use Rattle.std.proofs.Common.{◌≡◌, ℕ, Bool, true, Option, Some, None, inl, inr, refl}
 use Rattle.std.specs.Prelude.{is_none, if◌then◌else◌}
 use Rattle.tp_types.specs.declared.configs.Config.{Config}
 use Rattle.tp_types.specs.declared.refusals.PoolError.{PoolError}
@@ -17,15 +17,6 @@ certain keeps c p a e refused = by (asked a) refl
     by : (o : Option ℕ) → asked a ≡ o → IsRefusal (if is_none o then true else keeps) c p a e
     by None none = unnamed keeps c p a e none refused
     by (Some t) some = refused
-
--- and one that is Step's own is one of a pool that may have forgotten the task
-pub uncertain : (keeps : Bool) (c : Config) (p : PassView) (a : Ask) (e : PoolError) → IsRefusal (none_forgotten keeps a) c p a e → IsRefusal keeps c p a e
-uncertain keeps c p a e refused = by (asked a) keeps refused
-  where
-    by : (o : Option ℕ) (k : Bool) → IsRefusal (if is_none o then true else k) c p a e → IsRefusal k c p a e
-    by None true so = so
-    by None false so = inl so
-    by (Some t) k so = so
 
 -- also where memory may be wanted
 pub certainly : (keeps : Bool) (c : Config) (Lacks : Type 0) (p : PassView) (a : Ask) (e : PoolError) → Refuses keeps c Lacks p a e → Refuses (none_forgotten keeps a) c Lacks p a e

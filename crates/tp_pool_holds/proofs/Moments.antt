@@ -11,7 +11,6 @@ use Rattle.tp_record.specs.declared.entries.Entry.{Entry}
 use Rattle.tp_record.specs.Fields.{rank}
 use Rattle.tp_record.specs.State.{State, state}
 use Rattle.tp_record.specs.Step.{Legal}
-use Rattle.tp_machine.specs.Readings.{HasOpen}
 use Rattle.tp_glance.specs.Word.{IsFrontOf}
 use Rattle.tp_glance.proofs.Fronts.{rank_grows}
 use Rattle.tp_book.specs.BookView.{BookView, released_of, state_of, AreAll, AreOwn, IsUnclosed}
@@ -68,10 +67,6 @@ module _ {P : Type 0} (b : BookView P) (c : Config) (is : IsBook P c b) where
 
   pub book_at_some : (F : BookView P → Type 0) → F b → BookAtSome P c F
   book_at_some F holds = record { history = b.history; is = book_at F holds }
-
-  -- no task of the group is open there
-  pub none_open : (g : ℕ) (front : List Entry) → front ≡ b.history → ¬ HasOpen g (state_of b) → ¬ HasOpen g (state c front)
-  none_open g front same none = subst (λ h. ¬ HasOpen g (state c h)) (sym same) (subst (λ k. ¬ HasOpen g (state k b.history)) is.settings none)
 
   -- a close that the book refuses
   module _ (passes : List PassView) (fronts : All (λ p. IsFrontOf p.front b.history) passes) (workers : ℕ) (e : PoolError) (unclosed : IsUnclosed b passes workers e) where

@@ -19,28 +19,26 @@ use Rattle.tp_record.specs.declared.entries.Failed.TheVariants as failed
 use Rattle.tp_record.specs.declared.entries.Ruled.TheVariants as ruled
 use Rattle.tp_record.specs.Fields.{is_cancelled}
 use Rattle.tp_record.specs.Paths.{Follow, Then, Ends, Astray, Rejected, follows, is_offer_of, is_verdict_of}
-use Rattle.tp_protocols.specs.Fronts.{follow_of, goes, is_awaited}
-use Rattle.tp_protocols.specs.declared.paths.Next.{Next}
-use Rattle.tp_protocols.specs.declared.paths.Next.TheVariants as next
+use Rattle.tp_protocols.specs.Fronts.{goes, is_awaited}
 use Rattle.tp_tasks.specs.declared.tasks.Tasks.{Tasks}
 use Rattle.tp_machine.specs.declared.answers.Judged.{Judged}
 use Rattle.tp_machine.specs.Answers.{ComesBack, IsJudged, Judges, ruled_of, ReturnsAt}
 use Rattle.tp_glance.specs.Word.{IsFrontOf}
 use Rattle.tp_glance.proofs.Fronts.{IsFrontOf_refl, IsFrontOf_trans}
 use Rattle.tp_book.specs.PassView.{PassView}
-use Rattle.tp_book.proofs.Settling.{all_history}
-use Rattle.tp_pool_holds.specs.CoreView.{CoreView}
+use Rattle.tp_book.proofs.Forgetting.{all_history}
+use Rattle.tp_pool_holds.specs.LockedView.{LockedView}
 use Rattle.tp_pool_holds.specs.Holds.{Holds}
 use Rattle.tp_pool_holds.specs.Passes.{KnowsStep}
 use Rattle.tp_pool_holds.specs.Steps.{Makes}
-use Rattle.tp_pool_holds.specs.declared.tasks.Task.{Task}
+use Rattle.tp_pool_holds.specs.declared.tasks.Payload.{Payload}
 use Rattle.tp_pool_holds.specs.Submitting.{TakesOut}
 
 -- a pass that a step was made with knows it, and of the history before it what the answer says
-pub knows : {J A : Type 0} (keeps : Bool) (old new : CoreView J) (before after : PassView) (a : Ask) (did : A → Did) (moves : A → Tasks (Task J) → Tasks (Task J) → Type 0) (says : A → List Entry → Type 0) (r : Result A PoolError) →
+pub knows : {J A : Type 0} (keeps : Bool) (old new : LockedView J) (before after : PassView) (a : Ask) (did : A → Did) (moves : A → Tasks (Payload J) → Tasks (Payload J) → Type 0) (says : A → List Entry → Type 0) (r : Result A PoolError) →
     IfOk r (λ x. Holds keeps old new before.number a (did x) (moves x)) → IfOk r (λ x. says x old.book.history) → OnOk r (after.front ≡ new.book.history) × OnErr r (after.front ≡ old.book.history) →
     IfOk r (λ x. KnowsStep before a (did x) (says x) after)
-knows keeps old new before after a did moves says (Ok x) holds said front = (old.book.history, front.0 ∙ all_history keeps holds.book new.book _ holds.settles ∙ holds.made.notes, said)
+knows keeps old new before after a did moves says (Ok x) holds said front = (old.book.history, front.0 ∙ all_history keeps holds.book new.book _ holds.forgets_gone ∙ holds.made.notes, said)
 knows keeps old new before after a did moves says (Err e) holds said front = tt
 
 mine_if : (b : Bool) (f : Follow) → (if b then f else Astray) ≡ Ends Rejected → f ≡ Ends Rejected
@@ -49,9 +47,6 @@ mine_if false f is = absurd (cc)
 
 goes_on : (fits : Did → Bool) → ¬ (Then fits ≡ Ends Rejected)
 goes_on fits is = absurd (cc)
-
-lost : ¬ (Astray ≡ Ends Rejected)
-lost is = absurd (cc)
 
 -- a verdict alone rejects
 only_rejected : (t : ℕ) (d : Did) → follows t d ≡ Ends Rejected → (u : TaskId) × (v : Verdict) × (d ≡ did.Verdict u v ruled.Rejected)
@@ -84,18 +79,6 @@ only_rejected t (did.Fail w (failed.Refuse u)) is = absurd (goes_on (is_verdict_
 only_rejected t (did.CallerEnd u o) is = absurd (cc)
 only_rejected t _ is = absurd (cc)
 
--- where no verdict is asked, none is awaited
-unawaited : (t : ℕ) (n : Next) (u : TaskId) (v : Verdict) → ¬ (n ≡ next.Judge) → is_awaited (follow_of t n) (did.Verdict u v ruled.Rejected) ≡ false
-unawaited t next.Judge u v other = absurd (other refl)
-unawaited t _ u v other = refl
-
--- so nothing else that a submitter does rejects its task
-pub unjudged : (t : ℕ) (n : Next) (d : Did) → ¬ (n ≡ next.Judge) → ¬ (goes t (follow_of t n) d ≡ Ends Rejected)
-unjudged t n d other is =
-    let rejects = only_rejected t d (mine_if (is_awaited (follow_of t n) d) (follows t d) is) in
-    let off : is_awaited (follow_of t n) d ≡ false = ap (λ x. is_awaited (follow_of t n) x) rejects.2 ∙ unawaited t n rejects.0 rejects.1 other in
-    lost (sym (ap (λ b. if b then follows t d else Astray) off) ∙ is)
-
 pub judged : (t : ℕ) (f : Follow) (d : Did) → goes t f d ≡ Ends Rejected → follows t d ≡ Ends Rejected
 judged t f d is = mine_if (is_awaited f d) (follows t d) is
 
@@ -114,7 +97,7 @@ comes_back t d payload dropped old new a known is =
     subst (λ h. is_some payload ≡ not (is_cancelled h t.0)) (sym front) said
 
 -- what the verdict took out of the book for its task is what was handed out
-pub takes_out : {J : Type 0} (c : Config) (t : TaskId) (v : Verdict) (j : Judged (Task J)) (old new : PassView) →
+pub takes_out : {J : Type 0} (c : Config) (t : TaskId) (v : Verdict) (j : Judged (Payload J)) (old new : PassView) →
     Makes J c old.number old.front (ask.Verdict t v) j.did (λ before after. IsJudged before after t j) new.front → follows t.0 j.did ≡ Ends Rejected → TakesOut c old.number t.0 j.payload old.front new.front
 takes_out c t v j old new makes is =
     let rejects = only_rejected t.0 j.did is in
@@ -139,7 +122,7 @@ takes_out c t v j old new makes is =
     }
 
 -- at a history behind an earlier one it is so, too
-pub takes_from : {J : Type 0} (c : Config) (by t : ℕ) (payload : Option (Task J)) (f g h : List Entry) → IsFrontOf f g → TakesOut c by t payload g h → TakesOut c by t payload f h
+pub takes_from : {J : Type 0} (c : Config) (by t : ℕ) (payload : Option (Payload J)) (f g h : List Entry) → IsFrontOf f g → TakesOut c by t payload g h → TakesOut c by t payload f h
 takes_from c by t payload f g h on out = record {
   number = out.number;
   is_task = out.is_task;
@@ -152,6 +135,6 @@ takes_from c by t payload f g h on out = record {
 }
 
 -- so does that of the task that held it
-pub comes_back_as : {J : Type 0} (t : ℕ) (h : List Entry) (held : Option (Task J)) (job : Option J) → job ≡ option_map (λ k. k.job) held → ComesBack t held h → ComesBack t job h
+pub comes_back_as : {J : Type 0} (t : ℕ) (h : List Entry) (held : Option (Payload J)) (job : Option J) → job ≡ option_map (λ k. k.job) held → ComesBack t held h → ComesBack t job h
 comes_back_as t h None job same is = subst (λ o. ComesBack t o h) (sym same) is
 comes_back_as t h (Some k) job same is = subst (λ o. ComesBack t o h) (sym same) is

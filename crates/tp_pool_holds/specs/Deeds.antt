@@ -22,7 +22,7 @@ use Rattle.tp_protocols.specs.Turns.{told}
 use Rattle.tp_pool_holds.specs.Steps.{Asks, taking_of, begun_of, departed_of, IsEndOf}
 use Rattle.tp_pool_holds.specs.declared.locked.workers.Taking.{Taking}
 use Rattle.tp_pool_holds.specs.declared.locked.workers.Taking.TheVariants as taking
-use Rattle.tp_pool_holds.specs.declared.tasks.Task.{Task}
+use Rattle.tp_pool_holds.specs.declared.tasks.Payload.{Payload}
 
 -- what a `take` came to that ended a worker's wait
 abbrev pub taken_as : Taken → Taking
@@ -40,7 +40,7 @@ module _ (J : Type 0) (keeps : Bool) (c : Config) (by : ℕ) (before : List Entr
   abbrev pub Takes : SlotId → List Entry → (Result Took PoolError → Type 0) → Type 0
   Takes w after F = Asks J keeps c by before (ask.Take w) (λ x. did.Take w x) (λ _. Keeps) after F
 
-  abbrev pub BeginsAt : SlotId → List Entry → (Result (Started (Task J)) PoolError → Type 0) → Type 0
+  abbrev pub BeginsAt : SlotId → List Entry → (Result (Started (Payload J)) PoolError → Type 0) → Type 0
   BeginsAt w after F = Asks J keeps c by before (ask.Begin w) (λ x. did.Begin w (started_of x)) (λ x old new. Begins old (started_of x) new (payload_begun x)) after F
 
   abbrev pub Ends : SlotId → Outcome → List Entry → (Result TaskId PoolError → Type 0) → Type 0

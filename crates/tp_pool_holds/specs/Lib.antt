@@ -1,7 +1,7 @@
 pub mod Answers
 pub mod Closing
 pub mod Codes
-pub mod CoreView
+pub mod LockedView
 pub mod Drains
 pub mod Flagged
 pub mod Gone

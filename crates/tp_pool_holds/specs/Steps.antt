@@ -24,10 +24,10 @@ use Rattle.tp_machine.specs.Answers.{HandsBack, IsPaidAt, IsRemoval}
 use Rattle.tp_machine.specs.Readings.{IsDyingAt}
 use Rattle.tp_protocols.specs.declared.deeds.Departed.{Departed}
 use Rattle.tp_protocols.specs.declared.deeds.Departed.TheVariants as departed
-use Rattle.tp_protocols.specs.declared.deeds.Ended.{Ended}
-use Rattle.tp_protocols.specs.declared.deeds.Ended.TheVariants as ended
-use Rattle.tp_protocols.specs.declared.turns.Begun.{Begun}
-use Rattle.tp_protocols.specs.declared.turns.Begun.TheVariants as begun
+use Rattle.tp_protocols.specs.declared.deeds.EndAnswer.{EndAnswer}
+use Rattle.tp_protocols.specs.declared.deeds.EndAnswer.TheVariants as ended
+use Rattle.tp_protocols.specs.declared.turns.BeginAnswer.{BeginAnswer}
+use Rattle.tp_protocols.specs.declared.turns.BeginAnswer.TheVariants as begun
 use Rattle.tp_glance.specs.Word.{IsFrontOf}
 use Rattle.tp_book.specs.BookView.{BookView, Advances, IsDenied}
 use Rattle.tp_pool_holds.specs.Drains.{drained_of}
@@ -37,28 +37,28 @@ use Rattle.tp_pool_holds.specs.declared.answers.Removal.{Removal}
 use Rattle.tp_pool_holds.specs.declared.answers.Removal.TheVariants as removal
 use Rattle.tp_pool_holds.specs.declared.locked.workers.Taking.{Taking}
 use Rattle.tp_pool_holds.specs.declared.locked.workers.Taking.TheVariants as taking
-use Rattle.tp_pool_holds.specs.declared.tasks.Task.{Task}
+use Rattle.tp_pool_holds.specs.declared.tasks.Payload.{Payload}
 
 -- a pool with these settings makes this step for the pass of this number, at a history that goes on from what the pass knew; then
 -- the pass knows the history with the step
-pub record Makes (J : Type 0) (c : Config) (by : ℕ) (before : List Entry) (a : Ask) (d : Did) (moves : Tasks (Task J) → Tasks (Task J) → Type 0) (after : List Entry) : Type 0 where
-  pub old : BookView (Task J)
-  pub new : BookView (Task J)
-  pub is : IsBook (Task J) c old
+pub record Makes (J : Type 0) (c : Config) (by : ℕ) (before : List Entry) (a : Ask) (d : Did) (moves : Tasks (Payload J) → Tasks (Payload J) → Type 0) (after : List Entry) : Type 0 where
+  pub old : BookView (Payload J)
+  pub new : BookView (Payload J)
+  pub is : IsBook (Payload J) c old
   pub goes_on : IsFrontOf before old.history
   pub step : Advances old new by a d moves
   pub shown : after ≡ new.history
 
 -- it refuses the ask, at a history that goes on from what the pass knew, and that the pass knows then
 pub record Refused (J : Type 0) (keeps : Bool) (c : Config) (before : List Entry) (a : Ask) (e : PoolError) (after : List Entry) : Type 0 where
-  pub book : BookView (Task J)
-  pub is : IsBook (Task J) c book
+  pub book : BookView (Payload J)
+  pub is : IsBook (Payload J) c book
   pub goes_on : IsFrontOf before book.history
   pub denied : IsDenied keeps book a e
   pub shown : after ≡ book.history
 
 -- one of the two, and the call's answer says so of the step's
-pub record Asks (J : Type 0) {A : Type 0} (keeps : Bool) (c : Config) (by : ℕ) (before : List Entry) (a : Ask) (did : A → Did) (moves : A → Tasks (Task J) → Tasks (Task J) → Type 0) (after : List Entry)
+pub record Asks (J : Type 0) {A : Type 0} (keeps : Bool) (c : Config) (by : ℕ) (before : List Entry) (a : Ask) (did : A → Did) (moves : A → Tasks (Payload J) → Tasks (Payload J) → Type 0) (after : List Entry)
     (F : Result A PoolError → Type 0) : Type 0 where
   pub answer : Result A PoolError
   pub made : IfOk answer (λ x. Makes J c by before a (did x) (moves x) after)
@@ -75,13 +75,13 @@ taking_of (Err NotThere) = taking.Sleeps
 taking_of _ = taking.Refused
 
 -- its `begin`
-abbrev pub begun_of : {J : Type 0} → Result (Started (Task J)) PoolError → Begun J
+abbrev pub begun_of : {J : Type 0} → Result (Started (Payload J)) PoolError → BeginAnswer J
 begun_of (Ok (started.Run t k)) = begun.Run t k.job
 begun_of (Ok (started.Skip t)) = begun.Skip t
 begun_of (Err e) = begun.Refused
 
 -- its `end`, where the state is this afterwards
-abbrev pub IsEndOf : State → ℕ → Ended → Result TaskId PoolError → Type 0
+abbrev pub IsEndOf : State → ℕ → EndAnswer → Result TaskId PoolError → Type 0
 IsEndOf s w ended.Dying (Ok t) = IsDyingAt s w
 IsEndOf s w ended.Live (Ok t) = ¬ IsDyingAt s w
 IsEndOf s w ended.Refused (Err e) = ⊤
@@ -94,13 +94,13 @@ departed_of (Ok None) = departed.Alone
 departed_of (Err e) = departed.Refused
 
 -- what a remove hands back
-abbrev pub removal_of : {J : Type 0} → Option (TaskId × Option (Task J)) → Removal J
+abbrev pub removal_of : {J : Type 0} → Option (TaskId × Option (Payload J)) → Removal J
 removal_of (Some handed) = removal.Yes (option_map (λ k. k.job) handed.1)
 removal_of None = removal.No
 
 -- the step `stop`, which hands back the tasks that were queued, in the queue's order, each with its job unless it was cancelled
 pub record Stops (J : Type 0) (c : Config) (by : ℕ) (before : List Entry) (drained : List (Drained J)) (after : List Entry) : Type 0 where
-  pub handed : List (TaskId × Option (Task J))
+  pub handed : List (TaskId × Option (Payload J))
   pub makes : Makes J c by before ask.Stop (did.Stop (length handed)) (λ old new. HandsBack old new handed) after
   pub order : map (λ x. x.0.0) handed ≡ queue c makes.old.history
   pub paid : All (IsPaidAt makes.old.history) handed
@@ -108,7 +108,7 @@ pub record Stops (J : Type 0) (c : Config) (by : ℕ) (before : List Entry) (dra
 
 -- the step `remove`, which hands the job back where the task was queued, unless it was cancelled
 pub record Removes (J : Type 0) (c : Config) (by : ℕ) (before : List Entry) (t : TaskId) (r : Removal J) (after : List Entry) : Type 0 where
-  pub handed : Option (TaskId × Option (Task J))
+  pub handed : Option (TaskId × Option (Payload J))
   pub makes : Makes J c by before (ask.Remove t) (did.Remove t (is_some handed)) (λ old new. IsRemoval old new t handed) after
   pub paid : IfSome handed (IsPaidAt makes.old.history)
   pub answers : r ≡ removal_of handed

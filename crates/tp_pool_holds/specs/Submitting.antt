@@ -15,14 +15,14 @@ use Rattle.tp_glance.specs.Word.{IsFrontOf}
 use Rattle.tp_book.specs.PassView.{PassView}
 use Rattle.tp_pool_holds.specs.Passes.{IsRefusal}
 use Rattle.tp_pool_holds.specs.Steps.{Makes}
-use Rattle.tp_pool_holds.specs.declared.tasks.Task.{Task}
+use Rattle.tp_pool_holds.specs.declared.tasks.Payload.{Payload}
 
 -- as this pass knows it a pool with these settings refuses this ask, whose task it may have released
 abbrev pub IsHalted : Bool → Config → PassView → Ask → Type 0
 IsHalted keeps c p a = (e : PoolError) × IsRefusal keeps c p a e
 
 -- a verdict of the pass rejected task t, and took this out of the pool's book, where it lay for t: at a history between the two
-pub record TakesOut {J : Type 0} (c : Config) (by t : ℕ) (payload : Option (Task J)) (before after : List Entry) : Type 0 where
+pub record TakesOut {J : Type 0} (c : Config) (by t : ℕ) (payload : Option (Payload J)) (before after : List Entry) : Type 0 where
   pub number : TaskId
   pub is_task : number.0 ≡ t
   pub verdict : Verdict

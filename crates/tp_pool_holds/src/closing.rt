@@ -3,7 +3,7 @@ ghost use Rattle.std.specs.Prelude.{◌≡◌, IfOk, IfErr};
 ghost use Rattle.tp_types.specs.Config.{IsConfig};
 ghost use Rattle.tp_book.specs.BookView.{config};
 ghost use Rattle.tp_pool_holds.specs.Closing.{KeepsOpen};
-ghost use Rattle.tp_pool_holds.specs.declared.tasks.Task.{Task as TaskOf};
+ghost use Rattle.tp_pool_holds.specs.declared.tasks.Payload.{Payload as TaskOf};
 ghost use Rattle.tp_pool_holds.specs.Reports.{Closes};
 
 use crate::edges::Edge;
@@ -11,7 +11,7 @@ use crate::lock::PoolLock;
 use crate::locked::Beside;
 use crate::names::PoolNaming;
 use crate::shared::{Around, Shared};
-use crate::tasks::Task;
+use crate::tasks::Payload;
 use tp_book::book::Unclosed;
 use tp_book::passes::Pass;
 use tp_book::reports::Reporter;
@@ -37,7 +37,7 @@ impl<G: PoolNaming, E: Edge> Around<G, E> {
     fn reopened<J: Job, K: Keeper>(
         self,
         beside: Beside,
-        unclosed: Unclosed<G, Task<J>, K>,
+        unclosed: Unclosed<G, Payload<J>, K>,
     ) -> Reopened<G, J, E, K>
         requires settings { config unclosed.book ≡ (K.terms G.config) }
         requires good { IsConfig G.config }
@@ -51,7 +51,7 @@ impl<G: PoolNaming, E: Edge> Around<G, E> {
             workers,
         } = unclosed;
         let shared = Shared {
-            core: PoolLock::again(self.alloc, book, workers, beside),
+            lock: PoolLock::again(self.alloc, book, workers, beside),
             around: self,
         };
         Reopened {
@@ -69,8 +69,8 @@ impl<G: PoolNaming, J: Job, E: Edge, K: Reporter> Shared<G, J, E, K> {
         ensures refused { IfErr result (λ f. KeepsOpen (TaskOf J) (K.terms G.config) passes.items f.error) }
         ensures returned { IfErr result (λ f. f.passes.items ≡ passes.items) }
     {
-        let Shared { core, around } = self;
-        let (book, workers, beside) = core.part();
+        let Shared { lock, around } = self;
+        let (book, workers, beside) = lock.part();
         match book.close(&around.glance, passes, workers) {
             Ok(report) => {
                 K::law_limit();

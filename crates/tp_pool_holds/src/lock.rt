@@ -3,10 +3,10 @@ ghost use Rattle.std.specs.Prelude.{◌≡◌, []};
 ghost use Rattle.tp_types.specs.Config.{IsConfig};
 ghost use Rattle.tp_book.specs.BookView.{config};
 
-use crate::locked::{Beside, Core};
+use crate::locked::{Beside, Locked};
 use crate::names::PoolNaming;
 use crate::pauses::{LONGEST, Patience, rest};
-use crate::tasks::Task;
+use crate::tasks::Payload;
 use std::alloc::Global;
 use std::sync::{Mutex, MutexGuard, Wait};
 use std::thread::yield_now;
@@ -19,35 +19,35 @@ use tp_record::recorders::Full;
 /// could not close.
 #[derive(Drop)]
 pub struct PoolLock<G: PoolNaming, J, R: Keeper = Full> {
-    core: Mutex<Core<G, J, R>>,
+    mutex: Mutex<Locked<G, J, R>>,
 }
 
 impl<G: PoolNaming, J: Drop, R: Keeper> PoolLock<G, J, R> {
     /// The lock of a new pool: its record is empty, its first pass is the only one, and it has no thread. What lies under a lock is
     /// known by its type alone, so what a new pool is stands here: else a body that makes a step or a pass before would be
     /// proved.
-    pub fn new(core: Core<G, J, R>) -> PoolLock<G, J, R>
-        requires empty { core.book.history ≡ [] }
-        requires first { core.book.accounts ≡ record { total = 0; made = 1; callers = 1 } }
-        requires nobody { (core.roster.running ≡ 0) × (core.roster.ended ≡ record { passes = 0; amount = 0 }) }
+    pub fn new(locked: Locked<G, J, R>) -> PoolLock<G, J, R>
+        requires empty { locked.book.history ≡ [] }
+        requires first { locked.book.accounts ≡ record { total = 0; made = 1; callers = 1 } }
+        requires nobody { (locked.roster.running ≡ 0) × (locked.roster.ended ≡ record { passes = 0; amount = 0 }) }
     {
         PoolLock {
-            core: Mutex::new(core),
+            mutex: Mutex::new(locked),
         }
     }
 
     /// The book, the passes that workers handed in, and the rest, of a pool whose threads are gone.
-    pub fn part(self) -> (Book<G, Task<J>, R>, Gathered<G>, Beside)
+    pub fn part(self) -> (Book<G, Payload<J>, R>, Gathered<G>, Beside)
         ensures settings { config result.0 ≡ (R.terms G.config) }
         ensures good { IsConfig G.config }
     {
-        self.core.into_inner().part()
+        self.mutex.into_inner().part()
     }
 
     /// What `part` took apart, put together again.
     pub fn again(
         alloc: Global,
-        book: Book<G, Task<J>, R>,
+        book: Book<G, Payload<J>, R>,
         ended: Gathered<G>,
         beside: Beside,
     ) -> PoolLock<G, J, R>
@@ -55,7 +55,7 @@ impl<G: PoolNaming, J: Drop, R: Keeper> PoolLock<G, J, R> {
         requires good { IsConfig G.config }
     {
         PoolLock {
-            core: Mutex::new(Core::again(alloc, book, ended, beside)),
+            mutex: Mutex::new(Locked::again(alloc, book, ended, beside)),
         }
     }
 }
@@ -63,8 +63,8 @@ impl<G: PoolNaming, J: Drop, R: Keeper> PoolLock<G, J, R> {
 impl<G: PoolNaming, J, R: Keeper> PoolLock<G, J, R> {
     /// The lock itself.
     #[inline(always)]
-    pub fn mutex(&self) -> &Mutex<Core<G, J, R>> {
-        &self.core
+    pub fn mutex(&self) -> &Mutex<Locked<G, J, R>> {
+        &self.mutex
     }
 }
 

@@ -15,12 +15,12 @@ ghost use Rattle.tp_pool_holds.specs.Passes.{entry_of};
 ghost use Rattle.tp_pool_holds.specs.Roused.{IsRoused};
 ghost use Rattle.tp_pool_holds.specs.Steps.{Makes, Refused};
 ghost use Rattle.tp_pool_holds.specs.Waits.{waits};
-ghost use Rattle.tp_pool_holds.specs.declared.tasks.Task.{Task as TaskOf};
+ghost use Rattle.tp_pool_holds.specs.declared.tasks.Payload.{Payload as TaskOf};
 
 use crate::flags::Flags;
 use crate::names::PoolNaming;
 use crate::roster::Roster;
-use crate::tasks::Task;
+use crate::tasks::Payload;
 use std::alloc::Global;
 use std::marker::Model;
 use tp_book::book::Book;
@@ -41,14 +41,14 @@ use tp_waking::waking::Waking;
 /// The pool's book, which is of the settings that its name says, and what the pool keeps beside it. While
 /// nobody holds the lock, no task is queued where a worker sleeps and nobody looks for a task.
 #[derive(Drop)]
-pub struct Core<G: PoolNaming, J, R: Keeper = Full> {
+pub struct Locked<G: PoolNaming, J, R: Keeper = Full> {
     flags: Flags,
-    book: Book<G, Task<J>, R>,
+    book: Book<G, Payload<J>, R>,
     waking: Waking,
     roster: Roster<G>,
 }
 
-impl<G: PoolNaming, J, R: Keeper> Model for Core<G, J, R> {
+impl<G: PoolNaming, J, R: Keeper> Model for Locked<G, J, R> {
     ghost use Rattle.std.specs.Prelude.{◌≡◌};
     ghost use Rattle.std.specs.Coded.{codes};
     ghost use Rattle.tp_types.specs.Config.{IsConfig};
@@ -56,10 +56,10 @@ impl<G: PoolNaming, J, R: Keeper> Model for Core<G, J, R> {
     ghost use Rattle.tp_waking.specs.Rests.{IsSettled};
     ghost use Rattle.tp_book.specs.BookView.{config};
     ghost use Rattle.tp_pool_holds.specs.Codes.{task_code};
-    ghost use Rattle.tp_pool_holds.specs.CoreView.{CoreView};
+    ghost use Rattle.tp_pool_holds.specs.LockedView.{LockedView};
     ghost use Rattle.tp_pool_holds.specs.Waits.{waits};
 
-    ghost Value = { CoreView J };
+    ghost Value = { LockedView J };
 
     ghost coded = { Prim.hlevel (codes, tasks_code (task_code J.code)) };
 
@@ -72,12 +72,12 @@ impl<G: PoolNaming, J, R: Keeper> Model for Core<G, J, R> {
 // nobody, and nothing is counted.
 #[inline(always)]
 fn rouse<G: PoolNaming, J, R: Keeper>(
-    book: &Book<G, Task<J>, R>,
+    book: &Book<G, Payload<J>, R>,
     waking: &mut Waking,
     ask: &Ask,
     did: &Did,
 )
-    ensures settled { IsSettled (waits book.now) waking.new.sleepers }
+    ensures forgotten { IsSettled (waits book.now) waking.new.sleepers }
     ensures roused { IsRoused book.now waking.old waking.new ask.now did.now }
 {
     let state = book.state();
@@ -100,15 +100,15 @@ mod watching;
 mod workers;
 
 pub use closing::Beside;
-pub use controllers::Look;
+pub use controllers::EndSeen;
 pub use marks::Marks;
-use marks::{mark_flags, settle};
+use marks::{forget, mark_flags};
 pub use watching::Busy;
 pub use workers::Taking;
 
-impl<G: PoolNaming, J: Drop, R: Keeper> Core<G, J, R> {
+impl<G: PoolNaming, J: Drop, R: Keeper> Locked<G, J, R> {
     /// A new pool's book, of a pool in which nobody sleeps or waits. NoMemory (4).
-    pub fn new(alloc: Global, book: Book<G, Task<J>, R>) -> Result<Core<G, J, R>, PoolError>
+    pub fn new(alloc: Global, book: Book<G, Payload<J>, R>) -> Result<Locked<G, J, R>, PoolError>
         requires settings { config book ≡ (R.terms G.config) }
         requires good { IsConfig G.config }
         requires fresh { (book.history ≡ []) × (book.accounts ≡ record { total = 0; made = 1; callers = 1 }) }
@@ -127,7 +127,7 @@ impl<G: PoolNaming, J: Drop, R: Keeper> Core<G, J, R> {
         ) else {
             return Err(PoolError::NoMemory);
         };
-        Ok(Core {
+        Ok(Locked {
             book,
             flags,
             waking,
@@ -139,7 +139,7 @@ impl<G: PoolNaming, J: Drop, R: Keeper> Core<G, J, R> {
     /// accepted step concerns are to be woken, and the flags of tasks that it concerns are set, or let go of. Where no record
     /// is kept, the tasks are forgotten that are gone with it and to which nothing is owed.
     #[inline(always)]
-    pub fn step<S: Marks<J> + Step<Task<J>, Load = ()>, A: Payer<G>>(
+    pub fn step<S: Marks<J> + Step<Payload<J>, Load = ()>, A: Payer<G>>(
         &mut self,
         step: S,
         glance: &Glance<G>,
@@ -162,7 +162,7 @@ impl<G: PoolNaming, J: Drop, R: Keeper> Core<G, J, R> {
         ensures stands { IsBook (TaskOf J) (R.terms G.config) self.old.book }
         ensures legal { Legal (R.terms G.config) (A.front pass.new) }
     {
-        let Core {
+        let Locked {
             book,
             flags,
             waking,
@@ -175,7 +175,7 @@ impl<G: PoolNaming, J: Drop, R: Keeper> Core<G, J, R> {
         };
         rouse(book, waking, &step.ask(), &step.did(&answer));
         mark_flags(book, flags, step.mark(&answer));
-        settle(book, step.gone(&answer), glance);
+        forget(book, step.gone(&answer), glance);
         Ok(answer)
     }
 
@@ -203,7 +203,7 @@ impl<G: PoolNaming, J: Drop, R: Keeper> Core<G, J, R> {
 
     /// The book, of which all is read that a hold tells. It stands at its history, which is legal in the pool's settings.
     #[inline(always)]
-    pub fn book(&self) -> &Book<G, Task<J>, R>
+    pub fn book(&self) -> &Book<G, Payload<J>, R>
         ensures same { result.now ≡ self.now.book }
         ensures stands { IsBook (TaskOf J) (R.terms G.config) result.now }
     {

@@ -4,7 +4,7 @@ ghost use Rattle.tp_types.specs.Config.{IsConfig, checked};
 
 use crate::edges::Edge;
 use crate::lock::PoolLock;
-use crate::locked::Core;
+use crate::locked::Locked;
 use crate::names::PoolNaming;
 use crate::policies::PolicyOf;
 use crate::shared::{Around, Conditions, Shared};
@@ -37,11 +37,11 @@ impl<G: PoolNaming, J: Job, E: Edge, K: Keeper> Shared<G, J, E, K> {
         ensures good { OnOk result (IsConfig config) }
         ensures refused { IfErr result (λ e. (checked config ≡ Err e) ⊎ ((e ≡ PoolError.NoMemory) × IsConfig config)) }
     {
-        let (core, glance, pass) = match begin(alloc, unopened, config) {
+        let (lock, glance, pass) = match begin(alloc, unopened, config) {
             Ok(begun) => begun,
             Err(error) => return Err(error),
         };
-        match share(alloc, core, glance, edge, PolicyOf::new(&config)) {
+        match share(alloc, lock, glance, edge, PolicyOf::new(&config)) {
             Ok(shared) => Ok((shared, pass)),
             Err(_) => Err(PoolError::NoMemory),
         }
@@ -64,8 +64,8 @@ fn begin<G: PoolNaming, J: Drop, K: Keeper>(
         Ok(opened) => opened,
         Err(error) => return Err(error),
     };
-    match Core::new(alloc, book) {
-        Ok(core) => Ok((PoolLock::new(core), glance, pass)),
+    match Locked::new(alloc, book) {
+        Ok(locked) => Ok((PoolLock::new(locked), glance, pass)),
         Err(error) => Err(error),
     }
 }
@@ -73,7 +73,7 @@ fn begin<G: PoolNaming, J: Drop, K: Keeper>(
 // What all threads of a new pool share.
 fn share<G: PoolNaming, J: Drop, E: Drop, K: Keeper>(
     alloc: Global,
-    core: PoolLock<G, J, K>,
+    lock: PoolLock<G, J, K>,
     glance: Glance<G>,
     edge: E,
     policy: PolicyOf<G>,
@@ -88,7 +88,7 @@ fn share<G: PoolNaming, J: Drop, E: Drop, K: Keeper>(
         alloc,
         abandoned: Mutex::new(VecDeque::new(alloc)),
     };
-    let shared = Shared { core, around };
+    let shared = Shared { lock, around };
     match Arc::new(alloc, shared) {
         Ok(shared) => Ok(shared),
         Err(_) => Err(AllocError),

@@ -13,11 +13,11 @@ ghost use Rattle.tp_pool_holds.specs.Refusals.{none_forgotten};
 use crate::answers::Drained;
 use crate::edges::Edge;
 use crate::lock::{PoolLock, polite};
-use crate::locked::{Core, Marks};
+use crate::locked::{Locked, Marks};
 use crate::names::PoolNaming;
 use crate::pauses::{CALLER, WORKER};
 use crate::policies::PolicyOf;
-use crate::tasks::Task;
+use crate::tasks::Payload;
 use std::alloc::Global;
 use std::collections::VecDeque;
 use std::sync::{Condvar, Mutex, MutexGuard, Wait};
@@ -99,48 +99,48 @@ pub struct Around<G: PoolNaming, E> {
 #[derive(Drop)]
 pub struct Shared<G: PoolNaming, J, E, K: Keeper = Full> {
     /// The value under the lock.
-    pub core: PoolLock<G, J, K>,
+    pub lock: PoolLock<G, J, K>,
     /// What stands around it.
     pub around: Around<G, E>,
 }
 
 /// What is left to do in the pool, as its hold knows.
 #[inline(always)]
-pub fn left_in<G: PoolNaming, J: Drop, K: Keeper>(core: &Core<G, J, K>) -> Remains
-    ensures { IsLeft (state (K.terms G.config) core.now.book.history) result }
+pub fn left_in<G: PoolNaming, J: Drop, K: Keeper>(locked: &Locked<G, J, K>) -> Remains
+    ensures { IsLeft (state (K.terms G.config) locked.now.book.history) result }
 {
-    core.law_is_book();
-    core.remains()
+    locked.law_is_book();
+    locked.remains()
 }
 
 impl<G: PoolNaming, J: Drop, E: Edge, K: Keeper> Shared<G, J, E, K> {
     /// Takes the lock, for a caller.
     #[inline(always)]
-    pub fn hold<R: Wait>(&self, rt: &R) -> MutexGuard<'_, Core<G, J, K>> {
-        polite(rt, self.core.mutex(), CALLER)
+    pub fn hold<R: Wait>(&self, rt: &R) -> MutexGuard<'_, Locked<G, J, K>> {
+        polite(rt, self.lock.mutex(), CALLER)
     }
 
     /// Takes the lock, for a worker.
     #[inline(always)]
-    pub fn hold_as_worker<R: Wait>(&self, rt: &R) -> MutexGuard<'_, Core<G, J, K>> {
-        polite(rt, self.core.mutex(), WORKER)
+    pub fn hold_as_worker<R: Wait>(&self, rt: &R) -> MutexGuard<'_, Locked<G, J, K>> {
+        polite(rt, self.lock.mutex(), WORKER)
     }
 
     /// Lets go of the lock, and only then wakes the threads that the hold concerned: a thread that is woken
     /// needs the lock. Most holds concern none.
     #[inline(always)]
-    pub fn release(&self, core: MutexGuard<'_, Core<G, J, K>>) {
-        if core.calls_nobody() {
-            return drop(core);
+    pub fn release(&self, locked: MutexGuard<'_, Locked<G, J, K>>) {
+        if locked.calls_nobody() {
+            return drop(locked);
         }
-        self.release_and_wake(core);
+        self.release_and_wake(locked);
     }
 
     #[inline(never)]
-    fn release_and_wake(&self, core: MutexGuard<'_, Core<G, J, K>>) {
-        let mut core = core;
-        let calls = core.release();
-        drop(core);
+    fn release_and_wake(&self, locked: MutexGuard<'_, Locked<G, J, K>>) {
+        let mut locked = locked;
+        let calls = locked.release();
+        drop(locked);
         self.wake(&calls);
     }
 
@@ -172,7 +172,7 @@ impl<G: PoolNaming, J: Drop, E: Edge, K: Keeper> Shared<G, J, E, K> {
     /// Makes this step in a hold of its own, with a pass, a caller's or a worker's, and wakes the threads that
     /// it concerns after the hold.
     #[inline(always)]
-    pub fn step<R: Wait, S: Marks<J> + Step<Task<J>, Load = ()>, A: Payer<G>>(
+    pub fn step<R: Wait, S: Marks<J> + Step<Payload<J>, Load = ()>, A: Payer<G>>(
         &self,
         rt: &R,
         step: S,
@@ -187,15 +187,15 @@ impl<G: PoolNaming, J: Drop, E: Edge, K: Keeper> Shared<G, J, E, K> {
         ensures shown { OnErr result (A.shown pass.old pass.new) }
         ensures number { A.number pass.new ≡ A.number pass.old }
     {
-        let mut core = self.hold_as_worker(rt);
-        let answer = core.step(step, &self.around.glance, pass);
-        self.release(core);
+        let mut locked = self.hold_as_worker(rt);
+        let answer = locked.step(step, &self.around.glance, pass);
+        self.release(locked);
         answer
     }
 
     /// As `step`, with a caller's pass that has room for its receipt.
     #[inline(always)]
-    pub fn ask<R: Wait, S: Marks<J> + Step<Task<J>, Load = ()>>(
+    pub fn ask<R: Wait, S: Marks<J> + Step<Payload<J>, Load = ()>>(
         &self,
         rt: &R,
         step: S,
@@ -210,15 +210,15 @@ impl<G: PoolNaming, J: Drop, E: Edge, K: Keeper> Shared<G, J, E, K> {
         ensures refused { IfErr result (λ e. HasNoOutcome (S.ask step) → IsRefusal (none_forgotten K.RECEIPTS (S.ask step)) (K.terms G.config) pass.new (S.ask step) e) }
         ensures unchanged { OnErr result (LooksOnly (K.terms G.config) pass.old pass.new) }
     {
-        let mut core = self.hold(rt);
-        let answer = core.step(step, &self.around.glance, pass);
-        self.release(core);
+        let mut locked = self.hold(rt);
+        let answer = locked.step(step, &self.around.glance, pass);
+        self.release(locked);
         answer
     }
 
     /// As `ask`, and tells what is left to do after it, as the hold of the step knows.
     #[inline(always)]
-    pub fn ask_left<R: Wait, S: Marks<J> + Step<Task<J>, Load = ()>>(
+    pub fn ask_left<R: Wait, S: Marks<J> + Step<Payload<J>, Load = ()>>(
         &self,
         rt: &R,
         step: S,
@@ -235,16 +235,16 @@ impl<G: PoolNaming, J: Drop, E: Edge, K: Keeper> Shared<G, J, E, K> {
         ensures unchanged { OnErr result.0 (LooksOnly (K.terms G.config) pass.old pass.new) }
         ensures remains { IsLeft (state (K.terms G.config) pass.new.front) result.1 }
     {
-        let mut core = self.hold(rt);
-        let answer = core.step(step, &self.around.glance, pass);
-        let remains = left_in(&core);
-        self.release(core);
+        let mut locked = self.hold(rt);
+        let answer = locked.step(step, &self.around.glance, pass);
+        let remains = left_in(&locked);
+        self.release(locked);
         (answer, remains)
     }
 
     /// As `ask`, for a step with which no outcome comes. The memory of its receipt is taken first, since an
     /// accepted step can't be taken back.
-    pub fn control<R: Wait, S: Marks<J> + Step<Task<J>, Load = ()>>(
+    pub fn control<R: Wait, S: Marks<J> + Step<Payload<J>, Load = ()>>(
         &self,
         rt: &R,
         step: S,
@@ -266,7 +266,7 @@ impl<G: PoolNaming, J: Drop, E: Edge, K: Keeper> Shared<G, J, E, K> {
 
     /// As `control`; and where the step leaves a pool that is shut down without a task and a worker, it ends the
     /// pool with a pass of the pool's own.
-    pub fn control_and_end<R: Wait, S: Marks<J> + Step<Task<J>, Load = ()>>(
+    pub fn control_and_end<R: Wait, S: Marks<J> + Step<Payload<J>, Load = ()>>(
         &self,
         rt: &R,
         step: S,
@@ -304,9 +304,9 @@ impl<G: PoolNaming, J: Drop, E: Edge, K: Keeper> Shared<G, J, E, K> {
         ensures refused { IfErr result (Refuses true (K.terms G.config) (AtFront (K.terms G.config) pass.new.front (λ s. 0 < length s.queue)) pass.new Ask.Stop) }
         ensures unchanged { OnErr result (AddsNone pass.old pass.new) }
     {
-        let mut core = self.hold(rt);
-        let drained = core.stop(self.around.alloc, &self.around.glance, pass);
-        self.release(core);
+        let mut locked = self.hold(rt);
+        let drained = locked.stop(self.around.alloc, &self.around.glance, pass);
+        self.release(locked);
         drained
     }
 

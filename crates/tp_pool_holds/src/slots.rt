@@ -7,7 +7,7 @@ ghost use Rattle.tp_pool_holds.specs.Passes.{entry_of, opening};
 ghost use Rattle.tp_pool_holds.specs.Steps.{Makes, Refused as IsRefusedAt};
 
 use crate::edges::Edge;
-use crate::locked::Core;
+use crate::locked::Locked;
 use crate::names::PoolNaming;
 use crate::shared::{Shared, left_in};
 use std::sync::Wait;
@@ -23,7 +23,7 @@ use tp_types::refusals::PoolError;
 
 // The step `open` of a slot for which a worker was made, or else its step `fail`: what it did.
 fn opened<G: PoolNaming, J: Drop, K: Keeper, A: Payer<G>>(
-    core: &mut Core<G, J, K>,
+    locked: &mut Locked<G, J, K>,
     w: SlotId,
     staffed: bool,
     glance: &Glance<G>,
@@ -35,15 +35,15 @@ fn opened<G: PoolNaming, J: Drop, K: Keeper, A: Payer<G>>(
     ensures refused { IfErr result (λ e. IsRefusedAt J K.RECEIPTS (K.terms G.config) (A.front pass.old) (opening w staffed) e (A.front pass.new)) }
     ensures shown { OnErr result (A.shown pass.old pass.new) }
     ensures number { A.number pass.new ≡ A.number pass.old }
-    ensures front { A.front pass.new ≡ core.new.book.history }
+    ensures front { A.front pass.new ≡ locked.new.book.history }
 {
     if staffed {
-        match core.open(w, glance, pass) {
+        match locked.open(w, glance, pass) {
             Ok(opened) => Ok(Did::Open(w, opened)),
             Err(error) => Err(error),
         }
     } else {
-        match core.step(Plain(Fail(w)), glance, pass) {
+        match locked.step(Plain(Fail(w)), glance, pass) {
             Ok(failed) => Ok(Did::Fail(w, failed)),
             Err(error) => Err(error),
         }
@@ -68,10 +68,10 @@ impl<G: PoolNaming, J: Drop, E: Edge, K: Keeper> Shared<G, J, E, K> {
         ensures number { A.number pass.new ≡ A.number pass.old }
         ensures left { IsLeft (state (K.terms G.config) (A.front pass.new)) result.1 }
     {
-        let mut core = self.hold(rt);
-        let did = opened(&mut core, w, staffed, &self.around.glance, pass);
-        let remains = left_in(&core);
-        self.release(core);
+        let mut locked = self.hold(rt);
+        let did = opened(&mut locked, w, staffed, &self.around.glance, pass);
+        let remains = left_in(&locked);
+        self.release(locked);
         self.tell_threads(staffed);
         (did, remains)
     }

@@ -6,15 +6,15 @@ ghost use Rattle.tp_machine_state.specs.Payloads.{PutsIn};
 ghost use Rattle.tp_pool_holds.specs.Left.{IsLeft};
 ghost use Rattle.tp_pool_holds.specs.Passes.{AddsStep, AddsNone, LooksOnly, Refuses};
 ghost use Rattle.tp_pool_holds.specs.Steps.{Makes};
-ghost use Rattle.tp_pool_holds.specs.declared.tasks.Task.{Task as TaskOf};
+ghost use Rattle.tp_pool_holds.specs.declared.tasks.Payload.{Payload as TaskOf};
 ghost use Rattle.tp_machine.specs.Answers.{ComesBack};
 ghost use Rattle.tp_pool_holds.specs.Submitting.{IsHalted, TakesOut};
 
 use crate::edges::Edge;
-use crate::locked::Core;
+use crate::locked::Locked;
 use crate::names::PoolNaming;
 use crate::shared::{Shared, left_in};
-use crate::tasks::Task;
+use crate::tasks::Payload;
 use std::sync::{MutexGuard, Wait};
 use tp_book::passes::Pass;
 use tp_machine::machine::releases::Keeper;
@@ -31,13 +31,13 @@ use tp_types::refusals::PoolError;
 // What is left to do after a second look: it is looked for only where the task came back.
 #[inline(always)]
 fn left_by_second<G: PoolNaming, J: Drop, K: Keeper>(
-    core: &Core<G, J, K>,
+    locked: &Locked<G, J, K>,
     answer: &Result<Seconded, PoolError>,
 ) -> Remains
-    ensures { answer.now ≡ Ok Seconded.Back → IsLeft (state (K.terms G.config) core.now.book.history) result }
+    ensures { answer.now ≡ Ok Seconded.Back → IsLeft (state (K.terms G.config) locked.now.book.history) result }
 {
     match answer {
-        Ok(Seconded::Back) => left_in(core),
+        Ok(Seconded::Back) => left_in(locked),
         _ => Remains::Nothing,
     }
 }
@@ -60,9 +60,9 @@ impl<G: PoolNaming, J: Drop, E: Edge, K: Keeper> Shared<G, J, E, K> {
         ensures returned { IfErr result (λ r. r.1 ≡ job) }
         ensures unchanged { OnErr result (AddsNone pass.old pass.new) }
     {
-        let mut core = self.hold_with_space(rt);
-        let submitted = core.submit(step, Task { job }, &self.around.glance, pass);
-        self.release(core);
+        let mut locked = self.hold_with_space(rt);
+        let submitted = locked.submit(step, Payload { job }, &self.around.glance, pass);
+        self.release(locked);
         match submitted {
             Ok(submitted) => Ok(submitted),
             Err((error, task)) => Err((error, task.into_job())),
@@ -71,15 +71,15 @@ impl<G: PoolNaming, J: Drop, E: Edge, K: Keeper> Shared<G, J, E, K> {
 
     // Takes the lock. Memory for more tasks is made before, with no lock held.
     #[inline(always)]
-    fn hold_with_space<R: Wait>(&self, rt: &R) -> MutexGuard<'_, Core<G, J, K>> {
-        let mut core = self.hold(rt);
-        let homes = core.wants_space();
+    fn hold_with_space<R: Wait>(&self, rt: &R) -> MutexGuard<'_, Locked<G, J, K>> {
+        let mut locked = self.hold(rt);
+        let homes = locked.wants_space();
         if homes > 0 {
-            self.release(core);
+            self.release(locked);
             self.make_space(rt, homes);
-            core = self.hold(rt);
+            locked = self.hold(rt);
         }
-        core
+        locked
     }
 
     // Makes memory for so many homes of tasks, and hands it in. What the tasks lay in before is let go of after the hold.
@@ -91,9 +91,9 @@ impl<G: PoolNaming, J: Drop, E: Edge, K: Keeper> Shared<G, J, E, K> {
             return;
         };
         let mut space = made;
-        let mut core = self.hold(rt);
-        core.take_space(&mut space);
-        self.release(core);
+        let mut locked = self.hold(rt);
+        locked.take_space(&mut space);
+        self.release(locked);
     }
 
     /// The step `second`: what it did, and what is left to do where the task came back.
@@ -106,10 +106,10 @@ impl<G: PoolNaming, J: Drop, E: Edge, K: Keeper> Shared<G, J, E, K> {
         ensures unchanged { IfNone result.0 (LooksOnly (K.terms G.config) pass.old pass.new) }
         ensures remains { result.0 ≡ Some (Did.Second t Seconded.Back) → IsLeft (state (K.terms G.config) pass.new.front) result.1 }
     {
-        let mut core = self.hold(rt);
-        let answer = core.step(Plain(Second(t)), &self.around.glance, pass);
-        let remains = left_by_second(&core, &answer);
-        self.release(core);
+        let mut locked = self.hold(rt);
+        let answer = locked.step(Plain(Second(t)), &self.around.glance, pass);
+        let remains = left_by_second(&locked, &answer);
+        self.release(locked);
         match answer {
             Ok(answer) => (Some(Did::Second(t, answer)), remains),
             Err(_) => (None, remains),
@@ -123,7 +123,7 @@ impl<G: PoolNaming, J: Drop, E: Edge, K: Keeper> Shared<G, J, E, K> {
         rt: &R,
         t: TaskId,
         verdict: Verdict,
-        held: &mut Option<Task<J>>,
+        held: &mut Option<Payload<J>>,
         pass: &mut Pass<G>,
     ) -> (Option<Did>, Remains)
         requires room { 0 < pass.old.room }

@@ -8,7 +8,7 @@ ghost use Rattle.tp_pool_holds.specs.Readings.{has_come, IsUndoneAt};
 ghost use Rattle.tp_pool_holds.specs.Endings.{IsBarred};
 
 use crate::edges::Edge;
-use crate::locked::Look;
+use crate::locked::EndSeen;
 use crate::names::PoolNaming;
 use crate::shared::Shared;
 use std::sync::Wait;
@@ -33,16 +33,16 @@ impl<G: PoolNaming, J: Drop, E: Edge, K: Keeper> Shared<G, J, E, K> {
         ensures late { IfErr result (λ e. e ≡ PoolError.TimedOut → AtFront (K.terms G.config) pass.new.front (λ s. (has_come deadline s.now ≡ true) × ¬ (s.rank ≡ 4))) }
         ensures refused { IfErr result (λ e. ((e ≡ PoolError.TimedOut) × Adds (K.terms G.config) pass.old [] pass.new) ⊎ ((e ≡ PoolError.TornRecord) × IsBarred (K.terms G.config) pass.new.front Ask.Ended × Adds (K.terms G.config) pass.old (tidied pass.old.number ∷ []) pass.new)) }
     {
-        let mut core = self.hold(rt);
+        let mut locked = self.hold(rt);
         for _ in rt.forever() {
-            match core.look(deadline, &self.around.glance, pass) {
-                Look::Terminated => return Ok(()),
-                Look::Late => return Err(PoolError::TimedOut),
-                Look::Tidied => {
-                    self.release(core);
+            match locked.look(deadline, &self.around.glance, pass) {
+                EndSeen::Terminated => return Ok(()),
+                EndSeen::Late => return Err(PoolError::TimedOut),
+                EndSeen::Tidied => {
+                    self.release(locked);
                     return self.terminate(rt, pass);
                 }
-                Look::Waits => core = self.around.conditions.end.wait(rt, core),
+                EndSeen::Waits => locked = self.around.conditions.end.wait(rt, locked),
             }
         }
         unreachable!()
@@ -61,16 +61,16 @@ impl<G: PoolNaming, J: Drop, E: Edge, K: Keeper> Shared<G, J, E, K> {
         ensures refused { IfErr result (λ e. AtFront (K.terms G.config) pass.new.front (λ s. IsUndoneAt (K.terms G.config) s group e)) }
         ensures unchanged { OnErr result (LooksOnly (K.terms G.config) pass.old pass.new) }
     {
-        let mut core = self.hold(rt);
+        let mut locked = self.hold(rt);
         for _ in rt.forever() {
-            match core.await_done(group, &self.around.glance, pass) {
+            match locked.await_done(group, &self.around.glance, pass) {
                 Ok(Some(t)) => {
-                    self.release(core);
+                    self.release(locked);
                     return Ok(t);
                 }
-                Ok(None) => core = self.around.conditions.results.wait(rt, core),
+                Ok(None) => locked = self.around.conditions.results.wait(rt, locked),
                 Err(error) => {
-                    self.release(core);
+                    self.release(locked);
                     return Err(error);
                 }
             }
@@ -80,12 +80,12 @@ impl<G: PoolNaming, J: Drop, E: Edge, K: Keeper> Shared<G, J, E, K> {
 
     /// Waits until all threads of workers have handed in their passes.
     pub fn await_workers<R: Wait>(&self, rt: &R) {
-        let mut core = self.hold(rt);
+        let mut locked = self.hold(rt);
         for _ in rt.forever() {
-            if core.running() == 0 {
+            if locked.running() == 0 {
                 return;
             }
-            core = self.around.conditions.gone.wait(rt, core);
+            locked = self.around.conditions.gone.wait(rt, locked);
         }
     }
 }

@@ -7,7 +7,7 @@ ghost use Rattle.tp_pool_holds.specs.Deeds.{Takes, BeginsAt, Ends, Leaves, EndsP
 
 use crate::edges::Edge;
 use crate::lock::polite;
-use crate::locked::{Core, Taking};
+use crate::locked::{Locked, Taking};
 use crate::names::PoolNaming;
 use crate::pauses::{DOZE, Holds, Pace, Pause, rest};
 use crate::roster::Start;
@@ -18,11 +18,11 @@ use tp_book::passes::WorkerPass;
 use tp_machine::machine::releases::Keeper;
 use tp_machine::typed::workers::{End, Leave};
 use tp_machine::typed::{Plain, controllers};
-use tp_protocols::deeds::{Departed, Ended, Taken};
+use tp_protocols::deeds::{Departed, EndAnswer, Taken};
 use tp_protocols::flags::{CancelFlag, SlotFlag};
 use tp_protocols::gates::Point;
 use tp_protocols::jobs::Job;
-use tp_protocols::turns::{Begun, Workplace, one_turn};
+use tp_protocols::turns::{BeginAnswer, Workplace, one_turn};
 use tp_record::recorders::Full;
 use tp_types::ids::{SlotId, TaskId};
 use tp_types::tasks::Outcome;
@@ -79,7 +79,7 @@ impl<
         unreachable!()
     }
 
-    fn begin(&mut self, rt: &R) -> Begun<J> {
+    fn begin(&mut self, rt: &R) -> BeginAnswer<J> {
         self.shared
             .begin(rt, self.w, &mut self.holds, &mut self.pass)
     }
@@ -100,7 +100,7 @@ impl<
             .after(rt, self.w, t, outcome.as_ref());
     }
 
-    fn end(&mut self, rt: &R, outcome: Outcome) -> Ended {
+    fn end(&mut self, rt: &R, outcome: Outcome) -> EndAnswer {
         let holds = &mut self.holds;
         let ended = (self.shared).end(rt, self.w, outcome, holds, &mut self.pass);
         if let Some(kept) = self.flag.renew(self.shared.around.alloc) {
@@ -182,17 +182,17 @@ impl<
 impl<G: PoolNaming, J: Drop, E: Edge, K: Keeper> Shared<G, J, E, K> {
     // Takes the lock, for a step of a worker's turn.
     #[inline(always)]
-    fn hold_in_turn<R: Wait>(&self, rt: &R, holds: &mut Holds) -> MutexGuard<'_, Core<G, J, K>> {
-        let core = polite(rt, self.core.mutex(), holds.patience());
-        holds.begin(core.book().steps(), core.running());
-        core
+    fn hold_in_turn<R: Wait>(&self, rt: &R, holds: &mut Holds) -> MutexGuard<'_, Locked<G, J, K>> {
+        let locked = polite(rt, self.lock.mutex(), holds.patience());
+        holds.begin(locked.book().steps(), locked.running());
+        locked
     }
 
     // Lets go of it.
     #[inline(always)]
-    fn release_in_turn(&self, core: MutexGuard<'_, Core<G, J, K>>, holds: &mut Holds) {
-        holds.end(core.book().steps());
-        self.release(core);
+    fn release_in_turn(&self, locked: MutexGuard<'_, Locked<G, J, K>>, holds: &mut Holds) {
+        holds.end(locked.book().steps());
+        self.release(locked);
     }
 
     // One hold of a worker that asks for its next task.
@@ -207,9 +207,9 @@ impl<G: PoolNaming, J: Drop, E: Edge, K: Keeper> Shared<G, J, E, K> {
         ensures asks { Takes J K.RECEIPTS (K.terms G.config) pass.old.number pass.old.front w pass.new.front (λ r. result ≡ taking_of r) }
         ensures number { pass.new.number ≡ pass.old.number }
     {
-        let mut core = self.hold_in_turn(rt, holds);
-        let taking = core.take(w, &self.around.glance, pass);
-        self.release_in_turn(core, holds);
+        let mut locked = self.hold_in_turn(rt, holds);
+        let taking = locked.take(w, &self.around.glance, pass);
+        self.release_in_turn(locked, holds);
         taking
     }
 
@@ -221,13 +221,13 @@ impl<G: PoolNaming, J: Drop, E: Edge, K: Keeper> Shared<G, J, E, K> {
         w: SlotId,
         holds: &mut Holds,
         pass: &mut WorkerPass<G>,
-    ) -> Begun<J>
+    ) -> BeginAnswer<J>
         ensures asks { BeginsAt J K.RECEIPTS (K.terms G.config) pass.old.number pass.old.front w pass.new.front (λ r. result ≡ begun_of r) }
         ensures number { pass.new.number ≡ pass.old.number }
     {
-        let mut core = self.hold_in_turn(rt, holds);
-        let begun = core.begin(w, &self.around.glance, pass);
-        self.release_in_turn(core, holds);
+        let mut locked = self.hold_in_turn(rt, holds);
+        let begun = locked.begin(w, &self.around.glance, pass);
+        self.release_in_turn(locked, holds);
         begun
     }
 
@@ -240,18 +240,18 @@ impl<G: PoolNaming, J: Drop, E: Edge, K: Keeper> Shared<G, J, E, K> {
         outcome: Outcome,
         holds: &mut Holds,
         pass: &mut WorkerPass<G>,
-    ) -> Ended
+    ) -> EndAnswer
         ensures asks { Ends J K.RECEIPTS (K.terms G.config) pass.old.number pass.old.front w outcome pass.new.front (IsEndOf (state (K.terms G.config) pass.new.front) w.0 result) }
         ensures number { pass.new.number ≡ pass.old.number }
     {
-        let mut core = self.hold_in_turn(rt, holds);
-        let told = core.step(Plain(End(w, outcome)), &self.around.glance, pass);
-        let dying = core.is_dying(w);
-        self.release_in_turn(core, holds);
+        let mut locked = self.hold_in_turn(rt, holds);
+        let told = locked.step(Plain(End(w, outcome)), &self.around.glance, pass);
+        let dying = locked.is_dying(w);
+        self.release_in_turn(locked, holds);
         match told {
-            Ok(_) if dying => Ended::Dying,
-            Ok(_) => Ended::Live,
-            Err(_) => Ended::Refused,
+            Ok(_) if dying => EndAnswer::Dying,
+            Ok(_) => EndAnswer::Live,
+            Err(_) => EndAnswer::Refused,
         }
     }
 
@@ -259,9 +259,9 @@ impl<G: PoolNaming, J: Drop, E: Edge, K: Keeper> Shared<G, J, E, K> {
     #[cold]
     #[inline(never)]
     fn seat_flag<R: Wait>(&self, rt: &R, w: SlotId, kept: CancelFlag) {
-        let mut core = self.hold_as_worker(rt);
-        let before = core.seat_flag(w, kept);
-        self.release(core);
+        let mut locked = self.hold_as_worker(rt);
+        let before = locked.seat_flag(w, kept);
+        self.release(locked);
         drop(before);
     }
 
@@ -285,12 +285,12 @@ impl<G: PoolNaming, J: Drop, E: Edge, K: Keeper> Shared<G, J, E, K> {
         ensures unchanged { IfNone result (pass.new ≡ pass.old) }
         ensures number { pass.new.number ≡ pass.old.number }
     {
-        let mut core = self.hold_as_worker(rt);
-        if core.is_asleep(w) {
+        let mut locked = self.hold_as_worker(rt);
+        if locked.is_asleep(w) {
             return None;
         }
-        let taking = core.take(w, &self.around.glance, pass);
-        self.release(core);
+        let taking = locked.take(w, &self.around.glance, pass);
+        self.release(locked);
         Some(taking)
     }
 
@@ -329,12 +329,12 @@ impl<G: PoolNaming, J: Drop, E: Edge, K: Keeper> Shared<G, J, E, K> {
     // Waits until the thread of this slot and pass is told whether its slot is live. It is told by its pass,
     // since a slot that was given up may be reserved anew before this thread has looked.
     fn await_start<R: Wait>(&self, rt: &R, w: SlotId, pass: &WorkerPass<G>) -> bool {
-        let mut core = self.hold_as_worker(rt);
+        let mut locked = self.hold_as_worker(rt);
         for _ in rt.forever() {
-            match core.told(w, pass) {
+            match locked.told(w, pass) {
                 Start::Live => return true,
                 Start::GivenUp => return false,
-                Start::Waits => core = self.around.conditions.begun.wait(rt, core),
+                Start::Waits => locked = self.around.conditions.begun.wait(rt, locked),
             }
         }
         unreachable!()

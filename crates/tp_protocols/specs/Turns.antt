@@ -6,11 +6,11 @@ use Rattle.tp_protocols.specs.declared.gates.Point.TheVariants as point
 use Rattle.tp_protocols.specs.declared.deeds.Deed.{Deed}
 use Rattle.tp_protocols.specs.declared.deeds.Deed.TheVariants as deed
 use Rattle.tp_protocols.specs.declared.deeds.Taken.TheVariants as taken
-use Rattle.tp_protocols.specs.declared.deeds.Ended.TheVariants as ended
+use Rattle.tp_protocols.specs.declared.deeds.EndAnswer.TheVariants as ended
 use Rattle.tp_protocols.specs.declared.deeds.Departed.{Departed}
 use Rattle.tp_protocols.specs.declared.deeds.Departed.TheVariants as departed
-use Rattle.tp_protocols.specs.declared.turns.Begun.{Begun}
-use Rattle.tp_protocols.specs.declared.turns.Begun.TheVariants as begun
+use Rattle.tp_protocols.specs.declared.turns.BeginAnswer.{BeginAnswer}
+use Rattle.tp_protocols.specs.declared.turns.BeginAnswer.TheVariants as begun
 use Rattle.tp_protocols.specs.declared.turns.Closing.{Closing}
 use Rattle.tp_protocols.specs.declared.turns.Closing.TheVariants as closing
 use Rattle.tp_protocols.specs.declared.turns.Turn.{Turn}
@@ -28,13 +28,13 @@ abbrev pub bare : {J : Type 0} → Deed → Act J
 bare d = (d, None)
 
 -- what a `begin` is told as
-abbrev pub told : {J : Type 0} → Begun J → Act J
+abbrev pub told : {J : Type 0} → BeginAnswer J → Act J
 told (begun.Run t job) = (deed.Began t, Some job)
 told (begun.Skip t) = bare (deed.Skipped t)
 told begun.Refused = bare deed.Unbegun
 
 -- who begins a job owes what the job promises
-abbrev pub IsOwed : {J : Type 0} → (J → Promise) → (Promise → Type 0) → Begun J → Type 0
+abbrev pub IsOwed : {J : Type 0} → (J → Promise) → (Promise → Type 0) → BeginAnswer J → Type 0
 IsOwed promised owes (begun.Run t job) = owes (promised job)
 IsOwed promised owes _ = ⊤
 

@@ -24,7 +24,7 @@ pub enum Deed {
     /// The hook after this task was called, with the body's outcome where it had run.
     After(TaskId, Option<Outcome>),
     /// It told its task's outcome.
-    Ended(Outcome, Ended),
+    Ended(Outcome, EndAnswer),
     /// It left, since its plain task had faulted.
     Left(Departed),
     /// It had a worker made for this slot in its place.
@@ -46,7 +46,7 @@ pub enum Taken {
 
 /// What a worker's `end` came to.
 #[derive(Clone, Copy, Debug, PartialEq, Eq)]
-pub enum Ended {
+pub enum EndAnswer {
     /// It goes on.
     Live,
     /// Its plain task faulted: it is to leave.

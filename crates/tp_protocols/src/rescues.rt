@@ -18,7 +18,7 @@ pub enum Remains {
 
 /// One deed of a rescue, with what came of it.
 #[derive(Clone, Copy, Debug, PartialEq, Eq)]
-pub enum Deed {
+pub enum RescueDeed {
     /// It asked for the pool's end; whether that began.
     Tidied(bool),
     /// The terminated hook was called.
@@ -31,14 +31,14 @@ pub enum Deed {
 
 /// A pool that is to be rescued, as a thread steps there with a pass. Each call is one deed.
 pub trait House<R: Wait> {
-    ghost use Rattle.tp_protocols.specs.declared.rescues.Deed.{Deed};
-    ghost use Rattle.tp_protocols.specs.declared.rescues.Deed.TheVariants as deed;
+    ghost use Rattle.tp_protocols.specs.declared.rescues.RescueDeed.{RescueDeed};
+    ghost use Rattle.tp_protocols.specs.declared.rescues.RescueDeed.TheVariants as deed;
 
     /// With which its steps are made.
     type Pass;
 
     // it is so of the pass before a deed and after it
-    ghost did: { Self.Pass → Deed → Self.Pass → Type 0 };
+    ghost did: { Self.Pass → RescueDeed → Self.Pass → Type 0 };
 
     /// Asks for the pool's end.
     fn tidy(&self, rt: &R, pass: &mut Self::Pass) -> bool

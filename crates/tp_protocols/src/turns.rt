@@ -4,7 +4,7 @@ ghost use Rattle.tp_types.specs.Promise.{FitsPromise};
 ghost use Rattle.tp_protocols.specs.declared.deeds.Deed.TheVariants as deed;
 ghost use Rattle.tp_protocols.specs.Turns.{bare, told, IsOwed, IsTurn, Does, running, departure, GoesOn};
 
-use crate::deeds::{Deed, Departed, Ended, Taken};
+use crate::deeds::{Deed, Departed, EndAnswer, Taken};
 use crate::gates::Point;
 use crate::jobs::Job;
 use std::sync::Wait;
@@ -13,7 +13,7 @@ use tp_types::tasks::Outcome;
 
 /// What came of a worker's `begin`, with the job that it hands out.
 #[derive(Drop)]
-pub enum Begun<J> {
+pub enum BeginAnswer<J> {
     /// This task, with its job.
     Run(TaskId, J),
     /// Nothing: this task was cancelled, and is gone.
@@ -44,7 +44,7 @@ pub trait Workplace<J: Job, R: Wait> {
         ensures done { did self.old (bare (deed.Took result)) self.new };
 
     /// Begins the task that it took.
-    fn begin(&mut self, rt: &R) -> Begun<J>
+    fn begin(&mut self, rt: &R) -> BeginAnswer<J>
         ensures done { did self.old (told result) self.new }
         ensures owes { IsOwed J.promised (owes self.new) result };
 
@@ -65,7 +65,7 @@ pub trait Workplace<J: Job, R: Wait> {
         ensures owes { (p : Promise) → owes self.old p → owes self.new p };
 
     /// Tells the outcome of its task, which is as its job promised.
-    fn end(&mut self, rt: &R, outcome: Outcome) -> Ended
+    fn end(&mut self, rt: &R, outcome: Outcome) -> EndAnswer
         requires promised { (p : Promise) × owes self.old p × FitsPromise p outcome }
         ensures done { did self.old (bare (deed.Ended outcome result)) self.new };
 
@@ -131,16 +131,16 @@ pub fn one_turn<J: Job, R: Wait, W: Workplace<J, R>>(rt: &R, work: &mut W) -> Tu
         Taken::Refused => return Turn::Refused,
     }
     match work.begin(rt) {
-        Begun::Run(t, job) => {
+        BeginAnswer::Run(t, job) => {
             let (outcome, closing) = run_task(rt, work, t, job);
             Turn::Ran(t, outcome, closing)
         }
-        Begun::Skip(t) => {
+        BeginAnswer::Skip(t) => {
             work.before(rt, t);
             work.after(rt, t, None);
             Turn::Skipped(t)
         }
-        Begun::Refused => Turn::Unbegun,
+        BeginAnswer::Refused => Turn::Unbegun,
     }
 }
 
@@ -160,9 +160,9 @@ fn run_task<J: Job, R: Wait, W: Workplace<J, R>>(
     work.after(rt, t, Some(outcome));
     work.pass(Point::End);
     let closing = match work.end(rt, outcome) {
-        Ended::Live => Closing::Live,
-        Ended::Dying => Closing::Died(depart(rt, work)),
-        Ended::Refused => Closing::Refused,
+        EndAnswer::Live => Closing::Live,
+        EndAnswer::Dying => Closing::Died(depart(rt, work)),
+        EndAnswer::Refused => Closing::Refused,
     };
     (outcome, closing)
 }

@@ -6,7 +6,7 @@ use Rattle.tp_record.specs.declared.entries.Did.{Did}
 use Rattle.tp_record.specs.State.{State}
 use Rattle.tp_record.specs.Step.{Answer}
 use Rattle.tp_rules.specs.Answers.{Says}
-use Rattle.tp_rules.specs.Snapshot.{IsAnswer}
+use Rattle.tp_rules.specs.PlainState.{IsAnswer}
 
 IsAnswer-self : (Lacks : Type 0) (a : Answer) → IsAnswer Lacks a a
 IsAnswer-self Lacks (Ok d) = refl

@@ -25,7 +25,7 @@ use Rattle.tp_record.specs.Fields.{is_queued_place, is_idle_stage}
 use Rattle.tp_record.specs.State.{State, slot_at, task_at}
 use Rattle.tp_record.specs.Step as steps
 use Rattle.tp_record.specs.Step.{Answer, Gives, is_free_for}
-use Rattle.tp_rules.specs.Snapshot.{least_free, IsAnswer}
+use Rattle.tp_rules.specs.PlainState.{least_free, IsAnswer}
 
 -- x, the answer at the number w, makes slot w, or makes none and is y, the answer at 0
 pub record Makes (w : ℕ) (x y : Answer) : Type 0 where
@@ -204,7 +204,7 @@ gives_at_free_to c s w a d free is = gives_at c s w a d (free_at c s w a d free 
 pub gives_at_least : (c : Config) (s : State) (a : Ask) (d : Did) → steps.step c s (least_free s.slots) a ≡ Ok d → Gives c s a d
 gives_at_least c s a d is = gives_at_free_to c s (least_free s.slots) a d (inl (slot_at-least_free s.slots)) is
 
--- an answer over a snapshot, at the least number that is no slot there
+-- an answer over a plain state, at the least number that is no slot there
 pub answer_at_least : (c : Config) (r : Answer) (p s : State) (w : ℕ) (a : Ask) → p ≡ s → w ≡ least_free p.slots →
     IsAnswer ⊤ r (steps.step c p w a) → IsAnswer ⊤ r (steps.step c s (least_free s.slots) a)
 answer_at_least c r p s w a same number answered =

@@ -1,2 +1,2 @@
-pub mod Snapshot
+pub mod PlainState
 pub mod Answers

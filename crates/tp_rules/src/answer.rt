@@ -4,10 +4,10 @@ ghost use Rattle.std.specs.Prelude.{◌≡◌, ◌≤◌, length, reverse, IfOk,
 ghost use Rattle.tp_record.specs.Fields as fields;
 ghost use Rattle.tp_record.specs.State.{state};
 ghost use Rattle.tp_record.specs.Step as steps;
-ghost use Rattle.tp_rules.specs.Snapshot.{least_free, IsAnswer};
+ghost use Rattle.tp_rules.specs.PlainState.{least_free, IsAnswer};
 
-use crate::build::snapshot;
-use crate::snapshot::Snapshot;
+use crate::build::plain_state;
+use crate::plain_state::PlainState;
 use crate::step::step;
 use std::alloc::Global;
 use tp_record::entries::{Ask, Did, Entry};
@@ -16,7 +16,7 @@ use tp_types::ids::SlotId;
 use tp_types::refusals::PoolError;
 
 /// The least number that is no slot.
-pub fn free_slot(state: &Snapshot) -> SlotId
+pub fn free_slot(state: &PlainState) -> SlotId
     ensures { result.0 ≡ least_free state.now.slots.items }
 {
     let mut free = 0;
@@ -37,7 +37,7 @@ pub fn answer(alloc: Global, config: &Config, entries: &[Entry], ask: Ask) -> Re
         (least_free (fields.slot_rows (reverse entries.now))) ask) }
     ensures gives { IfOk result (λ d. steps.Gives config.now (state config.now (reverse entries.now)) ask d) }
 {
-    match snapshot(alloc, config, entries) {
+    match plain_state(alloc, config, entries) {
         Ok(now) => step(alloc, config, &now, free_slot(&now), ask),
         Err(error) => Err(error),
     }

@@ -1,24 +1,28 @@
-//! The snapshot that the entries give.
+//! The plain state that the entries give.
 
 ghost use Rattle.std.specs.Prelude.{◌≡◌, ◌≤◌, length, reverse, IfOk, IsOkUnless};
 ghost use Rattle.tp_record.specs.State as states;
-ghost use Rattle.tp_rules.specs.Snapshot.{shown, IsSmall};
+ghost use Rattle.tp_rules.specs.PlainState.{shown, IsSmall};
 
-use crate::snapshot::Snapshot;
+use crate::plain_state::PlainState;
 use crate::{pool, queues, slots, tasks};
 use std::alloc::Global;
 use tp_record::entries::Entry;
 use tp_types::configs::Config;
 use tp_types::refusals::PoolError;
 
-/// The snapshot of a pool that was made with `config`, after these entries.
-pub fn snapshot(alloc: Global, config: &Config, entries: &[Entry]) -> Result<Snapshot, PoolError>
+/// The plain state of a pool that was made with `config`, after these entries.
+pub fn plain_state(
+    alloc: Global,
+    config: &Config,
+    entries: &[Entry],
+) -> Result<PlainState, PoolError>
     requires { length entries.now ≤ 1048576 }
     ensures state { IfOk result (λ s. shown s ≡ states.state config.now (reverse entries.now)) }
     ensures small { IfOk result (λ s. IsSmall 1048576 (shown s)) }
     ensures refused { IsOkUnless result PoolError.NoMemory }
 {
-    Ok(Snapshot {
+    Ok(PlainState {
         steps: entries.len() as u32,
         rank: pool::rank(entries),
         core: pool::core(entries, config.core),

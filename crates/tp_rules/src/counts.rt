@@ -2,11 +2,11 @@
 
 ghost use Rattle.std.specs.Prelude.{◌≡◌, ◌≤◌, count_by, length, reverse, IfOk, IsOkUnless};
 ghost use Rattle.tp_record.specs.State as states;
-ghost use Rattle.tp_rules.specs.Snapshot.{shown, IsSmall};
+ghost use Rattle.tp_rules.specs.PlainState.{shown, IsSmall};
 
-use crate::build::snapshot;
+use crate::build::plain_state;
+use crate::plain_state::PlainState;
 use crate::slots::live_of;
-use crate::snapshot::Snapshot;
 use crate::weights::due;
 use std::alloc::Global;
 use tp_record::entries::Entry;
@@ -37,8 +37,8 @@ pub fn fated(fate: Fate, tasks: &[TaskRow]) -> u32
     fated
 }
 
-/// The counters of a snapshot.
-pub fn counts_of(state: &Snapshot) -> Counts
+/// The counters of a plain state.
+pub fn counts_of(state: &PlainState) -> Counts
     requires { IsSmall 1048577 (shown state.now) }
     ensures { result ≡ states.counts (shown state.now) }
 {
@@ -64,7 +64,7 @@ pub fn counts(alloc: Global, config: &Config, entries: &[Entry]) -> Result<Count
     ensures counters { IfOk result (λ r. r ≡ states.counts (states.state config.now (reverse entries.now))) }
     ensures refused { IsOkUnless result PoolError.NoMemory }
 {
-    let state = snapshot(alloc, config, entries)?;
+    let state = plain_state(alloc, config, entries)?;
     Ok(counts_of(&state))
 }
 
@@ -74,6 +74,6 @@ pub fn owed(alloc: Global, config: &Config, entries: &[Entry]) -> Result<u64, Po
     ensures owed { IfOk result (λ n. n ≡ states.due (states.state config.now (reverse entries.now))) }
     ensures refused { IsOkUnless result PoolError.NoMemory }
 {
-    let state = snapshot(alloc, config, entries)?;
+    let state = plain_state(alloc, config, entries)?;
     Ok(due(&state))
 }

@@ -1,10 +1,10 @@
-//! The snapshot after one more entry.
+//! The plain state after one more entry.
 
 ghost use Rattle.std.specs.Prelude.{◌≡◌, ◌≤◌, ◌<◌, ℕ, filter, length, vec_len, ◌+◌, IfOk, IsOkUnless};
 ghost use Rattle.tp_record.specs.Effects as effects;
 ghost use Rattle.tp_record.specs.Lists as lists;
 ghost use Rattle.tp_record.specs.State as states;
-ghost use Rattle.tp_rules.specs.Snapshot.{shown, IsSmall};
+ghost use Rattle.tp_rules.specs.PlainState.{shown, IsSmall};
 
 use crate::effects::{
     cancel_said, closed_by, completed_by, core_said, core_timeout_said, ending_said, hand_out_said,
@@ -13,8 +13,8 @@ use crate::effects::{
     reserved_by, retry_said, seat_said, second_said, swept, turned_to, woken,
 };
 use crate::lists::{copy_of, push, put_task_at_end, with_room};
+use crate::plain_state::PlainState;
 use crate::slots::live_of;
-use crate::snapshot::Snapshot;
 use crate::weights::slot_at;
 use std::alloc::Global;
 use tp_record::entries::Did;
@@ -36,7 +36,7 @@ pub const NO_ROW: TaskRow = TaskRow {
 };
 
 /// The row of task `t`.
-pub fn task_at(state: &Snapshot, t: TaskId) -> TaskRow
+pub fn task_at(state: &PlainState, t: TaskId) -> TaskRow
     ensures { result ≡ states.task_at (shown state.now) t.0 }
 {
     let t = t.0 as usize;
@@ -48,7 +48,7 @@ pub fn task_at(state: &Snapshot, t: TaskId) -> TaskRow
 }
 
 /// Slot `w`, None where it is no slot.
-pub fn slot_of(state: &Snapshot, w: SlotId) -> Option<SlotRow>
+pub fn slot_of(state: &PlainState, w: SlotId) -> Option<SlotRow>
     ensures { result ≡ states.slot_at state.now.slots.items w.0 }
 {
     slot_at(&state.slots, w.0)
@@ -77,7 +77,7 @@ pub fn row_after(did: Did, t: TaskId, row: TaskRow) -> TaskRow
 }
 
 /// The tasks after an entry.
-pub fn tasks_after(alloc: Global, did: Did, state: &Snapshot) -> Result<Vec<TaskRow>, PoolError>
+pub fn tasks_after(alloc: Global, did: Did, state: &PlainState) -> Result<Vec<TaskRow>, PoolError>
     requires { IsSmall 1048576 (shown state.now) }
     ensures rows { IfOk result (λ v. v.items ≡ states.tasks_after did state.now.tasks.items) }
     ensures refused { IsOkUnless result PoolError.NoMemory }
@@ -97,7 +97,7 @@ pub fn tasks_after(alloc: Global, did: Did, state: &Snapshot) -> Result<Vec<Task
 }
 
 /// Whether a task that was queued stays in the queue.
-pub fn stays_queued(did: Did, state: &Snapshot, t: u32) -> bool
+pub fn stays_queued(did: Did, state: &PlainState, t: u32) -> bool
     ensures { result ≡ states.stays_queued did state.now.tasks.items t }
 {
     let cancelled = task_at(state, TaskId(t)).cancelled;
@@ -105,14 +105,19 @@ pub fn stays_queued(did: Did, state: &Snapshot, t: u32) -> bool
 }
 
 /// Keeps those tasks of a queue that stay in it.
-fn keep_staying(did: Did, state: &Snapshot, queue: &mut Vec<u32>)
+fn keep_staying(did: Did, state: &PlainState, queue: &mut Vec<u32>)
     ensures { queue.new.items ≡ filter (states.stays_queued did state.now.tasks.items) queue.old.items }
 {
     queue.retain(|t| stays_queued(did, state, *t));
 }
 
 /// Task `t` behind all of a line whose priority is not greater. As in the definition, no line is taken to be sorted.
-fn put_behind(alloc: Global, state: &Snapshot, t: u32, line: &[u32]) -> Result<Vec<u32>, PoolError>
+fn put_behind(
+    alloc: Global,
+    state: &PlainState,
+    t: u32,
+    line: &[u32],
+) -> Result<Vec<u32>, PoolError>
     ensures tasks { IfOk result (λ v. v.items
         ≡ lists.put_behind (λ u. (states.row_at state.now.tasks.items u).priority) t line.now) }
     ensures refused { IsOkUnless result PoolError.NoMemory }
@@ -134,7 +139,7 @@ fn put_behind(alloc: Global, state: &Snapshot, t: u32, line: &[u32]) -> Result<V
 }
 
 /// The queue after an entry.
-pub fn queue_after(alloc: Global, did: Did, state: &Snapshot) -> Result<Vec<u32>, PoolError>
+pub fn queue_after(alloc: Global, did: Did, state: &PlainState) -> Result<Vec<u32>, PoolError>
     ensures tasks { IfOk result (λ v. v.items
         ≡ states.queue_after state.now.ranked did state.now.tasks.items state.now.queue.items) }
     ensures refused { IsOkUnless result PoolError.NoMemory }
@@ -151,7 +156,7 @@ pub fn queue_after(alloc: Global, did: Did, state: &Snapshot) -> Result<Vec<u32>
 }
 
 /// Whether an entry ends a plain task with a fault.
-pub fn is_fault_in(state: &Snapshot, did: Did) -> bool
+pub fn is_fault_in(state: &PlainState, did: Did) -> bool
     ensures { result ≡ effects.is_plain_fault did (λ t. (states.task_at (shown state.now) t).kind) }
 {
     match closed_by(did) {
@@ -161,7 +166,7 @@ pub fn is_fault_in(state: &Snapshot, did: Did) -> bool
 }
 
 /// The row of slot `w`, which stays or is new, after an entry.
-pub fn seat_after(did: Did, state: &Snapshot, w: SlotId, row: SlotRow) -> SlotRow
+pub fn seat_after(did: Did, state: &PlainState, w: SlotId, row: SlotRow) -> SlotRow
     ensures { result ≡ states.seat_after did (shown state.now) w.0 row }
 {
     SlotRow {
@@ -173,7 +178,7 @@ pub fn seat_after(did: Did, state: &Snapshot, w: SlotId, row: SlotRow) -> SlotRo
 }
 
 /// Slot `w` after an entry.
-pub fn slot_after(did: Did, state: &Snapshot, w: SlotId, slot: Option<SlotRow>) -> Option<SlotRow>
+pub fn slot_after(did: Did, state: &PlainState, w: SlotId, slot: Option<SlotRow>) -> Option<SlotRow>
     ensures { result ≡ states.slot_after did (shown state.now) w.0 slot }
 {
     let no_seat = SlotRow {
@@ -189,7 +194,7 @@ pub fn slot_after(did: Did, state: &Snapshot, w: SlotId, slot: Option<SlotRow>) 
 }
 
 /// How many places the slot table has after an entry. A table of 2^32 places or more counts as refused memory.
-pub fn slot_places(did: Did, state: &Snapshot) -> Result<u32, PoolError>
+pub fn slot_places(did: Did, state: &PlainState) -> Result<u32, PoolError>
     requires { length state.now.slots.items < 4294967296 }
     ensures places { IfOk result (λ n. n ≡ length (lists.long_enough (effects.reserves did) None state.now.slots.items)) }
     ensures refused { IsOkUnless result PoolError.NoMemory }
@@ -206,7 +211,7 @@ pub fn slot_places(did: Did, state: &Snapshot) -> Result<u32, PoolError>
 pub fn slots_after(
     alloc: Global,
     did: Did,
-    state: &Snapshot,
+    state: &PlainState,
 ) -> Result<Vec<Option<SlotRow>>, PoolError>
     requires { length state.now.slots.items < 4294967296 }
     ensures rows { IfOk result (λ v. v.items ≡ states.slots_after did (shown state.now)) }
@@ -223,7 +228,7 @@ pub fn slots_after(
 }
 
 /// Whether a slot that was idle stays idle.
-pub fn stays_idle(did: Did, state: &Snapshot, w: usize) -> bool
+pub fn stays_idle(did: Did, state: &PlainState, w: usize) -> bool
     ensures { result ≡ states.stays_idle did (shown state.now) w }
 {
     match slot_after(did, state, SlotId(w), slot_of(state, SlotId(w))) {
@@ -233,14 +238,14 @@ pub fn stays_idle(did: Did, state: &Snapshot, w: usize) -> bool
 }
 
 /// Keeps those slots of a list that stay idle.
-fn keep_idle(did: Did, state: &Snapshot, slots: &mut Vec<usize>)
+fn keep_idle(did: Did, state: &PlainState, slots: &mut Vec<usize>)
     ensures { slots.new.items ≡ filter (states.stays_idle did (shown state.now)) slots.old.items }
 {
     slots.retain(|w| stays_idle(did, state, *w));
 }
 
 /// The idle slots after an entry.
-pub fn idling_after(alloc: Global, did: Did, state: &Snapshot) -> Result<Vec<usize>, PoolError>
+pub fn idling_after(alloc: Global, did: Did, state: &PlainState) -> Result<Vec<usize>, PoolError>
     ensures slots { IfOk result (λ v. v.items ≡ states.idling_after did (shown state.now)) }
     ensures refused { IsOkUnless result PoolError.NoMemory }
 {
@@ -253,7 +258,7 @@ pub fn idling_after(alloc: Global, did: Did, state: &Snapshot) -> Result<Vec<usi
 }
 
 /// The task of a group that an entry completes: by its cancel, or by its end where it is not cancelled.
-pub fn completed_in(state: &Snapshot, did: Did) -> Option<u32>
+pub fn completed_in(state: &PlainState, did: Did) -> Option<u32>
     ensures { result ≡ effects.completes did (λ t. (states.task_at (shown state.now) t).kind)
         (λ t. (states.task_at (shown state.now) t).cancelled) }
 {
@@ -274,7 +279,7 @@ fn keep_done(did: Did, tasks: &mut Vec<u32>)
 }
 
 /// The completions that are not handed out after an entry.
-pub fn done_after(alloc: Global, did: Did, state: &Snapshot) -> Result<Vec<u32>, PoolError>
+pub fn done_after(alloc: Global, did: Did, state: &PlainState) -> Result<Vec<u32>, PoolError>
     ensures tasks { IfOk result (λ v. v.items ≡ states.done_after did (shown state.now)) }
     ensures refused { IsOkUnless result PoolError.NoMemory }
 {
@@ -286,8 +291,8 @@ pub fn done_after(alloc: Global, did: Did, state: &Snapshot) -> Result<Vec<u32>,
     Ok(after)
 }
 
-/// The snapshot after one more entry.
-pub fn next(alloc: Global, state: &Snapshot, did: Did) -> Result<Snapshot, PoolError>
+/// The plain state after one more entry.
+pub fn next(alloc: Global, state: &PlainState, did: Did) -> Result<PlainState, PoolError>
     requires { IsSmall 1048576 (shown state.now) }
     ensures next { IfOk result (λ s. shown s ≡ states.next (shown state.now) did) }
     ensures small { IfOk result (λ s. IsSmall 1048577 (shown s)) }
@@ -295,7 +300,7 @@ pub fn next(alloc: Global, state: &Snapshot, did: Did) -> Result<Snapshot, PoolE
 {
     let slots = slots_after(alloc, did, state)?;
     let largest = live_of(&slots).max(state.largest);
-    Ok(Snapshot {
+    Ok(PlainState {
         steps: state.steps + 1,
         rank: reaches(did).max(state.rank),
         core: core_said(did).unwrap_or(state.core),

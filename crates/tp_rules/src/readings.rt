@@ -1,4 +1,4 @@
-//! What the rules of steps read of a pool, wherever it is kept: a snapshot, an auditor's tables, or the structures of a pool
+//! What the rules of steps read of a pool, wherever it is kept: a plain state, an auditor's tables, or the structures of a pool
 //! that runs. As programs these rules stand once, over this trait.
 
 ghost use Rattle.std.specs.Prelude.{◌≡◌, true, false, Some, IfOk, IfErr, None};

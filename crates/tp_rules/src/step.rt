@@ -5,14 +5,14 @@ ghost use Rattle.tp_record.specs.State as states;
 ghost use Rattle.tp_record.specs.State.{State};
 ghost use Rattle.tp_record.specs.Step as steps;
 ghost use Rattle.tp_rules.specs.Answers.{IsRefused};
-ghost use Rattle.tp_rules.specs.Snapshot.{shown, IsAnswer, IsSmall};
+ghost use Rattle.tp_rules.specs.PlainState.{shown, IsAnswer, IsSmall};
 
 use crate::controllers::{
     cancel, core, core_timeout, ended, keep, maximum, prestart, remove, take_done, tick, tidy,
 };
 use crate::next::next;
+use crate::plain_state::PlainState;
 use crate::readings::{FullReadings, Readings};
-use crate::snapshot::Snapshot;
 use crate::submitters::{
     caller_end, grow, look, look_again, offer, refused, retry_of, rule, second,
 };
@@ -27,7 +27,7 @@ use tp_types::refusals::PoolError;
 use tp_types::tasks::Kind;
 
 /// Whether there is room for what is owed.
-pub fn has_room(config: &Config, state: &Snapshot) -> bool
+pub fn has_room(config: &Config, state: &PlainState) -> bool
     requires { IsSmall 1048577 (shown state.now) }
     ensures { result ≡ nat_le ((shown state.now).steps + states.due (shown state.now)) config.now.record_limit }
 {
@@ -38,7 +38,7 @@ pub fn has_room(config: &Config, state: &Snapshot) -> bool
 pub fn leaves_room(
     alloc: Global,
     config: &Config,
-    state: &Snapshot,
+    state: &PlainState,
     did: Did,
 ) -> Result<bool, PoolError>
     requires { IsSmall 1048576 (shown state.now) }
@@ -161,11 +161,11 @@ pub fn fitting<S: FullReadings>(
     }
 }
 
-/// The answer to an ask over a snapshot, where a slot that is made gets the number `w`.
+/// The answer to an ask over a plain state, where a slot that is made gets the number `w`.
 pub fn step(
     alloc: Global,
     config: &Config,
-    state: &Snapshot,
+    state: &PlainState,
     w: SlotId,
     ask: Ask,
 ) -> Result<Did, PoolError>

@@ -2,9 +2,9 @@
 
 ghost use Rattle.std.specs.Prelude.{◌≡◌, ◌≤◌, ◌<◌, ◌*◌, ◌^◌, length, sum_by};
 ghost use Rattle.tp_record.specs.State as states;
-ghost use Rattle.tp_rules.specs.Snapshot.{shown, IsSmall};
+ghost use Rattle.tp_rules.specs.PlainState.{shown, IsSmall};
 
-use crate::snapshot::Snapshot;
+use crate::plain_state::PlainState;
 use tp_record::owed::pool_weight;
 use tp_record::rows::{SlotRow, TaskRow};
 use tp_types::tasks::Place;
@@ -75,7 +75,7 @@ pub fn slots_weight(rank: u8, slots: &[Option<SlotRow>]) -> u64
 }
 
 /// What is owed in all.
-pub fn due(state: &Snapshot) -> u64
+pub fn due(state: &PlainState) -> u64
     requires { IsSmall 1048577 (shown state.now) }
     ensures weight { result ≡ states.due (shown state.now) }
     ensures bound { result < 2 ^ 40 }

@@ -9,7 +9,7 @@ use Rattle.tp_record.specs.declared.entries.Ask.TheVariants as ask
 use Rattle.tp_record.specs.declared.entries.Did.TheVariants as did
 use Rattle.tp_book.specs.PassView.{PassView}
 use Rattle.tp_pool_holds.specs.Passes.{AddsNone, AddsStep, LooksOnly, Refuses}
-use Rattle.tp_pool_holds.specs.declared.tasks.Task.{Task}
+use Rattle.tp_pool_holds.specs.declared.tasks.Payload.{Payload}
 use Rattle.tp_pool_holds.proofs.Receipts.{looks_none, none_behind, step_behind}
 use Rattle.tp_service.specs.Futures.{IsClosed, HaveFailed}
 use Rattle.tp_service.specs.Submitted.{AddsSubmissions, AddsCancel, AreTurnedBack, HasNoValue}
@@ -27,10 +27,10 @@ module _ {P : Type 0} (keeps : Bool) (c : Config) (t : TaskId) where
 
 module _ {J : Type 0} (keeps : Bool) (c : Config) (promised : J → Promise) (urgency : J → ℕ) (jobs : List J) (tasks : List TaskId) (r : Result ℤ PoolError) where
   pub no_value : (old mid new : PassView) → 0 < length jobs → AddsSubmissions c promised urgency jobs tasks old mid →
-      IfErr r (λ e. (told : PassView) × AddsNone mid told × HaveFailed (Task J) keeps c tasks e told new) → IfErr r (λ e. HasNoValue keeps c promised urgency jobs e old new)
+      IfErr r (λ e. (told : PassView) × AddsNone mid told × HaveFailed (Payload J) keeps c tasks e told new) → IfErr r (λ e. HasNoValue keeps c promised urgency jobs e old new)
   no_value old mid new some submits failed = refused r failed
     where
-      refused : (r : Result ℤ PoolError) → IfErr r (λ e. (told : PassView) × AddsNone mid told × HaveFailed (Task J) keeps c tasks e told new) → IfErr r (λ e. HasNoValue keeps c promised urgency jobs e old new)
+      refused : (r : Result ℤ PoolError) → IfErr r (λ e. (told : PassView) × AddsNone mid told × HaveFailed (Payload J) keeps c tasks e told new) → IfErr r (λ e. HasNoValue keeps c promised urgency jobs e old new)
       refused (Ok v) failed = tt
       refused (Err e) failed = inr (inr (record { some = some; tasks = tasks; mid = mid; told = failed.0; submits = submits; looks = failed.1; failed = failed.2 }))
 

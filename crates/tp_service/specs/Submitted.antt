@@ -10,7 +10,7 @@ use Rattle.tp_record.specs.declared.entries.Ask.TheVariants as ask
 use Rattle.tp_record.specs.declared.entries.Did.TheVariants as did
 use Rattle.tp_book.specs.PassView.{PassView}
 use Rattle.tp_pool_holds.specs.Passes.{AddsNone, AddsStep, Refuses}
-use Rattle.tp_pool_holds.specs.declared.tasks.Task.{Task}
+use Rattle.tp_pool_holds.specs.declared.tasks.Payload.{Payload}
 use Rattle.tp_pool.specs.Submissions.{AddsJob, Submits}
 use Rattle.tp_pool.specs.Turns.{Through, ThroughBoth}
 use Rattle.tp_service.specs.Futures.{IsClosed, HasValue, CloseAll, HaveFailed}
@@ -50,7 +50,7 @@ module _ {J : Type 0} (keeps : Bool) (c : Config) (promised : J → Promise) (ur
     pub refused : PassView
     pub submits : AddsSubmissions c promised urgency before earlier old submitted
     pub refuses : Submits keeps c job (promised job) (urgency job) (Err e) submitted refused
-    pub cancels : AddsCancels (Task J) keeps c earlier refused new
+    pub cancels : AddsCancels (Payload J) keeps c earlier refused new
 
   -- these jobs are not all submitted: for want of memory before the first, or since one was refused
   abbrev pub AreTurnedBack : List J → PoolError → PassView → PassView → Type 0
@@ -58,13 +58,13 @@ module _ {J : Type 0} (keeps : Bool) (c : Config) (promised : J → Promise) (ur
 
   -- all these jobs are submitted, and then the pass finds each of their futures not open
   abbrev pub IsAll : List J → List TaskId → PassView → PassView → Type 0
-  IsAll jobs ts old new = (mid : PassView) × AddsSubmissions c promised urgency jobs ts old mid × CloseAll (Task J) keeps c ts mid new
+  IsAll jobs ts old new = (mid : PassView) × AddsSubmissions c promised urgency jobs ts old mid × CloseAll (Payload J) keeps c ts mid new
 
   -- all are submitted, and then found not open; or one of them is late, and all are cancelled
   abbrev pub IsAllUntil : (PassView → TaskId → Type 0) → List J → List TaskId → PassView → PassView → Type 0
   IsAllUntil late jobs ts old new =
       IsAll jobs ts old new
-      ⊎ ((mid : PassView) × (told : PassView) × AddsSubmissions c promised urgency jobs ts old mid × IsOneLate late ts mid told × AddsCancels (Task J) keeps c ts told new)
+      ⊎ ((mid : PassView) × (told : PassView) × AddsSubmissions c promised urgency jobs ts old mid × IsOneLate late ts mid told × AddsCancels (Payload J) keeps c ts told new)
 
   -- these jobs are submitted; at a later front of the pass one of them has this value, and then all are cancelled
   pub record IsAnyValue (jobs : List J) (v : ℤ) (old new : PassView) : Type 0 where
@@ -73,8 +73,8 @@ module _ {J : Type 0} (keeps : Bool) (c : Config) (promised : J → Promise) (ur
     pub told : PassView
     pub submits : AddsSubmissions c promised urgency jobs tasks old mid
     pub looks : AddsNone mid told
-    pub value : Any (HasValue (Task J) c v told) tasks
-    pub cancels : AddsCancels (Task J) keeps c tasks told new
+    pub value : Any (HasValue (Payload J) c v told) tasks
+    pub cancels : AddsCancels (Payload J) keeps c tasks told new
 
   -- these jobs are submitted, one at least, and none has a value
   pub record IsNoValue (jobs : List J) (e : PoolError) (old new : PassView) : Type 0 where
@@ -84,7 +84,7 @@ module _ {J : Type 0} (keeps : Bool) (c : Config) (promised : J → Promise) (ur
     pub told : PassView
     pub submits : AddsSubmissions c promised urgency jobs tasks old mid
     pub looks : AddsNone mid told
-    pub failed : HaveFailed (Task J) keeps c tasks e told new
+    pub failed : HaveFailed (Payload J) keeps c tasks e told new
 
   -- none of these jobs gives a value: there are none; or they are not all submitted; or none of them has one
   abbrev pub HasNoValue : List J → PoolError → PassView → PassView → Type 0

@@ -7,7 +7,7 @@ ghost use Rattle.tp_book.specs.BookView.{left_of};
 ghost use Rattle.tp_pool_holds.specs.Readings.{got, IsFound, IsRelease, IsResult};
 ghost use Rattle.tp_pool_holds.specs.Moments.{BookAt, BookAtSome, BookOf};
 ghost use Rattle.tp_pool_holds.specs.Passes.{LooksOnly};
-ghost use Rattle.tp_pool_holds.specs.declared.tasks.Task.{Task};
+ghost use Rattle.tp_pool_holds.specs.declared.tasks.Payload.{Payload};
 ghost use Rattle.tp_pool.specs.Timed.{IsFoundInTime};
 ghost use Rattle.tp_pool.specs.Admissions.{AtPriority, IsTurnedAway};
 ghost use Rattle.tp_pool.specs.Submissions.{AddsJob};
@@ -58,7 +58,7 @@ pub fn get<G: PoolNaming, J: Job, E: Edge, K: Keeper, R: Wait>(
     rt: &R,
     t: TaskId,
 ) -> Result<i64, PoolError>
-    ensures { BookAtSome (Task J) (K.terms G.config) (λ b. IsFound b t.0 K.RECEIPTS None (got result)) }
+    ensures { BookAtSome (Payload J) (K.terms G.config) (λ b. IsFound b t.0 K.RECEIPTS None (got result)) }
 {
     pool.await_result(rt, t, None)
 }
@@ -71,7 +71,7 @@ pub fn get_until<G: PoolNaming, J: Job, E: Edge, K: Keeper, R: Wait>(
     t: TaskId,
     deadline: u64,
 ) -> Result<i64, PoolError>
-    ensures { BookAtSome (Task J) (K.terms G.config) (λ b. IsFound b t.0 K.RECEIPTS (Some deadline) (got result)) }
+    ensures { BookAtSome (Payload J) (K.terms G.config) (λ b. IsFound b t.0 K.RECEIPTS (Some deadline) (got result)) }
 {
     pool.await_result(rt, t, Some(deadline))
 }
@@ -83,7 +83,7 @@ pub fn try_get<G: PoolNaming, J: Job, E: Edge, K: Keeper, R: Wait>(
     rt: &R,
     t: TaskId,
 ) -> Result<Option<i64>, PoolError>
-    ensures { BookAtSome (Task J) (K.terms G.config) (λ b. IsResult b t.0 K.RECEIPTS result) }
+    ensures { BookAtSome (Payload J) (K.terms G.config) (λ b. IsResult b t.0 K.RECEIPTS result) }
 {
     pool.result(rt, t)
 }
@@ -96,7 +96,7 @@ pub fn get_with<G: PoolNaming, J: Job, E: Edge, K: Keeper, R: Wait>(
     t: TaskId,
     pass: &mut Pass<G>,
 ) -> Result<i64, PoolError>
-    ensures reads { BookOf (Task J) (K.terms G.config) pass.new (λ b. IsFound b t.0 K.RECEIPTS None (got result)) }
+    ensures reads { BookOf (Payload J) (K.terms G.config) pass.new (λ b. IsFound b t.0 K.RECEIPTS None (got result)) }
     ensures looks { LooksOnly (K.terms G.config) pass.old pass.new }
     ensures knew { IsFrontOf pass.old.released pass.new.released }
 {
@@ -111,7 +111,7 @@ pub fn get_until_with<G: PoolNaming, J: Job, E: Edge, K: Keeper, R: Wait>(
     deadline: u64,
     pass: &mut Pass<G>,
 ) -> Result<i64, PoolError>
-    ensures reads { BookOf (Task J) (K.terms G.config) pass.new (λ b. IsFound b t.0 K.RECEIPTS (Some deadline) (got result)) }
+    ensures reads { BookOf (Payload J) (K.terms G.config) pass.new (λ b. IsFound b t.0 K.RECEIPTS (Some deadline) (got result)) }
     ensures looks { LooksOnly (K.terms G.config) pass.old pass.new }
     ensures knew { IsFrontOf pass.old.released pass.new.released }
 {
@@ -127,7 +127,7 @@ pub fn get_for<G: PoolNaming, J: Job, E: Edge, K: Keeper, R: Wait + Clock>(
     most: Duration,
     pass: &mut Pass<G>,
 ) -> Result<i64, PoolError>
-    ensures reads { BookOf (Task J) (K.terms G.config) pass.new (λ b. IsFoundInTime b t.0 K.RECEIPTS (got result)) }
+    ensures reads { BookOf (Payload J) (K.terms G.config) pass.new (λ b. IsFoundInTime b t.0 K.RECEIPTS (got result)) }
     ensures looks { LooksOnly (K.terms G.config) pass.old pass.new }
     ensures knew { IsFrontOf pass.old.released pass.new.released }
 {
@@ -141,7 +141,7 @@ pub fn try_get_with<G: PoolNaming, J: Job, E: Edge, K: Keeper, R: Wait>(
     t: TaskId,
     pass: &mut Pass<G>,
 ) -> Result<Option<i64>, PoolError>
-    ensures reads { BookOf (Task J) (K.terms G.config) pass.new (λ b. IsResult b t.0 K.RECEIPTS result) }
+    ensures reads { BookOf (Payload J) (K.terms G.config) pass.new (λ b. IsResult b t.0 K.RECEIPTS result) }
     ensures looks { LooksOnly (K.terms G.config) pass.old pass.new }
     ensures knew { IsFrontOf pass.old.released pass.new.released }
 {
@@ -160,8 +160,8 @@ pub fn release<G: PoolNaming, J: Job, E: Edge, R: Wait>(
     t: TaskId,
     pass: &mut Pass<G>,
 ) -> Result<(), PoolError>
-    ensures released { OnOk result (BookAt (Task J) (⟦<Tally as Recorder>⟧.terms G.config) pass.new.front (λ b. IsRelease b t.0 pass.new.released)) }
-    ensures kept { IfErr result (λ e. BookOf (Task J) (⟦<Tally as Recorder>⟧.terms G.config) pass.new (λ b. IsKept (left_of b) t.0 e)) }
+    ensures released { OnOk result (BookAt (Payload J) (⟦<Tally as Recorder>⟧.terms G.config) pass.new.front (λ b. IsRelease b t.0 pass.new.released)) }
+    ensures kept { IfErr result (λ e. BookOf (Payload J) (⟦<Tally as Recorder>⟧.terms G.config) pass.new (λ b. IsKept (left_of b) t.0 e)) }
     ensures refused { IfErr result (λ e. (e ≡ PoolError.UnknownTask) ⊎ (e ≡ PoolError.NotThere)) }
     ensures shown { pass.new ≡ record pass.old { front = pass.new.front; released = pass.new.released } }
     ensures goes_on { IsFrontOf pass.old.front pass.new.front }

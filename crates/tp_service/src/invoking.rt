@@ -1,7 +1,7 @@
 //! Many jobs at once. A cancel that these calls ask for and that is refused is left undone: the answer of the
 //! call says nothing of it.
 ghost use Rattle.std.specs.Prelude.{◌≡◌, vec_len, Any, IsTrue, IfOk, IfErr, IfSome};
-ghost use Rattle.tp_pool_holds.specs.declared.tasks.Task.{Task};
+ghost use Rattle.tp_pool_holds.specs.declared.tasks.Payload.{Payload};
 ghost use Rattle.tp_book.specs.PassView.{PassView};
 ghost use Rattle.tp_pool_holds.specs.Passes.{AddsNone, LooksOnly};
 ghost use Rattle.tp_service.specs.Futures.{later_fault as later_fault_of, Closes, CloseAll, HasValue, HaveFailed, IsLate, IsOverdue};
@@ -35,9 +35,9 @@ fn cancel_open<G: PoolNaming, J: Job, E: Edge, K: Leaving<G, J, E, R>, R: Wait>(
     t: TaskId,
     pass: &mut Pass<G>,
 )
-    ensures { AddsCancel (Task J) K.RECEIPTS (K.terms G.config) t pass.old pass.new }
+    ensures { AddsCancel (Payload J) K.RECEIPTS (K.terms G.config) t pass.old pass.new }
 {
-    K::forget(pool, rt, LOOKS, pass);
+    K::forget_abandoned(pool, rt, LOOKS, pass);
     if pool.result_with(rt, t, pass) != Ok(None) {
         return;
     }
@@ -51,7 +51,7 @@ fn cancel_all<G: PoolNaming, J: Job, E: Edge, K: Leaving<G, J, E, R>, R: Wait>(
     tasks: &[TaskId],
     pass: &mut Pass<G>,
 )
-    ensures { AddsCancels (Task J) K.RECEIPTS (K.terms G.config) tasks.now pass.old pass.new }
+    ensures { AddsCancels (Payload J) K.RECEIPTS (K.terms G.config) tasks.now pass.old pass.new }
 {
     for t in tasks {
         cancel_open(pool, rt, *t, pass);
@@ -65,7 +65,7 @@ fn await_closed<G: PoolNaming, J: Job, E: Edge, K: Keeper, R: Wait>(
     t: TaskId,
     pass: &mut Pass<G>,
 )
-    ensures { Closes (Task J) K.RECEIPTS (K.terms G.config) t pass.old pass.new }
+    ensures { Closes (Payload J) K.RECEIPTS (K.terms G.config) t pass.old pass.new }
 {
     let _ = pool.await_result_with(rt, t, None, pass);
 }
@@ -77,7 +77,7 @@ fn await_all<G: PoolNaming, J: Job, E: Edge, K: Keeper, R: Wait>(
     tasks: &[TaskId],
     pass: &mut Pass<G>,
 )
-    ensures { CloseAll (Task J) K.RECEIPTS (K.terms G.config) tasks.now pass.old pass.new }
+    ensures { CloseAll (Payload J) K.RECEIPTS (K.terms G.config) tasks.now pass.old pass.new }
 {
     for t in tasks {
         await_closed(pool, rt, *t, pass);
@@ -93,8 +93,8 @@ fn closes_by<G: PoolNaming, J: Job, E: Edge, K: Keeper, R: Wait>(
     deadline: u64,
     pass: &mut Pass<G>,
 ) -> bool
-    ensures closed { IsTrue result → Closes (Task J) K.RECEIPTS (K.terms G.config) t pass.old pass.new }
-    ensures late { ¬ IsTrue result → LooksOnly (K.terms G.config) pass.old pass.new × IsLate (Task J) (K.terms G.config) deadline pass.new t }
+    ensures closed { IsTrue result → Closes (Payload J) K.RECEIPTS (K.terms G.config) t pass.old pass.new }
+    ensures late { ¬ IsTrue result → LooksOnly (K.terms G.config) pass.old pass.new × IsLate (Payload J) (K.terms G.config) deadline pass.new t }
 {
     pool.await_result_with(rt, t, Some(deadline), pass) != Err(PoolError::TimedOut)
 }
@@ -107,8 +107,8 @@ fn all_close_by<G: PoolNaming, J: Job, E: Edge, K: Keeper, R: Wait>(
     deadline: u64,
     pass: &mut Pass<G>,
 ) -> bool
-    ensures closed { IsTrue result → CloseAll (Task J) K.RECEIPTS (K.terms G.config) tasks.now pass.old pass.new }
-    ensures late { ¬ IsTrue result → IsOneLate (IsLate (Task J) (K.terms G.config) deadline) tasks.now pass.old pass.new }
+    ensures closed { IsTrue result → CloseAll (Payload J) K.RECEIPTS (K.terms G.config) tasks.now pass.old pass.new }
+    ensures late { ¬ IsTrue result → IsOneLate (IsLate (Payload J) (K.terms G.config) deadline) tasks.now pass.old pass.new }
 {
     for t in tasks {
         if !closes_by(pool, rt, *t, deadline, pass) {
@@ -126,8 +126,8 @@ fn closes_in<G: PoolNaming, J: Job, E: Edge, K: Keeper, R: Wait + Clock>(
     timer: Timer,
     pass: &mut Pass<G>,
 ) -> bool
-    ensures closed { IsTrue result → Closes (Task J) K.RECEIPTS (K.terms G.config) t pass.old pass.new }
-    ensures late { ¬ IsTrue result → LooksOnly (K.terms G.config) pass.old pass.new × IsOverdue (Task J) (K.terms G.config) pass.new t }
+    ensures closed { IsTrue result → Closes (Payload J) K.RECEIPTS (K.terms G.config) t pass.old pass.new }
+    ensures late { ¬ IsTrue result → LooksOnly (K.terms G.config) pass.old pass.new × IsOverdue (Payload J) (K.terms G.config) pass.new t }
 {
     let left = timer.left(rt).unwrap_or(Duration::ZERO);
     pool.await_result_for(rt, t, left, pass) != Err(PoolError::TimedOut)
@@ -141,8 +141,8 @@ fn all_close_in<G: PoolNaming, J: Job, E: Edge, K: Keeper, R: Wait + Clock>(
     timer: Timer,
     pass: &mut Pass<G>,
 ) -> bool
-    ensures closed { IsTrue result → CloseAll (Task J) K.RECEIPTS (K.terms G.config) tasks.now pass.old pass.new }
-    ensures late { ¬ IsTrue result → IsOneLate (IsOverdue (Task J) (K.terms G.config)) tasks.now pass.old pass.new }
+    ensures closed { IsTrue result → CloseAll (Payload J) K.RECEIPTS (K.terms G.config) tasks.now pass.old pass.new }
+    ensures late { ¬ IsTrue result → IsOneLate (IsOverdue (Payload J) (K.terms G.config)) tasks.now pass.old pass.new }
 {
     for t in tasks {
         if !closes_in(pool, rt, *t, timer, pass) {
@@ -170,8 +170,8 @@ fn any_of<G: PoolNaming, J: Job, E: Edge, K: Keeper, R: Wait>(
     tasks: &[TaskId],
     pass: &mut Pass<G>,
 ) -> Option<Result<i64, PoolError>>
-    ensures value { IfSome result (λ r. IfOk r (λ v. Any (HasValue (Task J) (K.terms G.config) v pass.new) tasks.now)) }
-    ensures failed { IfSome result (λ r. IfErr r (λ e. HaveFailed (Task J) K.RECEIPTS (K.terms G.config) tasks.now e pass.old pass.new)) }
+    ensures value { IfSome result (λ r. IfOk r (λ v. Any (HasValue (Payload J) (K.terms G.config) v pass.new) tasks.now)) }
+    ensures failed { IfSome result (λ r. IfErr r (λ e. HaveFailed (Payload J) K.RECEIPTS (K.terms G.config) tasks.now e pass.old pass.new)) }
     ensures looks { AddsNone pass.old pass.new }
 {
     let mut open = false;
@@ -198,8 +198,8 @@ fn await_any<G: PoolNaming, J: Job, E: Edge, K: Keeper, R: Wait>(
     tasks: &[TaskId],
     pass: &mut Pass<G>,
 ) -> Result<i64, PoolError>
-    ensures value { IfOk result (λ v. Any (HasValue (Task J) (K.terms G.config) v pass.new) tasks.now) }
-    ensures failed { IfErr result (λ e. (mid : PassView) × AddsNone pass.old mid × HaveFailed (Task J) K.RECEIPTS (K.terms G.config) tasks.now e mid pass.new) }
+    ensures value { IfOk result (λ v. Any (HasValue (Payload J) (K.terms G.config) v pass.new) tasks.now) }
+    ensures failed { IfErr result (λ e. (mid : PassView) × AddsNone pass.old mid × HaveFailed (Payload J) K.RECEIPTS (K.terms G.config) tasks.now e mid pass.new) }
     ensures looks { AddsNone pass.old pass.new }
 {
     for _ in rt.forever() {
@@ -295,7 +295,7 @@ pub fn invoke_all_until<
     pass: &mut Pass<G>,
 ) -> Result<Vec<TaskId>, PoolError>
     ensures count { IfOk result (λ tasks. vec_len tasks ≡ vec_len jobs) }
-    ensures all { IfOk result (λ tasks. IsAllUntil K.RECEIPTS (K.terms G.config) J.promised J.urgency (IsLate (Task J) (K.terms G.config) deadline) jobs.items tasks.items pass.old pass.new) }
+    ensures all { IfOk result (λ tasks. IsAllUntil K.RECEIPTS (K.terms G.config) J.promised J.urgency (IsLate (Payload J) (K.terms G.config) deadline) jobs.items tasks.items pass.old pass.new) }
     ensures refused { IfErr result (λ e. AreTurnedBack K.RECEIPTS (K.terms G.config) J.promised J.urgency jobs.items e pass.old pass.new) }
 {
     let tasks = submit_all(pool, rt, alloc, jobs, pass)?;
@@ -324,7 +324,7 @@ pub fn invoke_all_for<
     pass: &mut Pass<G>,
 ) -> Result<Vec<TaskId>, PoolError>
     ensures count { IfOk result (λ tasks. vec_len tasks ≡ vec_len jobs) }
-    ensures all { IfOk result (λ tasks. IsAllUntil K.RECEIPTS (K.terms G.config) J.promised J.urgency (IsOverdue (Task J) (K.terms G.config)) jobs.items tasks.items pass.old pass.new) }
+    ensures all { IfOk result (λ tasks. IsAllUntil K.RECEIPTS (K.terms G.config) J.promised J.urgency (IsOverdue (Payload J) (K.terms G.config)) jobs.items tasks.items pass.old pass.new) }
     ensures refused { IfErr result (λ e. AreTurnedBack K.RECEIPTS (K.terms G.config) J.promised J.urgency jobs.items e pass.old pass.new) }
 {
     let timer = Timer::new(rt, most);
@@ -366,7 +366,7 @@ pub fn invoke_any<
         Ok(tasks) => tasks,
         Err(error) => return Err(error),
     };
-    K::forget(pool, rt, LOOKS.saturating_mul(tasks.len()), pass);
+    K::forget_abandoned(pool, rt, LOOKS.saturating_mul(tasks.len()), pass);
     let answer = await_any(pool, rt, tasks.as_slice(), pass);
     K::abandon(pool, rt, tasks.as_slice());
     if answer.is_err() {

@@ -18,7 +18,7 @@ pub trait Leaving<G: PoolNaming, J: Job, E: Edge, R: Wait>: Keeper {
     fn abandon(pool: &PoolOf<G, J, E, Self>, rt: &R, tasks: &[TaskId]);
 
     /// Has the pool forget such tasks that are gone, after so many looks. It makes no step.
-    fn forget(pool: &PoolOf<G, J, E, Self>, rt: &R, looks: usize, pass: &mut Pass<G>)
+    fn forget_abandoned(pool: &PoolOf<G, J, E, Self>, rt: &R, looks: usize, pass: &mut Pass<G>)
         ensures shown { pass.new ≡ record pass.old { front = pass.new.front; released = pass.new.released } }
         ensures goes_on { IsFrontOf pass.old.front pass.new.front }
         ensures knew { IsFrontOf pass.old.released pass.new.released };
@@ -28,7 +28,12 @@ pub trait Leaving<G: PoolNaming, J: Job, E: Edge, R: Wait>: Keeper {
 impl<G: PoolNaming, J: Job, E: Edge, R: Wait> Leaving<G, J, E, R> for Full {
     fn abandon(_pool: &PoolOf<G, J, E, Full>, _rt: &R, _tasks: &[TaskId]) {}
 
-    fn forget(_pool: &PoolOf<G, J, E, Full>, _rt: &R, _looks: usize, _pass: &mut Pass<G>) {}
+    fn forget_abandoned(
+        _pool: &PoolOf<G, J, E, Full>,
+        _rt: &R,
+        _looks: usize,
+        _pass: &mut Pass<G>,
+    ) {}
 }
 
 /// Each is released once it is gone.
@@ -37,7 +42,7 @@ impl<G: PoolNaming, J: Job, E: Edge, R: Wait> Leaving<G, J, E, R> for Tally {
         pool.abandon(rt, tasks);
     }
 
-    fn forget(pool: &PoolOf<G, J, E, Tally>, rt: &R, looks: usize, pass: &mut Pass<G>) {
+    fn forget_abandoned(pool: &PoolOf<G, J, E, Tally>, rt: &R, looks: usize, pass: &mut Pass<G>) {
         pool.forget_abandoned(rt, looks, pass);
     }
 }

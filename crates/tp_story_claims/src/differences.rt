@@ -26,7 +26,7 @@ pub enum Side {
 }
 
 /// Which of two records was refused, and why.
-pub type Refused = (Side, PoolError);
+pub type RefusedRecord = (Side, PoolError);
 
 /// How two records go on behind the entries that they share.
 #[derive(Clone, Copy, Debug, PartialEq, Eq)]
@@ -68,7 +68,7 @@ fn next_of(first: Option<Entry>, second: Option<Entry>) -> Result<Entry, Meeting
 fn next_pair<A: Source, B: Source>(
     first: &mut A,
     second: &mut B,
-) -> Result<(Option<Entry>, Option<Entry>), Refused>
+) -> Result<(Option<Entry>, Option<Entry>), RefusedRecord>
     ensures { IfOk result (λ p. (es fs : List Told) → A.gave first.old es → B.gave second.old fs
         → A.gave first.new (es ++ listed p.0) × B.gave second.new (fs ++ listed p.1)) }
 {
@@ -85,13 +85,13 @@ fn next_pair<A: Source, B: Source>(
 /// The most entries of a record.
 const MOST: u64 = 1 << 32;
 
-/// Follows two records as long as they have the same entries, and these are given, and says how they go on. Refused as the sources
+/// Follows two records as long as they have the same entries, and these are given, and says how they go on. RefusedRecord as the sources
 /// refuse, and 4 is want of memory.
 pub fn follow<A: Source, B: Source>(
     front: &mut Front,
     first: &mut A,
     second: &mut B,
-) -> Result<Meeting, Refused>
+) -> Result<Meeting, RefusedRecord>
     requires { differences.GoTogether A.gave B.gave first.old second.old front.old }
     ensures { IfOk result (λ m. differences.Meet A.gave B.gave first.new second.new front.new m) }
 {

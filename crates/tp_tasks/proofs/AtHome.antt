@@ -19,7 +19,7 @@ use Rattle.indexmap.proofs.CallerLemmas.{insert_entry-new}
 use Rattle.tp_record.specs.declared.rows.TaskRow.{TaskRow}
 use Rattle.tp_tasks.specs.declared.homes.Home.{Home}
 use Rattle.tp_tasks.specs.declared.homes.Rows.{Rows}
-use Rattle.tp_tasks.specs.declared.table.Task.{Task}
+use Rattle.tp_tasks.specs.declared.table.KeptTask.{KeptTask}
 use Rattle.tp_tasks.specs.Homes.{home_of, IsSize, is_purgeable, held, holder, home_passes, is_free, is_held, home_at, or_beside, found, home_count, beside_count, ArePlaced, AreApart, AreKept}
 use Rattle.tp_tasks.proofs.Counts.{count-put, count-removed}
 use Rattle.tp_tasks.specs.Table.{row_of_task, task_in, row_in, row_count}
@@ -29,10 +29,10 @@ one b = cond b 1 0
 
 -- no more rows pass a test than there are
 module _ {P S : Type 0} where
-  pass_few : (p : TaskRow → Bool) (homes : List (Option (Home P))) (beside : IndexMap ℕ (Task P) S) → home_count p homes + beside_count p beside ≤ home_count (λ _. true) homes + beside_count (λ _. true) beside
+  pass_few : (p : TaskRow → Bool) (homes : List (Option (Home P))) (beside : IndexMap ℕ (KeptTask P) S) → home_count p homes + beside_count p beside ≤ home_count (λ _. true) homes + beside_count (λ _. true) beside
   pass_few p homes beside =
       let at_homes = sum_by-le-sum_by (λ h. one (home_passes p h)) (λ h. one (home_passes (λ _. true) h)) homes at_home in
-      let others = sum_by-le-sum_by (λ (k : Task P). one (p k.row)) (λ k. one true) (values_of beside.entries) (λ k. short (p k.row)) in
+      let others = sum_by-le-sum_by (λ (k : KeptTask P). one (p k.row)) (λ k. one true) (values_of beside.entries) (λ k. short (p k.row)) in
       omega (arith, at_homes, others)
     where
       short : (b : Bool) → one b ≤ 1
@@ -54,7 +54,7 @@ module _ {P : Type 0} (m : Rows P) where
       omega (arith, few, all, taken, small)
 
   -- also after a write to a task
-  pub recounted_few : (homes : List (Option (Home P))) (beside : IndexMap ℕ (Task P) (BuildHasherDefault FoldHasher)) (before after : Bool) →
+  pub recounted_few : (homes : List (Option (Home P))) (beside : IndexMap ℕ (KeptTask P) (BuildHasherDefault FoldHasher)) (before after : Bool) →
       home_count is_purgeable homes + beside_count is_purgeable beside + one before ≡ m.purgeable + one after → home_count (λ _. true) homes + beside_count (λ _. true) beside ≡ m.count →
       m.purgeable + one after < 2 ^ 32 + one before
   recounted_few homes beside before after sum all =
@@ -91,7 +91,7 @@ module _ {P : Type 0} where
       let sum = ap (home_count p) is ∙ sum_by-replicate (λ (h : Option (Home P)). one (home_passes p h)) n None in
       omega (arith, sum)
 
-  module _ {S : Type 0} (homes : List (Option (Home P))) (n : ℕ) (free : homes ≡ replicate n None) (beside : IndexMap ℕ (Task P) S) where
+  module _ {S : Type 0} (homes : List (Option (Home P))) (n : ℕ) (free : homes ≡ replicate n None) (beside : IndexMap ℕ (KeptTask P) S) where
     no_holder : (i t : ℕ) → holder (home_at homes i) ≡ Some t → ⊥
     no_holder i t e = none-some t (sym (ap (λ hs. holder (home_at hs i)) free ∙ ap holder (free_at n i)) ∙ e)
 
@@ -113,16 +113,16 @@ module _ {P : Type 0} where
   made_free old new n (Err e) none size added same = (0, ∣ inl refl ∣₁, same ∙ none, omega arith)
 
 module _ {P : Type 0} where
-  pub a_task : (o : Option (Task P)) → is_some o ≡ true → (v : Task P) × (o ≡ Some v)
+  pub a_task : (o : Option (KeptTask P)) → is_some o ≡ true → (v : KeptTask P) × (o ≡ Some v)
   a_task None e = absurd (false≢true e)
   a_task (Some v) e = (v, refl)
 
-  pub is_nothing : (o : Option (Task P)) → is_some o ≡ false → o ≡ None
+  pub is_nothing : (o : Option (KeptTask P)) → is_some o ≡ false → o ≡ None
   is_nothing None e = refl
   is_nothing (Some v) e = absurd (false≢true (sym e))
 
   -- a task that is not kept lies at no home, nor beside
-  neither : (o x : Option (Task P)) → or_beside o x ≡ None → (o ≡ None) × (x ≡ None)
+  neither : (o x : Option (KeptTask P)) → or_beside o x ≡ None → (o ≡ None) × (x ≡ None)
   neither None x e = (refl, e)
   neither (Some v) x e = absurd (none-some v (sym e))
 
@@ -167,7 +167,7 @@ module _ {P : Type 0} where
   held_none t (Some h) only u ne = held_other h t u (sym (only h.number refl)) ne
 
   -- a task whose number is that of a home is held there
-  pub holds : (o : Option (Home P)) (t : ℕ) → holder o ≡ Some t → (v : Task P) × (held t o ≡ Some v)
+  pub holds : (o : Option (Home P)) (t : ℕ) → holder o ≡ Some t → (v : KeptTask P) × (held t o ≡ Some v)
   holds None t e = absurd (none-some t e)
   holds (Some h) t e = (h.task, held_same h t (same_Some h.number t e))
 
@@ -201,7 +201,7 @@ module _ {P : Type 0} where
       | inr apart ↦ placed j t (sym (ap holder (at_other j apart)) ∙ e)
     ]
 
-    pub apart_set : {S : Type 0} (beside : IndexMap ℕ (Task P) S) → ((t : ℕ) → holder o ≡ Some t → is_some (get nat_eq beside t) ≡ false) → AreApart homes beside → AreApart (set homes i o) beside
+    pub apart_set : {S : Type 0} (beside : IndexMap ℕ (KeptTask P) S) → ((t : ℕ) → holder o ≡ Some t → is_some (get nat_eq beside t) ≡ false) → AreApart homes beside → AreApart (set homes i o) beside
     apart_set beside new are j t e = elim (cases_eq j i) [
       | inl same ↦ new t (sym (ap holder (at_same j same)) ∙ e)
       | inr apart ↦ are j t (sym (ap holder (at_other j apart)) ∙ e)
@@ -214,14 +214,14 @@ module _ {P : Type 0} where
       none-some there.0 (sym away ∙ ap (λ j. held t (home_at homes j)) (placed i t e) ∙ there.1)
 
   -- so what is written beside for it keeps the two places apart
-  pub apart_beside : {S : Type 0} (homes : List (Option (Home P))) (old new : IndexMap ℕ (Task P) S) (t : ℕ) → ArePlaced homes → held t (home_at homes (home_of (length homes) t)) ≡ None →
+  pub apart_beside : {S : Type 0} (homes : List (Option (Home P))) (old new : IndexMap ℕ (KeptTask P) S) (t : ℕ) → ArePlaced homes → held t (home_at homes (home_of (length homes) t)) ≡ None →
       ((u : ℕ) → nat_eq t u ≡ false → get nat_eq new u ≡ get nat_eq old u) → AreApart homes old → AreApart homes new
   apart_beside homes old new t placed away others are i u e = elim (cases_eq t u) [
     | inl same ↦ absurd (nowhere homes placed t away i (e ∙ ap (λ x. Some x) (sym same)))
     | inr apart ↦ ap is_some (others u (ne_eqb t u apart)) ∙ are i u e
   ]
 
-  pub found_beside : {S : Type 0} (homes : List (Option (Home P))) (beside : IndexMap ℕ (Task P) S) (t : ℕ) → held t (home_at homes (home_of (length homes) t)) ≡ None → found homes beside t ≡ get nat_eq beside t
+  pub found_beside : {S : Type 0} (homes : List (Option (Home P))) (beside : IndexMap ℕ (KeptTask P) S) (t : ℕ) → held t (home_at homes (home_of (length homes) t)) ≡ None → found homes beside t ≡ get nat_eq beside t
   found_beside homes beside t away = ap (λ o. or_beside o (get nat_eq beside t)) away
 
 -- a table in which `o` lies at the home of task t, where `was` lay
@@ -256,7 +256,7 @@ module _ {P : Type 0} (m : Rows P) (t i : ℕ) (is : i ≡ home_of (length m.hom
       }
 
   -- a new task lies at its home
-  pub put_home : slice_get m.homes.items i ≡ Some None → task_in m t ≡ None → (w : Task P) → IsWritten m t (set m.homes.items i (Some (record { number = t; task = w }))) None (Some (record { number = t; task = w }))
+  pub put_home : slice_get m.homes.items i ≡ Some None → task_in m t ≡ None → (w : KeptTask P) → IsWritten m t (set m.homes.items i (Some (record { number = t; task = w }))) None (Some (record { number = t; task = w }))
   unfolding task_in
   put_home free absent w = home_written None (Some (record { number = t; task = w })) free (λ u e. absurd (none-some u e)) (λ u e. same_Some t u e) (ap is_some (neither (held t (home_at m.homes.items (home_of (length m.homes.items) t))) (get nat_eq m.beside t) absent).1)
 
@@ -274,7 +274,7 @@ module _ {P : Type 0} (m : Rows P) (t i : ℕ) (is : i ≡ home_of (length m.hom
         (ap (λ j. held t (home_at m.homes.items j)) (sym is) ∙ ap (held t) (here m.homes.items i (Some h) there) ∙ held_same h t number)
 
     -- what is kept of it is written
-    pub change_home : (w : Task P) → IsWritten m t (set m.homes.items i (Some (record { number = h.number; task = w }))) (Some h) (Some (record { number = h.number; task = w }))
+    pub change_home : (w : KeptTask P) → IsWritten m t (set m.homes.items i (Some (record { number = h.number; task = w }))) (Some h) (Some (record { number = h.number; task = w }))
     change_home w = home_written (Some h) (Some (record { number = h.number; task = w })) there only only alone
 
     -- it is forgotten
@@ -285,7 +285,7 @@ module _ {P : Type 0} (m : Rows P) (t i : ℕ) (is : i ≡ home_of (length m.hom
     row_home r is = same_Some h.task.row r (sym (ap row_of_task found_home) ∙ is)
 
 -- a table beside in which task t is another, or is not, where it lies at no home
-module _ {P : Type 0} (m : Rows P) (t : ℕ) (away : is_held t (slice_get m.homes.items (home_of (length m.homes.items) t)) ≡ false) (beside : IndexMap ℕ (Task P) (BuildHasherDefault FoldHasher)) where
+module _ {P : Type 0} (m : Rows P) (t : ℕ) (away : is_held t (slice_get m.homes.items (home_of (length m.homes.items) t)) ≡ false) (beside : IndexMap ℕ (KeptTask P) (BuildHasherDefault FoldHasher)) where
   elsewhere : held t (home_at m.homes.items (home_of (length m.homes.items) t)) ≡ None
   elsewhere = not_held m.homes.items _ t away
 
@@ -293,7 +293,7 @@ module _ {P : Type 0} (m : Rows P) (t : ℕ) (away : is_held t (slice_get m.home
   unfolding task_in
   kept_beside = found_beside m.homes.items m.beside t elsewhere
 
-  module _ (o : Option (Task P)) (updates : UpdatesBy nat_eq (nat_eq t) m.beside beside o) where
+  module _ (o : Option (KeptTask P)) (updates : UpdatesBy nat_eq (nat_eq t) m.beside beside o) where
     pub apart_other : AreApart m.homes.items beside
     apart_other = apart_beside m.homes.items m.beside beside t m.placed elsewhere updates.2 m.apart
 
@@ -305,12 +305,12 @@ module _ {P : Type 0} (m : Rows P) (t : ℕ) (away : is_held t (slice_get m.home
     others_other u ne = ap (or_beside (held u (home_at m.homes.items (home_of (length m.homes.items) u)))) (updates.2 u ne)
 
   -- what is kept of a task beside is written
-  module _ (v w : Task P) (there : get nat_eq m.beside t ≡ Some v) (through : WritesThrough nat_eq (nat_eq t) m.beside w beside) where
+  module _ (v w : KeptTask P) (there : get nat_eq m.beside t ≡ Some v) (through : WritesThrough nat_eq (nat_eq t) m.beside w beside) where
     pub updates_through : UpdatesBy nat_eq (nat_eq t) m.beside beside (Some w)
     updates_through = through.3 (ap is_some there)
 
     pub count_through : (p : TaskRow → Bool) → beside_count p beside + one (p v.row) ≡ beside_count p m.beside + one (p w.row)
-    count_through p = ap (λ es. sum_by (λ (k : Task P). one (p k.row)) (values_of es) + one (p v.row)) through.0 ∙ sum_by-set_value (λ (k : Task P). one (p k.row)) (nat_eq t) m.beside.entries v w there
+    count_through p = ap (λ es. sum_by (λ (k : KeptTask P). one (p k.row)) (values_of es) + one (p v.row)) through.0 ∙ sum_by-set_value (λ (k : KeptTask P). one (p k.row)) (nat_eq t) m.beside.entries v w there
 
   -- a task beside is forgotten
   module _ (out : beside.entries ≡ swap_remove_entry (nat_eq t) m.beside.entries) where
@@ -322,7 +322,7 @@ module _ {P : Type 0} (m : Rows P) (t : ℕ) (away : is_held t (slice_get m.home
         let sum = count_out p r (ap row_of_task (sym kept_beside) ∙ is) in
         omega (arith, sum)
 
-    module _ (v : Task P) (there : get nat_eq m.beside t ≡ Some v) where
+    module _ (v : KeptTask P) (there : get nat_eq m.beside t ≡ Some v) where
       pub some_beside : 1 ≤ m.count
       some_beside =
           let sum = count_out (λ _. true) v.row (ap row_of_task there) in
@@ -336,7 +336,7 @@ module _ {P : Type 0} (m : Rows P) (t : ℕ) (away : is_held t (slice_get m.home
           omega (arith, sum, all)
 
   -- and one is put there
-  module _ (w : Task P) (entries : beside.entries ≡ insert_entry nat_eq m.beside.entries t w) (absent : task_in m t ≡ None) where
+  module _ (w : KeptTask P) (entries : beside.entries ≡ insert_entry nat_eq m.beside.entries t w) (absent : task_in m t ≡ None) where
     pub count_more : (p : TaskRow → Bool) → home_count p m.homes.items + beside_count p beside ≡ row_count p m + one (p w.row)
     count_more p =
         let sum = count-put m.beside beside t w (entries ∙ insert_entry-new nat_eq m.beside t w (sym kept_beside ∙ absent)) p in

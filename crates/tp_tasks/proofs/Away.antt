@@ -19,7 +19,7 @@ use Rattle.tp_record.specs.declared.rows.TaskRow.{TaskRow}
 use Rattle.tp_record.specs.Lists.{is_among, IsOnce}
 use Rattle.tp_tasks.specs.declared.homes.Home.{Home}
 use Rattle.tp_tasks.specs.declared.homes.Rows.{Rows}
-use Rattle.tp_tasks.specs.declared.table.Task.{Task}
+use Rattle.tp_tasks.specs.declared.table.KeptTask.{KeptTask}
 use Rattle.tp_tasks.specs.Homes.{home_of, held, holder, home_passes, home_at, home_count}
 use Rattle.tp_tasks.specs.Kept.{AreSubmitted}
 use Rattle.tp_tasks.specs.Table.{row_of_task, passes, task_in, row_in, row_count, task_count}
@@ -58,7 +58,7 @@ distinct_append (k ∷ ks) rs first second other = (
   distinct_append ks rs first.1 second (λ x is. other x (ap (λ b. nat_eq x k || b) is ∙ or_true (nat_eq x k))),
 )
 
-has_row : {P : Type 0} (o : Option (Task P)) → is_some (row_of_task o) ≡ is_some o
+has_row : {P : Type 0} (o : Option (KeptTask P)) → is_some (row_of_task o) ≡ is_some o
 has_row None = refl
 has_row (Some v) = refl
 
@@ -192,11 +192,11 @@ module _ {P : Type 0} (m : Rows P) (n : ℕ) (below : AreSubmitted n m) where
       length-append at_homes beside
       ∙ ap₂ (λ a b. a + b) (numbers_counted m.homes.items) (keys_counted m.beside.entries ∙ each m.beside.entries)
     where
-      each : (es : List (ℕ × Task P)) → length es ≡ sum_by (λ (k : Task P). one true) (values_of es)
+      each : (es : List (ℕ × KeptTask P)) → length es ≡ sum_by (λ (k : KeptTask P). one true) (values_of es)
       each [] = refl
       each (e ∷ es) =
           let rest = each es in
-          let all = sum_by-cons (λ (k : Task P). one true) e.1 (values_of es) in
+          let all = sum_by-cons (λ (k : KeptTask P). one true) e.1 (values_of es) in
           omega (arith, rest, all)
 
   -- no more tasks are kept than were submitted
@@ -264,11 +264,11 @@ module _ {P : Type 0} (m : Rows P) (n : ℕ) (below : AreSubmitted n m) where
           let same = ap one (each 0 h refl) in
           omega (arith, rest, all, more, same)
 
-      beside_pass : (es : List (ℕ × Task P)) → ((i t : ℕ) (v : Task P) → slice_get es i ≡ Some (t, v) → test t ≡ p v.row) → length (filter test (keys_of es)) ≡ sum_by (λ (k : Task P). one (p k.row)) (values_of es)
+      beside_pass : (es : List (ℕ × KeptTask P)) → ((i t : ℕ) (v : KeptTask P) → slice_get es i ≡ Some (t, v) → test t ≡ p v.row) → length (filter test (keys_of es)) ≡ sum_by (λ (k : KeptTask P). one (p k.row)) (values_of es)
       beside_pass [] each = refl
       beside_pass (e ∷ es) each =
           let rest = beside_pass es (λ i t v is. each (suc i) t v is) in
-          let all = sum_by-cons (λ (k : Task P). one (p k.row)) e.1 (values_of es) in
+          let all = sum_by-cons (λ (k : KeptTask P). one (p k.row)) e.1 (values_of es) in
           let more = length_more (test e.0) e.0 (filter test (keys_of es)) in
           let same = ap one (each 0 e.0 e.1 refl) in
           omega (arith, rest, all, more, same)

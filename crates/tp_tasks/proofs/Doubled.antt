@@ -12,7 +12,7 @@ use Rattle.std.proofs.lemmas.Nat.Gcd.{dvd_refl}
 use Rattle.indexmap.specs.IndexMap.{IndexMap, get}
 use Rattle.tp_record.specs.declared.rows.TaskRow.{TaskRow}
 use Rattle.tp_tasks.specs.declared.homes.Home.{Home}
-use Rattle.tp_tasks.specs.declared.table.Task.{Task}
+use Rattle.tp_tasks.specs.declared.table.KeptTask.{KeptTask}
 use Rattle.tp_tasks.specs.Homes.{home_of, IsSize, held, holder, home_passes, home_at, or_beside, found, home_count, moves, stays, goes, ArePlaced, AreApart, AreSpread}
 use Rattle.tp_tasks.proofs.AtHome.{one, count_free}
 
@@ -161,7 +161,7 @@ wide_size old wide r is added size =
 pub all_spread : {P : Type 0} (old wide now : List (Option (Home P))) (r : ℕ) → r ≡ length old → wide ≡ old ++ replicate r None → AreSpread r r wide now → AreSpread (length old) (length old) (old ++ replicate (length old) None) now
 all_spread old wide now r is added spread = subst (λ n. AreSpread n n (old ++ replicate n None) now) is (subst (λ w. AreSpread r r w now) added spread)
 
-module _ {P S : Type 0} (old now : List (Option (Home P))) (beside : IndexMap ℕ (Task P) S) (some : 0 < length old) (spread : AreSpread (length old) (length old) (old ++ replicate (length old) None) now) where
+module _ {P S : Type 0} (old now : List (Option (Home P))) (beside : IndexMap ℕ (KeptTask P) S) (some : 0 < length old) (spread : AreSpread (length old) (length old) (old ++ replicate (length old) None) now) where
   abbrev m : ℕ
   m = length old
 

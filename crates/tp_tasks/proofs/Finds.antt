@@ -12,7 +12,7 @@ use Rattle.indexmap.specs.IndexMap.{get}
 use Rattle.tp_record.specs.declared.rows.TaskRow.{TaskRow}
 use Rattle.tp_tasks.specs.declared.homes.Home.{Home}
 use Rattle.tp_tasks.specs.declared.homes.Rows.{Rows}
-use Rattle.tp_tasks.specs.declared.table.Task.{Task}
+use Rattle.tp_tasks.specs.declared.table.KeptTask.{KeptTask}
 use Rattle.tp_tasks.specs.Homes.{home_of, held, holder, home_passes, home_at, or_beside, home_count, beside_count}
 use Rattle.tp_tasks.specs.Table.{task_in, row_count}
 use Rattle.tp_tasks.proofs.AtHome.{one, held_same}
@@ -26,17 +26,17 @@ some_of (suc m) n some = inl (omega arith)
 
 module _ {P : Type 0} (p : TaskRow → Bool) where
   -- a task that passes is counted
-  found_counts : (test : ℕ → Bool) (es : List (ℕ × Task P)) (v : Task P) → lookup test es ≡ Some v → p v.row ≡ true → 0 < sum_by (λ (k : Task P). one (p k.row)) (values_of es)
+  found_counts : (test : ℕ → Bool) (es : List (ℕ × KeptTask P)) (v : KeptTask P) → lookup test es ≡ Some v → p v.row ≡ true → 0 < sum_by (λ (k : KeptTask P). one (p k.row)) (values_of es)
   found_counts test [] v found pass = absurd (none-some v found)
   found_counts test (e ∷ es) v found pass =
-      let f : Task P → ℕ = λ k. one (p k.row) in
+      let f : KeptTask P → ℕ = λ k. one (p k.row) in
       subst (λ n. 0 < n) (sym (sum_by-cons f e.1 (values_of es))) (by (test e.0) refl (found_counts test es v))
     where
-      by : (b : Bool) → test e.0 ≡ b → (lookup test es ≡ Some v → p v.row ≡ true → 0 < sum_by (λ (k : Task P). one (p k.row)) (values_of es)) →
-          0 < one (p e.1.row) + sum_by (λ (k : Task P). one (p k.row)) (values_of es)
+      by : (b : Bool) → test e.0 ≡ b → (lookup test es ≡ Some v → p v.row ≡ true → 0 < sum_by (λ (k : KeptTask P). one (p k.row)) (values_of es)) →
+          0 < one (p e.1.row) + sum_by (λ (k : KeptTask P). one (p k.row)) (values_of es)
       by true is rest =
           let same : e.1 ≡ v = same_Some e.1 v (sym (ap (λ b. cond b (Some e.1) (lookup test es)) is) ∙ found) in
-          let once : one (p e.1.row) ≡ 1 = ap (λ (k : Task P). one (p k.row)) same ∙ ap one pass in
+          let once : one (p e.1.row) ≡ 1 = ap (λ (k : KeptTask P). one (p k.row)) same ∙ ap one pass in
           omega (arith, once)
       by false is rest = more (one (p e.1.row)) _ (rest (sym (ap (λ b. cond b (Some e.1) (lookup test es)) is) ∙ found) pass)
 
@@ -52,15 +52,15 @@ module _ {P : Type 0} (p : TaskRow → Bool) where
       omega (arith, all, rest)
 
   -- a count that is not 0 counts a task that passes
-  counts_found : (es : List (ℕ × Task P)) → 0 < sum_by (λ (k : Task P). one (p k.row)) (values_of es) → (i : ℕ) × (t : ℕ) × (v : Task P) × (slice_get es i ≡ Some (t, v)) × (p v.row ≡ true)
+  counts_found : (es : List (ℕ × KeptTask P)) → 0 < sum_by (λ (k : KeptTask P). one (p k.row)) (values_of es) → (i : ℕ) × (t : ℕ) × (v : KeptTask P) × (slice_get es i ≡ Some (t, v)) × (p v.row ≡ true)
   counts_found [] some = absurd (omega (arith, some))
   counts_found (e ∷ es) some = by (p e.1.row) refl (counts_found es)
     where
-      by : (b : Bool) → p e.1.row ≡ b → (0 < sum_by (λ (k : Task P). one (p k.row)) (values_of es) → (i : ℕ) × (t : ℕ) × (v : Task P) × (slice_get es i ≡ Some (t, v)) × (p v.row ≡ true)) →
-          (i : ℕ) × (t : ℕ) × (v : Task P) × (slice_get (e ∷ es) i ≡ Some (t, v)) × (p v.row ≡ true)
+      by : (b : Bool) → p e.1.row ≡ b → (0 < sum_by (λ (k : KeptTask P). one (p k.row)) (values_of es) → (i : ℕ) × (t : ℕ) × (v : KeptTask P) × (slice_get es i ≡ Some (t, v)) × (p v.row ≡ true)) →
+          (i : ℕ) × (t : ℕ) × (v : KeptTask P) × (slice_get (e ∷ es) i ≡ Some (t, v)) × (p v.row ≡ true)
       by true is rest = (0, e.0, e.1, refl, is)
       by false is rest =
-          let all = sum_by-cons (λ (k : Task P). one (p k.row)) e.1 (values_of es) in
+          let all = sum_by-cons (λ (k : KeptTask P). one (p k.row)) e.1 (values_of es) in
           let none : one (p e.1.row) ≡ 0 = ap one is in
           let later = rest (omega (arith, all, none, some)) in
           (suc later.0, later.1, later.2, later.3, later.4)
@@ -83,7 +83,7 @@ module _ {P : Type 0} (p : TaskRow → Bool) where
   passing (Some h) pass = (h, refl, pass)
 
 module _ {P : Type 0} where
-  pub holding : (t : ℕ) (o : Option (Home P)) (v : Task P) → held t o ≡ Some v → (h : Home P) × (o ≡ Some h) × (h.number ≡ t) × (h.task ≡ v)
+  pub holding : (t : ℕ) (o : Option (Home P)) (v : KeptTask P) → held t o ≡ Some v → (h : Home P) × (o ≡ Some h) × (h.number ≡ t) × (h.task ≡ v)
   holding t None v e = absurd (none-some v e)
   holding t (Some h) v e = by (nat_eq h.number t) refl e
     where
@@ -92,7 +92,7 @@ module _ {P : Type 0} where
       by false is e = absurd (none-some v e)
 
   -- a task is found at its home, or beside
-  pub placed_of : (o x : Option (Task P)) (v : Task P) → or_beside o x ≡ Some v → (o ≡ Some v) ⊎ (x ≡ Some v)
+  pub placed_of : (o x : Option (KeptTask P)) (v : KeptTask P) → or_beside o x ≡ Some v → (o ≡ Some v) ⊎ (x ≡ Some v)
   placed_of None x v e = inr e
   placed_of (Some k) x v e = inl e
 
@@ -102,27 +102,27 @@ module _ {P : Type 0} where
   home_task m i h is = ap (λ o. or_beside o (get nat_eq m.beside h.number))
       (ap (λ j. held h.number (home_at m.homes.items j)) (m.placed i h.number (ap holder is)) ∙ ap (held h.number) is ∙ held_same h h.number refl)
 
-  pub beside_task : (m : Rows P) (t : ℕ) (v : Task P) → get nat_eq m.beside t ≡ Some v → task_in m t ≡ Some v
+  pub beside_task : (m : Rows P) (t : ℕ) (v : KeptTask P) → get nat_eq m.beside t ≡ Some v → task_in m t ≡ Some v
   unfolding task_in
   beside_task m t v is = by (held t (home_at m.homes.items (home_of (length m.homes.items) t))) refl
     where
-      by : (o : Option (Task P)) → held t (home_at m.homes.items (home_of (length m.homes.items) t)) ≡ o → or_beside o (get nat_eq m.beside t) ≡ Some v
+      by : (o : Option (KeptTask P)) → held t (home_at m.homes.items (home_of (length m.homes.items) t)) ≡ o → or_beside o (get nat_eq m.beside t) ≡ Some v
       by None none = is
       by (Some k) there =
           let h = holding t (home_at m.homes.items (home_of (length m.homes.items) t)) k there in
           absurd (false≢true (sym (m.apart (home_of (length m.homes.items) t) t (ap holder h.1 ∙ ap (λ n. Some n) h.2)) ∙ ap is_some is))
 
-  pub task_counts : (p : TaskRow → Bool) (m : Rows P) (t : ℕ) (v : Task P) → task_in m t ≡ Some v → p v.row ≡ true → 0 < row_count p m
+  pub task_counts : (p : TaskRow → Bool) (m : Rows P) (t : ℕ) (v : KeptTask P) → task_in m t ≡ Some v → p v.row ≡ true → 0 < row_count p m
   unfolding task_in
   task_counts p m t v is pass = elim (placed_of (held t (home_at m.homes.items (home_of (length m.homes.items) t))) (get nat_eq m.beside t) v is) [
     | inl home ↦
         let h = holding t _ v home in
-        let some = home_counts p m.homes.items _ (ap (home_passes p) h.1 ∙ ap (λ (k : Task P). p k.row) h.3 ∙ pass) in
+        let some = home_counts p m.homes.items _ (ap (home_passes p) h.1 ∙ ap (λ (k : KeptTask P). p k.row) h.3 ∙ pass) in
         omega (arith, some)
     | inr beside ↦ more (home_count p m.homes.items) _ (found_counts p (nat_eq t) m.beside.entries v beside pass)
   ]
 
-  pub counts_task : (p : TaskRow → Bool) (m : Rows P) → 0 < row_count p m → (t : ℕ) × (v : Task P) × (task_in m t ≡ Some v) × (p v.row ≡ true)
+  pub counts_task : (p : TaskRow → Bool) (m : Rows P) → 0 < row_count p m → (t : ℕ) × (v : KeptTask P) × (task_in m t ≡ Some v) × (p v.row ≡ true)
   counts_task p m some = elim (some_of (home_count p m.homes.items) (beside_count p m.beside) some) [
     | inl home ↦
         let at = home_found p m.homes.items home in

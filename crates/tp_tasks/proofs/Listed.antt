@@ -16,7 +16,7 @@ use Rattle.tp_record.specs.State.{fate_of}
 use Rattle.tp_record.specs.Step.{is_of_group}
 use Rattle.tp_tasks.specs.declared.group.Group.{Group}
 use Rattle.tp_tasks.specs.declared.homes.Rows.{Rows}
-use Rattle.tp_tasks.specs.declared.table.Task.{Task}
+use Rattle.tp_tasks.specs.declared.table.KeptTask.{KeptTask}
 use Rattle.tp_tasks.specs.Groups.{done_of_group, done_in, KeepsOtherGroups}
 use Rattle.tp_tasks.specs.Kept.{waits_in, waits_there, AreListed}
 use Rattle.tp_tasks.specs.Table.{row_of_task, mark_of_task, task_in, row_in, mark_in, KeepsOtherTasks, SetsTask}
@@ -79,7 +79,7 @@ pub there_listed : {P Z : Type 0} (groups : IndexMap ℕ Group Z) (m : Rows P) (
 there_listed groups m t g listed is = waits_here g (row_in m t) (mark_in m t) (sym (is_listed t (done_in groups g) _ (listed g t)) ∙ is)
 
 -- the waiting task, by what is kept of it
-abbrev pub waits : {P : Type 0} → ℕ → Option (Task P) → Bool
+abbrev pub waits : {P : Type 0} → ℕ → Option (KeptTask P) → Bool
 waits g o = waits_in g (row_of_task o) (mark_of_task o)
 
 -- a task of the same kind and fate waits as before
@@ -99,7 +99,7 @@ waits-all old new t others here g u = elim (cases_eq t u) [
 ]
 
 -- what does not see the mark sees no change where only that is written
-unseen : {P A : Type 0} (old new : Rows P) (t : ℕ) (v w : Task P) → task_in old t ≡ Some v → SetsTask old new t v w → (F : Option (Task P) → A) → F (Some w) ≡ F (Some v) → (u : ℕ) →
+unseen : {P A : Type 0} (old new : Rows P) (t : ℕ) (v w : KeptTask P) → task_in old t ≡ Some v → SetsTask old new t v w → (F : Option (KeptTask P) → A) → F (Some w) ≡ F (Some v) → (u : ℕ) →
     F (task_in new u) ≡ F (task_in old u)
 unseen old new t v w was set F same u = elim (cases_eq t u) [
   | inl equal ↦ subst (λ x. F (task_in new x) ≡ F (task_in old x)) equal (ap F set.task ∙ same ∙ sym (ap F was))
@@ -122,13 +122,13 @@ module _ {P Z : Type 0} where
         ap₂ (waits_in g) row mark ∙ waits-same g from to (mark_in old t) kind fate ∙ sym (ap (λ r. waits_in g r (mark_in old t)) was))
 
     -- a new task has no fate
-    pub listed_put : (groups groups' : IndexMap ℕ Group Z) (w : Task P) → is_some (task_in old t) ≡ false → task_in new t ≡ Some w → fate_of w.row ≡ None →
+    pub listed_put : (groups groups' : IndexMap ℕ Group Z) (w : KeptTask P) → is_some (task_in old t) ≡ false → task_in new t ≡ Some w → fate_of w.row ≡ None →
         ((g : ℕ) → done_in groups' g ≡ done_in groups g) → AreListed groups old → AreListed groups' new
     listed_put groups groups' w absent task unfated done listed g u =
         ap (times u) (done g) ∙ listed-kept groups (λ g. ap (waits g) task ∙ ap (λ o. is_of_group g w.row.kind && (is_some o && w.listed)) unfated
         ∙ and_false (is_of_group g w.row.kind) ∙ sym (nothing g (task_in old t) absent)) listed g u
       where
-        nothing : (g : ℕ) (o : Option (Task P)) → is_some o ≡ false → waits g o ≡ false
+        nothing : (g : ℕ) (o : Option (KeptTask P)) → is_some o ≡ false → waits g o ≡ false
         nothing g None out = refl
         nothing g (Some v) out = absurd (false≢true (sym out))
 
@@ -141,7 +141,7 @@ module _ {P Z : Type 0} where
         none g true is = absurd (out (g, is))
         none g false is = refl
 
-  module _ (old new : Rows P) (t : ℕ) (v w : Task P) (was : task_in old t ≡ Some v) (set : SetsTask old new t v w) where
+  module _ (old new : Rows P) (t : ℕ) (v w : KeptTask P) (was : task_in old t ≡ Some v) (set : SetsTask old new t v w) where
     -- a write that leaves the kind, the fate and the mark
     pub listed_stays : w.row.kind ≡ v.row.kind → fate_of w.row ≡ fate_of v.row → w.listed ≡ v.listed → (groups : IndexMap ℕ Group Z) → AreListed groups old → AreListed groups new
     listed_stays kind fate mark groups = listed-kept old new t set.others groups (λ g.
@@ -196,7 +196,7 @@ first_of : (t : ℕ) (xs : List ℕ) → Some t ≡ slice_get xs 0 → xs ≡ t 
 first_of t [] e = absurd (none-some t (sym e))
 first_of t (x ∷ xs) e = ap (λ y. y ∷ xs) (sym (same_Some t x e))
 
-kept_of : {P : Type 0} (g : ℕ) (o : Option (Task P)) → waits g o ≡ true → (v : Task P) × (o ≡ Some v) × (is_of_group g v.row.kind ≡ true)
+kept_of : {P : Type 0} (g : ℕ) (o : Option (KeptTask P)) → waits g o ≡ true → (v : KeptTask P) × (o ≡ Some v) × (is_of_group g v.row.kind ≡ true)
 kept_of g None e = absurd (false≢true e)
 kept_of g (Some v) e = (v, refl, (and_parts (is_of_group g v.row.kind) (is_some (fate_of v.row) && v.listed) e).0)
 
@@ -222,12 +222,12 @@ module _ {P Z : Type 0} (old new : Rows P) (groups groups' : IndexMap ℕ Group 
       by false n e = absurd (omega (arith, e))
 
   -- the task that is handed out is kept
-  pub handed_task : (v : Task P) × (task_in old t ≡ Some v) × (is_of_group g v.row.kind ≡ true)
+  pub handed_task : (v : KeptTask P) × (task_in old t ≡ Some v) × (is_of_group g v.row.kind ≡ true)
   handed_task = kept_of g (task_in old t) once.0
 
   -- once its mark is gone, what does not see the mark sees no change
-  pub kept_still : ((v : Task P) → task_in old t ≡ Some v → SetsTask old new t v (record v { listed = false })) → {A : Type 0} (F : Option (Task P) → A) →
-      ((v : Task P) → F (Some (record v { listed = false })) ≡ F (Some v)) → (u : ℕ) → F (task_in new u) ≡ F (task_in old u)
+  pub kept_still : ((v : KeptTask P) → task_in old t ≡ Some v → SetsTask old new t v (record v { listed = false })) → {A : Type 0} (F : Option (KeptTask P) → A) →
+      ((v : KeptTask P) → F (Some (record v { listed = false })) ≡ F (Some v)) → (u : ℕ) → F (task_in new u) ≡ F (task_in old u)
   kept_still unmarks F same = unseen old new t handed_task.0 _ handed_task.1 (unmarks handed_task.0 handed_task.1) F (same handed_task.0)
 
   -- and it stands in no list

@@ -11,7 +11,7 @@ use Rattle.indexmap.specs.IndexMap.{IndexMap, get}
 use Rattle.tp_record.specs.Lists.{is_among}
 use Rattle.tp_tasks.specs.declared.homes.Home.{Home}
 use Rattle.tp_tasks.specs.declared.homes.Rows.{Rows}
-use Rattle.tp_tasks.specs.declared.table.Task.{Task}
+use Rattle.tp_tasks.specs.declared.table.KeptTask.{KeptTask}
 use Rattle.tp_tasks.specs.Homes.{home_of, is_purgeable, held, home_at, found, passes, row_of_task, AreNoted, Notes}
 use Rattle.tp_tasks.specs.Table.{task_in, row_in, row_count}
 use Rattle.tp_tasks.proofs.Away.{or_true, among_append}
@@ -73,10 +73,10 @@ pub record NotesHomes {P : Type 0} (homes : List (Option (Home P))) (n : ℕ) (t
   pub each : (j : ℕ) (h : Home P) → j < n → home_at homes j ≡ Some h → is_purgeable h.task.row ≡ true → is_among h.number ts ≡ true
 
 -- all homes were looked at, and the first n entries beside
-pub record NotesBeside {P : Type 0} (homes : List (Option (Home P))) (es : List (ℕ × Task P)) (n : ℕ) (ts : List ℕ) : Type 0 where
+pub record NotesBeside {P : Type 0} (homes : List (Option (Home P))) (es : List (ℕ × KeptTask P)) (n : ℕ) (ts : List ℕ) : Type 0 where
   pub few : length ts ≤ length homes + n
   pub homes_each : (j : ℕ) (h : Home P) → home_at homes j ≡ Some h → is_purgeable h.task.row ≡ true → is_among h.number ts ≡ true
-  pub each : (j t : ℕ) (v : Task P) → j < n → slice_get es j ≡ Some (t, v) → is_purgeable v.row ≡ true → is_among t ts ≡ true
+  pub each : (j t : ℕ) (v : KeptTask P) → j < n → slice_get es j ≡ Some (t, v) → is_purgeable v.row ≡ true → is_among t ts ≡ true
 
 module _ {P : Type 0} (homes : List (Option (Home P))) (i : ℕ) where
   pub homes_next : (ts us : List ℕ) (h : Home P) → home_at homes i ≡ Some h → Notes ts us h.number (is_purgeable h.task.row) → NotesHomes homes i ts → NotesHomes homes (i + 1) us
@@ -99,8 +99,8 @@ module _ {P : Type 0} (homes : List (Option (Home P))) (i : ℕ) where
     ];
   }
 
-module _ {P : Type 0} (homes : List (Option (Home P))) (es : List (ℕ × Task P)) (i : ℕ) where
-  pub beside_next : (ts us : List ℕ) (t : ℕ) (v : Task P) → slice_get es i ≡ Some (t, v) → Notes ts us t (is_purgeable v.row) → NotesBeside homes es i ts → NotesBeside homes es (i + 1) us
+module _ {P : Type 0} (homes : List (Option (Home P))) (es : List (ℕ × KeptTask P)) (i : ℕ) where
+  pub beside_next : (ts us : List ℕ) (t : ℕ) (v : KeptTask P) → slice_get es i ≡ Some (t, v) → Notes ts us t (is_purgeable v.row) → NotesBeside homes es i ts → NotesBeside homes es (i + 1) us
   beside_next ts us t v here n before = record {
     few = let a = before.few in let b = n.long in omega (arith, a, b);
     homes_each = λ j h there pass. n.stay h.number (before.homes_each j h there pass);
@@ -133,7 +133,7 @@ past_entries [] j x is = absurd (none-some x is)
 past_entries (e ∷ es) zero x is = omega arith
 past_entries (e ∷ es) (suc j) x is = let rest = past_entries es j x is in omega (arith, rest)
 
-module _ {P S : Type 0} (homes : List (Option (Home P))) (beside : IndexMap ℕ (Task P) S) (ts : List ℕ) where
+module _ {P S : Type 0} (homes : List (Option (Home P))) (beside : IndexMap ℕ (KeptTask P) S) (ts : List ℕ) where
   pub beside_first : (n : ℕ) → length homes ≤ n → n ≤ length homes → NotesHomes homes n ts → NotesBeside homes beside.entries 0 ts
   beside_first n all few before = record {
     few = let a = before.few in omega (arith, a, few);
@@ -144,12 +144,12 @@ module _ {P S : Type 0} (homes : List (Option (Home P))) (beside : IndexMap ℕ 
   pub all_named : (n : ℕ) → length beside.entries ≤ n → NotesBeside homes beside.entries n ts → AreNoted ts homes beside
   all_named n all notes u pass = by (found homes beside u) refl pass
     where
-      by : (o : Option (Task P)) → found homes beside u ≡ o → passes is_purgeable (row_of_task o) ≡ true → is_among u ts ≡ true
+      by : (o : Option (KeptTask P)) → found homes beside u ≡ o → passes is_purgeable (row_of_task o) ≡ true → is_among u ts ≡ true
       by None is pass = absurd (false≢true pass)
       by (Some v) is pass = elim (placed_of (held u (home_at homes (home_of (length homes) u))) (get nat_eq beside u) v is) [
         | inl home ↦
             let h = holding u (home_at homes (home_of (length homes) u)) v home in
-            subst (λ x. is_among x ts ≡ true) h.2 (notes.homes_each (home_of (length homes) u) h.0 h.1 (ap (λ (k : Task P). is_purgeable k.row) h.3 ∙ pass))
+            subst (λ x. is_among x ts ≡ true) h.2 (notes.homes_each (home_of (length homes) u) h.0 h.1 (ap (λ (k : KeptTask P). is_purgeable k.row) h.3 ∙ pass))
         | inr there ↦
             let at = lookup_place u beside.entries v there in
             notes.each at.0 u v (let less = past_entries beside.entries at.0 (u, v) at.1 in omega (arith, less, all)) at.1 pass
@@ -157,7 +157,7 @@ module _ {P S : Type 0} (homes : List (Option (Home P))) (beside : IndexMap ℕ 
 
 -- After a write to task t the others are noted still, and so is t where a purge took it
 
-module _ {P : Type 0} (m : Rows P) (t : ℕ) (homes : List (Option (Home P))) (beside : IndexMap ℕ (Task P) (BuildHasherDefault FoldHasher)) (others : (u : ℕ) → nat_eq t u ≡ false → found homes beside u ≡ task_in m u) where
+module _ {P : Type 0} (m : Rows P) (t : ℕ) (homes : List (Option (Home P))) (beside : IndexMap ℕ (KeptTask P) (BuildHasherDefault FoldHasher)) (others : (u : ℕ) → nat_eq t u ≡ false → found homes beside u ≡ task_in m u) where
   pub others_noted : (u : ℕ) → nat_eq t u ≡ false → passes is_purgeable (row_of_task (found homes beside u)) ≡ true → is_among u m.noted.items ≡ true
   unfolding task_in
   others_noted u ne pass = m.named u (sym (ap (λ o. passes is_purgeable (row_of_task o)) (others u ne)) ∙ pass)

@@ -11,7 +11,7 @@ use Rattle.tp_record.specs.State.{fate_of}
 use Rattle.tp_tasks.specs.declared.fates.Fates.{Fates}
 use Rattle.tp_tasks.specs.declared.group.Group.{Group}
 use Rattle.tp_tasks.specs.declared.homes.Rows.{Rows}
-use Rattle.tp_tasks.specs.declared.table.Task.{Task}
+use Rattle.tp_tasks.specs.declared.table.KeptTask.{KeptTask}
 use Rattle.tp_tasks.specs.declared.tasks.Tasks.{Tasks}
 use Rattle.tp_tasks.specs.Kept.{AreSubmitted, AreCounted, AreGrouped}
 use Rattle.tp_tasks.specs.Table.{row_of_task, promise_of_task, number_of_task, payload_of_task, task_in, row_in, row_count, SetsTask}
@@ -20,16 +20,16 @@ use Rattle.tp_tasks.proofs.Keeps.{submitted-kept, counted-kept, open-kept, group
 
 module _ {P : Type 0} where
   -- what is kept of a task that has a row
-  pub kept_task : (o : Option (Task P)) → IsSome (row_of_task o) → (v : Task P) × (o ≡ Some v)
+  pub kept_task : (o : Option (KeptTask P)) → IsSome (row_of_task o) → (v : KeptTask P) × (o ≡ Some v)
   kept_task None is = absurd (false≢true is)
   kept_task (Some v) is = (v, refl)
 
   -- what is kept of the task with this row
-  pub row_task : (o : Option (Task P)) (r : TaskRow) → row_of_task o ≡ Some r → (v : Task P) × (o ≡ Some v) × (v.row ≡ r)
+  pub row_task : (o : Option (KeptTask P)) (r : TaskRow) → row_of_task o ≡ Some r → (v : KeptTask P) × (o ≡ Some v) × (v.row ≡ r)
   row_task None r e = absurd (none-some r e)
   row_task (Some v) r e = (v, refl, same_Some v.row r e)
 
-module _ {P : Type 0} (old new : Rows P) (t : ℕ) (v w : Task P) (was : task_in old t ≡ Some v) (set : SetsTask old new t v w) where
+module _ {P : Type 0} (old new : Rows P) (t : ℕ) (v w : KeptTask P) (was : task_in old t ≡ Some v) (set : SetsTask old new t v w) where
   -- the count of rows, by the row that the task had
   pub counts_of : (p : TaskRow → Bool) (r : TaskRow) → row_in old t ≡ Some r → row_count p new + cond (p r) 1 0 ≡ row_count p old + cond (p w.row) 1 0
   counts_of p r is =
@@ -47,7 +47,7 @@ module _ {P : Type 0} (old new : Rows P) (t : ℕ) (v w : Task P) (was : task_in
     grouped_stays groups grouped g = grouped g ∙ sym (group-kept old new t v.row w.row (ap row_of_task was) kind counts_of fate g)
 
 -- the count of rows, where the task has F of its row and this mark
-pub ended_counts : {P : Type 0} (old new : Rows P) (t : ℕ) (v : Task P) (from : TaskRow) → task_in old t ≡ Some v → v.row ≡ from → (F : TaskRow → TaskRow) (b : Bool) →
+pub ended_counts : {P : Type 0} (old new : Rows P) (t : ℕ) (v : KeptTask P) (from : TaskRow) → task_in old t ≡ Some v → v.row ≡ from → (F : TaskRow → TaskRow) (b : Bool) →
     SetsTask old new t v (record v { row = F v.row; listed = b }) → (p : TaskRow → Bool) (r : TaskRow) → row_in old t ≡ Some r → row_count p new + cond (p r) 1 0 ≡ row_count p old + cond (p (F from)) 1 0
 ended_counts old new t v from was same F b set p r is = counts_of old new t v _ was set p r is ∙ ap (λ q. row_count p old + cond (p (F q)) 1 0) same
 
@@ -57,7 +57,7 @@ gone_fated true f = refl
 gone_fated false f = refl
 
 -- a write of the row and the mark alone, seen of the tasks
-pub sets_row : {P : Type 0} (old new : Tasks P) (t : ℕ) (F : TaskRow → TaskRow) (v : Task P) (b : Bool) → task_in old.tasks t ≡ Some v →
+pub sets_row : {P : Type 0} (old new : Tasks P) (t : ℕ) (F : TaskRow → TaskRow) (v : KeptTask P) (b : Bool) → task_in old.tasks t ≡ Some v →
     SetsTask old.tasks new.tasks t v (record v { row = F v.row; listed = b }) →
     submissions new ≡ submissions old → (r : TaskRow) → row_of old t ≡ Some r → SetsRow old new t (F r)
 sets_row old new t F v b was set same r is =

@@ -6,7 +6,7 @@ use Rattle.tp_record.specs.declared.rows.TaskRow.{TaskRow}
 use Rattle.tp_record.specs.Fields.{is_queued_place}
 use Rattle.tp_record.specs.Lists.{is_among}
 use Rattle.tp_tasks.specs.declared.homes.Home.{Home}
-use Rattle.tp_tasks.specs.declared.table.Task.{Task}
+use Rattle.tp_tasks.specs.declared.table.KeptTask.{KeptTask}
 
 -- the home of task t among n homes: the low bits of its number
 abbrev pub home_of : ℕ → ℕ → ℕ
@@ -32,12 +32,12 @@ pub record Notes (old new : List ℕ) (t : ℕ) (is : Bool) : Type 0 where
   pub long : length new ≤ length old + 1
 
 module _ {P : Type 0} where
-  abbrev pub row_of_task : Option (Task P) → Option TaskRow
+  abbrev pub row_of_task : Option (KeptTask P) → Option TaskRow
   row_of_task None = None
   row_of_task (Some t) = Some t.row
 
   -- task t, where it lies at this home
-  abbrev pub held : ℕ → Option (Home P) → Option (Task P)
+  abbrev pub held : ℕ → Option (Home P) → Option (KeptTask P)
   held t None = None
   held t (Some h) = if nat_eq h.number t then Some h.task else None
 
@@ -71,7 +71,7 @@ module _ {P : Type 0} where
   is_free_home homes i = is_free (slice_get homes i)
 
   -- the first of two, where it is there
-  abbrev pub or_beside : Option (Task P) → Option (Task P) → Option (Task P)
+  abbrev pub or_beside : Option (KeptTask P) → Option (KeptTask P) → Option (KeptTask P)
   or_beside None o = o
   or_beside (Some v) o = Some v
 
@@ -106,25 +106,25 @@ module _ {P : Type 0} where
 
 module _ {P S : Type 0} where
   -- what is kept of task t
-  abbrev pub found : List (Option (Home P)) → IndexMap ℕ (Task P) S → ℕ → Option (Task P)
+  abbrev pub found : List (Option (Home P)) → IndexMap ℕ (KeptTask P) S → ℕ → Option (KeptTask P)
   found homes beside t = or_beside (held t (home_at homes (home_of (length homes) t))) (get nat_eq beside t)
 
   -- how many of the tasks beside have a row that passes the test
-  abbrev pub beside_count : (TaskRow → Bool) → IndexMap ℕ (Task P) S → ℕ
-  beside_count p m = sum_by (λ (k : Task P). if p k.row then 1 else 0) (values m)
+  abbrev pub beside_count : (TaskRow → Bool) → IndexMap ℕ (KeptTask P) S → ℕ
+  beside_count p m = sum_by (λ (k : KeptTask P). if p k.row then 1 else 0) (values m)
 
   -- no task lies both at its home and beside
-  abbrev pub AreApart : List (Option (Home P)) → IndexMap ℕ (Task P) S → Type 0
+  abbrev pub AreApart : List (Option (Home P)) → IndexMap ℕ (KeptTask P) S → Type 0
   AreApart homes beside = (i t : ℕ) → holder (home_at homes i) ≡ Some t → is_some (get nat_eq beside t) ≡ false
 
   -- so many tasks are kept
-  abbrev pub AreKept : ℕ → List (Option (Home P)) → IndexMap ℕ (Task P) S → Type 0
+  abbrev pub AreKept : ℕ → List (Option (Home P)) → IndexMap ℕ (KeptTask P) S → Type 0
   AreKept n homes beside = home_count (λ _. true) homes + beside_count (λ _. true) beside ≡ n
 
   -- so many of them a purge takes
-  abbrev pub ArePurgeable : ℕ → List (Option (Home P)) → IndexMap ℕ (Task P) S → Type 0
+  abbrev pub ArePurgeable : ℕ → List (Option (Home P)) → IndexMap ℕ (KeptTask P) S → Type 0
   ArePurgeable n homes beside = home_count is_purgeable homes + beside_count is_purgeable beside ≡ n
 
   -- and each of these is in the list
-  abbrev pub AreNoted : List ℕ → List (Option (Home P)) → IndexMap ℕ (Task P) S → Type 0
+  abbrev pub AreNoted : List ℕ → List (Option (Home P)) → IndexMap ℕ (KeptTask P) S → Type 0
   AreNoted ts homes beside = (t : ℕ) → passes is_purgeable (row_of_task (found homes beside t)) ≡ true → is_among t ts ≡ true

@@ -5,7 +5,7 @@ ghost use Rattle.std.proofs.Props.{props};
 ghost use Rattle.indexmap.specs.IndexMap.{IsUnique, index_map_len};
 ghost use Rattle.tp_tasks.specs.Homes.{IsSize, ArePlaced, AreApart, AreKept, ArePurgeable, AreNoted};
 
-use crate::table::Task;
+use crate::table::KeptTask;
 use indexmap::IndexMap;
 
 /// A task at its home.
@@ -14,7 +14,7 @@ pub struct Home<P> {
     /// The task's number.
     pub number: u32,
     /// What is kept of it.
-    pub task: Task<P>,
+    pub task: KeptTask<P>,
 }
 
 /// What is kept of all tasks, by number. A task lies at its home, by the low bits of its number. Only where another one lies
@@ -31,7 +31,7 @@ pub struct Rows<P> {
     /// the list, and one that leaves the queue otherwise costs nothing here.
     pub noted: Vec<u32>,
     /// The tasks that lie beside.
-    pub beside: IndexMap<u32, Task<P>>,
+    pub beside: IndexMap<u32, KeptTask<P>>,
     /// Of each home the task that lies there.
     pub homes: Vec<Option<Home<P>>>,
     ghost sized: { IsSize (length homes.items) },

@@ -12,7 +12,7 @@ use crate::fates::Fates;
 use crate::group::Group;
 use crate::homes::Rows;
 use crate::spaces::Space;
-use crate::table::Task;
+use crate::table::KeptTask;
 use crate::{groups, table};
 use indexmap::IndexMap;
 use std::alloc::{AllocError, Global};
@@ -138,7 +138,7 @@ impl<P> Tasks<P> {
         ensures fates { KeepsFates self.old self.new }
     {
         let t = self.submitted;
-        let task = Task {
+        let task = KeptTask {
             row: TaskRow::new(kind, priority, place),
             promise,
             number: None,
@@ -250,13 +250,13 @@ impl<P> Tasks<P> {
 
     /// The task is not owed its second look any more, and is where it was.
     #[inline(always)]
-    pub fn settle(&mut self, t: TaskId)
+    pub fn clear_second(&mut self, t: TaskId)
         requires { IsSome (row_of self.old t.0) }
         ensures set { (r : TaskRow) → row_of self.old t.0 ≡ Some r → SetsRow self.old self.new t.0 (record r { second = false }) }
         ensures done { KeepsDone self.old self.new }
         ensures fates { KeepsFates self.old self.new }
     {
-        table::settle(&mut self.tasks, t.0);
+        table::clear_second(&mut self.tasks, t.0);
     }
 
     /// Gives an open task its fate, with the row that it has then; `completed` says that this completes it, where it is of a

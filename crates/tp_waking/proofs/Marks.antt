@@ -1,4 +1,4 @@
--- How many were woken, and what stays so when one worker's seat changes.
+-- How many were woken, and what stays so when one worker's state changes.
 use Rattle.std.proofs.Common.{◌≡◌, ℕ, zero, suc, ◌+◌, ◌*◌, ◌<◌, ◌≤◌, ◌∷◌, [], Bool, false, List, length, map, set, get_or, replicate, refl, arith, sym, ap, ◌∙◌, subst, inl, inr}
 use Rattle.std.specs.Prelude.{count_by, Option, Some, None, is_some, IfSome, IfNone}
 use Rattle.std.proofs.lemmas.Bool.{cases_eq, cases_lt, false≢true}
@@ -9,57 +9,57 @@ use Rattle.std.proofs.Math.Seq.{map-set_same}
 use Rattle.tp_types.specs.declared.ids.SlotId.{SlotId}
 use Rattle.tp_waking.specs.declared.sleepers.Rest.{Rest}
 use Rattle.tp_waking.specs.declared.sleepers.Rest.TheVariants as rests
-use Rattle.tp_waking.specs.declared.seats.Seat.{Seat}
-use Rattle.tp_waking.specs.declared.seats.Seat.TheVariants as seats
+use Rattle.tp_waking.specs.declared.states.SleepState.{SleepState}
+use Rattle.tp_waking.specs.declared.states.SleepState.TheVariants as states
 use Rattle.tp_waking.specs.Rests.{rest_at, is_listed, is_marked, called, sleeping, searching as marks, Wakes}
-use Rattle.tp_waking.specs.Tied.{IsTied, IsSound, rest_of, rests_of, seat_at}
-use Rattle.tp_waking.proofs.Ties.{one, count-set, rest_read, rests-set, listed_seat, listed_apart, listed_within}
+use Rattle.tp_waking.specs.Tied.{IsTied, IsSound, rest_of, rests_of, state_at}
+use Rattle.tp_waking.proofs.Ties.{one, count-set, rest_read, rests-set, listed_state, listed_apart, listed_within}
 
 -- as many of a sort as there were, but for the worker of slot w
-pub count-seat : (p : Rest → Bool) (all : List Seat) (w : ℕ) (from to : Seat) (new : List Rest) → w < length all → seat_at all w ≡ from → new ≡ set (rests_of all) w (rest_of to)
+pub count-state : (p : Rest → Bool) (all : List SleepState) (w : ℕ) (from to : SleepState) (new : List Rest) → w < length all → state_at all w ≡ from → new ≡ set (rests_of all) w (rest_of to)
     → count_by p new + one (p (rest_of from)) ≡ count_by p (rests_of all) + one (p (rest_of to))
-count-seat p all w from to new within at is =
+count-state p all w from to new within at is =
     let a = count-set p (rests_of all) w (rest_of to) (subst (λ n. w < n) (sym (length-map all rest_of)) within) in
     let b = ap (λ r. one (p r)) (rest_read all w ∙ ap rest_of at) in
     let c = ap (count_by p) is in
     omega (arith, a, b, c)
 
 -- one who does not sleep goes elsewhere, and does not sleep there
-pub tied-awake : (all : List Seat) (listed : List ℕ) (w : ℕ) (from to : Seat) → IsTied all listed → w < length all → seat_at all w ≡ from → listed_seat from ≡ false → listed_seat to ≡ false → IsTied (set all w to) listed
+pub tied-awake : (all : List SleepState) (listed : List ℕ) (w : ℕ) (from to : SleepState) → IsTied all listed → w < length all → state_at all w ≡ from → listed_state from ≡ false → listed_state to ≡ false → IsTied (set all w to) listed
 tied-awake all listed w from to tied within at was out = record {
-  seated = λ i below.
-      let here = tied.seated i below in
-      let apart = λ (e : get_or listed i 0 ≡ w). listed_apart from i (sym at ∙ sym (ap (seat_at all) e) ∙ here) was in
-      get_or-set_other all w (get_or listed i 0) to seats.Away apart ∙ here;
+  indexed = λ i below.
+      let here = tied.indexed i below in
+      let apart = λ (e : get_or listed i 0 ≡ w). listed_apart from i (sym at ∙ sym (ap (state_at all) e) ∙ here) was in
+      get_or-set_other all w (get_or listed i 0) to states.Away apart ∙ here;
   placed = λ x i found. elim (cases_eq x w) [
-    | inl e ↦ listed_apart to i (sym (get_or-set_same all w to seats.Away within) ∙ ap (seat_at (set all w to)) (sym e) ∙ found) out
-    | inr other ↦ tied.placed x i (sym (get_or-set_other all w x to seats.Away other) ∙ found)
+    | inl e ↦ listed_apart to i (sym (get_or-set_same all w to states.Away within) ∙ ap (state_at (set all w to)) (sym e) ∙ found) out
+    | inr other ↦ tied.placed x i (sym (get_or-set_other all w x to states.Away other) ∙ found)
   ];
   counted =
-      let a = count-seat is_listed all w from to (rests_of (set all w to)) within at (rests-set all w to) in
+      let a = count-state is_listed all w from to (rests_of (set all w to)) within at (rests-set all w to) in
       let b = ap one was in
       let c = ap one out in
       omega (arith, a, b, c, tied.counted);
 }
 
 -- one who was away sleeps: as many are marked
-pub marks-put : (all : List Seat) (w i : ℕ) → w < length all → seat_at all w ≡ seats.Away → marks (rests_of (set all w (seats.Listed i))) ≡ marks (rests_of all)
-marks-put all w i within at = omega (arith, count-seat is_marked all w seats.Away (seats.Listed i) (rests_of (set all w (seats.Listed i))) within at (rests-set all w (seats.Listed i)))
+pub marks-put : (all : List SleepState) (w i : ℕ) → w < length all → state_at all w ≡ states.Away → marks (rests_of (set all w (states.Listed i))) ≡ marks (rests_of all)
+marks-put all w i within at = omega (arith, count-state is_marked all w states.Away (states.Listed i) (rests_of (set all w (states.Listed i))) within at (rests-set all w (states.Listed i)))
 
 -- one who slept is woken: one more is marked
-pub marks-off : (all new : List Seat) (w i : ℕ) → seat_at all w ≡ seats.Listed i → rests_of new ≡ set (rests_of all) w rests.Marked → marks (rests_of new) ≡ marks (rests_of all) + 1
-marks-off all new w i at is = omega (arith, count-seat is_marked all w (seats.Listed i) seats.Marked (rests_of new) (listed_within all w i at) at is)
+pub marks-off : (all new : List SleepState) (w i : ℕ) → state_at all w ≡ states.Listed i → rests_of new ≡ set (rests_of all) w rests.Marked → marks (rests_of new) ≡ marks (rests_of all) + 1
+marks-off all new w i at is = omega (arith, count-state is_marked all w (states.Listed i) states.Marked (rests_of new) (listed_within all w i at) at is)
 
--- who was woken has a seat
-pub marked-within : (all : List Seat) (w : ℕ) → seat_at all w ≡ seats.Marked → w < length all
-marked-within all w at = elim (cases_lt w (length all)) [ inl h ↦ h | inr past ↦ absurd (false≢true (ap (λ s. is_marked (rest_of s)) (sym (get_or_past all w seats.Away past) ∙ at))) ]
+-- who was woken has a state
+pub marked-within : (all : List SleepState) (w : ℕ) → state_at all w ≡ states.Marked → w < length all
+marked-within all w at = elim (cases_lt w (length all)) [ inl h ↦ h | inr past ↦ absurd (false≢true (ap (λ s. is_marked (rest_of s)) (sym (get_or_past all w states.Away past) ∙ at))) ]
 
 -- one who was woken is away: one fewer is marked
-pub marks-end : (all : List Seat) (w : ℕ) → seat_at all w ≡ seats.Marked → marks (rests_of (set all w seats.Away)) + 1 ≡ marks (rests_of all)
-marks-end all w at = omega (arith, count-seat is_marked all w seats.Marked seats.Away (rests_of (set all w seats.Away)) (marked-within all w at) at (rests-set all w seats.Away))
+pub marks-end : (all : List SleepState) (w : ℕ) → state_at all w ≡ states.Marked → marks (rests_of (set all w states.Away)) + 1 ≡ marks (rests_of all)
+marks-end all w at = omega (arith, count-state is_marked all w states.Marked states.Away (rests_of (set all w states.Away)) (marked-within all w at) at (rests-set all w states.Away))
 
 -- nobody sleeps and nobody was woken, where all are away
-pub rests-away : (n : ℕ) → rests_of (replicate n seats.Away) ≡ replicate n rests.Away
+pub rests-away : (n : ℕ) → rests_of (replicate n states.Away) ≡ replicate n rests.Away
 rests-away zero = refl
 rests-away (suc n) = ap (λ l. rests.Away ∷ l) (rests-away n)
 
@@ -69,23 +69,23 @@ count-away p n not =
     let b = ap (λ k. n * k) (ap one not) in
     omega (arith, a, b)
 
-seat-away : (n w : ℕ) → seat_at (replicate n seats.Away) w ≡ seats.Away
-seat-away n w = elim (cases_lt w n) [ inl h ↦ get_or-replicate n w seats.Away seats.Away h | inr past ↦ get_or_past (replicate n seats.Away) w seats.Away (subst (λ k. k ≤ w) (sym (length-replicate n seats.Away)) past) ]
+state-away : (n w : ℕ) → state_at (replicate n states.Away) w ≡ states.Away
+state-away n w = elim (cases_lt w n) [ inl h ↦ get_or-replicate n w states.Away states.Away h | inr past ↦ get_or_past (replicate n states.Away) w states.Away (subst (λ k. k ≤ w) (sym (length-replicate n states.Away)) past) ]
 
-pub sound-away : (n room : ℕ) → n ≤ room → IsSound (replicate n seats.Away) [] 0 room
+pub sound-away : (n room : ℕ) → n ≤ room → IsSound (replicate n states.Away) [] 0 room
 sound-away n room fits = record {
   tied = record {
-    seated = λ i below. absurd (omega (arith, below));
-    placed = λ w i found. listed_apart seats.Away i (sym (seat-away n w) ∙ found) refl;
+    indexed = λ i below. absurd (omega (arith, below));
+    placed = λ w i found. listed_apart states.Away i (sym (state-away n w) ∙ found) refl;
     counted = sym (ap (count_by is_listed) (rests-away n) ∙ count-away is_listed n refl);
   };
   counted = sym (ap marks (rests-away n) ∙ count-away is_marked n refl);
-  room = subst (λ k. k ≤ room) (sym (length-replicate n seats.Away)) fits;
+  room = subst (λ k. k ≤ room) (sym (length-replicate n states.Away)) fits;
 }
 
 -- whom the list names sleeps
-pub last-sleeps : (all : List Seat) (listed : List ℕ) (i w : ℕ) → IsTied all listed → i < length listed → get_or listed i 0 ≡ w → rest_at (rests_of all) w ≡ rests.Listed
-last-sleeps all listed i w tied below is = rest_read all w ∙ ap rest_of (sym (ap (seat_at all) is) ∙ tied.seated i below)
+pub last-sleeps : (all : List SleepState) (listed : List ℕ) (i w : ℕ) → IsTied all listed → i < length listed → get_or listed i 0 ≡ w → rest_at (rests_of all) w ≡ rests.Listed
+last-sleeps all listed i w tied below is = rest_read all w ∙ ap rest_of (sym (ap (state_at all) is) ∙ tied.indexed i below)
 
 -- who is woken in the end is the same, once one of them is
 pub called-off : (old new : List Rest) (w : ℕ) → Wakes old new w → map called new ≡ map called old

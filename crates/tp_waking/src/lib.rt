@@ -8,6 +8,6 @@
 pub mod calls;
 pub mod ends;
 pub mod results;
-mod seats;
 pub mod sleepers;
+mod states;
 pub mod waking;

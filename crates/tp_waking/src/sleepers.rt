@@ -3,7 +3,7 @@
 ghost use Rattle.std.specs.Prelude.{◌≡◌, ◌↔◌, ◌<◌, true, map, replicate, set, IfOk, IfSome, IfNone, IsSome, IsTrue, if◌then◌else◌};
 ghost use Rattle.tp_waking.specs.Rests.{rest_at, is_away, is_marked, called, sleeping, searching, IsSettled, Wakes};
 
-use crate::seats::{Seat, put_on, take_off, unmark};
+use crate::states::{SleepState, put_on, take_off, unmark};
 use std::alloc::{AllocError, Global};
 use std::marker::Model;
 use tp_types::ids::SlotId;
@@ -23,7 +23,7 @@ pub enum Rest {
 /// goes with its next look for a task.
 #[derive(Drop)]
 pub struct Sleepers {
-    seats: Vec<Seat>,
+    states: Vec<SleepState>,
     // The slots of those who sleep; who is to be woken first stands last.
     listed: Vec<usize>,
     searching: usize,
@@ -36,9 +36,9 @@ impl Model for Sleepers {
 
     ghost Value = { List Rest };
 
-    ghost view = { λ s. rests_of s.seats.items };
+    ghost view = { λ s. rests_of s.states.items };
 
-    ghost invariant = { λ s. IsSound s.seats.items s.listed.items s.searching (vec_capacity s.listed) };
+    ghost invariant = { λ s. IsSound s.states.items s.listed.items s.searching (vec_capacity s.listed) };
 }
 
 impl Sleepers {
@@ -47,14 +47,14 @@ impl Sleepers {
         ensures rests { IfOk result (λ s. s ≡ replicate slots Rest.Away) }
         ensures awake { IfOk result (λ s. sleeping s ≡ 0) }
     {
-        let mut seats = Vec::new(alloc);
-        seats.resize(slots, Seat::Away)?;
+        let mut states = Vec::new(alloc);
+        states.resize(slots, SleepState::Away)?;
         // The room is written once here, so that no page of it is a new one under the lock.
         let mut listed = Vec::new(alloc);
         listed.resize(slots, 0)?;
         listed.clear();
         Ok(Sleepers {
-            seats,
+            states,
             listed,
             searching: 0,
         })
@@ -64,9 +64,9 @@ impl Sleepers {
     pub fn rest(&self, w: SlotId) -> Rest
         ensures { result ≡ rest_at self.now w.0 }
     {
-        match self.seats.get(w.0) {
-            Some(Seat::Listed(_)) => Rest::Listed,
-            Some(Seat::Marked) => Rest::Marked,
+        match self.states.get(w.0) {
+            Some(SleepState::Listed(_)) => Rest::Listed,
+            Some(SleepState::Marked) => Rest::Marked,
             _ => Rest::Away,
         }
     }
@@ -90,8 +90,8 @@ impl Sleepers {
     pub fn list(&mut self, w: SlotId)
         ensures { self.new ≡ (if is_away (rest_at self.old w.0) then set self.old w.0 Rest.Listed else self.old) }
     {
-        if let Some(Seat::Away) = self.seats.get(w.0) {
-            put_on(&mut self.seats, &mut self.listed, w.0);
+        if let Some(SleepState::Away) = self.states.get(w.0) {
+            put_on(&mut self.states, &mut self.listed, w.0);
         }
     }
 
@@ -101,10 +101,10 @@ impl Sleepers {
         ensures rests { self.new ≡ (if result then set self.old w.0 Rest.Marked else self.old) }
         ensures searches { IsTrue result → 0 < searching self.new }
     {
-        match self.seats.get(w.0) {
-            Some(Seat::Listed(index)) => {
+        match self.states.get(w.0) {
+            Some(SleepState::Listed(index)) => {
                 let index = *index;
-                take_off(&mut self.seats, &mut self.listed, w.0, index);
+                take_off(&mut self.states, &mut self.listed, w.0, index);
                 self.searching += 1;
                 true
             }
@@ -151,8 +151,8 @@ impl Sleepers {
     pub fn end_search(&mut self, w: SlotId)
         ensures { self.new ≡ (if is_marked (rest_at self.old w.0) then set self.old w.0 Rest.Away else self.old) }
     {
-        if let Some(Seat::Marked) = self.seats.get(w.0) {
-            unmark(&mut self.seats, w.0);
+        if let Some(SleepState::Marked) = self.states.get(w.0) {
+            unmark(&mut self.states, w.0);
             self.searching -= 1;
         }
     }

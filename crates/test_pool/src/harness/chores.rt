@@ -10,7 +10,7 @@ use tp_types::tasks::{Outcome, Promise, WIDEST, as_widest};
 
 /// What a job does. Where it waits in vain, it ends with the fault 99.
 #[derive(Clone, Copy)]
-pub enum Deed {
+pub enum Work {
     /// Ends so.
     End(Result<u8, u32>),
     /// Answers the least value that there is.
@@ -34,14 +34,14 @@ pub enum Deed {
 /// A job.
 #[derive(Drop)]
 pub struct Chore {
-    deed: Deed,
+    deed: Work,
     /// Its priority.
     pub priority: u32,
     board: Arc<Board>,
 }
 
 /// Jobs that do this.
-pub fn chores(alloc: Global, board: &Arc<Board>, deeds: &[Deed]) -> Result<Vec<Chore>, PoolError> {
+pub fn chores(alloc: Global, board: &Arc<Board>, deeds: &[Work]) -> Result<Vec<Chore>, PoolError> {
     let mut jobs = Vec::with_capacity(alloc, deeds.len())?;
     for deed in deeds {
         jobs.push(Chore::new(board, *deed)?)?;
@@ -60,10 +60,10 @@ fn look(cancel: &CancelFlag) -> i64 {
 
 impl Chore {
     /// A job that does this, with the board for what it tells.
-    pub fn new(board: &Arc<Board>, deed: Deed) -> Result<Chore, PoolError> {
+    pub fn new(board: &Arc<Board>, deed: Work) -> Result<Chore, PoolError> {
         let board = shared(board)?;
         let priority = match deed {
-            Deed::Urgent(number) => number,
+            Work::Urgent(number) => number,
             _ => 0,
         };
         Ok(Chore {
@@ -81,21 +81,21 @@ impl Chore {
 
     fn work(&self, cancel: &CancelFlag) -> Outcome {
         match self.deed {
-            Deed::End(Ok(value)) => Ok(i64::from(value)),
-            Deed::End(Err(code)) => Err(code),
-            Deed::Least => Ok(i64::MIN),
-            Deed::Look | Deed::Urgent(_) => Ok(look(cancel)),
-            Deed::Wait => {
+            Work::End(Ok(value)) => Ok(i64::from(value)),
+            Work::End(Err(code)) => Err(code),
+            Work::Least => Ok(i64::MIN),
+            Work::Look | Work::Urgent(_) => Ok(look(cancel)),
+            Work::Wait => {
                 let told = self.waits();
                 met(told, look(cancel))
             }
-            Deed::WaitBlind => met(self.waits(), 5),
-            Deed::Meet(number, size) => met(self.board.meet(size), i64::from(number)),
-            Deed::Talk => {
+            Work::WaitBlind => met(self.waits(), 5),
+            Work::Meet(number, size) => met(self.board.meet(size), i64::from(number)),
+            Work::Talk => {
                 self.board.talk();
                 Ok(0)
             }
-            Deed::Share => {
+            Work::Share => {
                 self.board.keep(cancel.share().or(Err(4u32))?);
                 Ok(0)
             }

@@ -2,7 +2,7 @@
 
 use crate::harness::boards::{Board, Signal};
 use crate::harness::calls::{Call, Tested, make};
-use crate::harness::chores::{Chore, Deed};
+use crate::harness::chores::{Chore, Work};
 use crate::harness::findings::is_unstaffed_at;
 use crate::harness::playing::{SOME_SECONDS, comes, handed, rest};
 use crate::harness::scripts::{Deal, SETTINGS, View};
@@ -37,7 +37,7 @@ fn gives_once<G: PoolName, K: Keeper + Send + 'static, R: Runtime>(
     rt: &R,
     pool: &Tested<G, K>,
     board: &Arc<Board>,
-    deed: Deed,
+    deed: Work,
     pass: &mut Pass<G>,
 ) -> Option<bool> {
     let job = Chore::new(board, deed).ok()?;
@@ -50,7 +50,7 @@ fn gives<G: PoolName, K: Keeper + Send + 'static, R: Clock + Runtime>(
     rt: &R,
     pool: &Tested<G, K>,
     board: &Arc<Board>,
-    deed: Deed,
+    deed: Work,
     pass: &mut Pass<G>,
 ) -> bool {
     for _ in 0..1000u32 {
@@ -189,7 +189,7 @@ fn insists_task<G: PoolName, K: Keeper + Send + 'static, R: Runtime>(
     number: u32,
     pass: &mut Pass<G>,
 ) -> bool {
-    let Ok(job) = Chore::new(board, Deed::Urgent(number)) else {
+    let Ok(job) = Chore::new(board, Work::Urgent(number)) else {
         return false;
     };
     let before = seen(rt, pool, pass);

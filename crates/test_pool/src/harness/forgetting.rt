@@ -4,7 +4,7 @@ ghost use Rattle.std.specs.Prelude.{◌≡◌};
 use crate::compare::same;
 use crate::harness::boards::Board;
 use crate::harness::calls::Tested;
-use crate::harness::chores::{Deed, chores};
+use crate::harness::chores::{Work, chores};
 use crate::harness::findings::missing;
 use crate::harness::lives::manner_of;
 use crate::harness::playing::does;
@@ -51,7 +51,7 @@ fn releases_all<G: PoolName, R: Runtime>(
     alloc: Global,
     pool: &Forgetful<G>,
     board: &Arc<Board>,
-    deeds: &[Deed],
+    deeds: &[Work],
     pass: &mut Pass<G>,
 ) -> bool {
     let Ok(jobs) = chores(alloc, board, deeds) else {

@@ -3,7 +3,7 @@
 use crate::compare::same;
 use crate::harness::boards::{Board, Signal};
 use crate::harness::calls::{Tested, make};
-use crate::harness::chores::{Chore, Deed};
+use crate::harness::chores::{Chore, Work};
 use crate::harness::dealing::deals;
 use crate::harness::scripts::{Answer, Cue, Step, View};
 use crate::harness::serving::{asked, invokes, watches};
@@ -70,7 +70,7 @@ fn hands<G: PoolName, K: Keeper + Send + 'static, R: Runtime>(
     rt: &R,
     pool: &Tested<G, K>,
     board: &Arc<Board>,
-    (kind, deed, answer): (Kind, Deed, Answer),
+    (kind, deed, answer): (Kind, Work, Answer),
     pass: &mut Pass<G>,
 ) -> bool {
     let Ok(job) = Chore::new(board, deed) else {

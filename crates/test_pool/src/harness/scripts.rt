@@ -2,7 +2,7 @@
 
 use crate::harness::boards::Signal;
 use crate::harness::calls::Call;
-use crate::harness::chores::Deed;
+use crate::harness::chores::Work;
 use crate::harness::findings::Finding;
 use crate::harness::users::{MANNER, Manner, Stance};
 use tp_types::configs::{Config, Policy, QueueKind};
@@ -59,7 +59,7 @@ pub enum Cue {
 #[derive(Clone, Copy)]
 pub enum Deal {
     /// Hands in a task until a worker is there for it.
-    Give(Deed),
+    Give(Work),
     /// The receipts are the first so many entries of a pool without workers.
     Unstaffed(usize),
     /// Reads the pool whenever a callback waits for that, until the other caller is over.
@@ -83,13 +83,13 @@ pub enum Deal {
 #[derive(Clone, Copy)]
 pub enum Many {
     /// The numbers that are answered begin with this one, and are as many as the jobs.
-    All(&'static [Deed], u32),
+    All(&'static [Work], u32),
     /// Until this moment.
-    AllUntil(&'static [Deed], u64, u32),
+    AllUntil(&'static [Work], u64, u32),
     /// For at most so many microseconds by the clock.
-    AllFor(&'static [Deed], u64, u32),
-    AllRefused(&'static [Deed], PoolError),
-    Any(&'static [Deed], Result<i64, PoolError>),
+    AllFor(&'static [Work], u64, u32),
+    AllRefused(&'static [Work], PoolError),
+    Any(&'static [Work], Result<i64, PoolError>),
 }
 
 /// What a thread sees of a pool that it watches: the run state, the number of steps, the number of queued tasks, and each slot that has a
@@ -106,7 +106,7 @@ pub struct Seen {
 #[derive(Clone, Copy)]
 pub enum Step {
     /// Hands in a job of this kind.
-    Hand(Kind, Deed, Answer),
+    Hand(Kind, Work, Answer),
     /// A call that is answered as it says, and one that is refused.
     Call(Call),
     Refused(Call, PoolError),
@@ -116,7 +116,7 @@ pub enum Step {
     Cue(Cue),
     Deal(Deal),
     /// Submits a job of this kind by a service, and gets this number.
-    Submit(Kind, Deed, u32),
+    Submit(Kind, Work, u32),
     Get(u32, Result<i64, PoolError>),
     GetUntil(u32, u64, Result<i64, PoolError>),
     TryGet(u32, Result<Option<i64>, PoolError>),
@@ -134,7 +134,7 @@ pub enum Step {
     /// Releases the task of this number. The pool keeps no record; nor do those of the lines below.
     Release(u32, Result<(), PoolError>),
     /// Has these jobs run, all of them or up to one that is rejected, and releases each task whose number comes back.
-    Releases(&'static [Deed]),
+    Releases(&'static [Work]),
     /// The pool keeps so many tasks, or so many at most.
     Keeps(u32),
     KeepsAtMost(u32),
@@ -229,10 +229,10 @@ pub const HELD: Manner = Manner {
 };
 
 /// A plain task that looks at its flag, and is accepted.
-pub const LOOKS: Step = Step::Hand(Kind::Plain, Deed::Look, Answer::Accepted);
+pub const LOOKS: Step = Step::Hand(Kind::Plain, Work::Look, Answer::Accepted);
 
 /// One that waits in its body.
-pub const WAITS: Step = Step::Hand(Kind::Plain, Deed::Wait, Answer::Accepted);
+pub const WAITS: Step = Step::Hand(Kind::Plain, Work::Wait, Answer::Accepted);
 
 pub const SHUTS_DOWN: Step = Step::Call(Call::Shutdown);
 
@@ -252,4 +252,4 @@ pub const CAME: Step = Step::Cue(Cue::Reaches(Signal::Came, 1));
 pub const IS_OVER: Step = Step::Cue(Cue::Put(Signal::Over, 1));
 
 /// Task 0 is a future, and answers 6.
-pub const FIRST: Step = Step::Submit(Kind::Future, Deed::End(Ok(6)), 0);
+pub const FIRST: Step = Step::Submit(Kind::Future, Work::End(Ok(6)), 0);

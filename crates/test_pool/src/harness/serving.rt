@@ -2,7 +2,7 @@
 
 use crate::harness::boards::Board;
 use crate::harness::calls::Tested;
-use crate::harness::chores::{Chore, Deed, chores};
+use crate::harness::chores::{Chore, Work, chores};
 use crate::harness::playing::handed;
 use crate::harness::scripts::{Many, Seen, Step};
 use crate::harness::users::Users;
@@ -44,7 +44,7 @@ fn submits<G: PoolName, K: Keeper + Send + 'static, R: Runtime>(
     rt: &R,
     pool: &Tested<G, K>,
     board: &Arc<Board>,
-    (kind, deed, number): (Kind, Deed, u32),
+    (kind, deed, number): (Kind, Work, u32),
     pass: &mut Pass<G>,
 ) -> bool {
     let Ok(job) = Chore::new(board, deed) else {
@@ -132,7 +132,7 @@ fn is_refused(found: Result<Vec<TaskId>, PoolError>, error: PoolError) -> bool {
     }
 }
 
-fn jobs_of(many: Many) -> &'static [Deed] {
+fn jobs_of(many: Many) -> &'static [Work] {
     match many {
         Many::All(deeds, _)
         | Many::AllUntil(deeds, _, _)

@@ -2,7 +2,7 @@
 
 use crate::compare::same;
 use crate::harness::boards::Board;
-use crate::harness::chores::{Chore, Deed};
+use crate::harness::chores::{Chore, Work};
 use std::alloc::Global;
 use std::process::Abort;
 use std::test::Fail;
@@ -42,7 +42,7 @@ fn turn<J: Job, F: ThreadFactory, H: Hooks, P: Gate>(
 
 // A job that looks at its flag.
 fn looking(alloc: Global) -> Result<Chore, PoolError> {
-    Chore::new(&Board::new(alloc)?, Deed::Look)
+    Chore::new(&Board::new(alloc)?, Work::Look)
 }
 
 // A boxed job that looks at this flag has this outcome.

@@ -2,7 +2,7 @@
 
 use crate::harness::boards::Signal;
 use crate::harness::calls::Call;
-use crate::harness::chores::Deed;
+use crate::harness::chores::Work;
 use crate::harness::findings::Finding;
 use crate::harness::lives::lives;
 use crate::harness::scripts::{Answer, Cue, LIFE, Life, ONE_WORKER, SHUTS_DOWN, Step, TELLS};
@@ -10,13 +10,13 @@ use std::test::Fail;
 use tp_types::ids::TaskId;
 use tp_types::tasks::Kind;
 
-const WAITING: Step = Step::Hand(Kind::Future, Deed::Wait, Answer::Accepted);
+const WAITING: Step = Step::Hand(Kind::Future, Work::Wait, Answer::Accepted);
 
 // One worker runs three jobs. The first shares its flag, the second is cancelled while it runs, and the third runs after that.
 static SHARED: [Life; 1] = [Life {
     settings: ONE_WORKER,
     first: &[
-        Step::Hand(Kind::Future, Deed::Share, Answer::Accepted),
+        Step::Hand(Kind::Future, Work::Share, Answer::Accepted),
         Step::Get(0, Ok(0)),
         WAITING,
         Step::Cue(Cue::Reaches(Signal::Begun, 1)),

@@ -1,7 +1,7 @@
 //! What becomes of submissions where pools are full or have no workers.
 
 use crate::harness::calls::Call;
-use crate::harness::chores::Deed;
+use crate::harness::chores::Work;
 use crate::harness::findings::Finding;
 use crate::harness::lives::lives;
 use crate::harness::scripts::{
@@ -35,11 +35,11 @@ const HELD_ONE: Manner = Manner {
     ..HELD
 };
 
-const REJECTED: Step = Step::Hand(Kind::Plain, Deed::Look, Answer::Rejected);
+const REJECTED: Step = Step::Hand(Kind::Plain, Work::Look, Answer::Rejected);
 
-const DISCARDED: Step = Step::Hand(Kind::Plain, Deed::Look, Answer::Discarded);
+const DISCARDED: Step = Step::Hand(Kind::Plain, Work::Look, Answer::Discarded);
 
-const RUNS_HERE: Step = Step::Hand(Kind::Plain, Deed::Look, Answer::RanHere(Ok(0)));
+const RUNS_HERE: Step = Step::Hand(Kind::Plain, Work::Look, Answer::RanHere(Ok(0)));
 
 // A pool of one worker with no queue.
 const FULL: Config = Config {
@@ -157,9 +157,9 @@ fn third_task_is_rejected(rt: HostRuntime) -> Result<(), Fail> {
     lives(rt, rt.alloc(), &BOUNDED)
 }
 
-const LATE: Step = Step::Hand(Kind::Plain, Deed::Urgent(5), Answer::Accepted);
+const LATE: Step = Step::Hand(Kind::Plain, Work::Urgent(5), Answer::Accepted);
 
-const EARLY: Step = Step::Hand(Kind::Plain, Deed::Urgent(2), Answer::Accepted);
+const EARLY: Step = Step::Hand(Kind::Plain, Work::Urgent(2), Answer::Accepted);
 
 // Tasks with priorities of their own come while the one worker is held. The least is taken first, and of equals the one that came
 // first.

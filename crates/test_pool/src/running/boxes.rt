@@ -3,7 +3,7 @@ ghost use Rattle.std.specs.Prelude.{◌≡◌};
 
 use crate::compare::same;
 use crate::harness::boards::{Board, Hook, Signal, shared};
-use crate::harness::chores::{Chore, Deed};
+use crate::harness::chores::{Chore, Work};
 use crate::harness::findings::{Finding, missing};
 use crate::harness::scripts::ONE_WORKER;
 use std::alloc::Global;
@@ -97,7 +97,7 @@ fn hands<G: PoolName, R: Abort + Runtime>(
     number: u32,
     pass: &mut Pass<G>,
 ) -> Result<(), PoolError> {
-    let job = Box::new(alloc, Chore::new(board, Deed::Urgent(7))?)?;
+    let job = Box::new(alloc, Chore::new(board, Work::Urgent(7))?)?;
     let answer = pool.execute(rt, job, pass);
     same(
         rt,

@@ -2,7 +2,7 @@
 
 use crate::harness::boards::Signal;
 use crate::harness::calls::Call;
-use crate::harness::chores::Deed;
+use crate::harness::chores::Work;
 use crate::harness::findings::Finding;
 use crate::harness::lives::lives;
 use crate::harness::scripts::{
@@ -55,7 +55,7 @@ fn worker_that_ends_the_pool_wakes_who_waits(rt: HostRuntime) -> Result<(), Fail
 }
 
 // The queue of a pool that is shut down keeps a future for which no worker is made.
-const FUTURE: Step = Step::Hand(Kind::Future, Deed::Look, Answer::Accepted);
+const FUTURE: Step = Step::Hand(Kind::Future, Work::Look, Answer::Accepted);
 
 // Gives the second caller some time to fall asleep.
 const RESTS: Step = Step::Cue(Cue::RestLonger(40));

@@ -3,7 +3,7 @@
 use crate::compare::same;
 use crate::harness::boards::Board;
 use crate::harness::calls::Call;
-use crate::harness::chores::{Deed, chores};
+use crate::harness::chores::{Work, chores};
 use crate::harness::findings::Finding;
 use crate::harness::lives::lives;
 use crate::harness::scripts::{
@@ -15,7 +15,7 @@ use tp_pool::defaults::Defaults;
 use tp_pool::{faulted, run_all};
 use tp_types::tasks::Kind;
 
-const FAULTS: Step = Step::Hand(Kind::Plain, Deed::End(Err(7)), Answer::Accepted);
+const FAULTS: Step = Step::Hand(Kind::Plain, Work::End(Err(7)), Answer::Accepted);
 
 // One worker, three tasks that fault, and a good one.
 const FOUR: Life = Life {
@@ -79,11 +79,11 @@ fn worker_that_is_not_replaced_leaves_its_tasks(rt: HostRuntime) -> Result<(), F
 }
 
 // Two of these jobs fault.
-const FOUR_JOBS: [Deed; 4] = [
-    Deed::End(Err(0)),
-    Deed::End(Ok(1)),
-    Deed::Look,
-    Deed::End(Err(u32::MAX)),
+const FOUR_JOBS: [Work; 4] = [
+    Work::End(Err(0)),
+    Work::End(Ok(1)),
+    Work::Look,
+    Work::End(Err(u32::MAX)),
 ];
 
 #[test]

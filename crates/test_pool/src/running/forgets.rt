@@ -2,7 +2,7 @@
 //! until its release.
 
 use crate::harness::calls::Call;
-use crate::harness::chores::Deed;
+use crate::harness::chores::Work;
 use crate::harness::findings::Finding;
 use crate::harness::forgetting::forgetful_lives;
 use crate::harness::scripts::{
@@ -44,9 +44,9 @@ const KEEPS_ONE: Step = Step::Keeps(1);
 
 const KEEPS_TWO: Step = Step::Keeps(2);
 
-const FUTURE: Step = Step::Hand(Kind::Future, Deed::Look, Answer::Accepted);
+const FUTURE: Step = Step::Hand(Kind::Future, Work::Look, Answer::Accepted);
 
-const MEMBER: Step = Step::Hand(Kind::Group(3), Deed::Look, Answer::Accepted);
+const MEMBER: Step = Step::Hand(Kind::Group(3), Work::Look, Answer::Accepted);
 
 const ENDS: [Step; 3] = [LETS_GO, SHUTS_DOWN, AWAITS_END];
 
@@ -85,7 +85,7 @@ static WAYS: [Life; 11] = [
     // A task is rejected, discarded, or dropped as the oldest one; or its submitter runs it.
     Life {
         middle: &[
-            Step::Hand(Kind::Plain, Deed::Look, Answer::Rejected),
+            Step::Hand(Kind::Plain, Work::Look, Answer::Rejected),
             KEEPS_TWO,
             Step::Release(2, Err(UNKNOWN)),
         ],
@@ -94,7 +94,7 @@ static WAYS: [Life; 11] = [
     Life {
         settings: DISCARD,
         middle: &[
-            Step::Hand(Kind::Plain, Deed::Look, Answer::Discarded),
+            Step::Hand(Kind::Plain, Work::Look, Answer::Discarded),
             KEEPS_TWO,
             Step::Release(2, Err(UNKNOWN)),
         ],
@@ -108,7 +108,7 @@ static WAYS: [Life; 11] = [
     Life {
         settings: CALLER_RUNS,
         middle: &[
-            Step::Hand(Kind::Plain, Deed::Look, Answer::RanHere(Ok(0))),
+            Step::Hand(Kind::Plain, Work::Look, Answer::RanHere(Ok(0))),
             KEEPS_TWO,
             Step::Release(2, Err(UNKNOWN)),
         ],
@@ -144,7 +144,7 @@ static WAYS: [Life; 11] = [
             LETS_GO,
             Step::Becomes(View::Completed(2)),
         ],
-        middle: &[Step::Hand(Kind::Plain, Deed::Look, Answer::Taken)],
+        middle: &[Step::Hand(Kind::Plain, Work::Look, Answer::Taken)],
         rounds: 2_000,
         ..WAY
     },

@@ -2,7 +2,7 @@
 
 use crate::harness::boards::{Hook, Signal};
 use crate::harness::calls::Call;
-use crate::harness::chores::Deed;
+use crate::harness::chores::Work;
 use crate::harness::findings::Finding;
 use crate::harness::lives::lives;
 use crate::harness::scripts::{
@@ -18,7 +18,7 @@ const ONE: Life = Life {
     ..LIFE
 };
 
-const FUTURE: Step = Step::Hand(Kind::Future, Deed::Wait, Answer::Accepted);
+const FUTURE: Step = Step::Hand(Kind::Future, Work::Wait, Answer::Accepted);
 
 const FIRST: TaskId = TaskId(0);
 

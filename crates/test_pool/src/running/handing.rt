@@ -1,7 +1,7 @@
 //! Tasks that idle workers are given by hand, and idle workers that leave meanwhile.
 
 use crate::harness::boards::Signal;
-use crate::harness::chores::Deed;
+use crate::harness::chores::Work;
 use crate::harness::findings::Finding;
 use crate::harness::lives::lives;
 use crate::harness::scripts::{Cue, Deal, LIFE, Life, SETTINGS, SHUTS_DOWN, Step, View};
@@ -15,10 +15,10 @@ const ROOMY: Config = Config {
     ..SETTINGS
 };
 
-const GIVES: Step = Step::Deal(Deal::Give(Deed::Look));
+const GIVES: Step = Step::Deal(Deal::Give(Work::Look));
 
 // One of two tasks that wait for each other.
-const GIVES_MEETING: Step = Step::Deal(Deal::Give(Deed::Meet(0, 2)));
+const GIVES_MEETING: Step = Step::Deal(Deal::Give(Work::Meet(0, 2)));
 
 const ALL_DONE: Step = Step::Becomes(View::AllCompleted);
 

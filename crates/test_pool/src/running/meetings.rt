@@ -1,7 +1,7 @@
 //! Jobs that run at once.
 
 use crate::harness::boards::Signal;
-use crate::harness::chores::Deed;
+use crate::harness::chores::Work;
 use crate::harness::findings::Finding;
 use crate::harness::lives::lives;
 use crate::harness::scripts::{Answer, LIFE, Life, SETTINGS, SHUTS_DOWN, Step};
@@ -10,17 +10,17 @@ use tp_types::configs::Config;
 use tp_types::tasks::Kind;
 
 // A job that meets another, or three others, and answers its number.
-const ONE_OF_TWO: Step = Step::Hand(Kind::Plain, Deed::Meet(1, 2), Answer::Accepted);
+const ONE_OF_TWO: Step = Step::Hand(Kind::Plain, Work::Meet(1, 2), Answer::Accepted);
 
-const TWO_OF_TWO: Step = Step::Hand(Kind::Plain, Deed::Meet(2, 2), Answer::Accepted);
+const TWO_OF_TWO: Step = Step::Hand(Kind::Plain, Work::Meet(2, 2), Answer::Accepted);
 
-const ONE_OF_FOUR: Step = Step::Hand(Kind::Plain, Deed::Meet(1, 4), Answer::Accepted);
+const ONE_OF_FOUR: Step = Step::Hand(Kind::Plain, Work::Meet(1, 4), Answer::Accepted);
 
-const TWO_OF_FOUR: Step = Step::Hand(Kind::Plain, Deed::Meet(2, 4), Answer::Accepted);
+const TWO_OF_FOUR: Step = Step::Hand(Kind::Plain, Work::Meet(2, 4), Answer::Accepted);
 
-const THREE_OF_FOUR: Step = Step::Hand(Kind::Plain, Deed::Meet(3, 4), Answer::Accepted);
+const THREE_OF_FOUR: Step = Step::Hand(Kind::Plain, Work::Meet(3, 4), Answer::Accepted);
 
-const FOUR_OF_FOUR: Step = Step::Hand(Kind::Plain, Deed::Meet(4, 4), Answer::Accepted);
+const FOUR_OF_FOUR: Step = Step::Hand(Kind::Plain, Work::Meet(4, 4), Answer::Accepted);
 
 // Each job goes on once all of them are in their bodies, and then answers its number. One that waits in vain faults.
 static AT_ONCE: [Life; 2] = [
@@ -67,11 +67,11 @@ fn bodies_run_at_once(rt: HostRuntime) -> Result<(), Fail> {
 // Two jobs run at once. The closed record still gives each task the answer of its own job.
 static OUTCOMES: [Life; 1] = [Life {
     first: &[
-        Step::Hand(Kind::Plain, Deed::Meet(5, 2), Answer::Accepted),
-        Step::Hand(Kind::Plain, Deed::Meet(3, 2), Answer::Accepted),
-        Step::Hand(Kind::Future, Deed::End(Err(7)), Answer::Accepted),
-        Step::Hand(Kind::Plain, Deed::Meet(4, 2), Answer::Accepted),
-        Step::Hand(Kind::Plain, Deed::Meet(9, 2), Answer::Accepted),
+        Step::Hand(Kind::Plain, Work::Meet(5, 2), Answer::Accepted),
+        Step::Hand(Kind::Plain, Work::Meet(3, 2), Answer::Accepted),
+        Step::Hand(Kind::Future, Work::End(Err(7)), Answer::Accepted),
+        Step::Hand(Kind::Plain, Work::Meet(4, 2), Answer::Accepted),
+        Step::Hand(Kind::Plain, Work::Meet(9, 2), Answer::Accepted),
         SHUTS_DOWN,
     ],
     findings: &[

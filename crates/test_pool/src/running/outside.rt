@@ -2,7 +2,7 @@
 
 use crate::harness::boards::Signal;
 use crate::harness::calls::Call;
-use crate::harness::chores::Deed;
+use crate::harness::chores::Work;
 use crate::harness::findings::Finding;
 use crate::harness::lives::lives;
 use crate::harness::scripts::{
@@ -36,9 +36,9 @@ const READ: Life = Life {
     first: &[
         WAITS,
         Step::Cue(Cue::Reaches(Signal::Begun, 1)),
-        Step::Hand(Kind::Plain, Deed::Talk, Answer::Rejected),
+        Step::Hand(Kind::Plain, Work::Talk, Answer::Rejected),
         Step::Call(Call::Maximum(2)),
-        Step::Hand(Kind::Plain, Deed::Talk, Answer::Accepted),
+        Step::Hand(Kind::Plain, Work::Talk, Answer::Accepted),
         TELLS,
         SHUTS_DOWN,
         AWAITS_END,

@@ -2,7 +2,7 @@
 
 use crate::harness::boards::Signal;
 use crate::harness::calls::Call;
-use crate::harness::chores::Deed;
+use crate::harness::chores::Work;
 use crate::harness::findings::Finding;
 use crate::harness::lives::lives;
 use crate::harness::scripts::{
@@ -21,9 +21,9 @@ static STARTED: [Life; 1] = [Life {
         ..SETTINGS
     },
     first: &[
-        Step::Hand(Kind::Plain, Deed::Meet(0, 3), Answer::Accepted),
-        Step::Hand(Kind::Plain, Deed::Meet(1, 3), Answer::Accepted),
-        Step::Hand(Kind::Plain, Deed::Meet(2, 3), Answer::Accepted),
+        Step::Hand(Kind::Plain, Work::Meet(0, 3), Answer::Accepted),
+        Step::Hand(Kind::Plain, Work::Meet(1, 3), Answer::Accepted),
+        Step::Hand(Kind::Plain, Work::Meet(2, 3), Answer::Accepted),
         Step::Cue(Cue::Reaches(Signal::Met, 1)),
         Step::Cue(Cue::Is(Signal::Met, 1)),
         Step::Call(Call::Core(3)),

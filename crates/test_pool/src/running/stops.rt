@@ -2,7 +2,7 @@
 
 use crate::harness::boards::Signal;
 use crate::harness::calls::Call;
-use crate::harness::chores::Deed;
+use crate::harness::chores::Work;
 use crate::harness::findings::Finding;
 use crate::harness::lives::lives;
 use crate::harness::scripts::{
@@ -68,7 +68,7 @@ const AT_SUBMITTER: Life = Life {
 static SPARED: [Life; 1] = [Life {
     first: &[
         LOOKS,
-        Step::Hand(Kind::Plain, Deed::Wait, Answer::RanHere(Ok(0))),
+        Step::Hand(Kind::Plain, Work::Wait, Answer::RanHere(Ok(0))),
         Step::Cue(Cue::Reaches(Signal::Over, 1)),
         LETS_GO,
     ],
@@ -96,7 +96,7 @@ fn stop_spares_the_submitters_own_run(rt: HostRuntime) -> Result<(), Fail> {
 static REACHED: [Life; 1] = [Life {
     first: &[
         LOOKS,
-        Step::Hand(Kind::Future, Deed::Wait, Answer::RanHere(Ok(1))),
+        Step::Hand(Kind::Future, Work::Wait, Answer::RanHere(Ok(1))),
         Step::Cue(Cue::Reaches(Signal::Over, 1)),
         LETS_GO,
         SHUTS_DOWN,

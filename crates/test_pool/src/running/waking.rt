@@ -2,7 +2,7 @@
 
 use crate::harness::boards::Signal;
 use crate::harness::calls::Call;
-use crate::harness::chores::Deed;
+use crate::harness::chores::Work;
 use crate::harness::findings::Finding;
 use crate::harness::lives::lives;
 use crate::harness::scripts::{
@@ -20,7 +20,7 @@ const ALL_DONE: Step = Step::Becomes(View::AllCompleted);
 const TWO_START: Step = Step::Call(Call::StartAll(2));
 
 // One of two tasks that wait for each other.
-const MEETS: Step = Step::Hand(Kind::Plain, Deed::Meet(0, 2), Answer::Accepted);
+const MEETS: Step = Step::Hand(Kind::Plain, Work::Meet(0, 2), Answer::Accepted);
 
 // One task after the other, each once the last one is completed.
 static WOKEN: [Life; 1] = [Life {

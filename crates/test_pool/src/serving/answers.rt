@@ -1,7 +1,7 @@
 //! What the futures of single jobs, of many jobs and of groups answer.
 
 use super::ONE;
-use crate::harness::chores::Deed;
+use crate::harness::chores::Work;
 use crate::harness::findings::Finding;
 use crate::harness::lives::lives;
 use crate::harness::scripts::{FIRST, Life, Many, SHUTS_DOWN, Step};
@@ -15,18 +15,18 @@ const SINGLE: [Step; 18] = [
     Step::Get(0, Ok(6)),
     Step::GetUntil(0, 0, Ok(6)),
     Step::TryGet(0, Ok(Some(6))),
-    Step::Submit(Kind::Future, Deed::End(Err(7)), 1),
+    Step::Submit(Kind::Future, Work::End(Err(7)), 1),
     Step::Get(1, Err(PoolError::Faulted(7))),
     Step::GetUntil(1, 0, Err(PoolError::Faulted(7))),
     Step::TryGet(1, Err(PoolError::Faulted(7))),
-    Step::Submit(Kind::Plain, Deed::End(Ok(1)), 2),
+    Step::Submit(Kind::Plain, Work::End(Ok(1)), 2),
     Step::Get(2, Err(PoolError::NotFuture)),
     Step::GetUntil(2, 0, Err(PoolError::NotFuture)),
     Step::TryGet(2, Err(PoolError::NotFuture)),
     Step::Get(99, Err(PoolError::UnknownTask)),
     Step::GetUntil(99, 0, Err(PoolError::UnknownTask)),
     Step::TryGet(99, Err(PoolError::UnknownTask)),
-    Step::Submit(Kind::Future, Deed::Least, 3),
+    Step::Submit(Kind::Future, Work::Least, 3),
     Step::Get(3, Ok(i64::MIN)),
     SHUTS_DOWN,
 ];
@@ -43,11 +43,11 @@ fn future_answers_its_job(rt: HostRuntime) -> Result<(), Fail> {
     lives(rt, rt.alloc(), &SINGLES)
 }
 
-const TWO: [Deed; 2] = [Deed::End(Ok(1)), Deed::End(Err(2))];
+const TWO: [Work; 2] = [Work::End(Ok(1)), Work::End(Err(2))];
 
-const FAILING: [Deed; 2] = [Deed::End(Err(7)), Deed::End(Err(9))];
+const FAILING: [Work; 2] = [Work::End(Err(7)), Work::End(Err(9))];
 
-const ONE_SUCCEEDS: [Deed; 2] = [Deed::End(Err(7)), Deed::End(Ok(3))];
+const ONE_SUCCEEDS: [Work; 2] = [Work::End(Err(7)), Work::End(Ok(3))];
 
 const TOGETHER: [Step; 11] = [
     Step::Many(Many::All(&TWO, 0)),
@@ -81,10 +81,10 @@ fn many_jobs_answer_together(rt: HostRuntime) -> Result<(), Fail> {
 const GROUP: [Step; 16] = [
     Step::Poll(3, Ok(None)),
     Step::Take(3, Err(PoolError::NothingOpen)),
-    Step::Submit(Kind::Group(3), Deed::End(Ok(1)), 0),
-    Step::Submit(Kind::Group(3), Deed::End(Err(2)), 1),
-    Step::Submit(Kind::Group(4), Deed::End(Ok(4)), 2),
-    Step::Submit(Kind::Group(3), Deed::End(Ok(3)), 3),
+    Step::Submit(Kind::Group(3), Work::End(Ok(1)), 0),
+    Step::Submit(Kind::Group(3), Work::End(Err(2)), 1),
+    Step::Submit(Kind::Group(4), Work::End(Ok(4)), 2),
+    Step::Submit(Kind::Group(3), Work::End(Ok(3)), 3),
     Step::Take(3, Ok(TaskId(0))),
     Step::Take(3, Ok(TaskId(1))),
     Step::Take(3, Ok(TaskId(3))),

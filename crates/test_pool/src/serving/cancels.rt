@@ -3,7 +3,7 @@
 use super::{HELD_ONE, ONE};
 use crate::harness::boards::{Hook, Signal};
 use crate::harness::calls::Call;
-use crate::harness::chores::Deed;
+use crate::harness::chores::Work;
 use crate::harness::findings::Finding;
 use crate::harness::lives::lives;
 use crate::harness::scripts::{CAME, Cue, FIRST, LETS_GO, Life, Many, SHUTS_DOWN, Step, TELLS};
@@ -20,15 +20,15 @@ const OPEN: [Step; 18] = [
     FIRST,
     Step::TryGet(0, Ok(None)),
     Step::GetUntil(0, 0, Err(PoolError::TimedOut)),
-    Step::Submit(Kind::Future, Deed::Look, 1),
+    Step::Submit(Kind::Future, Work::Look, 1),
     Step::Call(Call::Cancel(TaskId(1), false, true)),
     Step::Call(Call::Cancel(TaskId(1), true, false)),
     Step::Get(1, Err(CANCELLED)),
     Step::GetUntil(1, 0, Err(CANCELLED)),
     Step::TryGet(1, Err(CANCELLED)),
-    Step::Many(Many::AllUntil(&[Deed::End(Ok(1))], 0, 2)),
+    Step::Many(Many::AllUntil(&[Work::End(Ok(1))], 0, 2)),
     Step::Get(2, Err(CANCELLED)),
-    Step::Submit(Kind::Group(3), Deed::Look, 3),
+    Step::Submit(Kind::Group(3), Work::Look, 3),
     Step::Poll(3, Ok(None)),
     Step::Call(Call::Cancel(TaskId(3), true, true)),
     Step::Take(3, Ok(TaskId(3))),
@@ -67,8 +67,8 @@ fn open_futures_are_cancelled(rt: HostRuntime) -> Result<(), Fail> {
 
 const LEFT: [Step; 13] = [
     FIRST,
-    Step::Submit(Kind::Future, Deed::Look, 1),
-    Step::Submit(Kind::Future, Deed::Look, 2),
+    Step::Submit(Kind::Future, Work::Look, 1),
+    Step::Submit(Kind::Future, Work::Look, 2),
     Step::Call(Call::Remove(TaskId(1))),
     Step::Get(1, Err(PoolError::Lost(Fate::Removed))),
     Step::TryGet(1, Err(PoolError::Lost(Fate::Removed))),
@@ -95,7 +95,7 @@ fn tasks_that_leave_are_lost(rt: HostRuntime) -> Result<(), Fail> {
 
 // A job is held before its body, and its future is cancelled.
 const CANCELS: Life = Life {
-    first: &[Step::Submit(Kind::Future, Deed::Look, 0), CAME],
+    first: &[Step::Submit(Kind::Future, Work::Look, 0), CAME],
     last: &[Step::Get(0, Err(CANCELLED)), LETS_GO, SHUTS_DOWN],
     ..HELD_ONE
 };
@@ -120,7 +120,7 @@ fn held_job_finds_its_flag(rt: HostRuntime) -> Result<(), Fail> {
 }
 
 const UNLOOKING: [Step; 6] = [
-    Step::Submit(Kind::Future, Deed::WaitBlind, 0),
+    Step::Submit(Kind::Future, Work::WaitBlind, 0),
     Step::Cue(Cue::Reaches(Signal::Begun, 1)),
     Step::Call(Call::Cancel(TaskId(0), true, true)),
     Step::Get(0, Err(CANCELLED)),
@@ -146,7 +146,7 @@ fn job_that_never_looks_still_ends(rt: HostRuntime) -> Result<(), Fail> {
 }
 
 const REST: [Step; 5] = [
-    Step::Many(Many::Any(&[Deed::End(Ok(3)), Deed::WaitBlind], Ok(3))),
+    Step::Many(Many::Any(&[Work::End(Ok(3)), Work::WaitBlind], Ok(3))),
     Step::Get(0, Ok(3)),
     Step::Get(1, Err(CANCELLED)),
     TELLS,

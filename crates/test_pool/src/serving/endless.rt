@@ -2,7 +2,7 @@
 
 use crate::harness::boards::Signal;
 use crate::harness::calls::Call;
-use crate::harness::chores::Deed;
+use crate::harness::chores::Work;
 use crate::harness::findings::{Finding, NO_COUNTS};
 use crate::harness::forgetting::forgetful_lives;
 use crate::harness::scripts::{
@@ -28,7 +28,7 @@ const LONE: Life = Life {
 };
 
 // A job that is counted, and answers 7.
-const COUNTED: Deed = Deed::Meet(7, 1);
+const COUNTED: Work = Work::Meet(7, 1);
 
 const JOBS: u32 = 20_000;
 

@@ -1,7 +1,7 @@
 //! Many jobs, of which one is refused. The earlier ones are cancelled, and it and the later ones are dropped.
 
 use super::HELD_ONE;
-use crate::harness::chores::Deed;
+use crate::harness::chores::Work;
 use crate::harness::findings::Finding;
 use crate::harness::lives::lives;
 use crate::harness::scripts::{CAME, FIRST, LETS_GO, Life, Many, ONE_WORKER, SHUTS_DOWN, Step};
@@ -10,7 +10,7 @@ use tp_types::configs::{Config, QueueKind};
 use tp_types::ids::TaskId;
 use tp_types::refusals::PoolError;
 
-const LOOKS: [Deed; 3] = [Deed::Look, Deed::Look, Deed::Look];
+const LOOKS: [Work; 3] = [Work::Look, Work::Look, Work::Look];
 
 const REFUSED: PoolError = PoolError::Rejected(TaskId(2));
 
@@ -56,7 +56,7 @@ static FULL: [Life; 1] = [Life {
         ..ONE_WORKER
     },
     first: &[
-        Step::Many(Many::AllRefused(&[Deed::Look; 40], PoolError::BookFull)),
+        Step::Many(Many::AllRefused(&[Work::Look; 40], PoolError::BookFull)),
         LETS_GO,
         SHUTS_DOWN,
     ],

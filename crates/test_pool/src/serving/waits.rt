@@ -3,7 +3,7 @@
 use super::HELD_ONE;
 use crate::harness::boards::Signal;
 use crate::harness::calls::Call;
-use crate::harness::chores::Deed;
+use crate::harness::chores::Work;
 use crate::harness::findings::Finding;
 use crate::harness::lives::lives;
 use crate::harness::scripts::{
@@ -23,7 +23,7 @@ const HELD_PAIR: Life = Life {
 
 const GROUP: Kind = Kind::Group(3);
 
-const ONE_JOB: [Deed; 1] = [Deed::End(Ok(8))];
+const ONE_JOB: [Work; 1] = [Work::End(Ok(8))];
 
 const READY: Step = Step::Cue(Cue::Put(Signal::Ready, 1));
 
@@ -57,7 +57,7 @@ const LEFT: Life = Life {
 
 // The first caller queues task 1 itself, or the second one does.
 const SINGLE: Life = Life {
-    first: &[FIRST, CAME, Step::Submit(GROUP, Deed::Look, 1), READY],
+    first: &[FIRST, CAME, Step::Submit(GROUP, Work::Look, 1), READY],
     ..LEFT
 };
 
@@ -85,7 +85,7 @@ const DISCARDED: [Step; 4] = [
     IT_WAITS,
     Step::Becomes(View::Queued(1)),
     A_WHILE,
-    Step::Submit(Kind::Future, Deed::Look, 2),
+    Step::Submit(Kind::Future, Work::Look, 2),
 ];
 
 // The second caller finds it lost.
@@ -145,7 +145,7 @@ static CLOCKED: [Life; 2] = [
     // The same for a group, and for many jobs: the one behind task 0 is cancelled, and a later one runs.
     Life {
         first: &[
-            Step::Submit(GROUP, Deed::End(Ok(6)), 0),
+            Step::Submit(GROUP, Work::End(Ok(6)), 0),
             CAME,
             Step::TakeFor(3, 20_000, Err(PoolError::TimedOut)),
             Step::TakeFor(4, 20_000, Err(PoolError::NothingOpen)),
@@ -248,7 +248,7 @@ fn lost_task_ends_an_invocation_of_any(rt: HostRuntime) -> Result<(), Fail> {
 // Task 0 is held while the second caller falls asleep, and then ends.
 const ENDS: Life = Life {
     first: &[
-        Step::Submit(GROUP, Deed::End(Ok(6)), 0),
+        Step::Submit(GROUP, Work::End(Ok(6)), 0),
         CAME,
         READY,
         IT_WAITS,
@@ -299,7 +299,7 @@ fn end_of_a_task_ends_waits(rt: HostRuntime) -> Result<(), Fail> {
 
 static STEPPED: [Life; 1] = [Life {
     first: &[
-        Step::Submit(Kind::Future, Deed::Look, 0),
+        Step::Submit(Kind::Future, Work::Look, 0),
         CAME,
         Step::Is(View::Steps(4)),
         Step::Call(Call::WaitStep(3, 4)),
@@ -330,7 +330,7 @@ fn step_ends_a_wait_for_it(rt: HostRuntime) -> Result<(), Fail> {
 
 const TICKS: Life = Life {
     first: &[
-        Step::Submit(Kind::Future, Deed::Look, 0),
+        Step::Submit(Kind::Future, Work::Look, 0),
         CAME,
         READY,
         IT_WAITS,

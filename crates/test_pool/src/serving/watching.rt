@@ -1,7 +1,7 @@
 //! What a thread sees that watches a pool and makes no step.
 
 use super::HELD_ONE;
-use crate::harness::chores::Deed;
+use crate::harness::chores::Work;
 use crate::harness::findings::Finding;
 use crate::harness::lives::lives;
 use crate::harness::scripts::{CAME, FIRST, LETS_GO, Life, SHUTS_DOWN, Seen, Step};
@@ -26,7 +26,7 @@ const SHUT: Seen = Seen {
 const WATCHED: [Step; 7] = [
     FIRST,
     CAME,
-    Step::Submit(Kind::Future, Deed::End(Ok(1)), 1),
+    Step::Submit(Kind::Future, Work::End(Ok(1)), 1),
     Step::Watch(BUSY),
     SHUTS_DOWN,
     Step::Watch(SHUT),

@@ -19,7 +19,7 @@ use tp_types::tasks::Kind;
 pub trait Keeper: Recorder {
     /// This task may be gone: it is forgotten, where the pool forgets tasks, it is plain, and it owes nothing. Whether it was
     /// forgotten. It writes no entry and takes no memory.
-    fn settle<P: Drop>(machine: &mut Machine<P, Self>, t: TaskId) -> bool
+    fn forget<P: Drop>(machine: &mut Machine<P, Self>, t: TaskId) -> bool
         ensures stands { (h : List Entry) (rs : List ℕ) → At Self.tells machine.old h rs → At Self.tells machine.new h (released_with result t.0 rs) }
         ensures forgets { IsTrue result → (h : List Entry) (rs : List ℕ) → At Self.tells machine.old h rs → MayForget (left rs (state (config_of machine.old) h)) t.0 }
         ensures keeps { Self.RECEIPTS ≡ false → result ≡ false → (h : List Entry) (rs : List ℕ) → At Self.tells machine.old h rs →
@@ -40,7 +40,7 @@ pub trait Keeper: Recorder {
 /// A record names every task.
 impl Keeper for Full {
     #[inline(always)]
-    fn settle<P: Drop>(_machine: &mut Machine<P, Full>, _t: TaskId) -> bool {
+    fn forget<P: Drop>(_machine: &mut Machine<P, Full>, _t: TaskId) -> bool {
         false
     }
 
@@ -50,8 +50,8 @@ impl Keeper for Full {
 /// Nobody asks for a plain task that is gone.
 impl Keeper for Tally {
     #[inline(always)]
-    fn settle<P: Drop>(machine: &mut Machine<P, Tally>, t: TaskId) -> bool {
-        machine.settle(t)
+    fn forget<P: Drop>(machine: &mut Machine<P, Tally>, t: TaskId) -> bool {
+        machine.forget(t)
     }
 
     fn law_forgets_at_will() {}
@@ -60,7 +60,7 @@ impl Keeper for Tally {
 impl<P> Machine<P, Tally> {
     // Forgets a plain task that is gone and owes nothing, and tells whether it did. Any other stays.
     #[inline(always)]
-    fn settle(&mut self, t: TaskId) -> bool
+    fn forget(&mut self, t: TaskId) -> bool
     where
         P: Drop,
         ensures stands { (h : List Entry) (rs : List ℕ) → At ⟦<Tally as Recorder>⟧.tells self.old h rs → At ⟦<Tally as Recorder>⟧.tells self.new h (released_with result t.0 rs) }

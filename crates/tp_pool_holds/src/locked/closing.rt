@@ -5,13 +5,13 @@ ghost use Rattle.tp_record.specs.Fields.{rank};
 ghost use Rattle.tp_book.specs.BookView.{config};
 ghost use Rattle.tp_pool_holds.specs.Closing.{KeepsOpen};
 ghost use Rattle.tp_pool_holds.specs.Moments.{BookAtSome};
-ghost use Rattle.tp_pool_holds.specs.declared.tasks.Task.{Task};
+ghost use Rattle.tp_pool_holds.specs.declared.tasks.Payload.{Payload};
 
-use super::Core;
+use super::Locked;
 use crate::flags::Flags;
 use crate::names::PoolNaming;
 use crate::roster::Roster;
-use crate::tasks::Task;
+use crate::tasks::Payload;
 use std::alloc::Global;
 use tp_book::book::Book;
 use tp_book::gathered::Gathered;
@@ -29,7 +29,7 @@ pub struct Beside {
     waking: Waking,
 }
 
-impl<G: PoolNaming, J: Drop, R: Keeper> Core<G, J, R> {
+impl<G: PoolNaming, J: Drop, R: Keeper> Locked<G, J, R> {
     /// A pass for one more caller: `Book::split_pass`. The count of passes is not in the history, so its number is said to be
     /// that of some book of these settings.
     pub fn split_pass(
@@ -42,8 +42,8 @@ impl<G: PoolNaming, J: Drop, R: Keeper> Core<G, J, R> {
         ensures made { OnOk result (self.new ≡ record self.old { book = record self.old.book { accounts = record self.old.book.accounts { made = self.old.book.accounts.made + 1; callers = self.old.book.accounts.callers + 1 } } }) }
         ensures room { self.old.book.accounts.made < 4294967295 → IsOk result }
         ensures left { OnErr result (self.new ≡ self.old) }
-        ensures some { IfOk result (λ p. BookAtSome (Task J) (R.terms G.config) (λ b. p ≡ record { number = b.accounts.made; amount = 0; front = pass.old.front; released = pass.old.released; keeps = R.RECEIPTS; receipts = []; room = p.room })) }
-        ensures refused { IfErr result (λ e. (e ≡ PoolError.BookFull) × BookAtSome (Task J) (R.terms G.config) (λ b. 4294967295 ≤ b.accounts.made)) }
+        ensures some { IfOk result (λ p. BookAtSome (Payload J) (R.terms G.config) (λ b. p ≡ record { number = b.accounts.made; amount = 0; front = pass.old.front; released = pass.old.released; keeps = R.RECEIPTS; receipts = []; room = p.room })) }
+        ensures refused { IfErr result (λ e. (e ≡ PoolError.BookFull) × BookAtSome (Payload J) (R.terms G.config) (λ b. 4294967295 ≤ b.accounts.made)) }
         ensures same { pass.new ≡ pass.old }
     {
         self.book.law_is_balanced();
@@ -62,7 +62,7 @@ impl<G: PoolNaming, J: Drop, R: Keeper> Core<G, J, R> {
         ensures stands { self.new ≡ self.old }
         ensures here { IfErr result (λ e. ((e ≡ PoolError.NotTerminated) × ¬ (rank self.old.book.history ≡ 4))
             ⊎ ((e ≡ PoolError.MissingPass) × (rank self.old.book.history ≡ 4) × ¬ (length passes.old.items ≡ self.old.book.accounts.callers))) }
-        ensures refused { IfErr result (KeepsOpen (Task J) (R.terms G.config) passes.old.items) }
+        ensures refused { IfErr result (KeepsOpen (Payload J) (R.terms G.config) passes.old.items) }
         ensures same { passes.new.items ≡ passes.old.items }
     {
         self.law_is_book();
@@ -77,13 +77,13 @@ impl<G: PoolNaming, J: Drop, R: Keeper> Core<G, J, R> {
     }
 
     /// The book, the passes that workers handed in, and the rest.
-    pub(crate) fn part(self) -> (Book<G, Task<J>, R>, Gathered<G>, Beside)
+    pub(crate) fn part(self) -> (Book<G, Payload<J>, R>, Gathered<G>, Beside)
         ensures book { result.0 ≡ self.book }
         ensures workers { result.1 ≡ self.roster.ended }
         ensures settings { config result.0 ≡ (R.terms G.config) }
         ensures good { IsConfig G.config }
     {
-        let Core {
+        let Locked {
             book,
             flags,
             waking,
@@ -95,10 +95,10 @@ impl<G: PoolNaming, J: Drop, R: Keeper> Core<G, J, R> {
     /// What `part` took apart, put together again; no thread of a worker runs.
     pub(crate) fn again(
         alloc: Global,
-        book: Book<G, Task<J>, R>,
+        book: Book<G, Payload<J>, R>,
         ended: Gathered<G>,
         beside: Beside,
-    ) -> Core<G, J, R>
+    ) -> Locked<G, J, R>
         requires settings { config book ≡ (R.terms G.config) }
         requires good { IsConfig G.config }
         ensures book { result.book ≡ book }
@@ -106,7 +106,7 @@ impl<G: PoolNaming, J: Drop, R: Keeper> Core<G, J, R> {
     {
         let Beside { flags, mut waking } = beside;
         waking.settle(book.counts().queued);
-        Core {
+        Locked {
             book,
             flags,
             waking,

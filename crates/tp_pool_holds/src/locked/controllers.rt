@@ -11,13 +11,13 @@ ghost use Rattle.tp_pool_holds.specs.Moments.{AtFront};
 ghost use Rattle.tp_pool_holds.specs.Passes.{AddsNone, AddsStep, LooksOnly, Refuses};
 ghost use Rattle.tp_pool_holds.specs.Readings.{has_come as come};
 ghost use Rattle.tp_pool_holds.specs.Steps.{Stops};
-ghost use Rattle.tp_pool_holds.specs.declared.tasks.Task.{Task as TaskOf};
+ghost use Rattle.tp_pool_holds.specs.declared.tasks.Payload.{Payload as TaskOf};
 
-use super::Core;
+use super::Locked;
 use super::readings::has_come;
 use crate::answers::Drained;
 use crate::names::PoolNaming;
-use crate::tasks::Task;
+use crate::tasks::Payload;
 use std::alloc::Global;
 use tp_book::passes::Pass;
 use tp_glance::glance::Glance;
@@ -31,7 +31,7 @@ use tp_types::states::RunState;
 
 /// What a look of a wait for the pool's end found.
 #[derive(Clone, Copy, Debug, PartialEq, Eq)]
-pub enum Look {
+pub enum EndSeen {
     /// The pool is terminated.
     Terminated,
     /// It is not, and now has reached the deadline.
@@ -43,7 +43,7 @@ pub enum Look {
 }
 
 // A task that a stop handed back.
-fn drained_from<J>(t: TaskId, task: Option<Task<J>>) -> Drained<J>
+fn drained_from<J>(t: TaskId, task: Option<Payload<J>>) -> Drained<J>
     ensures { result ≡ drained_of (t, task) }
 {
     match task {
@@ -58,7 +58,7 @@ fn drained_from<J>(t: TaskId, task: Option<Task<J>>) -> Drained<J>
 // Moves the tasks that a stop handed back to an empty list with room for them.
 #[tactic(auto, using(std::proofs::lemmas::List::map_push))]
 fn listed<J: Drop>(
-    handed: Vec<(TaskId, Option<Task<J>>)>,
+    handed: Vec<(TaskId, Option<Payload<J>>)>,
     mut drained: Vec<Drained<J>>,
 ) -> Vec<Drained<J>>
     requires empty { drained.items ≡ [] }
@@ -71,7 +71,7 @@ fn listed<J: Drop>(
     drained
 }
 
-impl<G: PoolNaming, J: Drop, R: Keeper> Core<G, J, R> {
+impl<G: PoolNaming, J: Drop, R: Keeper> Locked<G, J, R> {
     /// Stops the pool, with the memory of the whole answer taken before the step: the tasks that were
     /// queued, in the queue's order, each with its job unless it was cancelled. NoMemory (4) comes only where a
     /// task is queued.
@@ -106,35 +106,35 @@ impl<G: PoolNaming, J: Drop, R: Keeper> Core<G, J, R> {
 
     /// One look of a wait for the pool's end, in this order: the pool is terminated; now has reached the deadline,
     /// if there is one; the pool can end. Where the thread is to wait, it has said so.
-    pub fn look(&mut self, deadline: Option<u64>, glance: &Glance<G>, pass: &mut Pass<G>) -> Look
+    pub fn look(&mut self, deadline: Option<u64>, glance: &Glance<G>, pass: &mut Pass<G>) -> EndSeen
         requires room { 0 < pass.old.room }
-        ensures terminated { result ≡ Look.Terminated → rank pass.new.front ≡ 4 }
-        ensures late { result ≡ Look.Late → AtFront (R.terms G.config) pass.new.front (λ s. (come deadline s.now ≡ true) × ¬ (s.rank ≡ 4)) }
-        ensures past { result ≡ Look.Late → come deadline (state_of self.old.book).now ≡ true }
-        ensures early { result ≡ Look.Waits → come deadline (state_of self.old.book).now ≡ false }
-        ensures unended { result ≡ Look.Waits → ¬ ((state_of self.old.book).rank ≡ 4) }
-        ensures untidy { result ≡ Look.Waits → (e : PoolError) × IsDenied R.RECEIPTS self.old.book Ask.Tidy e }
-        ensures awaits { result ≡ Look.Waits → IsTrue self.new.waking.awaited.end }
-        ensures holds { result ≡ Look.Tidied → Holds R.RECEIPTS self.old self.new pass.old.number Ask.Tidy Did.Tidy Keeps }
-        ensures tidied { result ≡ Look.Tidied → AddsStep (R.terms G.config) pass.old Ask.Tidy Did.Tidy pass.new }
-        ensures left { result ≡ Look.Tidied → pass.old.room ≤ pass.new.room + 1 }
-        ensures others { result ≢ Look.Tidied → LooksOnly (R.terms G.config) pass.old pass.new }
-        ensures asleep { result ≢ Look.Tidied → self.new.waking ≡ record self.old.waking { awaited = self.new.waking.awaited } }
-        ensures unmoved { result ≢ Look.Tidied → IsUnmoved self.old.book self.new.book }
+        ensures terminated { result ≡ EndSeen.Terminated → rank pass.new.front ≡ 4 }
+        ensures late { result ≡ EndSeen.Late → AtFront (R.terms G.config) pass.new.front (λ s. (come deadline s.now ≡ true) × ¬ (s.rank ≡ 4)) }
+        ensures past { result ≡ EndSeen.Late → come deadline (state_of self.old.book).now ≡ true }
+        ensures early { result ≡ EndSeen.Waits → come deadline (state_of self.old.book).now ≡ false }
+        ensures unended { result ≡ EndSeen.Waits → ¬ ((state_of self.old.book).rank ≡ 4) }
+        ensures untidy { result ≡ EndSeen.Waits → (e : PoolError) × IsDenied R.RECEIPTS self.old.book Ask.Tidy e }
+        ensures awaits { result ≡ EndSeen.Waits → IsTrue self.new.waking.awaited.end }
+        ensures holds { result ≡ EndSeen.Tidied → Holds R.RECEIPTS self.old self.new pass.old.number Ask.Tidy Did.Tidy Keeps }
+        ensures tidied { result ≡ EndSeen.Tidied → AddsStep (R.terms G.config) pass.old Ask.Tidy Did.Tidy pass.new }
+        ensures left { result ≡ EndSeen.Tidied → pass.old.room ≤ pass.new.room + 1 }
+        ensures others { result ≢ EndSeen.Tidied → LooksOnly (R.terms G.config) pass.old pass.new }
+        ensures asleep { result ≢ EndSeen.Tidied → self.new.waking ≡ record self.old.waking { awaited = self.new.waking.awaited } }
+        ensures unmoved { result ≢ EndSeen.Tidied → IsUnmoved self.old.book self.new.book }
         ensures threads { self.new.roster ≡ self.old.roster }
     {
         self.law_is_book();
         if self.show(glance, pass) == RunState::Terminated {
-            return Look::Terminated;
+            return EndSeen::Terminated;
         }
         if has_come(deadline, self.book.now()) {
-            return Look::Late;
+            return EndSeen::Late;
         }
         match self.step(Plain(Tidy), glance, pass) {
-            Ok(()) => return Look::Tidied,
+            Ok(()) => return EndSeen::Tidied,
             Err(_) => {}
         }
         self.waking.await_end();
-        Look::Waits
+        EndSeen::Waits
     }
 }

@@ -9,12 +9,12 @@ ghost use Rattle.tp_record.specs.Fields.{queue};
 ghost use Rattle.tp_record.specs.State.{State, slot_at};
 ghost use Rattle.tp_record.specs.Step.{Gives};
 ghost use Rattle.tp_machine.specs.Seen.{task_of_row};
-ghost use Rattle.tp_book.specs.BookView.{SettlesAll, config, state_of};
+ghost use Rattle.tp_book.specs.BookView.{ForgetsAllGone, config, state_of};
 ghost use Rattle.tp_pool_holds.specs.Gone.{gone_ruled, gone_with, named};
 
 use crate::flags::Flags;
 use crate::names::PoolNaming;
-use crate::tasks::Task;
+use crate::tasks::Payload;
 use tp_book::book::Book;
 use tp_glance::glance::Glance;
 use tp_machine::answers::{Begun, Judged};
@@ -55,11 +55,11 @@ pub enum Gone<'a, J> {
     /// This one.
     One(TaskId),
     /// Those that a stop drained.
-    Drained(&'a [(TaskId, Option<Task<J>>)]),
+    Drained(&'a [(TaskId, Option<Payload<J>>)]),
 }
 
 /// A step that can be made under a pool's lock.
-pub trait Marks<J>: Step<Task<J>> {
+pub trait Marks<J>: Step<Payload<J>> {
     /// What it is to the flags, so answered.
     #[inline(always)]
     fn mark(self, _answer: &Self::Answer) -> Mark {
@@ -75,7 +75,7 @@ pub trait Marks<J>: Step<Task<J>> {
 // Sets the flags that the step sets. A task that its caller runs has a flag from the step that begins it to the one that ends it.
 #[inline(always)]
 pub(super) fn mark_flags<G: PoolNaming, J, R: Keeper>(
-    book: &Book<G, Task<J>, R>,
+    book: &Book<G, Payload<J>, R>,
     flags: &mut Flags,
     mark: Mark,
 ) {
@@ -89,7 +89,7 @@ pub(super) fn mark_flags<G: PoolNaming, J, R: Keeper>(
 }
 
 // The job of this task hears of its cancel where it has begun.
-fn cancel<G: PoolNaming, J, R: Keeper>(book: &Book<G, Task<J>, R>, flags: &Flags, t: TaskId) {
+fn cancel<G: PoolNaming, J, R: Keeper>(book: &Book<G, Payload<J>, R>, flags: &Flags, t: TaskId) {
     match book.place(t) {
         Ok(Place::Running(w)) => flags.set_slot(w),
         Ok(Place::Caller) => flags.set_at_caller(t),
@@ -98,7 +98,7 @@ fn cancel<G: PoolNaming, J, R: Keeper>(book: &Book<G, Task<J>, R>, flags: &Flags
 }
 
 // The tasks in slots hear of the stop. One in a slot that is not open yet never begins there: after a stop no slot with a task opens.
-fn stop<G: PoolNaming, J, R: Keeper>(book: &Book<G, Task<J>, R>, flags: &Flags) {
+fn stop<G: PoolNaming, J, R: Keeper>(book: &Book<G, Payload<J>, R>, flags: &Flags) {
     for w in 0..MAX_WORKERS as usize {
         if hears(book, SlotId(w)) {
             flags.set_slot(SlotId(w));
@@ -107,7 +107,7 @@ fn stop<G: PoolNaming, J, R: Keeper>(book: &Book<G, Task<J>, R>, flags: &Flags) 
 }
 
 // Whether a task in this slot is to hear of a stop: also one that is about to begin.
-fn hears<G: PoolNaming, J, R: Keeper>(book: &Book<G, Task<J>, R>, w: SlotId) -> bool
+fn hears<G: PoolNaming, J, R: Keeper>(book: &Book<G, Payload<J>, R>, w: SlotId) -> bool
     ensures { IsTrue result ↔ IsSome (task_of_row (slot_at (state_of book.now).slots w.0)) }
 {
     book.task_in(w).is_some()
@@ -115,33 +115,33 @@ fn hears<G: PoolNaming, J, R: Keeper>(book: &Book<G, Task<J>, R>, w: SlotId) -> 
 
 // The book forgets of these tasks those that it may.
 #[inline(always)]
-pub(super) fn settle<G: PoolNaming, J: Drop, R: Keeper>(
-    book: &mut Book<G, Task<J>, R>,
+pub(super) fn forget<G: PoolNaming, J: Drop, R: Keeper>(
+    book: &mut Book<G, Payload<J>, R>,
     gone: Gone<'_, J>,
     glance: &Glance<G>,
 )
-    ensures settles { SettlesAll R.RECEIPTS book.old book.new (named gone.entry) }
+    ensures forgets_gone { ForgetsAllGone R.RECEIPTS book.old book.new (named gone.entry) }
     ensures config { config book.new ≡ config book.old }
     ensures history { book.new.history ≡ book.old.history }
 {
     match gone {
         Gone::Nobody => {}
-        Gone::One(t) => book.settle(t, glance),
-        Gone::Drained(tasks) => settle_all(book, tasks, glance),
+        Gone::One(t) => book.forget(t, glance),
+        Gone::Drained(tasks) => forget_all(book, tasks, glance),
     }
 }
 
-fn settle_all<G: PoolNaming, J: Drop, R: Keeper>(
-    book: &mut Book<G, Task<J>, R>,
-    tasks: &[(TaskId, Option<Task<J>>)],
+fn forget_all<G: PoolNaming, J: Drop, R: Keeper>(
+    book: &mut Book<G, Payload<J>, R>,
+    tasks: &[(TaskId, Option<Payload<J>>)],
     glance: &Glance<G>,
 )
-    ensures settles { SettlesAll R.RECEIPTS book.old book.new (map (λ x. x.0.0) tasks.now) }
+    ensures forgets_gone { ForgetsAllGone R.RECEIPTS book.old book.new (map (λ x. x.0.0) tasks.now) }
     ensures config { config book.new ≡ config book.old }
     ensures history { book.new.history ≡ book.old.history }
 {
     for (t, _) in tasks {
-        book.settle(*t, glance);
+        book.forget(*t, glance);
     }
 }
 
@@ -194,14 +194,14 @@ fn judged<'a, J>(t: TaskId, ruled: Ruled) -> Gone<'a, J>
 
 impl<J: Drop> Marks<J> for Judge {
     // A task that its caller is to run begins.
-    fn mark(self, answer: &Judged<Task<J>>) -> Mark {
+    fn mark(self, answer: &Judged<Payload<J>>) -> Mark {
         match answer.did {
             Did::Verdict(t, _, Ruled::Caller) => Mark::BeginsAtCaller(t),
             _ => Mark::Nothing,
         }
     }
 
-    fn gone<'a>(self, answer: &'a Judged<Task<J>>) -> Gone<'a, J> {
+    fn gone<'a>(self, answer: &'a Judged<Payload<J>>) -> Gone<'a, J> {
         match answer.did {
             Did::Verdict(t, _, ruled) => judged(t, ruled),
             _ => Gone::Nobody,
@@ -242,7 +242,7 @@ impl<J> Marks<J> for Plain<Take> {
 
 impl<J> Marks<J> for Begin {
     #[inline(always)]
-    fn gone<'a>(self, _answer: &'a Begun<Task<J>>) -> Gone<'a, J> {
+    fn gone<'a>(self, _answer: &'a Begun<Payload<J>>) -> Gone<'a, J> {
         Gone::Nobody
     }
 }
@@ -269,12 +269,12 @@ impl<J> Marks<J> for Plain<Shutdown> {
 }
 
 impl<J: Drop> Marks<J> for Stop {
-    fn mark(self, _answer: &Vec<(TaskId, Option<Task<J>>)>) -> Mark {
+    fn mark(self, _answer: &Vec<(TaskId, Option<Payload<J>>)>) -> Mark {
         Mark::Stops
     }
 
     // The tasks that were queued are gone.
-    fn gone<'a>(self, answer: &'a Vec<(TaskId, Option<Task<J>>)>) -> Gone<'a, J> {
+    fn gone<'a>(self, answer: &'a Vec<(TaskId, Option<Payload<J>>)>) -> Gone<'a, J> {
         Gone::Drained(answer.as_slice())
     }
 }
@@ -308,7 +308,7 @@ impl<J> Marks<J> for Plain<TakeDone> {
 }
 
 impl<J: Drop> Marks<J> for Remove {
-    fn gone<'a>(self, answer: &'a Option<(TaskId, Option<Task<J>>)>) -> Gone<'a, J> {
+    fn gone<'a>(self, answer: &'a Option<(TaskId, Option<Payload<J>>)>) -> Gone<'a, J> {
         if answer.is_some() {
             Gone::One(self.0)
         } else {
@@ -319,7 +319,7 @@ impl<J: Drop> Marks<J> for Remove {
 
 impl<J> Marks<J> for Cancel {
     // A job that has begun hears of the cancel where that asks for it.
-    fn mark(self, answer: &(bool, Option<Task<J>>)) -> Mark {
+    fn mark(self, answer: &(bool, Option<Payload<J>>)) -> Mark {
         match answer {
             (true, None) if self.1 => Mark::Cancels(self.0),
             _ => Mark::Nothing,
@@ -327,7 +327,7 @@ impl<J> Marks<J> for Cancel {
     }
 
     // What has a future is its caller's to release.
-    fn gone<'a>(self, _answer: &'a (bool, Option<Task<J>>)) -> Gone<'a, J> {
+    fn gone<'a>(self, _answer: &'a (bool, Option<Payload<J>>)) -> Gone<'a, J> {
         Gone::Nobody
     }
 }

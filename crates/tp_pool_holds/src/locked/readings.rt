@@ -13,9 +13,9 @@ ghost use Rattle.tp_pool_holds.specs.Holds.{Holds};
 ghost use Rattle.tp_pool_holds.specs.Moments.{AtFront, AtSome, BookAtSome, BookOf};
 ghost use Rattle.tp_pool_holds.specs.Passes.{AddsStep, LooksOnly};
 ghost use Rattle.tp_pool_holds.specs.Readings.{known, has_come as come, unless_late as found_unless, IsPromiseOf, IsResult, IsFound, IsUndoneAt};
-ghost use Rattle.tp_pool_holds.specs.declared.tasks.Task.{Task as TaskOf};
+ghost use Rattle.tp_pool_holds.specs.declared.tasks.Payload.{Payload as TaskOf};
 
-use super::Core;
+use super::Locked;
 use crate::names::PoolNaming;
 use tp_book::passes::Pass;
 use tp_glance::glance::Glance;
@@ -48,7 +48,7 @@ fn unless_late(late: bool, found: Result<Option<i64>, PoolError>) -> Result<Opti
     }
 }
 
-impl<G: PoolNaming, J: Drop, R: Keeper> Core<G, J, R> {
+impl<G: PoolNaming, J: Drop, R: Keeper> Locked<G, J, R> {
     /// What the task's future answers: `Book::result`. The pass then knows the whole history, at whose end this is the answer.
     pub fn show_result(
         &mut self,

@@ -4,9 +4,9 @@ ghost use Rattle.tp_glance.specs.Word.{IsFrontOf};
 ghost use Rattle.tp_machine_state.specs.Releases.{IsKept};
 ghost use Rattle.tp_book.specs.BookView.{Forgets, left_of, released_of, state_of};
 ghost use Rattle.tp_pool_holds.specs.Moments.{BookAtSome};
-ghost use Rattle.tp_pool_holds.specs.declared.tasks.Task.{Task as TaskOf};
+ghost use Rattle.tp_pool_holds.specs.declared.tasks.Payload.{Payload as TaskOf};
 
-use super::Core;
+use super::Locked;
 use crate::names::PoolNaming;
 use tp_book::passes::Pass;
 use tp_glance::glance::Glance;
@@ -14,7 +14,7 @@ use tp_record::recorders::{Recorder, Tally};
 use tp_types::ids::TaskId;
 use tp_types::refusals::PoolError;
 
-impl<G: PoolNaming, J: Drop> Core<G, J, Tally> {
+impl<G: PoolNaming, J: Drop> Locked<G, J, Tally> {
     /// Forgets a task: `Machine::release`. UnknownTask (6) or NotThere (8). The pass then knows the whole history, with
     /// the task released.
     pub fn release_task(

@@ -7,7 +7,7 @@ ghost use Rattle.tp_book.specs.BookView.{released_of, state_of};
 ghost use Rattle.tp_pool_holds.specs.Left.{IsLeft, IsStranded};
 ghost use Rattle.tp_pool_holds.specs.Moments.{AtSome};
 
-use super::Core;
+use super::Locked;
 use crate::names::PoolNaming;
 use tp_book::passes::WorkerPass;
 use tp_glance::glance::Glance;
@@ -41,7 +41,7 @@ fn strands(state: RunState, slots: usize, queued: u32) -> bool
     slots == 0 && queued > 0 && state == RunState::Shutdown
 }
 
-impl<G: PoolNaming, J: Drop, R: Keeper> Core<G, J, R> {
+impl<G: PoolNaming, J: Drop, R: Keeper> Locked<G, J, R> {
     /// What is left to do in a pool that is shut down and has no slot: its end, or a worker for the tasks that
     /// are queued.
     #[inline(always)]

@@ -8,10 +8,10 @@ ghost use Rattle.tp_pool_holds.specs.Rosters.{start_after, telling};
 ghost use Rattle.tp_pool_holds.specs.Roused.{IsRoused};
 ghost use Rattle.tp_pool_holds.specs.Steps.{Makes, Refused};
 
-use super::{Core, rouse};
+use super::{Locked, rouse};
 use crate::names::PoolNaming;
 use crate::roster::Start;
-use crate::tasks::Task;
+use crate::tasks::Payload;
 use tp_book::passes::Pass;
 use tp_book::payers::Payer;
 use tp_glance::glance::Glance;
@@ -35,17 +35,17 @@ fn start_of(opened: &Result<Opened, PoolError>) -> Start
     }
 }
 
-impl<G: PoolNaming, J: Drop, R: Keeper> Core<G, J, R> {
+impl<G: PoolNaming, J: Drop, R: Keeper> Locked<G, J, R> {
     /// Submits a task. Where there are fewer flags than callers, one is made, should its caller run it. NoMemory (4) or
     /// BookFull (5), with the task.
     #[inline(always)]
     pub fn submit(
         &mut self,
         step: Submit,
-        task: Task<J>,
+        task: Payload<J>,
         glance: &Glance<G>,
         pass: &mut Pass<G>,
-    ) -> Result<(TaskId, Looked), (PoolError, Task<J>)>
+    ) -> Result<(TaskId, Looked), (PoolError, Payload<J>)>
         requires room { 0 < pass.old.room }
         ensures holds { IfOk result (λ x. Holds R.RECEIPTS self.old self.new pass.old.number (Ask.Submit step.kind step.priority) (Did.Submit x.0 step.kind step.priority x.1) (λ old new. PutsIn old new x.0.0 step.promise task)) }
         ensures makes { IfOk result (λ x. Makes J (R.terms G.config) pass.old.number pass.old.front (Ask.Submit step.kind step.priority) (Did.Submit x.0 step.kind step.priority x.1) (λ old new. PutsIn old new x.0.0 step.promise task) pass.new.front) }
@@ -57,7 +57,7 @@ impl<G: PoolNaming, J: Drop, R: Keeper> Core<G, J, R> {
         ensures returned { IfErr result (λ r. r.1 ≡ task) }
         ensures unchanged { OnErr result (AddsNone pass.old pass.new) }
     {
-        let Core {
+        let Locked {
             book,
             flags,
             waking,
@@ -97,7 +97,7 @@ impl<G: PoolNaming, J: Drop, R: Keeper> Core<G, J, R> {
     }
 
     /// Has the tasks lie in this memory: `Machine::take_space`.
-    pub fn take_space(&mut self, space: &mut Space<Task<J>>)
+    pub fn take_space(&mut self, space: &mut Space<Payload<J>>)
         ensures book { IsUnmoved self.old.book self.new.book }
         ensures rest { self.new ≡ record self.old { book = self.new.book } }
     {

@@ -3,7 +3,7 @@ ghost use Rattle.std.specs.Prelude.{◌≡◌, drop, reverse, IfOk, IfErr};
 ghost use Rattle.tp_book.specs.BookView.{state_of};
 ghost use Rattle.tp_pool_holds.specs.Watched.{AreBusy};
 
-use super::Core;
+use super::Locked;
 use crate::names::PoolNaming;
 use std::alloc::Global;
 use tp_machine::machine::releases::Keeper;
@@ -22,7 +22,7 @@ pub struct Busy {
     pub task: TaskId,
 }
 
-impl<G: PoolNaming, J: Drop, R: Keeper> Core<G, J, R> {
+impl<G: PoolNaming, J: Drop, R: Keeper> Locked<G, J, R> {
     /// The slots that have a task, in the order of their numbers. NoMemory (4).
     pub fn busy(&self, alloc: Global) -> Result<Vec<Busy>, PoolError>
         ensures busy { IfOk result (λ v. AreBusy (state_of self.now.book).slots v.items) }
@@ -41,7 +41,7 @@ impl<G: PoolNaming, J: Drop, R: Keeper> Core<G, J, R> {
     }
 }
 
-impl<G: PoolNaming, J: Drop> Core<G, J> {
+impl<G: PoolNaming, J: Drop> Locked<G, J> {
     /// The entries of the record from the n-th on, counted from 0, the oldest first; none where the record is
     /// not longer. NoMemory (4).
     pub fn record_since(&self, alloc: Global, n: u64) -> Result<Vec<Entry>, PoolError>

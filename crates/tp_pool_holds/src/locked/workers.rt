@@ -8,16 +8,16 @@ ghost use Rattle.tp_machine.specs.Answers.{payload_begun, started_of};
 ghost use Rattle.tp_machine.specs.Readings.{IsDyingAt};
 ghost use Rattle.tp_book.specs.BookView.{released_of};
 ghost use Rattle.tp_waking.specs.Told.{HasLooked};
-ghost use Rattle.tp_pool_holds.specs.CoreView.{CoreView};
+ghost use Rattle.tp_pool_holds.specs.LockedView.{LockedView};
 ghost use Rattle.tp_pool_holds.specs.Holds.{Answers};
 ghost use Rattle.tp_pool_holds.specs.Rosters.{gathered_with, told_at};
 ghost use Rattle.tp_pool_holds.specs.Steps.{Asks, begun_of, taking_of};
-ghost use Rattle.tp_pool_holds.specs.declared.tasks.Task.{Task as TaskOf};
+ghost use Rattle.tp_pool_holds.specs.declared.tasks.Payload.{Payload as TaskOf};
 
-use super::Core;
+use super::Locked;
 use crate::names::PoolNaming;
 use crate::roster::Start;
-use crate::tasks::Task;
+use crate::tasks::Payload;
 use tp_book::passes::WorkerPass;
 use tp_glance::glance::Glance;
 use tp_machine::answers::Begun as Started;
@@ -25,7 +25,7 @@ use tp_machine::machine::releases::Keeper;
 use tp_machine::typed::Plain;
 use tp_machine::typed::workers::{Begin, Take};
 use tp_protocols::flags::CancelFlag;
-use tp_protocols::turns::Begun;
+use tp_protocols::turns::BeginAnswer;
 use tp_record::entries::{Ask, Did, Took};
 use tp_types::ids::SlotId;
 use tp_types::refusals::PoolError;
@@ -61,24 +61,24 @@ fn taking_from(took: &Result<Took, PoolError>) -> Taking
 
 // What a worker's `begin` came to.
 #[inline(always)]
-fn begun_from<J: Drop>(begun: Result<Started<Task<J>>, PoolError>) -> Begun<J>
+fn begun_from<J: Drop>(begun: Result<Started<Payload<J>>, PoolError>) -> BeginAnswer<J>
     ensures { result ≡ begun_of begun }
 {
     match begun {
-        Ok(Started::Run(t, task)) => Begun::Run(t, task.into_job()),
-        Ok(Started::Skip(t)) => Begun::Skip(t),
-        Err(_) => Begun::Refused,
+        Ok(Started::Run(t, task)) => BeginAnswer::Run(t, task.into_job()),
+        Ok(Started::Skip(t)) => BeginAnswer::Skip(t),
+        Err(_) => BeginAnswer::Refused,
     }
 }
 
-impl<G: PoolNaming, J: Drop, R: Keeper> Core<G, J, R> {
+impl<G: PoolNaming, J: Drop, R: Keeper> Locked<G, J, R> {
     /// The worker of slot `w` asks for its next task; where it finds none, it is listed among the workers that
     /// sleep.
     #[inline(always)]
     pub fn take(&mut self, w: SlotId, glance: &Glance<G>, pass: &mut WorkerPass<G>) -> Taking
         ensures number { pass.new.number ≡ pass.old.number }
         ensures works { (result ≡ Taking.Task) ⊎ (result ≡ Taking.Left) → pass.new.amount ≡ pass.old.amount + 1 }
-        ensures worked { (mid : CoreView J) × (r : Result Took PoolError) × Answers R.RECEIPTS self.old mid pass.old.number (Ask.Take w) (λ x. Did.Take w x) (λ _. Keeps) r
+        ensures worked { (mid : LockedView J) × (r : Result Took PoolError) × Answers R.RECEIPTS self.old mid pass.old.number (Ask.Take w) (λ x. Did.Take w x) (λ _. Keeps) r
             × (result ≡ taking_of r) × (self.new ≡ record mid { waking = self.new.waking }) × HasLooked mid.waking self.new.waking w.0 (result ≡ Taking.Sleeps) }
         ensures asks { Asks J R.RECEIPTS (R.terms G.config) pass.old.number pass.old.front (Ask.Take w) (λ x. Did.Take w x) (λ _. Keeps) pass.new.front (λ r. result ≡ taking_of r) }
     {
@@ -91,7 +91,12 @@ impl<G: PoolNaming, J: Drop, R: Keeper> Core<G, J, R> {
     /// The worker of slot `w` begins the task that it took, and gets its job. By the slot's flag the pool has the job hear of a
     /// cancel.
     #[inline(always)]
-    pub fn begin(&mut self, w: SlotId, glance: &Glance<G>, pass: &mut WorkerPass<G>) -> Begun<J>
+    pub fn begin(
+        &mut self,
+        w: SlotId,
+        glance: &Glance<G>,
+        pass: &mut WorkerPass<G>,
+    ) -> BeginAnswer<J>
         ensures number { pass.new.number ≡ pass.old.number }
         ensures worked { (r : Result (Started (TaskOf J)) PoolError) × Answers R.RECEIPTS self.old self.new pass.old.number (Ask.Begin w) (λ x. Did.Begin w (started_of x)) (λ x old new. Begins old (started_of x) new (payload_begun x)) r
             × (result ≡ begun_of r) }

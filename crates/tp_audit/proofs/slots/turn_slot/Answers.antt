@@ -22,14 +22,14 @@ unreachable-requires c =
 
 pub returns-else-is_err-clause-turned : goal.returns-else-is_err-clause-turned
 returns-else-is_err-clause-turned c =
-    turned_there c.args.did (read c.args.moment c.args.tasks.now []) c.args.seats.now c.put.new.self c.in-Some.w c.get.result c.slot_after.result c.in-Some-slot_after.row
+    turned_there c.args.did (read c.args.moment c.args.tasks.now []) c.args.table.now c.put.new.self c.in-Some.w c.get.result c.slot_after.result c.in-Some-slot_after.row
     (c.requires.old c.in-Some.w c.in-Some.is) c.get.ensures (c.slot_after.ensures []) c.in-Some-slot_after.is
     (on_success c.put.result _ c.if-is_err.ensures.value c.put.ensures.put)
-    ∙ ap (λ o. change_at (slot_after c.args.did (read c.args.moment c.args.tasks.now [])) None o c.args.seats.now) (sym c.in-Some.is)
+    ∙ ap (λ o. change_at (slot_after c.args.did (read c.args.moment c.args.tasks.now [])) None o c.args.table.now) (sym c.in-Some.is)
 
 pub returns-else-is_err-clause-few : goal.returns-else-is_err-clause-few
 returns-else-is_err-clause-few c =
-    put_few c.args.seats.now c.put.new.self c.in-Some.w c.get.result c.in-Some-slot_after.row c.get.ensures
+    put_few c.args.table.now c.put.new.self c.in-Some.w c.get.result c.in-Some-slot_after.row c.get.ensures
     (was_slot c.args.did (read c.args.moment c.args.tasks.now []) c.in-Some.w c.get.result c.slot_after.result c.in-Some-slot_after.row
     (c.requires.old c.in-Some.w c.in-Some.is) (c.slot_after.ensures []) c.in-Some-slot_after.is)
     (on_success c.put.result _ c.if-is_err.ensures.value c.put.ensures.put)

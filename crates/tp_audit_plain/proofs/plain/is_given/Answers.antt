@@ -4,7 +4,7 @@ use Rattle.tp_record.specs.Effects.{reserves}
 use Rattle.tp_record.specs.State.{state}
 use Rattle.tp_record.specs.Step.{Answer, step}
 use Rattle.std.specs.Prelude.{unwrap_or}
-use Rattle.tp_rules.specs.Snapshot.{shown}
+use Rattle.tp_rules.specs.PlainState.{shown}
 use Rattle.tp_audit_plain.proofs.Judged.{given_by}
 use Rattle.tp_audit_plain.proofs.plain.is_given.Goals as goal
 

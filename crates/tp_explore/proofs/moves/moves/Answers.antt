@@ -2,7 +2,7 @@ use Rattle.std.proofs.Common.{◌≡◌, ◌<◌, [], ◌∷◌, length, get_or,
 use Rattle.std.proofs.lemmas.List.Elements.{Contains-get_or}
 use Rattle.tp_types.specs.declared.tasks.Kind.TheVariants.{Plain}
 use Rattle.tp_record.specs.declared.entries.Ask.TheVariants.{Submit}
-use Rattle.tp_explore.specs.declared.deeds.Deed.{Deed}
+use Rattle.tp_explore.specs.declared.deeds.NextAsk.{NextAsk}
 use Rattle.tp_explore.specs.declared.deeds.Mover.TheVariants.{Caller}
 use Rattle.tp_explore.specs.Moves as spec
 use Rattle.tp_explore.specs.Situation.{seen}
@@ -16,7 +16,7 @@ loop-deed-preserved c =
     let s = seen c.args.state.now in
     let ds = spec.deeds plan s in
     let i = c.loop-deed.deed-index in
-    let first : Deed = record { by = Caller 0; ask = Submit Plain 0 } in
+    let first : NextAsk = record { by = Caller 0; ask = Submit Plain 0 } in
     let all : c.deref-deed-items.result.now ≡ ds = c.deref-deed-items.ensures.value ∙ c.in_ok-deeds.ensures in
     let lt : i < length ds = rw all at c.loop-deed-test.true in
     let made : spec.moved c.in_ok-made.field-0 ≡ spec.made plan s (get_or ds i first) = rw all at c.in_ok-made.ensures.after in

@@ -1,6 +1,6 @@
 use Rattle.std.proofs.Common.{sym, subst}
 use Rattle.tp_pool_holds.specs.Closing.{KeepsOpen}
-use Rattle.tp_pool_holds.specs.declared.tasks.Task.{Task}
+use Rattle.tp_pool_holds.specs.declared.tasks.Payload.{Payload}
 use Rattle.tp_pool_holds.specs.Reports.{Closes}
 use Rattle.tp_life.specs.Lived.{IsUntold}
 use Rattle.tp_life.proofs.Untold.{untold}
@@ -16,5 +16,5 @@ returns-in-Err-clause-untold g c =
     let terms = g.K.Recorder.terms g.G.PoolNaming.config in
     let e = c.in-Err.fault.error in
     subst (IsUntold terms) (sym c.let_go.ensures)
-    (untold {P = Task g.row.J.Denot} terms c.args.passes.items c.args.last e c.requires.seen c.requires.legal
-    (subst (λ ps. KeepsOpen (Task g.row.J.Denot) terms ps e) c.push_reserved.ensures.items c.in-Err.ensures.refused))
+    (untold {P = Payload g.row.J.Denot} terms c.args.passes.items c.args.last e c.requires.seen c.requires.legal
+    (subst (λ ps. KeepsOpen (Payload g.row.J.Denot) terms ps e) c.push_reserved.ensures.items c.in-Err.ensures.refused))

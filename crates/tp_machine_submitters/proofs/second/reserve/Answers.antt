@@ -23,8 +23,8 @@ count_entry-requires g c =
     let e = entry_here old stands (ask.Second c.args.t) (did.Second c.args.t (seconded.StayReserve c.args.w)) _ 1 0 1 c.requires.fits (λ given. second_reserve (terms old) stands.history c.args.t c.args.w stands.legal given) refl (omega arith) in
     record { few = e.0; fall = e.1 }
 
-pub settle_task-requires : goal.settle_task-requires
-settle_task-requires g c =
+pub clear_second-requires : goal.clear_second-requires
+clear_second-requires g c =
     let old = c.args.parts.now in
     let stands = c.requires.stands in
     let given = given_here old stands (ask.Second c.args.t) (did.Second c.args.t (seconded.StayReserve c.args.w)) c.requires.fits in
@@ -37,7 +37,7 @@ reserve-requires-clause-room g c =
     let given = given_here old stands (ask.Second c.args.t) (did.Second c.args.t (seconded.StayReserve c.args.w)) c.requires.fits in
     let least = stands.tied.least in
     let left = seats_left old stands old.maximum (omega arith) (let none = given.3 in omega (arith, none, least)) in
-    let same = ap (λ p. p.slots) c.settle_task.ensures.rest ∙ ap (λ p. p.slots) c.count_entry.ensures.rest in
+    let same = ap (λ p. p.slots) c.clear_second.ensures.rest ∙ ap (λ p. p.slots) c.count_entry.ensures.rest in
     let taken = ap (λ s. count_by is_some s.slots) same in
     let places = ap (λ s. s.places) same in
     omega (arith, left, taken, places)
@@ -47,7 +47,7 @@ returns-clause-leads g c =
     let old = c.args.parts.now in
     let w = c.args.w in
     let k = c.count_entry.ensures in
-    let m = c.settle_task.ensures in
+    let m = c.clear_second.ensures in
     let r = c.reserve.ensures in
     let number = r.number ∙ ap (λ p. p.slots.next) m.rest ∙ ap (λ p. p.slots.next) k.rest ∙ sym c.requires.next in
     leads_from old c.reserve.new.self (ask.Second c.args.t) (did.Second c.args.t (seconded.StayReserve c.args.w)) 1 0 1 c.requires.stands c.requires.fits

@@ -17,8 +17,8 @@ count_entry-requires g c =
     let e = entry_here old stands (ask.Second c.args.t) (did.Second c.args.t seconded.Stay) _ 4 0 4 c.requires.fits (λ given. second_stay (terms old) stands.history c.args.t stands.legal given) refl (omega arith) in
     record { few = e.0; fall = e.1 }
 
-pub settle_task-requires : goal.settle_task-requires
-settle_task-requires g c =
+pub clear_second-requires : goal.clear_second-requires
+clear_second-requires g c =
     let old = c.args.parts.now in
     let stands = c.requires.stands in
     let given = given_here old stands (ask.Second c.args.t) (did.Second c.args.t seconded.Stay) c.requires.fits in
@@ -28,8 +28,8 @@ pub returns-clause-leads : goal.returns-clause-leads
 returns-clause-leads g c =
     let old = c.args.parts.now in
     let k = c.count_entry.ensures in
-    let m = c.settle_task.ensures in
-    leads_from old c.settle_task.new.self (ask.Second c.args.t) (did.Second c.args.t seconded.Stay) 4 0 4 c.requires.stands c.requires.fits
+    let m = c.clear_second.ensures in
+    leads_from old c.clear_second.new.self (ask.Second c.args.t) (did.Second c.args.t seconded.Stay) 4 0 4 c.requires.stands c.requires.fits
     (λ h rs legal given sh. (_, second_stay (terms old) h c.args.t legal given, m.views _ (k.views _ sh.seen)))
     refl (ap terms m.rest ∙ ap terms k.rest) (ap (λ p. p.steps) m.rest ∙ ap (λ p. p.steps) k.rest) (ap (λ p. p.due) m.rest ∙ ap (λ p. p.due) k.rest)
     (λ tied. m.tied _ _ (k.tied _ _ tied))

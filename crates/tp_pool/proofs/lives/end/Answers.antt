@@ -1,7 +1,7 @@
 use Rattle.std.proofs.Common.{ap, ◌∙◌, subst, sym}
 use Rattle.tp_record.specs.Fields.{rank}
 use Rattle.tp_pool_holds.specs.Closing.{KeepsOpen}
-use Rattle.tp_pool_holds.specs.declared.tasks.Task.{Task}
+use Rattle.tp_pool_holds.specs.declared.tasks.Payload.{Payload}
 use Rattle.tp_pool_holds.specs.Reports.{Closes}
 use Rattle.tp_pool.specs.Lives.{IsCut}
 use Rattle.tp_pool.proofs.Cuts.{cut}
@@ -16,5 +16,5 @@ returns-in-Err-close-clause-cut g c =
     let terms = g.K.Recorder.terms g.G.PoolNaming.config in
     let e = c.in-Err-close.fault.error in
     subst IsCut (sym c.let_go-in-Err-close.ensures)
-    (cut {P = Task g.row.J.Denot} terms c.args.pass c.sight.new.pass e (ap (λ p. rank p.front) c.sight.ensures.same ∙ c.in_default.ensures.ended)
-    (subst (λ ps. KeepsOpen (Task g.row.J.Denot) terms ps e) c.in-Ok.ensures.both c.in-Err-close.ensures.refused))
+    (cut {P = Payload g.row.J.Denot} terms c.args.pass c.sight.new.pass e (ap (λ p. rank p.front) c.sight.ensures.same ∙ c.in_default.ensures.ended)
+    (subst (λ ps. KeepsOpen (Payload g.row.J.Denot) terms ps e) c.in-Ok.ensures.both c.in-Err-close.ensures.refused))

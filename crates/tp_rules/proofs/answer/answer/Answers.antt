@@ -1,6 +1,6 @@
 use Rattle.std.proofs.Common.{reverse}
 use Rattle.tp_record.specs.State.{state}
-use Rattle.tp_rules.specs.Snapshot.{shown}
+use Rattle.tp_rules.specs.PlainState.{shown}
 use Rattle.tp_rules.proofs.Numbers.{answer_at_least, answer_gives}
 use Rattle.tp_rules.proofs.answer.answer.Goals as goal
 

@@ -1,5 +1,5 @@
 use Rattle.std.proofs.Common.{◌≡◌, ◌+◌, drop}
-use Rattle.tp_rules.specs.Snapshot.{least_free}
+use Rattle.tp_rules.specs.PlainState.{least_free}
 use Rattle.tp_rules.proofs.answer.free_slot.Given as goal
 
 abbrev pub invariant-loop-slot : goal.invariant-loop-slot

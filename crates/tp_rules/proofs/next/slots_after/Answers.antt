@@ -3,7 +3,7 @@ use Rattle.std.proofs.lemmas.List.{length-take}
 use Rattle.tp_record.specs.Lists.{long_enough}
 use Rattle.tp_record.specs.Effects.{reserves}
 use Rattle.tp_record.specs.State.{slot_after}
-use Rattle.tp_rules.specs.Snapshot.{shown}
+use Rattle.tp_rules.specs.PlainState.{shown}
 use Rattle.tp_rules.proofs.Tables.{change_each_more, get_or-long_enough, length-change_each}
 use Rattle.tp_rules.proofs.next.slots_after.Goals as goal
 

@@ -9,7 +9,7 @@ pub returns-then-ne : goal.returns-then-ne
 returns-then-ne g c =
     let config = g.K.Recorder.terms g.G.PoolNaming.config in
     let told = c.result_with.ensures in
-    let looks = looks_behind config c.args.pass.now c.forget.new.pass c.result_with.new.pass (c.forget.ensures.shown, c.forget.ensures.goes_on) told.looks in
+    let looks = looks_behind config c.args.pass.now c.forget_abandoned.new.pass c.result_with.new.pass (c.forget_abandoned.ensures.shown, c.forget_abandoned.ensures.goes_on) told.looks in
     let on : ¬ (c.result_with.result ≡ Ok None) = search rules in
     needs_no_cancel g.K.Recorder.RECEIPTS config c.args.t c.args.pass.now c.result_with.new.pass looks
     (closed_read g.K.Recorder.RECEIPTS config c.args.t c.result_with.new.pass c.result_with.result told.reads on)
@@ -17,6 +17,6 @@ returns-then-ne g c =
 pub returns : goal.returns
 returns g c =
     let config = g.K.Recorder.terms g.G.PoolNaming.config in
-    let looks = looks_behind config c.args.pass.now c.forget.new.pass c.result_with.new.pass (c.forget.ensures.shown, c.forget.ensures.goes_on) c.result_with.ensures.looks in
+    let looks = looks_behind config c.args.pass.now c.forget_abandoned.new.pass c.result_with.new.pass (c.forget_abandoned.ensures.shown, c.forget_abandoned.ensures.goes_on) c.result_with.ensures.looks in
     cancels g.K.Recorder.RECEIPTS config c.args.t c.args.pass.now c.result_with.new.pass c.cancel.new.pass looks
     c.cancel.result c.cancel.ensures.step c.cancel.ensures.refused c.cancel.ensures.unchanged

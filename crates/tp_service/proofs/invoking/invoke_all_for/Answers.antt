@@ -1,5 +1,5 @@
 use Rattle.std.proofs.Common.{inr, subst, rules}
-use Rattle.tp_pool_holds.specs.declared.tasks.Task.{Task}
+use Rattle.tp_pool_holds.specs.declared.tasks.Payload.{Payload}
 use Rattle.tp_service.specs.Futures.{IsOverdue}
 use Rattle.tp_service.specs.Submitted.{AddsCancels, IsOneLate}
 use Rattle.tp_service.proofs.invoking.invoke_all_for.Goals as goal
@@ -14,6 +14,6 @@ returns-clause-all g c =
       mid,
       told,
       c.in_ok-tasks.ensures.submitted,
-      subst (λ ts. IsOneLate (IsOverdue (Task g.row.J.Denot) config) ts mid told) c.as_slice.ensures.value late,
-      subst (λ ts. AddsCancels (Task g.row.J.Denot) g.K.Recorder.RECEIPTS config ts told c.cancel_all.new.pass) c.as_slice-2.ensures.value c.cancel_all.ensures,
+      subst (λ ts. IsOneLate (IsOverdue (Payload g.row.J.Denot) config) ts mid told) c.as_slice.ensures.value late,
+      subst (λ ts. AddsCancels (Payload g.row.J.Denot) g.K.Recorder.RECEIPTS config ts told c.cancel_all.new.pass) c.as_slice-2.ensures.value c.cancel_all.ensures,
     )

@@ -5,7 +5,7 @@ use Rattle.std.specs.Prelude.{Any, IfErr}
 use Rattle.tp_types.specs.declared.refusals.PoolError.{PoolError}
 use Rattle.tp_book.specs.PassView.{PassView}
 use Rattle.tp_pool_holds.specs.Passes.{AddsNone}
-use Rattle.tp_pool_holds.specs.declared.tasks.Task.{Task}
+use Rattle.tp_pool_holds.specs.declared.tasks.Payload.{Payload}
 use Rattle.tp_pool_holds.proofs.Receipts.{later_none, none_behind}
 use Rattle.tp_service.specs.Futures.{HasValue, HaveFailed}
 use Rattle.tp_service.specs.Submitted.{AddsCancels}
@@ -17,11 +17,11 @@ returns-then-is_err-clause-refused g c =
     let config = g.K.Recorder.terms g.G.PoolNaming.config in
     let some : 0 < length c.args.jobs.items = grind (arith, nat_tests, c.args.jobs.ok.0, c.if-is_empty.ensures) in
     let mid = c.submit_all.new.pass in
-    let none = later_none mid c.forget.new.pass (c.forget.ensures.shown, c.forget.ensures.goes_on) in
-    let Failed : PassView → PoolError → Type 0 = λ from e. (told : PassView) × AddsNone from told × HaveFailed (Task g.row.J.Denot) g.K.Recorder.RECEIPTS config c.in-Ok.tasks.items e told c.await_any-answer.new.pass in
+    let none = later_none mid c.forget_abandoned.new.pass (c.forget_abandoned.ensures.shown, c.forget_abandoned.ensures.goes_on) in
+    let Failed : PassView → PoolError → Type 0 = λ from e. (told : PassView) × AddsNone from told × HaveFailed (Payload g.row.J.Denot) g.K.Recorder.RECEIPTS config c.in-Ok.tasks.items e told c.await_any-answer.new.pass in
     no_value g.K.Recorder.RECEIPTS config g.J.Job.promised g.J.Job.urgency c.args.jobs.items c.in-Ok.tasks.items c.await_any-answer.result c.args.pass.now mid c.await_any-answer.new.pass some c.in-Ok.ensures.submitted
-    (IfErr-weaker c.await_any-answer.result (Failed c.forget.new.pass) (Failed mid) (λ e failed. (failed.0, none_behind mid c.forget.new.pass failed.0 none failed.1, failed.2))
-    (subst (λ ts. IfErr c.await_any-answer.result (λ e. (told : PassView) × AddsNone c.forget.new.pass told × HaveFailed (Task g.row.J.Denot) g.K.Recorder.RECEIPTS config ts e told c.await_any-answer.new.pass))
+    (IfErr-weaker c.await_any-answer.result (Failed c.forget_abandoned.new.pass) (Failed mid) (λ e failed. (failed.0, none_behind mid c.forget_abandoned.new.pass failed.0 none failed.1, failed.2))
+    (subst (λ ts. IfErr c.await_any-answer.result (λ e. (told : PassView) × AddsNone c.forget_abandoned.new.pass told × HaveFailed (Payload g.row.J.Denot) g.K.Recorder.RECEIPTS config ts e told c.await_any-answer.new.pass))
     c.as_slice.ensures.value c.await_any-answer.ensures.failed))
 
 pub returns-in-Err-clause-refused : goal.returns-in-Err-clause-refused
@@ -36,8 +36,8 @@ returns-clause-value g c =
       mid = c.submit_all.new.pass;
       told = c.await_any-answer.new.pass;
       submits = c.in-Ok.ensures.submitted;
-      looks = none_behind c.submit_all.new.pass c.forget.new.pass c.await_any-answer.new.pass
-          (later_none c.submit_all.new.pass c.forget.new.pass (c.forget.ensures.shown, c.forget.ensures.goes_on)) c.await_any-answer.ensures.looks;
-      value = subst (Any (HasValue (Task g.row.J.Denot) (g.K.Recorder.terms g.G.PoolNaming.config) v c.await_any-answer.new.pass)) c.as_slice.ensures.value value;
-      cancels = subst (λ ts. AddsCancels (Task g.row.J.Denot) g.K.Recorder.RECEIPTS (g.K.Recorder.terms g.G.PoolNaming.config) ts c.await_any-answer.new.pass c.cancel_all.new.pass) c.as_slice-3.ensures.value c.cancel_all.ensures;
+      looks = none_behind c.submit_all.new.pass c.forget_abandoned.new.pass c.await_any-answer.new.pass
+          (later_none c.submit_all.new.pass c.forget_abandoned.new.pass (c.forget_abandoned.ensures.shown, c.forget_abandoned.ensures.goes_on)) c.await_any-answer.ensures.looks;
+      value = subst (Any (HasValue (Payload g.row.J.Denot) (g.K.Recorder.terms g.G.PoolNaming.config) v c.await_any-answer.new.pass)) c.as_slice.ensures.value value;
+      cancels = subst (λ ts. AddsCancels (Payload g.row.J.Denot) g.K.Recorder.RECEIPTS (g.K.Recorder.terms g.G.PoolNaming.config) ts c.await_any-answer.new.pass c.cancel_all.new.pass) c.as_slice-3.ensures.value c.cancel_all.ensures;
     }) c.await_any-answer.ensures.value

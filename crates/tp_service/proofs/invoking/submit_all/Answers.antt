@@ -1,7 +1,7 @@
 use Rattle.std.proofs.Common.{◌≡◌, [], ◌∷◌, ◌++◌, length, append_assoc, inr, refl, sym, subst, ap, ◌∙◌, arith, rules}
 use Rattle.std.proofs.lemmas.List.{length_push}
 use Rattle.tp_types.specs.declared.tasks.Kind.TheVariants as kind
-use Rattle.tp_pool_holds.specs.declared.tasks.Task.{Task}
+use Rattle.tp_pool_holds.specs.declared.tasks.Payload.{Payload}
 use Rattle.tp_pool.specs.Submissions.{AddsJob}
 use Rattle.tp_pool.proofs.Turned.{all_passed, both_more}
 use Rattle.tp_service.specs.Submitted.{AddsCancels, AddsSubmissions}
@@ -42,7 +42,7 @@ returns-in-Err-clause-refused g c =
       refused = submitted;
       submits = c.loop-job.invariant.5;
       refuses = (c.in-Err.refused, refl, c.in-Err.ensures.refused);
-      cancels = subst (λ ts. AddsCancels (Task g.row.J.Denot) g.K.Recorder.RECEIPTS config ts submitted c.cancel_all.new.pass) c.as_slice-earlier.ensures.value c.cancel_all.ensures;
+      cancels = subst (λ ts. AddsCancels (Payload g.row.J.Denot) g.K.Recorder.RECEIPTS config ts submitted c.cancel_all.new.pass) c.as_slice-earlier.ensures.value c.cancel_all.ensures;
     })
 
 pub returns-clause-submitted : goal.returns-clause-submitted

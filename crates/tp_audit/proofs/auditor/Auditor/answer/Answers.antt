@@ -2,7 +2,7 @@ use Rattle.std.proofs.Common.{◌≡◌, ◌∙◌, Ok, Err, subst, sym}
 use Rattle.std.proofs.lemmas.Bool.{false≢true}
 use Rattle.tp_record.specs.State.{state}
 use Rattle.tp_record.specs.Step.{fitting}
-use Rattle.tp_rules.specs.Snapshot.{IsAnswer}
+use Rattle.tp_rules.specs.PlainState.{IsAnswer}
 use Rattle.tp_audit.specs.Audited.{Judge, IsDenied}
 use Rattle.tp_audit.proofs.Judging.{answered_given, denied_full, denied_unfit, judged_inside}
 use Rattle.tp_audit.proofs.auditor.Auditor.answer.Goals as goal

@@ -3,7 +3,7 @@ use Rattle.std.specs.Prelude.{unwrap_or}
 use Rattle.tp_record.specs.Effects.{reserves}
 use Rattle.tp_record.specs.State.{state}
 use Rattle.tp_record.specs.Step.{fitting}
-use Rattle.tp_rules.specs.Snapshot.{IsAnswer}
+use Rattle.tp_rules.specs.PlainState.{IsAnswer}
 use Rattle.tp_audit.specs.Audited.{Judge}
 use Rattle.tp_audit.proofs.Judging.{fits_same, fits_refused, judged_inside}
 use Rattle.tp_audit.proofs.auditor.Auditor.fits.Goals as goal

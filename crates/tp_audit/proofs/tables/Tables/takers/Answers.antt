@@ -1,5 +1,5 @@
 use Rattle.std.proofs.Common.{refl, arith}
-use Rattle.tp_audit.specs.Seats.{is_at_take}
+use Rattle.tp_audit.specs.SlotTable.{is_at_take}
 use Rattle.tp_audit.proofs.Kept.{few}
 use Rattle.tp_audit.proofs.tables.Tables.takers.Goals as goal
 

@@ -4,7 +4,7 @@ use Rattle.std.specs.Result.{result_transpose}
 use Rattle.tp_glance.proofs.Fronts.{IsFrontOf_trans}
 use Rattle.tp_pool_holds.specs.Moments.{BookOf}
 use Rattle.tp_pool_holds.specs.Readings.{IsFound}
-use Rattle.tp_pool_holds.specs.declared.tasks.Task.{Task}
+use Rattle.tp_pool_holds.specs.declared.tasks.Payload.{Payload}
 use Rattle.tp_pool_holds.proofs.Receipts.{later_looks, looks_behind}
 use Rattle.tp_pool.proofs.Got.{got_is, none_is, of_book}
 use Rattle.tp_pool.proofs.pool.PoolOf.await_result_for.Goals as goal
@@ -17,7 +17,7 @@ returns-in-Some-transpose g c =
     let pass = c.show_awaited-found.new.pass in
     let is : result_transpose found ≡ Some answer = subst (λ k. k ≡ Some answer) c.transpose.ensures c.in-Some-transpose.is in record {
       reads = of_book config pass _ _ (λ b read. inl read)
-          (subst (λ r. BookOf (Task g.row.J.Denot) config pass (λ b. IsFound b c.args.t.0 g.K.Recorder.RECEIPTS None r)) (got_is found answer is) c.show_awaited-found.ensures.reads);
+          (subst (λ r. BookOf (Payload g.row.J.Denot) config pass (λ b. IsFound b c.args.t.0 g.K.Recorder.RECEIPTS None r)) (got_is found answer is) c.show_awaited-found.ensures.reads);
       looks = looks_behind config c.args.pass.now c.loop.pass pass c.loop.invariant.2 c.show_awaited-found.ensures.looks;
       knew = IsFrontOf_trans c.loop.invariant.3 c.show_awaited-found.ensures.knew;
     }
@@ -29,7 +29,7 @@ returns-in_default-left g c =
     let pass = c.show_awaited-found.new.pass in
     let none : found ≡ Ok None = none_is found (search rules) in record {
       reads = of_book config pass _ _ (λ b read. inr (refl, read))
-          (subst (λ r. BookOf (Task g.row.J.Denot) config pass (λ b. IsFound b c.args.t.0 g.K.Recorder.RECEIPTS None r)) none c.show_awaited-found.ensures.reads);
+          (subst (λ r. BookOf (Payload g.row.J.Denot) config pass (λ b. IsFound b c.args.t.0 g.K.Recorder.RECEIPTS None r)) none c.show_awaited-found.ensures.reads);
       looks = looks_behind config c.args.pass.now c.loop.pass pass c.loop.invariant.2 c.show_awaited-found.ensures.looks;
       knew = IsFrontOf_trans c.loop.invariant.3 c.show_awaited-found.ensures.knew;
     }

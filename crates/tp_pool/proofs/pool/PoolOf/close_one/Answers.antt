@@ -1,7 +1,7 @@
 use Rattle.std.proofs.Common.{◌≡◌, [], ◌∷◌, length, inr, ap, sym, ◌∙◌, subst}
 use Rattle.std.specs.Prelude.{get_or}
 use Rattle.tp_pool_holds.specs.Closing.{KeepsOpen}
-use Rattle.tp_pool_holds.specs.declared.tasks.Task.{Task}
+use Rattle.tp_pool_holds.specs.declared.tasks.Payload.{Payload}
 use Rattle.tp_pool_holds.specs.Reports.{Closes}
 use Rattle.tp_pool.proofs.pool.PoolOf.close_one.Goals as goal
 
@@ -14,8 +14,8 @@ returns-in-Ok-close-clause-report g c = subst (λ ps. Closes g.K.Reporter.told g
 pub returns-in-Err-close-clause-refused : goal.returns-in-Err-close-clause-refused
 returns-in-Err-close-clause-refused g c =
     let config = g.K.Recorder.terms g.G.PoolNaming.config in
-    inr (subst (λ e. KeepsOpen (Task g.row.J.Denot) config (c.args.pass ∷ []) e) (sym c.of_one.ensures.error)
-    (subst (λ ps. KeepsOpen (Task g.row.J.Denot) config ps c.in-Err-close.fault.error) c.in-Ok.ensures.one c.in-Err-close.ensures.refused))
+    inr (subst (λ e. KeepsOpen (Payload g.row.J.Denot) config (c.args.pass ∷ []) e) (sym c.of_one.ensures.error)
+    (subst (λ ps. KeepsOpen (Payload g.row.J.Denot) config ps c.in-Err-close.fault.error) c.in-Ok.ensures.one c.in-Err-close.ensures.refused))
 
 pub returns-in-Err-close-clause-returned : goal.returns-in-Err-close-clause-returned
 returns-in-Err-close-clause-returned g c =

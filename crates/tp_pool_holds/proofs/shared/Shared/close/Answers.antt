@@ -4,7 +4,7 @@ use Rattle.tp_laws.specs.Laws.{HasGoodSizes}
 use Rattle.tp_laws.proofs.Sizes.{sizes_at}
 use Rattle.tp_book.specs.Reports.{IsOwn}
 use Rattle.tp_pool_holds.specs.Closing.{KeepsOpen}
-use Rattle.tp_pool_holds.specs.declared.tasks.Task.{Task}
+use Rattle.tp_pool_holds.specs.declared.tasks.Payload.{Payload}
 use Rattle.tp_pool_holds.proofs.Moments.{keeps_open}
 use Rattle.tp_pool_holds.proofs.shared.Shared.close.Goals as goal
 
@@ -36,6 +36,6 @@ returns-in-Err-clause-refused g c =
     let book = c.part-book.result.0 in
     let terms = g.K.Recorder.terms g.G.PoolNaming.config in
     let told = c.in-Err.ensures in
-    subst (λ e. KeepsOpen (Task g.row.J.Denot) terms c.args.passes.items e) (sym c.reopened.ensures.error)
+    subst (λ e. KeepsOpen (Payload g.row.J.Denot) terms c.args.passes.items e) (sym c.reopened.ensures.error)
     (keeps_open book terms (record { settings = c.part-book.ensures.settings; stands = told.stands; accounted = told.accounted })
     c.args.passes.items told.fronts c.part-book.result.1.passes c.in-Err.unclosed.error told.refused)

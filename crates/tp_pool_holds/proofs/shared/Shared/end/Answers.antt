@@ -4,7 +4,7 @@ use Rattle.tp_record.specs.declared.entries.Ask.TheVariants as ask
 use Rattle.tp_record.specs.declared.entries.Did.TheVariants as did
 use Rattle.tp_record.specs.State.{state}
 use Rattle.tp_machine_state.specs.Payloads.{Keeps}
-use Rattle.tp_protocols.specs.declared.deeds.Ended.TheVariants as ended
+use Rattle.tp_protocols.specs.declared.deeds.EndAnswer.TheVariants as ended
 use Rattle.tp_pool_holds.specs.Steps.{IsEndOf}
 use Rattle.tp_pool_holds.proofs.Asked.{asked}
 use Rattle.tp_pool_holds.proofs.Left.{dying_at, shown_after}

@@ -2,7 +2,7 @@ use Rattle.std.proofs.Common.{◌≡◌, ◌≤◌, rules, replicate, ap, ◌∙
 use Rattle.std.specs.Prelude.{vec_capacity}
 use Rattle.tp_waking.specs.Rests.{sleeping, is_listed}
 use Rattle.tp_waking.specs.Tied.{rests_of}
-use Rattle.tp_waking.specs.declared.seats.Seat.TheVariants.{Away}
+use Rattle.tp_waking.specs.declared.states.SleepState.TheVariants.{Away}
 use Rattle.tp_waking.proofs.Marks.{sound-away, rests-away, count-away}
 use Rattle.tp_waking.proofs.sleepers.Sleepers.new.Goals as goal
 

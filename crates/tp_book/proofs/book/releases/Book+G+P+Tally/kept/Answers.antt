@@ -1,4 +1,4 @@
-use Rattle.tp_book.proofs.Settling.{counts_kept}
+use Rattle.tp_book.proofs.Forgetting.{counts_kept}
 use Rattle.tp_book.proofs.book.releases.Book+G+P+Tally.kept.Goals as goal
 
 pub returns : goal.returns

@@ -2,7 +2,7 @@ use Rattle.std.proofs.Common.{sym, subst}
 use Rattle.tp_machine_state.specs.Releases.{IsKept}
 use Rattle.tp_book.specs.BookView.{Forgets}
 use Rattle.tp_book.proofs.Reading.{seen}
-use Rattle.tp_book.proofs.Settling.{each_left, forgotten}
+use Rattle.tp_book.proofs.Forgetting.{each_left, forgotten}
 use Rattle.tp_book.proofs.book.releases.Book+G+P+Tally.release.Goals as goal
 
 pub returns-in-Ok-clause-released : goal.returns-in-Ok-clause-released
