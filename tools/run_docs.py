@@ -14,10 +14,10 @@ What a block of a document is, fenced or indented:
 - what the last commands print, where it has no label or `text` and the line just above it has the word 'prints' or
   'output'. Its lines must come in this order, one after another; a line `..` stands for any lines;
 - a part of a program, where it is `rust` and no file: its lines stand so in a source of `crates`, however they are indented;
-- a file, where the line just above it ends in its name, in backticks and with a colon: it is written there. As
-  `diff` it is an edit of that file instead: the lines with `-` become those with `+`.
+- a file, where the line just above it ends in its name, in backticks and with a colon: it is written there, also where
+  it is what the last commands print. As `diff` it is an edit of that file instead: the lines with `-` become those with `+`.
 
-All other blocks are passed over. Each command must succeed, unless what is printed next has a line with `error`, `not
+All other blocks are passed over. Where a command calls out/poolrun, which docs/SCENARIOS.md says how to make, it is made before. Each command must succeed, unless what is printed next has a line with `error`, `not
 proved` or `hides`, or the line just above it names a status: there the page shows a failure. The status is 1 where a document and a run differ.
 """
 import argparse
@@ -29,8 +29,9 @@ import sys
 import tempfile
 
 ROOT = pathlib.Path(__file__).resolve().parent.parent
-COMMANDS = r"(rt|cd|git|python3|tools/\S+|mkdir|rm|cat|echo|printf|touch)\b"
+COMMANDS = r"(rt|cd|git|python3|(tools|out)/\S+|mkdir|rm|cat|echo|printf|touch|sed)\b"
 PROVES = r"rt (check|run|test|ci|lib|all|verdict|must-fail|plant|tidy)\b|further\.py|gate_costs\.py"
+MAKES_POOLRUN = ["python3", "tools/unproved.py", "poolrun", "out/poolrun"]
 GATE = r"rt ci\b|gate_costs\.py"
 FENCED = re.compile(r"^```(\w*)\n(.*?)^```$", re.M | re.S)
 SHOWN = re.compile(r"error|not proved|hides|the status [1-9]")
@@ -106,12 +107,21 @@ class Reader:
             print(f"  left out: {lines[0]}")
             self.printed = None
             return
+        if "out/poolrun" in "\n".join(lines) and not (self.clone / "out/poolrun").exists():
+            subprocess.run(MAKES_POOLRUN, cwd=self.clone, check=True)
         print("  " + "\n  ".join(lines), flush=True)
         with tempfile.NamedTemporaryFile("r") as told:
             script = "set -o pipefail\n" + "\n".join(f"{{ {line}\n}} || echo {at} >> {told.name}" for at, line in enumerate(lines))
             done = subprocess.run(["bash", "-c", script], cwd=self.clone, stdout=subprocess.PIPE, stderr=subprocess.STDOUT)
             self.failed = [lines[int(at)] for at in told.read().split()]
         self.printed = done.stdout.decode(errors="replace").split("\n")
+
+    def write(self, name, lines):
+        """Writes a file that a document names, if it does."""
+        if name:
+            path = self.clone / name[1]
+            path.parent.mkdir(parents=True, exist_ok=True)
+            path.write_text("\n".join(lines) + "\n")
 
     def read(self, above, label, lines):
         name = FILE.search(above)
@@ -125,10 +135,9 @@ class Reader:
                 self.failed = []
             if self.printed is not None and not comes(lines, self.printed):
                 self.fault("the document says\n" + "\n".join(lines) + "\n    and it printed\n" + "\n".join(self.printed))
+            self.write(name, lines)
         elif name:
-            path = self.clone / name[1]
-            path.parent.mkdir(parents=True, exist_ok=True)
-            path.write_text("\n".join(lines) + "\n")
+            self.write(name, lines)
         elif label == "rust" and not is_part_of_a_program(self.clone / "crates", lines):
             self.fault(f"no program has these lines: {lines[0]}")
 
