@@ -85,7 +85,7 @@ fn next_pair<A: Source, B: Source>(
 /// The most entries of a record.
 const MOST: u64 = 1 << 32;
 
-/// Follows two records as long as they have the same entries, and these are given, and says how they go on. RefusedRecord as the sources
+/// Follows two records as long as they have the same entries, and these are given, and says how they go on. Refused as the sources
 /// refuse, and 4 is want of memory.
 pub fn follow<A: Source, B: Source>(
     front: &mut Front,
