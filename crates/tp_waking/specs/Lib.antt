@@ -4,6 +4,7 @@ pub mod Follows
 pub mod Heard
 pub mod Quiet
 pub mod Results
+pub mod Rooms
 pub mod Told
 pub mod Rests
 pub mod Tied

@@ -17,6 +17,8 @@ pub struct Waiters {
     pub results: bool,
     /// Those in `wait_step`.
     pub steps: bool,
+    /// Those who wait until a submission finds room.
+    pub room: bool,
 }
 
 /// Nobody waits.
@@ -24,6 +26,7 @@ pub const NO_WAITERS: Waiters = Waiters {
     end: false,
     results: false,
     steps: false,
+    room: false,
 };
 
 impl Waiters {
@@ -36,15 +39,16 @@ impl Waiters {
             end,
             results,
             steps,
+            room,
         } = *self;
-        !(end | results | steps)
+        !(end | results | steps | room)
     }
 }
 
 /// Who is to be woken. One worker has a place of its own, since no hold calls two by name. Were it to call a
 /// second one, all workers would be woken: a worker that is woken in vain sleeps again.
 //
-// The four flags do not stand side by side: the compiler would look at all of them by vectors, in twice the instructions.
+// The five flags do not stand side by side: the compiler would look at all of them by vectors, in twice the instructions.
 #[derive(Clone, Copy, Debug, PartialEq, Eq)]
 pub struct Calls {
     /// All who wait for these.

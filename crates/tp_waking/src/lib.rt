@@ -8,6 +8,7 @@
 pub mod calls;
 pub mod ends;
 pub mod results;
+pub mod rooms;
 pub mod sleepers;
 mod states;
 pub mod waking;

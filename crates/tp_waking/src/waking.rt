@@ -13,6 +13,7 @@ ghost use Rattle.tp_waking.specs.Told.{IsTold, EndsIdling, HasLooked};
 use crate::calls::{Calls, NO_WAITERS, NOBODY, Waiters};
 use crate::ends::changes_end;
 use crate::results::changes_results;
+use crate::rooms::changes_room;
 use crate::sleepers::{Rest, Sleepers};
 use std::alloc::{AllocError, Global};
 use tp_record::entries::{Ask, Did, Offered};
@@ -63,6 +64,13 @@ impl Waking {
         self.awaited.steps = true;
     }
 
+    /// Somebody waits until a submission finds room.
+    pub fn await_room(&mut self)
+        ensures { self.new ≡ record self.old { awaited = record self.old.awaited { room = true } } }
+    {
+        self.awaited.room = true;
+    }
+
     /// Who is to be woken; the caller wakes them once it has let go of the lock.
     #[inline(always)]
     pub fn release(&mut self) -> Calls
@@ -101,15 +109,20 @@ impl Waking {
         self.call_for(did);
         self.call_leaving(leaving);
         self.settle(queued);
-        self.hear(changes_end(ask, state, live, queued), changes_results(did));
+        self.hear(
+            changes_end(ask, state, live, queued),
+            changes_results(did),
+            changes_room(did),
+        );
     }
 
-    // Wakes those who wait: for the end and for futures where this step may change what they find, and for
+    // Wakes those who wait: for the end, for futures and for room where this step may change what they find, and for
     // steps always.
     #[inline(always)]
-    fn hear(&mut self, end: bool, results: bool)
+    fn hear(&mut self, end: bool, results: bool, room: bool)
         ensures end { IsHeardBy (λ w. IsTrue w.end) (IsTrue end) self.old self.new }
         ensures results { IsHeardBy (λ w. IsTrue w.results) (IsTrue results) self.old self.new }
+        ensures room { IsHeardBy (λ w. IsTrue w.room) (IsTrue room) self.old self.new }
         ensures steps { IsHeardBy (λ w. IsTrue w.steps) ⊤ self.old self.new }
         ensures told { IsTold self.old self.new }
         ensures sleepers { self.new.sleepers ≡ self.old.sleepers }
@@ -121,6 +134,10 @@ impl Waking {
         if self.awaited.results && results {
             self.awaited.results = false;
             self.calls.waiters.results = true;
+        }
+        if self.awaited.room && room {
+            self.awaited.room = false;
+            self.calls.waiters.room = true;
         }
         if self.awaited.steps {
             self.awaited.steps = false;
