@@ -61,16 +61,28 @@ impl<
     {
         for _ in rt.forever() {
             self.shared().await_workers(rt);
+            // A step that falls behind this reading ends the wait below.
+            let seen = self.steps(rt);
             if self.is_cleared(rt, pass) {
                 return;
             }
-            thread::yield_now();
+            self.await_change(rt, seen);
         }
         unreachable!()
     }
 
+    // Waits until the pool may have changed, which had so many steps. Another thread has a worker made, and tells of it by a step. Where
+    // tasks are stranded, there was no memory for the answer of a stop: no step tells when other threads give some back.
+    fn await_change<R: Runtime>(&self, rt: &R, seen: u64) {
+        if self.is_stranded(rt) {
+            thread::yield_now();
+        } else {
+            self.wait_step(rt, seen);
+        }
+    }
+
     // Whether no task is queued, once the pool is stopped where one was stranded. False where there is no memory for the answer of the
-    // stop: other threads may give some back. False, too, where another thread is making a worker.
+    // stop. False, too, where another thread is making a worker.
     fn is_cleared<R: Runtime>(&self, rt: &R, pass: &mut Pass<G>) -> bool
         requires shut { IsShut (K.terms G.config) pass.old.front }
         ensures room { IsTrue result → 2 ≤ pass.new.room }

@@ -17,6 +17,7 @@ use tp_machine::typed::controllers::TakeDone;
 use tp_pool_holds::answers::Admitted;
 use tp_pool_holds::edges::Edge;
 use tp_pool_holds::names::PoolNaming;
+use tp_pool_holds::shared::Event;
 use tp_record::entries::{Ask, Did};
 use tp_types::ids::TaskId;
 use tp_types::refusals::PoolError;
@@ -51,7 +52,7 @@ impl<G: PoolNaming, J: Drop, E: Edge, K: Keeper> PoolOf<G, J, E, K> {
             if let Some(answer) = locked.await_result(t, deadline).transpose() {
                 return answer;
             }
-            locked = shared.around.conditions.results.wait(rt, locked);
+            locked = shared.wait_at(rt, Event::Results, locked);
         }
         unreachable!()
     }
@@ -76,7 +77,7 @@ impl<G: PoolNaming, J: Drop, E: Edge, K: Keeper> PoolOf<G, J, E, K> {
             if let Some(answer) = found.transpose() {
                 return answer;
             }
-            locked = shared.around.conditions.results.wait(rt, locked);
+            locked = shared.wait_at(rt, Event::Results, locked);
         }
         unreachable!()
     }
@@ -127,7 +128,7 @@ impl<G: PoolNaming, J: Drop, E: Edge, K: Keeper> PoolOf<G, J, E, K> {
         for _ in rt.forever() {
             match locked.await_step(seen) {
                 Some(steps) => return steps,
-                None => locked = shared.around.conditions.steps.wait(rt, locked),
+                None => locked = shared.wait_at(rt, Event::Steps, locked),
             }
         }
         unreachable!()

@@ -26,6 +26,7 @@ pub mod readings;
 pub mod releases;
 pub mod reports;
 mod rescues;
+pub mod rooms;
 pub mod snapshots;
 mod submitting;
 pub mod timed;

@@ -34,7 +34,8 @@ pub type Answer = Result<i64, PoolError>;
 
 /// Runs these jobs on a pool of their own, and answers what became of each, in their order, with the report of the
 /// closed pool. The pool is opened with these settings and objects, and a record that has room for all of them (`for_jobs`); each
-/// job is submitted with a future; then the pool is shut down, and each future is waited for. Whatever comes of that, the pool is
+/// job is submitted with a future, as soon as the pool has room for it, so that no job is rejected, dropped or run here by the haste of
+/// those before it; then the pool is shut down, and each future is waited for. Whatever comes of that, the pool is
 /// waited for and closed, as Java's `try (var pool = ..)` does since Java 19: no pool is left with threads that run.
 ///
 /// Where no worker could be made for the jobs that are queued, since the factory refused them, no thread could be made or
@@ -269,7 +270,7 @@ fn submit_each<
     Ok(tasks)
 }
 
-// Submits a job with a future: its task, also where its submitter ran it or the policy discarded it.
+// Submits a job with a future, once there is room for it: its task, also where its submitter ran it or the policy discarded it.
 fn submitted<
     G: PoolName,
     J: Job + 'static,
@@ -279,7 +280,7 @@ fn submitted<
 >(rt: &R, pool: &PoolOf<G, J, E, K>, job: J, pass: &mut Pass<G>) -> Result<TaskId, PoolError>
     ensures { Submits K.RECEIPTS (K.terms G.config) job (J.promised job) (J.urgency job) result pass.old pass.new }
 {
-    match pool.execute_as(rt, Kind::Future, job, pass) {
+    match pool.execute_when_room(rt, Kind::Future, job, pass) {
         Ok(admitted) => Ok(task_of(admitted)),
         Err(refused) => Err(refused.error),
     }

@@ -9,7 +9,7 @@ ghost use Rattle.tp_machine.specs.Seen.{task_of_row};
 ghost use Rattle.tp_pool_holds.specs.Readings.{known, IsPromiseOf, IsResult};
 ghost use Rattle.tp_glance.specs.Word.{IsFrontOf};
 ghost use Rattle.tp_book.specs.BookView.{OrReleased, state_of};
-ghost use Rattle.tp_pool_holds.specs.Left.{IsStranded};
+ghost use Rattle.tp_pool_holds.specs.Left.{IsStranded, IsUnstaffed};
 ghost use Rattle.tp_pool_holds.specs.Moments.{AtFront, AtSome, BookAtSome, BookOf};
 ghost use Rattle.tp_pool_holds.specs.Passes.{LooksOnly};
 ghost use Rattle.tp_pool_holds.specs.declared.tasks.Payload.{Payload};
@@ -123,6 +123,13 @@ impl<G: PoolNaming, J: Drop, E: Edge, K: Keeper> PoolOf<G, J, E, K> {
         self.shared().hold(rt).book().counts()
     }
 
+    /// The core size, in workers, as `getCorePoolSize`.
+    pub fn core_size<R: Wait>(&self, rt: &R) -> u32
+        ensures { AtSome (K.terms G.config) (λ s. result ≡ s.core) }
+    {
+        self.shared().hold(rt).book().core_size()
+    }
+
     /// Whether tasks are stranded: they are queued in a pool that is shut down and has no slot, live or reserved. Then no
     /// worker comes for them unless a call has one made, and the pool stays open until `remove` or `shutdown_now` takes them
     /// out. Java has no such call.
@@ -130,6 +137,15 @@ impl<G: PoolNaming, J: Drop, E: Edge, K: Keeper> PoolOf<G, J, E, K> {
         ensures { AtSome (K.terms G.config) (λ s. IsTrue result ↔ IsStranded s) }
     {
         self.shared().hold(rt).is_stranded()
+    }
+
+    /// Whether the pool is unstaffed: it runs with queued tasks and has no slot, since no worker could be made. The next submission asks for
+    /// one; so do `prestart_core`, and at core size 0 `set_core`. A worker's thread that ends has tried once for each queued task, and a
+    /// life's own thread goes on trying. Java's pool waits for the next submission.
+    pub fn is_unstaffed<R: Wait>(&self, rt: &R) -> bool
+        ensures { AtSome (K.terms G.config) (λ s. IsTrue result ↔ IsUnstaffed s) }
+    {
+        self.shared().hold(rt).is_unstaffed()
     }
 
     /// The moment, in ticks.

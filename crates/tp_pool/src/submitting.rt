@@ -146,23 +146,6 @@ impl<
         )
     }
 
-    // Tells whether a worker was made for this slot, and does what that leaves to do.
-    pub(crate) fn open<R: Threads + Wait + Copy + Send + 'static>(
-        &self,
-        rt: R,
-        w: SlotId,
-        staffed: bool,
-        pass: &mut Pass<G>,
-    ) -> Result<Did, PoolError>
-        requires room { 0 < pass.old.room }
-        ensures step { IfOk result (λ d. AddsStep (K.terms G.config) pass.old (opening w staffed) d pass.new) }
-        ensures left { OnOk result (pass.old.room ≤ pass.new.room + 1) }
-        ensures refused { IfErr result (IsRefusal true (K.terms G.config) pass.new (opening w staffed)) }
-        ensures unchanged { OnErr result (LooksOnly (K.terms G.config) pass.old pass.new) }
-    {
-        self.open_by(&rt, w, staffed, &|order| self.obey(rt, order), pass)
-    }
-
     // Has a worker made for this slot, and tells whether one was.
     pub(crate) fn staffed<R: Threads + Wait + Copy + Send + 'static>(
         &self,
@@ -347,7 +330,7 @@ impl<G: PoolNaming, J: Drop, E: Edge, K: Keeper> PoolOf<G, J, E, K> {
 
     // Tells whether a worker was made for this slot, and has done what that leaves to do.
     #[inline(never)]
-    fn open_by<R: Wait, F: Fn(Order) -> bool>(
+    pub(crate) fn open_by<R: Wait, F: Fn(Order) -> bool>(
         &self,
         rt: &R,
         w: SlotId,

@@ -18,6 +18,7 @@ use tp_machine::machine::releases::Keeper;
 use tp_pool_holds::edges::Edge;
 use tp_pool_holds::locked::EndSeen;
 use tp_pool_holds::names::PoolNaming;
+use tp_pool_holds::shared::Event;
 use tp_record::entries::{Ask, Did};
 use tp_types::ids::TaskId;
 use tp_types::refusals::PoolError;
@@ -73,11 +74,7 @@ impl<G: PoolNaming, J: Drop, E: Edge, K: Keeper> PoolOf<G, J, E, K> {
             let Some(left) = timer.left(rt) else {
                 return Err(PoolError::TimedOut);
             };
-            (locked, _) = shared
-                .around
-                .conditions
-                .results
-                .wait_timeout(rt, locked, left);
+            locked = shared.wait_at_for(rt, Event::Results, locked, left);
         }
         unreachable!()
     }
@@ -128,11 +125,7 @@ impl<G: PoolNaming, J: Drop, E: Edge, K: Keeper> PoolOf<G, J, E, K> {
                     let Some(left) = timer.left(rt) else {
                         return Err(PoolError::TimedOut);
                     };
-                    (locked, _) = shared
-                        .around
-                        .conditions
-                        .results
-                        .wait_timeout(rt, locked, left);
+                    locked = shared.wait_at_for(rt, Event::Results, locked, left);
                 }
                 Err(error) => {
                     shared.release(locked);
@@ -194,7 +187,7 @@ impl<G: PoolNaming, J: Drop, E: Edge, K: Keeper> PoolOf<G, J, E, K> {
                 }
                 EndSeen::Waits => {
                     let left = left.unwrap_or(Duration::ZERO);
-                    (locked, _) = shared.around.conditions.end.wait_timeout(rt, locked, left);
+                    locked = shared.wait_at_for(rt, Event::End, locked, left);
                 }
             }
         }

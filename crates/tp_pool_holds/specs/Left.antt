@@ -14,7 +14,11 @@ pub record CanEnd (s : State) : Type 0 where
 abbrev pub IsStranded : State → Type 0
 IsStranded s = (slot_count s ≡ 0) × (s.rank ≡ 1) × (0 < length s.queue)
 
--- so it is, and the core size allows a worker for these tasks
+-- tasks are queued in a pool that runs and has no slot: none is there for them before somebody asks for a worker
+abbrev pub IsUnstaffed : State → Type 0
+IsUnstaffed s = (slot_count s ≡ 0) × (s.rank ≡ 0) × (0 < length s.queue)
+
+-- tasks are stranded, and the core size allows a worker for them
 pub record LacksWorker (s : State) : Type 0 where
   pub stranded : IsStranded s
   pub core : 0 < s.core
@@ -24,3 +28,9 @@ abbrev pub IsLeft : State → Remains → Type 0
 IsLeft s remains.Nothing = ¬ CanEnd s × ¬ LacksWorker s
 IsLeft s remains.End = CanEnd s
 IsLeft s (remains.Worker queued) = LacksWorker s × (queued ≡ length s.queue)
+
+-- in a pool that runs so many tasks want a worker: it has none, and its core size allows one
+abbrev pub IsWanted : State → Remains → Type 0
+IsWanted s (remains.Worker queued) = IsUnstaffed s × (0 < s.core) × (queued ≡ length s.queue)
+IsWanted s remains.Nothing = IsUnstaffed s → s.core ≡ 0
+IsWanted s remains.End = ⊥

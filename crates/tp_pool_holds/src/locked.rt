@@ -77,7 +77,7 @@ fn rouse<G: PoolNaming, J, R: Keeper>(
     ask: &Ask,
     did: &Did,
 )
-    ensures forgotten { IsSettled (waits book.now) waking.new.sleepers }
+    ensures settled { IsSettled (waits book.now) waking.new.sleepers }
     ensures roused { IsRoused book.now waking.old waking.new ask.now did.now }
 {
     let state = book.state();

@@ -1,11 +1,13 @@
-//! The rejection policy that a pool's settings say.
-ghost use Rattle.std.specs.Prelude.{◌≡◌, true, IfSome, IfNone};
+//! What a pool's settings say of tasks that find no room.
+ghost use Rattle.std.specs.Prelude.{◌≡◌, true, false, IfSome, IfNone, IsTrue};
+ghost use Rattle.tp_record.specs.State.{State};
 ghost use Rattle.tp_record.specs.Step.{allows};
+ghost use Rattle.tp_machine.specs.Readings.{lacks_room};
 
 use crate::names::PoolNaming;
 use std::marker::{Model, PhantomData};
 use tp_record::recorders::Recorder;
-use tp_types::configs::{Config, Policy, Verdict};
+use tp_types::configs::{Config, Policy, QueueKind, Verdict};
 
 /// The rejection policy of the pool of this name: that of its settings.
 #[derive(Drop)]
@@ -49,5 +51,16 @@ impl<G: PoolNaming> PolicyOf<G> {
             Policy::DiscardOldest => Some(Verdict::DiscardOldest),
             Policy::Own => None,
         }
+    }
+
+    /// Whether the queue takes each task, so that no submission waits for room.
+    pub fn has_endless_queue<K: Recorder>(&self) -> bool
+        ensures { IsTrue result → (s : State) → lacks_room (K.terms G.config).queue s ≡ false }
+    {
+        let _ = K::limit(&self.settings);
+        matches!(
+            self.settings.queue,
+            QueueKind::Unbounded | QueueKind::Priority
+        )
     }
 }

@@ -22,6 +22,7 @@ use std::alloc::Global;
 use std::collections::VecDeque;
 use std::sync::{Condvar, Mutex, MutexGuard, Wait};
 use std::thread::Parker;
+use std::time::{Clock, Duration};
 use tp_book::passes::Pass;
 use tp_book::payers::Payer;
 use tp_glance::glance::Glance;
@@ -35,19 +36,32 @@ use tp_types::ids::{SlotId, TaskId};
 use tp_types::refusals::PoolError;
 use tp_waking::calls::{Calls, Waiters};
 
-/// The places where waiters sleep, one condition for each kind.
+/// What a thread waits for that sleeps at one of the pool's conditions.
+#[derive(Clone, Copy, Debug, PartialEq, Eq)]
+pub enum Event {
+    /// The pool's end, as in `await_termination`.
+    End,
+    /// A future's answer, or a done task.
+    Results,
+    /// A longer record, as in `wait_step`.
+    Steps,
+    /// Room for a submission.
+    Room,
+    /// The passes of the workers' threads, as a close does.
+    Gone,
+    /// What becomes of a slot, as the thread does that was made for it.
+    Begun,
+}
+
+/// The places where waiters sleep, one condition for each event.
 #[derive(Drop)]
 pub struct Conditions {
-    /// Waiters in `await_termination`.
-    pub end: Condvar,
-    /// Waiters for futures and done tasks.
-    pub results: Condvar,
-    /// Waiters in `wait_step`.
-    pub steps: Condvar,
-    /// The thread that waits in `close` for the workers' passes.
-    pub gone: Condvar,
-    /// Threads of workers that are to be told of their slots.
-    pub begun: Condvar,
+    end: Condvar,
+    results: Condvar,
+    steps: Condvar,
+    room: Condvar,
+    gone: Condvar,
+    begun: Condvar,
 }
 
 impl Conditions {
@@ -57,9 +71,27 @@ impl Conditions {
             end: Condvar::new(),
             results: Condvar::new(),
             steps: Condvar::new(),
+            room: Condvar::new(),
             gone: Condvar::new(),
             begun: Condvar::new(),
         }
+    }
+
+    // Where those sleep who wait for this.
+    fn of(&self, event: Event) -> &Condvar {
+        match event {
+            Event::End => &self.end,
+            Event::Results => &self.results,
+            Event::Steps => &self.steps,
+            Event::Room => &self.room,
+            Event::Gone => &self.gone,
+            Event::Begun => &self.begun,
+        }
+    }
+
+    /// Wakes all who wait for this.
+    pub fn wake_all(&self, event: Event) {
+        self.of(event).notify_all();
     }
 
     // Wakes the waiters of these kinds.
@@ -72,6 +104,9 @@ impl Conditions {
         }
         if waiters.steps {
             self.steps.notify_all();
+        }
+        if waiters.room {
+            self.room.notify_all();
         }
     }
 }
@@ -167,6 +202,29 @@ impl<G: PoolNaming, J: Drop, E: Edge, K: Keeper> Shared<G, J, E, K> {
         if let Some(parker) = self.around.parkers.get(w.0) {
             parker.park(rt);
         }
+    }
+
+    /// Sleeps, with the lock let go, until a thread wakes those who wait for this, or for no reason. All waits without a time that
+    /// threads of the pool make at its conditions go through here.
+    pub fn wait_at<'a, R: Wait>(
+        &'a self,
+        rt: &R,
+        event: Event,
+        locked: MutexGuard<'a, Locked<G, J, K>>,
+    ) -> MutexGuard<'a, Locked<G, J, K>> {
+        self.around.conditions.of(event).wait(rt, locked)
+    }
+
+    /// As `wait_at`, for at most so long by the clock.
+    pub fn wait_at_for<'a, R: Wait + Clock>(
+        &'a self,
+        rt: &R,
+        event: Event,
+        locked: MutexGuard<'a, Locked<G, J, K>>,
+        most: Duration,
+    ) -> MutexGuard<'a, Locked<G, J, K>> {
+        let (locked, _) = (self.around.conditions.of(event)).wait_timeout(rt, locked, most);
+        locked
     }
 
     /// Makes this step in a hold of its own, with a pass, a caller's or a worker's, and wakes the threads that

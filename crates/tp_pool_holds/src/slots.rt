@@ -9,7 +9,7 @@ ghost use Rattle.tp_pool_holds.specs.Steps.{Makes, Refused as IsRefusedAt};
 use crate::edges::Edge;
 use crate::locked::Locked;
 use crate::names::PoolNaming;
-use crate::shared::{Shared, left_in};
+use crate::shared::{Event, Shared, left_in};
 use std::sync::Wait;
 use tp_book::payers::Payer;
 use tp_glance::glance::Glance;
@@ -79,7 +79,7 @@ impl<G: PoolNaming, J: Drop, E: Edge, K: Keeper> Shared<G, J, E, K> {
     // Wakes the threads that wait to be told of their slots, where one was made.
     fn tell_threads(&self, made: bool) {
         if made {
-            self.around.conditions.begun.notify_all();
+            self.around.conditions.wake_all(Event::Begun);
         }
     }
 }

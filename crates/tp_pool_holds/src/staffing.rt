@@ -118,8 +118,8 @@ fn launch<
 }
 
 // The work of a worker's thread: its turns, and then a worker in its place where one is wanted, and what is left to do
-// where that leaves the pool to nobody. At last it hands in its pass and lets go of the pool. Each heir is made by the
-// thread before it, so the line of heirs is counted down.
+// where that leaves the pool to nobody, also in a pool that runs: no other thread is there for its queue. At last it hands in its
+// pass and lets go of the pool. Each heir is made by the thread before it, so the line of heirs is counted down.
 #[cycle(staffing)]
 fn run_worker<
     G: PoolNaming + Send + Sync + 'static,
@@ -132,7 +132,7 @@ fn run_worker<
         return;
     };
     let staffed = staff_heir(rt, &shared, heir, heirs);
-    let (_, remains) = shared.hand_over(&rt, heir, staffed, &mut pass);
+    let remains = told_of(&rt, &*shared, heir, staffed, &mut pass);
     save(rt, &shared, &mut pass, remains, heirs);
     shared.hand_in(&rt, pass);
     drop(shared);
@@ -165,8 +165,24 @@ fn worked<
     None
 }
 
-/// Does what is left to do in a pool that is shut down, round by round: it ends the pool where it can end, or has
-/// a worker made for the tasks that are queued, and tells whether one was. It ends with the first worker that goes
+// Tells whether a worker was made for this slot, with a pass of the pool's own: what is left to do then, and where none was made, what
+// a pool that runs wants.
+fn told_of<G: PoolNaming, J: Drop, E: Edge, K: Keeper, R: Wait>(
+    rt: &R,
+    shared: &Shared<G, J, E, K>,
+    w: SlotId,
+    staffed: bool,
+    pass: &mut WorkerPass<G>,
+) -> Remains {
+    let (_, left) = shared.hand_over(rt, w, staffed, pass);
+    if staffed || left != Remains::Nothing {
+        return left;
+    }
+    shared.hold_as_worker(rt).wanted()
+}
+
+/// Does what is left to do in a pool that is shut down, or wanted in one that runs, round by round: it ends the pool where it can
+/// end, or has a worker made for the tasks that are queued, and tells whether one was. It ends with the first worker that goes
 /// live, or once as many were not made as tasks are queued.
 #[cycle(staffing)]
 pub fn save<
@@ -182,7 +198,6 @@ pub fn save<
             return;
         };
         let staffed = staff_heir(rt, shared, w, heirs);
-        let (_, left) = shared.hand_over(&rt, w, staffed, pass);
-        remains = left;
+        remains = told_of(&rt, &**shared, w, staffed, pass);
     }
 }

@@ -1,8 +1,9 @@
 //! Waits: for a pool's end, for done tasks of a group, and for the workers' threads. A waiter begins to wait with the
 //! guard of the hold in which its look failed, so no step falls between.
-ghost use Rattle.std.specs.Prelude.{true, ◌≡◌, ◌⊎◌, ◌<◌, ◌≤◌, [], ◌∷◌, IfOk, IfErr, OnOk, OnErr};
+ghost use Rattle.std.specs.Prelude.{true, false, ◌≡◌, ◌⊎◌, ◌<◌, ◌≤◌, [], ◌∷◌, IfOk, IfErr, OnOk, OnErr};
 ghost use Rattle.tp_record.specs.Fields.{rank};
-ghost use Rattle.tp_pool_holds.specs.Moments.{AtFront};
+ghost use Rattle.tp_machine.specs.Readings.{lacks_room};
+ghost use Rattle.tp_pool_holds.specs.Moments.{AtFront, AtSome};
 ghost use Rattle.tp_pool_holds.specs.Passes.{Adds, AddsStep, LooksOnly, tidied, ended};
 ghost use Rattle.tp_pool_holds.specs.Readings.{has_come, IsUndoneAt};
 ghost use Rattle.tp_pool_holds.specs.Endings.{IsBarred};
@@ -10,7 +11,7 @@ ghost use Rattle.tp_pool_holds.specs.Endings.{IsBarred};
 use crate::edges::Edge;
 use crate::locked::EndSeen;
 use crate::names::PoolNaming;
-use crate::shared::Shared;
+use crate::shared::{Event, Shared};
 use std::sync::Wait;
 use tp_book::passes::Pass;
 use tp_machine::machine::releases::Keeper;
@@ -42,7 +43,7 @@ impl<G: PoolNaming, J: Drop, E: Edge, K: Keeper> Shared<G, J, E, K> {
                     self.release(locked);
                     return self.terminate(rt, pass);
                 }
-                EndSeen::Waits => locked = self.around.conditions.end.wait(rt, locked),
+                EndSeen::Waits => locked = self.wait_at(rt, Event::End, locked),
             }
         }
         unreachable!()
@@ -68,12 +69,30 @@ impl<G: PoolNaming, J: Drop, E: Edge, K: Keeper> Shared<G, J, E, K> {
                     self.release(locked);
                     return Ok(t);
                 }
-                Ok(None) => locked = self.around.conditions.results.wait(rt, locked),
+                Ok(None) => locked = self.wait_at(rt, Event::Results, locked),
                 Err(error) => {
                     self.release(locked);
                     return Err(error);
                 }
             }
+        }
+        unreachable!()
+    }
+
+    /// Waits until a task that is submitted would find room, or the pool runs no more. Another submission may be first, so what
+    /// becomes of the task is told by its own submission.
+    pub fn await_room<R: Wait>(&self, rt: &R)
+        ensures { AtSome (K.terms G.config) (λ s. lacks_room (K.terms G.config).queue s ≡ false) }
+    {
+        if self.around.policy.has_endless_queue::<K>() {
+            return;
+        }
+        let mut locked = self.hold(rt);
+        for _ in rt.forever() {
+            if locked.await_room() {
+                return;
+            }
+            locked = self.wait_at(rt, Event::Room, locked);
         }
         unreachable!()
     }
@@ -85,7 +104,7 @@ impl<G: PoolNaming, J: Drop, E: Edge, K: Keeper> Shared<G, J, E, K> {
             if locked.running() == 0 {
                 return;
             }
-            locked = self.around.conditions.gone.wait(rt, locked);
+            locked = self.wait_at(rt, Event::Gone, locked);
         }
     }
 }

@@ -11,7 +11,7 @@ use crate::locked::{Locked, Taking};
 use crate::names::PoolNaming;
 use crate::pauses::{DOZE, Holds, Pace, Pause, rest};
 use crate::roster::Start;
-use crate::shared::Shared;
+use crate::shared::{Event, Shared};
 use std::sync::{Arc, MutexGuard, Wait};
 use std::thread::{Threads, yield_now};
 use tp_book::passes::WorkerPass;
@@ -334,7 +334,7 @@ impl<G: PoolNaming, J: Drop, E: Edge, K: Keeper> Shared<G, J, E, K> {
             match locked.told(w, pass) {
                 Start::Live => return true,
                 Start::GivenUp => return false,
-                Start::Waits => locked = self.around.conditions.begun.wait(rt, locked),
+                Start::Waits => locked = self.wait_at(rt, Event::Begun, locked),
             }
         }
         unreachable!()
@@ -343,6 +343,6 @@ impl<G: PoolNaming, J: Drop, E: Edge, K: Keeper> Shared<G, J, E, K> {
     /// Takes back the pass of a thread that needs it no more.
     pub fn hand_in<R: Wait>(&self, rt: &R, pass: WorkerPass<G>) {
         self.hold_as_worker(rt).hand_in(pass);
-        self.around.conditions.gone.notify_all();
+        self.around.conditions.wake_all(Event::Gone);
     }
 }

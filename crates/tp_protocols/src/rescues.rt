@@ -1,11 +1,11 @@
-//! What a thread does where it leaves a pool that is shut down to nobody. No worker comes any more, so the
-//! thread that is there ends the pool, or has a worker made for the tasks that are queued.
+//! What a thread does where it leaves a pool to nobody. No worker comes by itself, so the thread that is there ends the
+//! pool, or has a worker made for the tasks that are queued.
 ghost use Rattle.tp_protocols.specs.Rescues.{IsRound};
 
 use std::sync::Wait;
 use tp_types::ids::SlotId;
 
-/// What is left to do in a pool that is shut down and has no slot.
+/// What is left to do in a pool that has no slot.
 #[derive(Clone, Copy, Debug, PartialEq, Eq)]
 pub enum Remains {
     /// Nothing, or nothing that this thread is to do.

@@ -2,6 +2,7 @@
 ghost use Rattle.std.specs.Prelude.{◌≡◌};
 
 use crate::compare::same;
+use crate::harness::batches::{count_sevens, ended, sevens};
 use crate::harness::boards::Board;
 use crate::harness::users::{MANNER, Manner, Users};
 use std::alloc::Global;
@@ -22,15 +23,6 @@ const NO_ROOM: Manner = Manner {
     stack: usize::MAX,
     ..MANNER
 };
-
-#[derive(Drop)]
-struct Seven;
-
-impl Body for Seven {
-    fn run(&mut self, _cancel: &CancelFlag) -> Outcome {
-        Ok(7)
-    }
-}
 
 // A pool's settings, why no worker is made, and how many of its three jobs are lost to the stop. The others are rejected.
 struct Life {
@@ -84,15 +76,6 @@ fn answer_of(number: u32, lost: u32) -> Answer {
     })
 }
 
-// Three jobs.
-fn three(alloc: Global) -> Result<Vec<Any<Seven>>, PoolError> {
-    let mut jobs = Vec::new(alloc);
-    for _ in 0..3 {
-        jobs.push(Any(Seven))?;
-    }
-    Ok(jobs)
-}
-
 // What is told of three jobs, and what the counters say, is as the life has it.
 fn tells<R: Abort>(rt: &R, line: usize, life: &Life, answers: &[Answer], counts: Counts) {
     let mut number = 0u32;
@@ -117,10 +100,10 @@ fn lives<R: Abort + Runtime>(rt: R, alloc: Global, line: usize, life: &Life) -> 
         ..Config::fixed(2)
     };
     let users = Users::new(life.manner, &Board::new(alloc)?)?;
-    let (answers, report) = run_all(&rt, alloc, settings, users, three(alloc)?)?;
+    let (answers, report) = run_all(&rt, alloc, settings, users, sevens(alloc, 3)?)?;
     tells(&rt, line, life, answers.as_slice(), report.counts);
     let users = Users::new(life.manner, &Board::new(alloc)?)?;
-    let (answers, report) = run_all_with_tally(&rt, alloc, settings, users, three(alloc)?)?;
+    let (answers, report) = run_all_with_tally(&rt, alloc, settings, users, sevens(alloc, 3)?)?;
     tells(&rt, line, life, answers.as_slice(), report.counts);
     same(&rt, line, &report.unended, &0);
     Ok(())
@@ -148,25 +131,6 @@ impl Body for Faults {
 }
 
 type Faulty<G> = PoolOf<G, Any<Faults>, Users>;
-
-// Shuts the pool down with this pass, and closes it at its end.
-fn ended<G: PoolName, R: Runtime>(
-    rt: &R,
-    pool: Faulty<G>,
-    pass: Pass<G>,
-) -> Result<Report, PoolError> {
-    let mut pass = pass;
-    if let Err(error) = pass.reserve(4) {
-        pool.let_go();
-        return Err(error);
-    }
-    pool.shut(rt, &mut pass);
-    if let Err(error) = pool.await_shut(rt, &mut pass) {
-        pool.let_go();
-        return Err(error);
-    }
-    pool.close_one(rt, pass).map_err(|fault| fault.let_go())
-}
 
 // Three such jobs on a pool with one worker, in whose place none is made.
 fn three_faults<G: PoolNaming + Send + Sync + 'static, R: Runtime>(
@@ -210,25 +174,17 @@ const MANY: u32 = 2_000;
 
 #[test]
 fn without_a_record_any_number_of_jobs_runs(rt: HostRuntime) -> Result<(), Fail> {
-    let mut jobs = Vec::new(rt.alloc());
-    for _ in 0..MANY {
-        jobs.push(Any(Seven))?;
-    }
+    let jobs = sevens(rt.alloc(), MANY)?;
     let settings = Config {
         record_limit: 64,
         ..Config::fixed(2)
     };
     let (answers, report) = run_all_with_tally(&rt, rt.alloc(), settings, Defaults, jobs)?;
-    let mut sevens = 0u32;
-    for answer in &answers {
-        if *answer == Ok(7) {
-            sevens = sevens.saturating_add(1);
-        }
-    }
+    let ran = count_sevens(answers.as_slice());
     same(
         &rt,
         0,
-        &(sevens, report.counts.run, report.unended),
+        &(ran, report.counts.run, report.unended),
         &(MANY, MANY, 0),
     );
     Ok(())

@@ -1,9 +1,9 @@
 //! What is read in one hold of the lock. A thread that looks for what is not there yet says so in the same hold.
-ghost use Rattle.std.specs.Prelude.{◌≡◌, ◌↔◌, ◌<◌, ◌≤◌, length, Ok, Err, None, IsTrue, IfOk, IfErr, IfSome, IfNone, OnErr};
+ghost use Rattle.std.specs.Prelude.{◌≡◌, ◌↔◌, ◌<◌, ◌≤◌, not, true, false, length, Ok, Err, None, IsTrue, IfOk, IfErr, IfSome, IfNone, OnErr};
 ghost use Rattle.tp_types.specs.RunState.{state_rank};
 ghost use Rattle.tp_record.specs.State.{counts as counts_of, fate_of, slot_at};
 ghost use Rattle.tp_machine_state.specs.Payloads.{Keeps};
-ghost use Rattle.tp_machine.specs.Readings.{HasOpen};
+ghost use Rattle.tp_machine.specs.Readings.{HasOpen, lacks_room as is_without_room};
 ghost use Rattle.tp_machine.specs.Seen.{task_of_row};
 ghost use Rattle.tp_machine.specs.Steps.{IsRefusedAt};
 ghost use Rattle.tp_record.specs.Left.{MayRelease};
@@ -142,6 +142,31 @@ impl<G: PoolNaming, J: Drop, R: Keeper> Locked<G, J, R> {
         }
         self.waking.await_result();
         Ok(None)
+    }
+
+    /// Whether a task that is submitted now would be refused for want of room: the pool runs, it has as many slots as it may, and its
+    /// queue is full.
+    pub fn lacks_room(&self) -> bool
+        ensures here { result ≡ is_without_room (R.terms G.config).queue (state_of self.now.book) }
+        ensures some { AtSome (R.terms G.config) (λ s. result ≡ is_without_room (R.terms G.config).queue s) }
+    {
+        self.law_is_book();
+        self.book.lacks_room()
+    }
+
+    /// One look of a waiter for room: whether a task that is submitted now would find some, or the pool runs no more. Where the thread
+    /// is to wait, it has said so.
+    pub fn await_room(&mut self) -> bool
+        ensures here { is_without_room (R.terms G.config).queue (state_of self.old.book) ≡ not result }
+        ensures awaits { result ≡ false → IsTrue self.new.waking.awaited.room }
+        ensures same { self.new ≡ record self.old { waking = record self.old.waking { awaited = self.new.waking.awaited } } }
+        ensures some { AtSome (R.terms G.config) (λ s. is_without_room (R.terms G.config).queue s ≡ not result) }
+    {
+        if self.lacks_room() {
+            self.waking.await_room();
+            return false;
+        }
+        true
     }
 
     /// One look of a waiter for a record longer than this, in entries: its length. Where it is to wait, it has

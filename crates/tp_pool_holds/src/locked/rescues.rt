@@ -4,7 +4,7 @@ ghost use Rattle.tp_types.specs.RunState.{state_rank};
 ghost use Rattle.tp_record.specs.State.{State};
 ghost use Rattle.tp_record.specs.Step.{slot_count};
 ghost use Rattle.tp_book.specs.BookView.{released_of, state_of};
-ghost use Rattle.tp_pool_holds.specs.Left.{IsLeft, IsStranded};
+ghost use Rattle.tp_pool_holds.specs.Left.{IsLeft, IsStranded, IsUnstaffed, IsWanted};
 ghost use Rattle.tp_pool_holds.specs.Moments.{AtSome};
 
 use super::Locked;
@@ -41,6 +41,23 @@ fn strands(state: RunState, slots: usize, queued: u32) -> bool
     slots == 0 && queued > 0 && state == RunState::Shutdown
 }
 
+// Whether a pool in this state runs with queued tasks and without a slot.
+fn lacks_staff(state: RunState, slots: usize, queued: u32) -> bool
+    ensures { (s : State) → state_rank state ≡ s.rank → slots ≡ slot_count s → queued ≡ length s.queue → (IsTrue result ↔ IsUnstaffed s) }
+{
+    slots == 0 && queued > 0 && state == RunState::Running
+}
+
+// What a pool in this state wants, with so many slots and queued tasks, and with this core size.
+fn wanted_in(state: RunState, slots: usize, queued: u32, core: u32) -> Remains
+    ensures { (s : State) → state_rank state ≡ s.rank → slots ≡ slot_count s → queued ≡ length s.queue → core ≡ s.core → IsWanted s result }
+{
+    if lacks_staff(state, slots, queued) && core > 0 {
+        return Remains::Worker(queued);
+    }
+    Remains::Nothing
+}
+
 impl<G: PoolNaming, J: Drop, R: Keeper> Locked<G, J, R> {
     /// What is left to do in a pool that is shut down and has no slot: its end, or a worker for the tasks that
     /// are queued.
@@ -66,6 +83,30 @@ impl<G: PoolNaming, J: Drop, R: Keeper> Locked<G, J, R> {
         self.law_is_book();
         let book = &self.book;
         strands(book.state(), book.slots(), book.counts().queued)
+    }
+
+    /// Whether the pool is unstaffed: it runs with queued tasks and has no slot, since no worker could be made. No worker comes for
+    /// them before somebody asks for one, as each submission does.
+    pub fn is_unstaffed(&self) -> bool
+        ensures here { IsTrue result ↔ IsUnstaffed (state_of self.now.book) }
+        ensures some { AtSome (R.terms G.config) (λ s. IsTrue result ↔ IsUnstaffed s) }
+    {
+        self.law_is_book();
+        let book = &self.book;
+        lacks_staff(book.state(), book.slots(), book.counts().queued)
+    }
+
+    /// A worker for the queued tasks of a pool that is unstaffed, where its core size allows one.
+    pub fn wanted(&self) -> Remains
+        ensures { IsWanted (state_of self.now.book) result }
+    {
+        let book = &self.book;
+        wanted_in(
+            book.state(),
+            book.slots(),
+            book.counts().queued,
+            book.core_size(),
+        )
     }
 
     /// A pass of the pool's own, for a thread that does what is left: a worker's, of no slot, which is to be

@@ -7,7 +7,7 @@ use Rattle.tp_pool.proofs.lives.submitted.Goals as goal
 pub returns-in-Ok : goal.returns-in-Ok
 returns-in-Ok g c =
     let old = c.args.pass.now in
-    let new = c.execute_as.new.pass in
+    let new = c.execute_when_room.new.pass in
     let terms = g.K.Recorder.terms g.G.PoolNaming.config in
     let job = c.args.job in
     let promise = g.J.Job.promised job in

@@ -3,7 +3,7 @@ use Rattle.std.proofs.Math.Nat.{lt_of_not-le}
 use Rattle.std.specs.Prelude.{Result, Ok, Err, IfOk}
 use Rattle.tp_pool_holds.proofs.Receipts.{reserved}
 use Rattle.tp_pool.proofs.Starts.{prestarts_behind}
-use Rattle.tp_pool.proofs.pool.PoolOf.prestart_core.Goals as goal
+use Rattle.tp_pool.proofs.pool.PoolOf.prestart_core_by.Goals as goal
 
 pub returns-clause-steps : goal.returns-clause-steps
 returns-clause-steps g c =

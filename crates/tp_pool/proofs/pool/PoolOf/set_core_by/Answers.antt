@@ -3,7 +3,7 @@ use Rattle.std.proofs.Math.Nat.{lt_of_not-le}
 use Rattle.tp_pool_holds.proofs.Receipts.{reserved}
 use Rattle.tp_pool.specs.Prestarts.{IsServed}
 use Rattle.tp_pool.proofs.Starts.{core_and_starts}
-use Rattle.tp_pool.proofs.pool.PoolOf.set_core.Goals as goal
+use Rattle.tp_pool.proofs.pool.PoolOf.set_core_by.Goals as goal
 
 pub returns-clause-steps : goal.returns-clause-steps
 returns-clause-steps g c =
