@@ -9,7 +9,7 @@ ghost use Rattle.tp_life.specs.Lived.{AreLived, IsLived, IsNewPass, IsUnlived, I
 ghost use Rattle.tp_life.specs.Ran.{Pairwise};
 
 use crate::calls::Life;
-use crate::desk::{Desk, starter};
+use crate::desk::{Desk, starter, with_room};
 use crate::seats::CallerSeat;
 use crate::tasks::{Held, Task};
 use std::alloc::Global;
@@ -245,13 +245,13 @@ pub fn all_lives<
             return Err(error);
         }
     };
-    let Some(starter) = staff(rt, &pool, &desk) else {
+    let Some(starter) = staff(rt, &pool, &desk, last) else {
         pool.let_go();
         return Err(PoolError::NoMemory);
     };
     let (outs, passes) = gathered(rt, life, seated, outs, passes);
     desk.close(rt);
-    starter.join(rt);
+    let last = with_room(rt, starter.join(rt));
     Ok((pool, last, outs, passes))
 }
 
@@ -299,18 +299,24 @@ where
     Ok(seated)
 }
 
-// Starts the pool's own thread, which makes its workers' threads. None where there is no memory or no thread.
+// Starts the pool's own thread, which makes its workers' threads, with the pass that ends the pool when it comes back. None where there is
+// no memory or no thread.
 fn staff<
     G: PoolNaming + Send + Sync + 'static,
     J: Job + 'static,
     E: Edge + Send + Sync + 'static,
     K: Keeper + Send + 'static,
-    R: Runtime,
->(rt: &R, pool: &PoolOf<G, J, E, K>, desk: &Arc<Desk>) -> Option<JoinHandle<()>> {
+    R: Runtime + Clock,
+>(
+    rt: &R,
+    pool: &PoolOf<G, J, E, K>,
+    desk: &Arc<Desk>,
+    pass: Pass<G>,
+) -> Option<JoinHandle<Pass<G>>> {
     let theirs = pool.handle().ok()?;
     let at = Arc::try_clone(desk).ok()?;
     let host = *rt;
-    let work = move || starter(host, &*theirs, &*at);
+    let work = move || starter(host, &*theirs, &*at, pass);
     thread::Builder::new().spawn(rt, work).ok()
 }
 
