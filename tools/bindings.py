@@ -1,18 +1,23 @@
 #!/usr/bin/env python3
-"""bindings.py [--libraries FOLDERS] [--runs N] [--rate] [STEP ..]: builds and tests the bindings for C, Rust and Python over the static
-library libtp_c.a, with the machine's own cc, cargo and python3, and says what it left out.
+"""bindings.py [--libraries FOLDERS] [--runs N] [--rate] [STEP ..]: builds and tests the bindings for C, Rust, Python and Java over the static
+library libtp_c.a, with the machine's own cc, cargo and python3, and says what it left out. `bindings.py package [LANGUAGE ..]` makes
+packages of the library instead, in the folder `out`, each by its file of tools/packages, and `out/SHA256SUMS`.
 
 The library is made by `rt lib` in crates/tp_c. FOLDERS, with a colon between, are where it and the kit's liblibc_c.a lie, if they are
 elsewhere. A STEP is one of these; with none, all are made:
 
+    statuses   the names and numbers of statuses are the same in the header, in the crates, and in each language
     c          the C test program: the rows, two lives of a machine, refusals, pointers that are NULL, texts at the limit
     sanitized  the same with the address and the undefined behaviour sanitizer, where the compiler has them
     threads    four threads on one machine under a mutex, with the thread sanitizer, where the compiler has it
+    abuse      what a C program does wrong and the library can tell: a second close, a call after it, memory that holds no machine;
+               with the sanitizers what they tell
     leaks      the first under valgrind, where it is there; the address sanitizer looks for leaks too
     rust       cargo test --release: the rows, endings, N random runs (10,000), the pool under stress with each record judged
     python     the rows, endings, machines and executors
     futures    CPython's own tests of ThreadPoolExecutor, where they are there: the folder that PYTHON_TESTS names, which holds
-               test_concurrent_futures.py of the python3 that runs (Debian: libpython3.11-testsuite)
+               test_concurrent_futures of the python3 that runs (Debian: libpython3.11-testsuite)
+    java       the cases of the pages of ThreadPoolExecutor, against the JDK's pool and ours, where there is a JDK
 
 The rows are those of bindings/rows, and those of test_model and test_program, taken from their texts where bindings/rows has no such
 text. With --rate the Rust pool's rate is printed beside that of a textbook's pool. The exit status is 0 where nothing failed.
@@ -20,6 +25,8 @@ text. With --rate the Rust pool's rate is printed beside that of a textbook's po
 
 import argparse
 import glob
+import hashlib
+import importlib
 import os
 import re
 import shutil
@@ -27,25 +34,13 @@ import subprocess
 import sys
 import tempfile
 
-ROOT = os.path.dirname(os.path.dirname(os.path.abspath(__file__)))
-BINDINGS = os.path.join(ROOT, "bindings")
-STEPS = ["c", "sanitized", "threads", "leaks", "rust", "python", "futures"]
+sys.dont_write_bytecode = True
+from packages import BINDINGS, ROOT, LeftOut, Parts, java, libraries, needs, python, run, statuses, version
+
+STEPS = ["statuses", "c", "sanitized", "threads", "abuse", "leaks", "rust", "python", "futures", "java"]
+LANGUAGES = sorted(os.path.basename(path)[:-3] for path in glob.glob(os.path.join(ROOT, "tools", "packages", "*.py")) if "package(" in open(path).read() and "__init__" not in path)
 ARCHIVES = ("libtp_c.a", "liblibc_c.a")
 FLAGS = ["-std=gnu11", "-O1", "-g", "-Wall", "-Wextra", "-I", os.path.join(BINDINGS, "include")]
-
-
-class LeftOut(Exception):
-    """A step that this machine cannot make, and why."""
-
-
-def needs(program):
-    if not shutil.which(program):
-        raise LeftOut(f"there is no {program}")
-
-
-def run(words, **how):
-    print("$", " ".join(words), flush=True)
-    return subprocess.run(words, **how).returncode == 0
 
 
 # A constant text of a source, and the escapes in it.
@@ -101,7 +96,7 @@ def worked_rows():
 
 class Steps:
     def __init__(self, folders, folder, said):
-        self.archives = [next(path for at in folders if os.path.exists(path := os.path.join(at, name))) for name in ARCHIVES]
+        self.archives = archives_of(folders)
         self.folders, self.folder, self.said = folders, folder, said
         self.rows = os.path.join(folder, "rows")
         shutil.copytree(os.path.join(BINDINGS, "rows"), self.rows)
@@ -125,7 +120,8 @@ class Steps:
     def sanitized(self):
         # The library's own code is not instrumented: what is looked at is the C program, and the memory that the library takes and frees.
         program = self.c_program("test_sanitized", "-fsanitize=address,undefined", "-fno-sanitize-recover=all")
-        return run([program, self.rows], env={**os.environ, "ASAN_OPTIONS": "detect_leaks=1"})
+        env = {**os.environ, "ASAN_OPTIONS": "detect_leaks=1"}
+        return run([program, self.rows], env=env)
 
     def threads(self):
         return run([self.c_program("test_threads", "-fsanitize=thread", "-pthread", source="test_threads.c")])
@@ -143,16 +139,22 @@ class Steps:
 
     def rust(self):
         done = self.cargo("test", "--release", "--offline")
-        return done and (not self.said.rate or self.cargo("run", "--release", "--offline", "--bin", "pool_rate"))
+        return done and (not self.said.rate or self.cargo("run", "--release", "--offline", "--example", "pool_rate"))
+
+    def statuses(self):
+        return statuses.are_one()
+
+    def abuse(self):
+        plain = run([self.c_program("test_abuse", "-Wno-use-after-free", source="test_abuse.c"), self.rows])
+        program = self.c_program("test_abuse_sanitized", "-fsanitize=address,undefined", "-fno-sanitize-recover=all", "-Wno-use-after-free", source="test_abuse.c")
+        # What the library told by a mark, a sanitizer tells by an end of the program.
+        caught = subprocess.run([program, self.rows, "closed"], stderr=subprocess.PIPE, text=True)
+        return plain and run([program, self.rows, "open"]) and "heap-use-after-free" in caught.stderr
 
     def shared(self):
         """libzellunkay.so, for ctypes."""
         needs("cc")
-        path = os.path.join(self.folder, "libzellunkay.so")
-        names = re.findall(r"\b(zk_core_\w+)\(", open(os.path.join(BINDINGS, "include", "zellunkay.h")).read())
-        wanted = [f"-Wl,-u,{name}" for name in dict.fromkeys(names)]
-        if not run(["cc", "-shared", *wanted, *self.archives, "-o", path]):
-            raise AssertionError("no shared library")
+        python.shared(self.archives, self.folder, version().split(".")[0])
         return {**os.environ, "ZELLUNKAY_LIBRARY": self.folder, "ZELLUNKAY_ROWS": self.rows, "PYTHONPATH": os.path.join(BINDINGS, "python"), "PYTHONDONTWRITEBYTECODE": "1"}
 
     def python(self):
@@ -160,23 +162,47 @@ class Steps:
 
     def futures(self):
         tests = os.environ.get("PYTHON_TESTS", "")
-        if not os.path.exists(os.path.join(tests, "test_concurrent_futures.py")):
-            raise LeftOut("PYTHON_TESTS names no folder with test_concurrent_futures.py")
+        if not glob.glob(os.path.join(tests, "test_concurrent_futures*")):
+            raise LeftOut("PYTHON_TESTS names no folder with test_concurrent_futures")
         program = os.path.join(BINDINGS, "python", "cpython_tests.py")
         return run([sys.executable, program, tests], env=self.shared())
 
+    def java(self):
+        return java.tested(self.archives, self.folder)
 
-def main():
-    parser = argparse.ArgumentParser(description=__doc__, formatter_class=argparse.RawDescriptionHelpFormatter)
-    parser.add_argument("--libraries", default=f"{ROOT}/crates/tp_c/out:/opt/rattle/c")
-    parser.add_argument("--runs", type=int, default=10_000)
-    parser.add_argument("--rate", action="store_true")
-    parser.add_argument("steps", nargs="*", choices=[[], *STEPS], metavar="STEP")
-    said = parser.parse_args()
-    folders = [os.path.abspath(at) for at in said.libraries.split(":")]
+
+def packed(folders, languages):
+    """Makes these languages' packages in `out`, and tells how each ended."""
+    out = os.path.join(ROOT, "out")
+    os.makedirs(out, exist_ok=True)
+    archives, ends, made = archives_of(folders), {}, []
+    with tempfile.TemporaryDirectory() as folder:
+        number = version()
+        shared = libraries.shared(archives, folder, number.split(".")[0])
+        parts = Parts(number, archives, shared, libraries.static(archives, folder))
+        for name in languages:
+            try:
+                made += importlib.import_module(f"packages.{name}").package(out, parts)
+                ends[name] = "made"
+            except LeftOut as why:
+                ends[name] = f"left out: {why}"
+            except AssertionError as why:
+                ends[name] = f"FAILED: {why}"
+    with open(os.path.join(out, "SHA256SUMS"), "w") as file:
+        for path in sorted(made):
+            file.write(f"{hashlib.sha256(open(path, 'rb').read()).hexdigest()}  {os.path.relpath(path, out)}\n")
+    return ends
+
+
+def archives_of(folders):
     lacking = [name for name in ARCHIVES if not any(os.path.exists(f"{at}/{name}") for at in folders)]
     if lacking:
-        sys.exit(f"no {' and no '.join(lacking)} in {said.libraries}: run `rt lib` in crates/tp_c, and name the kit's folder c")
+        sys.exit(f"no {' and no '.join(lacking)} in {':'.join(folders)}: run `rt lib` in crates/tp_c, and name the kit's folder c")
+    return [next(path for at in folders if os.path.exists(path := os.path.join(at, name))) for name in ARCHIVES]
+
+
+def tested(folders, said):
+    """Makes the steps, and tells how each ended."""
     ends = {}
     with tempfile.TemporaryDirectory() as folder:
         steps = Steps(folders, folder, said)
@@ -187,6 +213,21 @@ def main():
                 ends[name] = f"left out: {why}"
             except AssertionError as why:
                 ends[name] = f"FAILED: {why}"
+    return ends
+
+
+def main():
+    parser = argparse.ArgumentParser(description=__doc__, formatter_class=argparse.RawDescriptionHelpFormatter)
+    parser.add_argument("--libraries", default=f"{ROOT}/crates/tp_c/out:/opt/rattle/c")
+    parser.add_argument("--runs", type=int, default=10_000)
+    parser.add_argument("--rate", action="store_true")
+    parser.add_argument("steps", nargs="*", metavar="STEP")
+    said = parser.parse_args()
+    packs = said.steps[:1] == ["package"]
+    if unknown := set(said.steps[packs:]) - set(LANGUAGES if packs else STEPS):
+        parser.error(f"{', '.join(sorted(unknown))}: {'the packages' if packs else 'the steps'} are {', '.join(LANGUAGES if packs else STEPS)}")
+    folders = [os.path.abspath(at) for at in said.libraries.split(":")]
+    ends = packed(folders, said.steps[1:] or LANGUAGES) if packs else tested(folders, said)
     for name, end in ends.items():
         print(f"{name}: {end}")
     sys.exit(any(end.startswith("FAILED") for end in ends.values()))

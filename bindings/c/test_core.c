@@ -236,10 +236,12 @@ static void nulls(void) {
 
 /* A machine that is not there: before it is opened, and after it is closed. */
 static void homes(void) {
-    uint8_t *home = malloc(zk_core_size());
-    CHECK(home);
+    zk_machine *machine = malloc(sizeof(zk_machine) + zk_core_size());
+    CHECK(machine);
+    /* With the mark alone, the library itself tells whether a machine is there. */
+    machine->mark = ZK_MARK;
+    uint8_t *home = zk_home(machine);
     zk_core_init(home);
-    zk_machine *machine = (zk_machine *)home;
     for (int i = 0; i < 2; i++) {
         CHECK(refusal_of_none(machine));
         CHECK(zk_core_open(home, LINE, sizeof LINE - 1, ZK_TALLY) == ZK_DONE);
@@ -250,7 +252,7 @@ static void homes(void) {
     }
     CHECK(refusal_of_none(machine));
     CHECK(zk_core_close(home) == ZK_DONE);
-    free(home);
+    free(machine);
 }
 
 /* The pool of no record, and behind the end of one. */
