@@ -12,21 +12,36 @@ pub struct Told {
     pub ending: Result<(), Error>,
 }
 
+const NO_MEMORY: u32 = 4;
 const TOO_SMALL: u32 = 33;
 
-/// Calls with more and more room, until the answer fits.
-pub(crate) fn with_room(mut call: impl FnMut(&mut [u8], &mut usize) -> u32) -> (Vec<u8>, u32) {
-    let mut room = vec![0u8; 4096];
+/// Calls with so much room, and again with what it needs where that is too small. An answer's bytes, and the status.
+pub(crate) fn with_room(guess: usize, mut call: impl FnMut(*mut u8, usize, &mut usize) -> u32) -> (Vec<u8>, u32) {
+    let mut room: Vec<u8> = Vec::new();
+    let mut wanted = guess;
     loop {
+        match room.try_reserve_exact(wanted) {
+            Ok(()) => {}
+            Err(_) if wanted > USUAL && room.capacity() == 0 => {
+                wanted = USUAL;
+                continue;
+            }
+            Err(_) => return (Vec::new(), NO_MEMORY),
+        }
         let mut needed = 0;
-        let status = call(&mut room, &mut needed);
+        let status = call(room.as_mut_ptr(), room.capacity(), &mut needed);
         if status != TOO_SMALL {
-            room.truncate(needed);
+            // SAFETY: the library has written so many bytes at the room's head, since they have room there.
+            unsafe { room.set_len(needed.min(room.capacity())) };
+            room.shrink_to_fit();
             return (room, status);
         }
-        room.resize(needed, 0);
+        wanted = needed;
     }
 }
+
+/// The room that most answers need.
+const USUAL: usize = 4096;
 
 fn told((output, status): (Vec<u8>, u32)) -> Told {
     let ending = if status == 0 { Ok(()) } else { Err(Error::from_number(status)) };
@@ -35,17 +50,18 @@ fn told((output, status): (Vec<u8>, u32)) -> Told {
 
 /// Judges the text of a record, as `poolrun audit` does.
 pub fn audit(text: &[u8]) -> Told {
-    // SAFETY: each pointer is that of a slice or a reference that is borrowed for the call, with the slice's length.
-    told(with_room(|room, needed| unsafe {
-        raw::zk_core_audit(text.as_ptr(), text.len(), room.as_mut_ptr(), room.len(), needed)
+    // SAFETY: the text is a slice with its length, the room is memory of so many bytes, and `needed` is a reference: all are there for the call.
+    told(with_room(USUAL, |room, size, needed| unsafe {
+        raw::zk_core_audit(text.as_ptr(), text.len(), room, size, needed)
     }))
 }
 
 /// Plays a scenario, as `poolrun steps` does.
 pub fn steps(text: &[u8]) -> Told {
+    // A line of a scenario makes a longer one of a record, and one of its end.
     // SAFETY: as above.
-    told(with_room(|room, needed| unsafe {
-        raw::zk_core_steps(text.as_ptr(), text.len(), room.as_mut_ptr(), room.len(), needed)
+    told(with_room(USUAL + 8 * text.len(), |room, size, needed| unsafe {
+        raw::zk_core_steps(text.as_ptr(), text.len(), room, size, needed)
     }))
 }
 
@@ -53,8 +69,8 @@ pub fn steps(text: &[u8]) -> Told {
 /// [`Error::TooMany`] where more than `most` states are reached.
 pub fn explore(text: &[u8], most: usize) -> Told {
     // SAFETY: as above.
-    told(with_room(|room, needed| unsafe {
-        raw::zk_core_explore(text.as_ptr(), text.len(), most, room.as_mut_ptr(), room.len(), needed)
+    told(with_room(USUAL, |room, size, needed| unsafe {
+        raw::zk_core_explore(text.as_ptr(), text.len(), most, room, size, needed)
     }))
 }
 
@@ -62,7 +78,7 @@ pub fn explore(text: &[u8], most: usize) -> Told {
 /// record has no such entry, [`Error::Flaw`] where it has a flaw up to there.
 pub fn now(text: &[u8], entry: Option<u64>) -> Told {
     // SAFETY: as above.
-    told(with_room(|room, needed| unsafe {
-        raw::zk_core_now(text.as_ptr(), text.len(), entry.unwrap_or(u64::MAX), room.as_mut_ptr(), room.len(), needed)
+    told(with_room(USUAL, |room, size, needed| unsafe {
+        raw::zk_core_now(text.as_ptr(), text.len(), entry.unwrap_or(u64::MAX), room, size, needed)
     }))
 }

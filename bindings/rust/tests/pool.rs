@@ -1,27 +1,13 @@
 //! The pool, and its records.
 
-use std::panic;
+mod common;
+
+use common::{closed, silent};
 use std::sync::atomic::{AtomicU64, Ordering};
 use std::sync::{mpsc, Arc};
 use std::thread;
 use std::time::Duration;
-use zellunkay::{audit, Builder, Closed, Error, Failure, ThreadPool, Verdict};
-
-/// Bodies panic here on purpose.
-fn silent() {
-    panic::set_hook(Box::new(|_| {}));
-}
-
-fn closed(pool: ThreadPool) -> Closed {
-    pool.shutdown();
-    assert!(pool.await_termination(Some(Duration::from_secs(60))), "{:?}", pool.view());
-    let closed = pool.close().ok().expect("a terminated pool closes");
-    if let Some(record) = &closed.record {
-        let told = audit(record);
-        assert_eq!(told.ending, Ok(()), "{}\n{}", String::from_utf8_lossy(&told.output), String::from_utf8_lossy(record));
-    }
-    closed
-}
+use zellunkay::{Builder, Error, Failure, ThreadPool, Verdict};
 
 #[test]
 fn values_come() {
@@ -34,19 +20,6 @@ fn values_come() {
 }
 
 #[test]
-fn panics_are_told_and_workers_replaced() {
-    silent();
-    let pool = Builder::new(2).record(100_000).open().unwrap();
-    for _ in 0..20 {
-        pool.execute(|| panic!("on purpose")).unwrap();
-    }
-    let future = pool.submit(|| -> u32 { panic!("on purpose") }).unwrap();
-    assert!(matches!(future.get(), Err(Failure::Panicked(_))));
-    assert_eq!(pool.submit(|| 5).unwrap().get().unwrap(), 5);
-    assert_eq!(closed(pool).view.run, 22);
-}
-
-#[test]
 fn policies() {
     for (verdict, is_rejected) in [(Verdict::Abort, true), (Verdict::CallerRuns, false), (Verdict::Discard, false), (Verdict::DiscardOldest, false)] {
         let pool = Builder::new(1).bounded(1).policy(verdict).record(1000).open().unwrap();
@@ -54,7 +27,7 @@ fn policies() {
         pool.execute(move || wait.recv().unwrap()).unwrap();
         let first = pool.submit(|| thread::current().id()).unwrap();
         let second = pool.submit(|| thread::current().id());
-        assert_eq!(second.as_ref().err() == Some(&Error::Rejected), is_rejected, "{verdict:?}");
+        assert_eq!(second.as_ref().err().map(|refused| refused.error) == Some(Error::Rejected), is_rejected, "{verdict:?}");
         go.send(()).unwrap();
         match verdict {
             Verdict::Abort => assert!(first.get().is_ok()),
@@ -134,7 +107,7 @@ fn shutdown_now_hands_back() {
     let handed = pool.shutdown_now().unwrap();
     assert_eq!(handed.iter().map(|job| job.task).collect::<Vec<_>>(), [1, 2, 3, 4]);
     assert!(matches!(lost.get(), Err(Failure::Lost(_))));
-    assert_eq!(pool.execute(|| ()), Err(Error::Rejected));
+    assert_eq!(pool.execute(|| ()).unwrap_err().error, Error::Rejected);
     for job in handed {
         (job.function)();
     }
@@ -163,30 +136,8 @@ fn scopes_borrow() {
 }
 
 #[test]
-fn a_scope_waits_where_it_panics() {
-    silent();
-    let pool = ThreadPool::fixed(2).unwrap();
-    let count = AtomicU64::new(0);
-    let caught = panic::catch_unwind(panic::AssertUnwindSafe(|| {
-        pool.scope(|scope| {
-            for _ in 0..10 {
-                scope.submit(|| {
-                    thread::sleep(Duration::from_millis(1));
-                    count.fetch_add(1, Ordering::SeqCst)
-                })
-                .unwrap();
-            }
-            panic!("on purpose");
-        })
-    }));
-    assert!(caught.is_err());
-    assert_eq!(count.load(Ordering::SeqCst), 10);
-    closed(pool);
-}
-
-#[test]
 fn idle_workers_leave_in_time() {
-    let pool = Builder::new(0).maximum(2).handoff().keep_alive(20).record(1000).open().unwrap();
+    let pool = Builder::new(0).maximum(2).handoff().keep_alive(Duration::from_millis(20)).record(1000).open().unwrap();
     pool.execute(|| ()).unwrap();
     let start = std::time::Instant::now();
     while pool.view().live > 0 {
@@ -202,8 +153,6 @@ fn settings_are_refused() {
     assert_eq!(Builder::new(1).bounded(0).open().err(), Some(Error::BadCapacity));
     assert_eq!(Builder::new(1).record(63).open().err(), Some(Error::BadLimit));
     assert_eq!(Builder::new(1).core_timeout(true).open().err(), Some(Error::KeepZero));
-    let pool = ThreadPool::fixed(1).unwrap();
-    assert!(pool.close().is_err());
 }
 
 /// A plan of a stress run, whose record's text is no longer than an audit of a whole text takes: how the pool is made, by how many threads tasks come, and how many by each.
@@ -219,9 +168,9 @@ const PLANS: [Plan; 7] = [
     Plan { name: "small queue, callers run", pool: || Builder::new(2).maximum(4).bounded(4).policy(Verdict::CallerRuns), threads: 4, tasks: 1200 },
     Plan { name: "small queue, oldest dropped", pool: || Builder::new(1).maximum(3).bounded(2).policy(Verdict::DiscardOldest), threads: 3, tasks: 1200 },
     Plan { name: "discarded", pool: || Builder::new(1).bounded(1).policy(Verdict::Discard), threads: 4, tasks: 1200 },
-    Plan { name: "handoff", pool: || Builder::new(0).maximum(8).handoff().keep_alive(1), threads: 4, tasks: 1000 },
+    Plan { name: "handoff", pool: || Builder::new(0).maximum(8).handoff().keep_alive(Duration::from_millis(1)), threads: 4, tasks: 1000 },
     Plan { name: "priorities", pool: || Builder::new(3).priority(), threads: 4, tasks: 1200 },
-    Plan { name: "core workers time out", pool: || Builder::new(3).keep_alive(1).core_timeout(true), threads: 3, tasks: 1200 },
+    Plan { name: "core workers time out", pool: || Builder::new(3).keep_alive(Duration::from_millis(1)).core_timeout(true), threads: 3, tasks: 1200 },
 ];
 
 fn stress(plan: &Plan, ends_early: bool) {
@@ -280,17 +229,4 @@ fn stress_that_is_stopped() {
     for plan in &PLANS {
         stress(plan, true);
     }
-}
-
-#[test]
-fn a_pool_without_a_record_forgets() {
-    let pool = ThreadPool::fixed(4).unwrap();
-    let sum = Arc::new(AtomicU64::new(0));
-    for number in 0..100_000u64 {
-        let sum = sum.clone();
-        pool.execute(move || { sum.fetch_add(number, Ordering::Relaxed); }).unwrap();
-    }
-    let closed = closed(pool);
-    assert_eq!(sum.load(Ordering::SeqCst), 100_000 * 99_999 / 2);
-    assert_eq!((closed.view.run, closed.record), (100_000, None));
 }
