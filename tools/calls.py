@@ -57,7 +57,7 @@ LEFT_OUT = """PoolOf::new oneshot::oneshot Group::submit lives::run_all_with_tal
     futures::get_with futures::get_until_with futures::try_get_with Calls::host Calls::set Calls::enter Calls::ticket Calls::submit_to Calls::take Group::new Group::len Group::results Group::next_for Calls::take_for PoolOf::await_done_for""".split()
 # Public for crates of the pool alone.
 INSIDE = """orders::staffed_by orders::rescue_tasks_by sizes::law_jobs_have_room Held::placed Held::run Held::into_task PoolOf::execute_by PoolOf::shutdown_by PoolOf::set_core_by PoolOf::prestart_core_by PoolOf::obey
-    PoolOf::shut PoolOf::await_shut Timer::new Timer::left orders::rescue_by running::found Desk::new Desk::ask Desk::close desk::starter CallerSeat::into_pass lives::make_rooms lives::lived lives::all_lives lives::shut lives::close""".split()
+    PoolOf::shut PoolOf::await_shut Timer::new Timer::left orders::rescue_by running::found Desk::new Desk::ask Desk::close desk::starter desk::with_room CallerSeat::into_pass lives::make_rooms lives::lived lives::all_lives lives::shut lives::close""".split()
 
 # What a relation in a clause says; the first that stands in a call's clauses is taken.
 SAYS = {
